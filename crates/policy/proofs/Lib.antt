@@ -1,0 +1,9 @@
+pub mod Examples
+pub mod FaultLaws
+pub mod GreedyLaws
+pub mod ListLaws
+pub mod Monitor
+pub mod Proposals
+pub mod RelationLaws
+pub mod Resolution
+pub mod SetLaws

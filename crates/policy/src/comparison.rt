@@ -1,0 +1,87 @@
+// The parts of a rule: event literals, and comparisons of readings.
+ghost use mathlib.Core.Path.{_≡_};
+ghost use Rattle.policy.specs.Epoch.{valueOf};
+ghost use Rattle.policy.specs.Comparison.{relationHolds, operandValue, comparisonHolds};
+use crate::number::Event;
+use crate::number::Reading;
+use crate::set::ReadingSet;
+
+// `E1`, or `!E1` where negated.
+pub struct Literal {
+    pub event: Event,
+    pub negated: bool,
+}
+
+pub enum Relation {
+    Equal,
+    NotEqual,
+    Less,
+    LessOrEqual,
+    Greater,
+    GreaterOrEqual,
+}
+
+// What a reading is compared with.
+pub enum Operand {
+    Constant(i32),
+    Reading(Reading),
+}
+
+pub struct Comparison {
+    pub reading: Reading,
+    pub relation: Relation,
+    pub operand: Operand,
+}
+
+impl Relation {
+    pub fn holds(self, left: i32, right: i32) -> bool
+        ensures { λ r. ⌜ r ≡ relationHolds self left right ⌝ }
+    {
+        match self {
+            Relation::Equal => left == right,
+            Relation::NotEqual => left != right,
+            Relation::Less => left < right,
+            Relation::LessOrEqual => left <= right,
+            Relation::Greater => left > right,
+            Relation::GreaterOrEqual => left >= right,
+        }
+    }
+}
+
+impl Reading {
+    // 0 where the epoch does not give the reading.
+    pub fn value(self, given: ReadingSet, values: &[i32]) -> i32
+        ensures { λ r. ⌜ r ≡ valueOf (record { given = given; values = now (values .entry) }) self ⌝ }
+    {
+        let at = self.0 as usize;
+        if given.has(self) {
+            if at < values.len() { values[at] } else { 0 }
+        } else {
+            0
+        }
+    }
+}
+
+impl Operand {
+    fn value(self, given: ReadingSet, values: &[i32]) -> i32
+        ensures { λ r. ⌜ r ≡ operandValue (record { given = given; values = now (values .entry) }) self ⌝ }
+    {
+        match self {
+            Operand::Constant(k) => k,
+            Operand::Reading(reading) => reading.value(given, values),
+        }
+    }
+}
+
+impl Comparison {
+    // Whether the comparison holds on the readings of an epoch: those that it gives, and their values.
+    pub fn holds(self, given: ReadingSet, values: &[i32]) -> bool
+        ensures { λ r. ⌜ r ≡ comparisonHolds (record { given = given; values = now (values .entry) }) self ⌝ }
+    {
+        let operand = self.operand;
+        let relation = self.relation;
+        let left = self.reading.value(given, values);
+        let right = operand.value(given, values);
+        relation.holds(left, right)
+    }
+}

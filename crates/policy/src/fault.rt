@@ -1,0 +1,60 @@
+// Why an input is refused (document 01: the ground), each with its number.
+ghost use mathlib.Core.Path.{_≡_};
+ghost use Rattle.policy.specs.Fault.{faultNumber};
+
+pub enum Fault {
+    // A rule text or an epoch line is over its length (long).
+    TooLong,
+    // A line of a text has neither shape (shape).
+    Syntax,
+    // A number in a line of a text is out of range (range).
+    OutOfRange,
+    // A line has more than eight literals or actions, or more than four comparisons (crowd).
+    TooManyParts,
+    // The 129th rule, or the 65th constraint (full).
+    TooManyLines,
+    // The same event twice in a rule, or the same action twice in a constraint (repeat).
+    Duplicate,
+    // The bytes of an image are too few, too many, or not whole words (size).
+    ImageSize,
+    // The form of an image is not known (form).
+    ImageForm,
+    // The counts of an image are over their limits, or do not fit its length (count).
+    ImageCount,
+    // The words of an image do not add up to 0 (sum).
+    ImageSum,
+    // No accepted text compiles to the image (body).
+    ImageBody,
+    // A token of an epoch line has neither shape (epoch shape).
+    EpochSyntax,
+    // A number in an epoch line is out of range (epoch range).
+    EpochRange,
+    // An epoch line gives a reading twice (twice).
+    DuplicateReading,
+    // The buffer lent for an image has too few bytes (room).
+    BufferTooSmall,
+}
+
+impl Fault {
+    pub fn number(self) -> u8
+        ensures { λ r. ⌜ r ≡ faultNumber self ⌝ }
+    {
+        match self {
+            Fault::TooLong => 1,
+            Fault::Syntax => 2,
+            Fault::OutOfRange => 3,
+            Fault::TooManyParts => 4,
+            Fault::TooManyLines => 5,
+            Fault::Duplicate => 6,
+            Fault::ImageSize => 7,
+            Fault::ImageForm => 8,
+            Fault::ImageCount => 9,
+            Fault::ImageSum => 10,
+            Fault::ImageBody => 11,
+            Fault::EpochSyntax => 12,
+            Fault::EpochRange => 13,
+            Fault::DuplicateReading => 14,
+            Fault::BufferTooSmall => 15,
+        }
+    }
+}

@@ -1,0 +1,21 @@
+// The vocabulary of interlock policies: what events, actions and readings are, how sets of them are held, when a
+// comparison holds, and the faults for which an input is refused.
+mod comparison;
+mod fault;
+mod number;
+mod set;
+
+pub use comparison::Comparison;
+pub use comparison::Literal;
+pub use comparison::Operand;
+pub use comparison::Relation;
+pub use fault::Fault;
+pub use number::Action;
+pub use number::ActionCheck;
+pub use number::Event;
+pub use number::EventCheck;
+pub use number::Reading;
+pub use number::ReadingCheck;
+pub use set::ActionSet;
+pub use set::EventSet;
+pub use set::ReadingSet;

@@ -1,0 +1,82 @@
+// Sets of events, of actions and of readings, one bit a member. Each kind is a type of its own over the same bits.
+ghost use mathlib.Core.Path.{_≡_};
+ghost use Rattle.policy.specs.Set.{has, insert, hasEvent, insertEvent, hasAction, insertAction};
+ghost use Rattle.policy.specs.Set.{actionsWithout, hasReading, insertReading};
+use crate::number::Action;
+use crate::number::Event;
+use crate::number::Reading;
+
+pub struct EventSet(pub u64);
+
+pub struct ActionSet(pub u64);
+
+pub struct ReadingSet(pub u64);
+
+// Nothing past 63 is a member.
+fn member(set: u64, n: u8) -> bool
+    ensures { λ r. ⌜ r ≡ has set n ⌝ }
+{
+    if n < 64 { (set >> n) % 2 == 1 } else { false }
+}
+
+// Past 63 the set stays as it is.
+fn with_member(set: u64, n: u8) -> u64
+    ensures { λ r. ⌜ r ≡ insert set n ⌝ }
+{
+    if n < 64 { set | (1 << n) } else { set }
+}
+
+impl EventSet {
+    pub const EMPTY: EventSet = EventSet(0);
+
+    pub fn has(self, event: Event) -> bool
+        ensures { λ r. ⌜ r ≡ hasEvent self event ⌝ }
+    {
+        member(self.0, event.0)
+    }
+
+    pub fn insert(self, event: Event) -> EventSet
+        ensures { λ r. ⌜ r ≡ insertEvent self event ⌝ }
+    {
+        EventSet(with_member(self.0, event.0))
+    }
+}
+
+impl ActionSet {
+    pub const EMPTY: ActionSet = ActionSet(0);
+
+    pub fn has(self, action: Action) -> bool
+        ensures { λ r. ⌜ r ≡ hasAction self action ⌝ }
+    {
+        member(self.0, action.0)
+    }
+
+    pub fn insert(self, action: Action) -> ActionSet
+        ensures { λ r. ⌜ r ≡ insertAction self action ⌝ }
+    {
+        ActionSet(with_member(self.0, action.0))
+    }
+
+    // The members that are not in `other`.
+    pub fn without(self, other: ActionSet) -> ActionSet
+        ensures { λ r. ⌜ r ≡ actionsWithout self other ⌝ }
+    {
+        ActionSet(self.0 ^ (self.0 & other.0))
+    }
+}
+
+impl ReadingSet {
+    pub const EMPTY: ReadingSet = ReadingSet(0);
+
+    pub fn has(self, reading: Reading) -> bool
+        ensures { λ r. ⌜ r ≡ hasReading self reading ⌝ }
+    {
+        member(self.0, reading.0)
+    }
+
+    pub fn insert(self, reading: Reading) -> ReadingSet
+        ensures { λ r. ⌜ r ≡ insertReading self reading ⌝ }
+    {
+        ReadingSet(with_member(self.0, reading.0))
+    }
+}
