@@ -1,6 +1,7 @@
 pub mod Examples
 pub mod FaultLaws
 pub mod GreedyLaws
+pub mod LineLaws
 pub mod ListLaws
 pub mod Monitor
 pub mod Proposals

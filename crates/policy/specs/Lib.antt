@@ -5,6 +5,8 @@ pub mod Set
 pub mod Epoch
 pub mod Comparison
 pub mod Policy
+pub mod Line
+pub mod Limits
 pub mod Greedy
 pub mod Yield
 pub mod Pdl

@@ -2,6 +2,7 @@
 // comparison holds, and the faults for which an input is refused.
 mod comparison;
 mod fault;
+mod line;
 mod number;
 mod set;
 
@@ -10,6 +11,10 @@ pub use comparison::Literal;
 pub use comparison::Operand;
 pub use comparison::Relation;
 pub use fault::Fault;
+pub use line::Ending;
+pub use line::Head;
+pub use line::Line;
+pub use line::Test;
 pub use number::Action;
 pub use number::ActionCheck;
 pub use number::Event;

@@ -1,0 +1,101 @@
+// A line of a rule text by value: a rule or a constraint, with its parts in text order.
+ghost use mathlib.Core.Path.{_≡_};
+ghost use mathlib.Core.List.{[]};
+ghost use Rattle.policy.specs.Line.{lineOf, pushHead, pushComparison, endLine};
+use crate::comparison::Comparison;
+use crate::comparison::Literal;
+use crate::comparison::Operand;
+use crate::comparison::Relation;
+use crate::number::Action;
+use crate::number::Reading;
+
+// What stands before the condition of a line: an event literal of a rule, or an action of a constraint.
+pub enum Test {
+    Occurs(Literal),
+    Member(Action),
+}
+
+pub enum Ending {
+    Causes(Action),
+    Never,
+}
+
+pub struct Head(pub Test);
+
+// Up to eight heads and four comparisons. What is past the counts is filler. A count of nine or five says that there
+// were more, which are not held.
+pub struct Line {
+    pub heads: [Head; 8],
+    pub head_count: usize,
+    pub comparisons: [Comparison; 4],
+    pub comparison_count: usize,
+    pub ending: Ending,
+}
+
+impl Line {
+    // A line with no part yet.
+    pub fn new() -> Line
+        ensures { λ r. ⌜ r ≡ lineOf [] [] Ending.Never ⌝ }
+    {
+        let comparison = Comparison {
+            reading: Reading(0),
+            relation: Relation::Equal,
+            operand: Operand::Constant(0),
+        };
+        Line {
+            heads: [Head(Test::Member(Action(0))); 8],
+            head_count: 0,
+            comparisons: [comparison; 4],
+            comparison_count: 0,
+            ending: Ending::Never,
+        }
+    }
+
+    pub fn with_head(self, test: Test) -> Line
+        ensures { λ r. ⌜ r ≡ pushHead self test ⌝ }
+    {
+        let n = self.head_count;
+        let mut line = self;
+        if n < 8 {
+            line.heads[n] = Head(test);
+            line.head_count = n + 1;
+            line
+        } else if n < 9 {
+            line.head_count = n + 1;
+            line
+        } else {
+            line
+        }
+    }
+
+    pub fn with_comparison(self, comparison: Comparison) -> Line
+        ensures { λ r. ⌜ r ≡ pushComparison self comparison ⌝ }
+    {
+        let n = self.comparison_count;
+        let mut line = self;
+        if n < 4 {
+            line.comparisons[n] = comparison;
+            line.comparison_count = n + 1;
+            line
+        } else if n < 5 {
+            line.comparison_count = n + 1;
+            line
+        } else {
+            line
+        }
+    }
+
+    pub fn ended(self, ending: Ending) -> Line
+        ensures { λ r. ⌜ r ≡ endLine self ending ⌝ }
+    {
+        let heads = self.heads;
+        let comparisons = self.comparisons;
+        Line {
+            heads,
+            head_count: self.head_count,
+            comparisons,
+            comparison_count: self.comparison_count,
+            ending,
+        }
+    }
+}
