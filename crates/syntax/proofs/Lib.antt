@@ -1,0 +1,5 @@
+pub mod ClassLaws
+pub mod DigitLaws
+pub mod Examples
+pub mod RunLaws
+pub mod WordLaws

@@ -1,0 +1,141 @@
+-- Document 01, "Rule text": the two shapes of a line, over its tokens. Numbers of any size and lists of any length have
+-- the right shape; ranges and counts are tested afterwards.
+use Prim.Native.Char.{code}
+use Prim.Native.Nat.{ℕ}
+use mathlib.Core.Bool.{Bool, true, false, cond}
+use mathlib.Core.List.{List, [], _∷_}
+use mathlib.Core.Option.{Option, none, some, Option·map}
+use lib.Dec.{eqb}
+use lib.IntN.{ℤ}
+use Rattle.policy.specs.Line.{PolicyLine, rule, constraint}
+use Rattle.policy.specs.Policy.{Rule, Constraint}
+use Rattle.policy.specs.declared.comparison.Comparison.{Comparison}
+use Rattle.policy.specs.declared.comparison.Literal.{Literal}
+use Rattle.policy.specs.declared.comparison.Operand.{Operand}
+use Rattle.policy.specs.declared.comparison.Relation.{Relation}
+use Rattle.policy.specs.declared.number.Action.{Action}
+use Rattle.policy.specs.declared.number.Event.{Event}
+use Rattle.policy.specs.declared.number.Reading.{Reading}
+use Rattle.syntax.specs.Byte.{is}
+use Rattle.syntax.specs.Number.{numberOf, constantOf}
+
+abbrev pub Token : Type 0
+Token = List ℕ
+
+-- ---- the parts of a line, each one token
+
+-- a letter and a number
+unfoldable pub named : ℕ → Token → Option ℕ
+named letter [] = none
+named letter (b ∷ bs) = cond (eqb b letter) (numberOf bs) none
+
+abbrev pub literalAs : Bool → ℕ → Literal
+literalAs negated n = record { event = record { 0 = n }; negated = negated }
+
+-- `E1` or `!E1`
+unfoldable pub literalOf : Token → Option Literal
+literalOf [] = none
+literalOf (b ∷ bs) = cond (eqb b (code "!")) (Option·map (literalAs true) (named (code "E") bs)) (Option·map (literalAs false) (named (code "E") (b ∷ bs)))
+
+abbrev actionAs : ℕ → Action
+actionAs n = record { 0 = n }
+
+unfoldable pub actionOf : Token → Option Action
+actionOf t = Option·map actionAs (named (code "A") t)
+
+abbrev readingAs : ℕ → Reading
+readingAs n = record { 0 = n }
+
+unfoldable pub readingOf : Token → Option Reading
+readingOf t = Option·map readingAs (named (code "R") t)
+
+unfoldable pub relationOf : Token → Option Relation
+relationOf t =
+    cond (is "=" t) (some Relation.Equal)
+    (cond (is "!=" t) (some Relation.NotEqual)
+    (cond (is "<" t) (some Relation.Less)
+    (cond (is "<=" t) (some Relation.LessOrEqual)
+    (cond (is ">" t) (some Relation.Greater)
+    (cond (is ">=" t) (some Relation.GreaterOrEqual) none)))))
+
+module _ {A : Type 0} where
+  -- the first, or else the second
+  unfoldable pub orElse : Option A → Option A → Option A
+  orElse none y = y
+  orElse (some x) y = some x
+
+unfoldable pub operandOf : Token → Option Operand
+operandOf t = orElse (Option·map Operand.Reading (readingOf t)) (Option·map Operand.Constant (constantOf t))
+
+module _ {A B C : Type 0} where
+  unfoldable pub both : (A → B → C) → Option A → Option B → Option C
+  both f none y = none
+  both f (some x) none = none
+  both f (some x) (some y) = some (f x y)
+
+-- ---- the condition: `if` with one or more comparisons joined by `,`, or nothing
+
+abbrev pub compare : Reading → Relation → Operand → Comparison
+compare reading relation operand = record { reading = reading; relation = relation; operand = operand }
+
+unfoldable pub comparisonOf : Token → Token → Token → Option Comparison
+comparisonOf r relation o = both (λ (f : Operand → Comparison) (x : Operand). f x) (both compare (readingOf r) (relationOf relation)) (operandOf o)
+
+abbrev single : Comparison → List Comparison
+single c = c ∷ []
+
+unfoldable pub comparisonsOf : List Token → Option (List Comparison)
+comparisonsOf [] = none
+comparisonsOf (r ∷ []) = none
+comparisonsOf (r ∷ relation ∷ []) = none
+comparisonsOf (r ∷ relation ∷ o ∷ []) = Option·map single (comparisonOf r relation o)
+comparisonsOf (r ∷ relation ∷ o ∷ t ∷ ts) = cond (is "," t) (both _∷_ (comparisonOf r relation o) (comparisonsOf ts)) none
+
+unfoldable pub conditionOf : List Token → Option (List Comparison)
+conditionOf [] = some []
+conditionOf (t ∷ ts) = cond (is "if" t) (comparisonsOf ts) none
+
+-- ---- one or more items joined by `&`, and the tokens behind them
+
+pub record Joined (A : Type 0) : Type 0 where
+  pub items : List A
+  pub rest : List Token
+
+module _ {A : Type 0} where
+  abbrev pub last : List Token → A → Joined A
+  last rest x = record { items = x ∷ []; rest = rest }
+
+  abbrev pub before : A → Joined A → Joined A
+  before x j = record { items = x ∷ j .items; rest = j .rest }
+
+module _ {A : Type 0} (item : Token → Option A) where
+  unfoldable pub joined : List Token → Option (Joined A)
+  joined [] = none
+  joined (t ∷ []) = Option·map (last []) (item t)
+  joined (t ∷ s ∷ ts) = cond (is "&" s) (both before (item t) (joined ts)) (Option·map (last (s ∷ ts)) (item t))
+
+-- ---- the two shapes
+
+abbrev pub causes : List Literal → Action → List Comparison → PolicyLine
+causes literals action comparisons = rule (record { literals = literals; action = action; comparisons = comparisons })
+
+-- what follows the literals of a rule
+unfoldable pub ruleAfter : List Literal → List Token → Option PolicyLine
+ruleAfter literals [] = none
+ruleAfter literals (t ∷ []) = none
+ruleAfter literals (t ∷ a ∷ ts) = cond (is "causes" t) (both (causes literals) (actionOf a) (conditionOf ts)) none
+
+abbrev pub never : List Action → List Comparison → PolicyLine
+never actions comparisons = constraint (record { actions = actions; comparisons = comparisons })
+
+unfoldable pub constraintAfter : List Action → List Token → Option PolicyLine
+constraintAfter actions ts = Option·map (never actions) (conditionOf ts)
+
+module _ {A : Type 0} where
+  unfoldable pub after : (List A → List Token → Option PolicyLine) → Option (Joined A) → Option PolicyLine
+  after f none = none
+  after f (some j) = f (j .items) (j .rest)
+
+unfoldable pub lineFrom : List Token → Option PolicyLine
+lineFrom [] = none
+lineFrom (t ∷ ts) = cond (is "never" t) (after constraintAfter (joined actionOf ts)) (after ruleAfter (joined literalOf (t ∷ ts)))
