@@ -18,7 +18,7 @@ use Rattle.syntax.proofs.WordLaws.{token-end, token-here, token-past}
 use Rattle.syntax.specs.Byte.{isDigit, isSpace, endsToken}
 use Rattle.syntax.specs.Grammar.{named}
 use Rattle.syntax.specs.Number.{decimalFrom, isEmpty, numberOf}
-use Rattle.syntax.specs.Scan.{run, skip, inToken, tokenAt, clip, clipLimit, numberEnding, digitRun, digitsAt, nameAt}
+use Rattle.syntax.specs.Scan.{run, skip, inToken, tokenAt, clip, clipLimit, numberEnding, digitRun, digitsAt, numberAt, nameAt}
 use Rattle.syntax.specs.declared.scan.Digits.{Digits}
 use Rattle.syntax.specs.declared.scan.NumberAt.{NumberAt}
 
@@ -207,29 +207,30 @@ module _ (text : List ℕ) (at : ℕ) where
       go (some n) k = cc
 
   -- a number that ends where its token does is the token's; otherwise the token is no number
-  pub token-number : (v e : ℕ) → digitsAt text at ≡ NumberAt.Number v e → isEmpty (tokenAt text e) ≡ true → numberEnding (skip inToken text at) (numberOf (tokenAt text at)) ≡ NumberAt.Number v e
-  unfolding digitsAt
+  pub token-number : (v e : ℕ) → digitsAt text at ≡ NumberAt.Number v e → isEmpty (tokenAt text e) ≡ true → NumberAt.Number v e ≡ numberAt text at
+  unfolding digitsAt numberAt
   token-number v e q h =
       let w : tokenAt text at ≡ run isDigit (drop at text) = whole-token (ap (λ (k : ℕ). isEmpty (tokenAt text k)) (number-end v e q) ∙ h) in
-      ap₂ numberEnding (same-end w) (ap numberOf w) ∙ q
+      sym (ap₂ numberEnding (same-end w) (ap numberOf w) ∙ q)
 
   broken : isEmpty (tokenAt text (skip isDigit text at)) ≡ false → numberOf (tokenAt text at) ≡ none
   unfolding tokenAt
   broken h = broken-number (drop at text) (sym (ap isEmpty behind) ∙ h)
 
-  pub token-longer : (v e : ℕ) → digitsAt text at ≡ NumberAt.Number v e → isEmpty (tokenAt text e) ≡ false → numberOf (tokenAt text at) ≡ none
-  token-longer v e q h = broken (ap (λ (k : ℕ). isEmpty (tokenAt text k)) (number-end v e q) ∙ h)
+  pub token-longer : (v e : ℕ) → digitsAt text at ≡ NumberAt.Number v e → isEmpty (tokenAt text e) ≡ false → NumberAt.Malformed ≡ numberAt text at
+  unfolding numberAt numberEnding
+  token-longer v e q h = rw (broken (ap (λ (k : ℕ). isEmpty (tokenAt text k)) (number-end v e q) ∙ h))
 
-  pub token-malformed : digitsAt text at ≡ NumberAt.Malformed → numberOf (tokenAt text at) ≡ none
-  unfolding digitsAt numberEnding
+  pub token-malformed : digitsAt text at ≡ NumberAt.Malformed → NumberAt.Malformed ≡ numberAt text at
+  unfolding digitsAt numberAt numberEnding
   token-malformed q = go (isEmpty (tokenAt text (skip isDigit text at))) refl
     where
       no-digits : (o : Option ℕ) → numberEnding (skip isDigit text at) o ≡ NumberAt.Malformed → o ≡ none
       no-digits none k = refl
       no-digits (some n) k = let w : _≡_ {A = ℕ} 0 1 = cc in absurd (omega arith)
-      go : (b : Bool) → isEmpty (tokenAt text (skip isDigit text at)) ≡ b → numberOf (tokenAt text at) ≡ none
-      go true h = ap numberOf (whole-token h) ∙ no-digits (numberOf (run isDigit (drop at text))) q
-      go false h = broken h
+      go : (b : Bool) → isEmpty (tokenAt text (skip isDigit text at)) ≡ b → NumberAt.Malformed ≡ numberEnding (skip inToken text at) (numberOf (tokenAt text at))
+      go true h = rw (ap numberOf (whole-token h) ∙ no-digits (numberOf (run isDigit (drop at text))) q)
+      go false h = rw (broken h)
 
 -- ---- a letter and a number
 
@@ -246,19 +247,8 @@ module _ (text : List ℕ) (at letter : ℕ) where
       none-named true e = ap (named letter) (token-past text at h e) ∙ rw (ne-eqb (getD text at 0) letter q)
       none-named false e = ap (named letter) (token-here text at h e)
 
-  name-number : inToken letter ≡ true → at < length text → getD text at 0 ≡ letter → nameAt text at letter ≡ numberEnding (skip inToken text (at + 1)) (numberOf (tokenAt text (at + 1)))
-  unfolding nameAt named
+  pub name-number : inToken letter ≡ true → at < length text → getD text at 0 ≡ letter → numberAt text (at + 1) ≡ nameAt text at letter
+  unfolding nameAt numberAt named
   name-number l h q =
       let i : inToken (getD text at 0) ≡ true = ap inToken q ∙ l in
-      ap₂ numberEnding (skip-past inToken text at h i) (ap (named letter) (token-past text at h i) ∙ rw (eq-eqb (getD text at 0) letter q))
-
-  pub name-whole : inToken letter ≡ true → at < length text → getD text at 0 ≡ letter → (v e : ℕ) → digitsAt text (at + 1) ≡ NumberAt.Number v e → isEmpty (tokenAt text e) ≡ true → NumberAt.Number v e ≡ nameAt text at letter
-  name-whole l h q v e d k = sym (name-number l h q ∙ token-number text (at + 1) v e d k)
-
-  pub name-longer : inToken letter ≡ true → at < length text → getD text at 0 ≡ letter → (v e : ℕ) → digitsAt text (at + 1) ≡ NumberAt.Number v e → isEmpty (tokenAt text e) ≡ false → NumberAt.Malformed ≡ nameAt text at letter
-  unfolding numberEnding
-  name-longer l h q v e d k = sym (name-number l h q ∙ ap (numberEnding (skip inToken text (at + 1))) (token-longer text (at + 1) v e d k))
-
-  pub name-malformed : inToken letter ≡ true → at < length text → getD text at 0 ≡ letter → digitsAt text (at + 1) ≡ NumberAt.Malformed → NumberAt.Malformed ≡ nameAt text at letter
-  unfolding numberEnding
-  name-malformed l h q d = sym (name-number l h q ∙ ap (numberEnding (skip inToken text (at + 1))) (token-malformed text (at + 1) d))
+      sym (ap₂ numberEnding (skip-past inToken text at h i) (ap (named letter) (token-past text at h i) ∙ rw (eq-eqb (getD text at 0) letter q)))

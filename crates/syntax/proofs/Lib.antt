@@ -1,4 +1,5 @@
 pub mod ClassLaws
+pub mod ConstantLaws
 pub mod DigitLaws
 pub mod Examples
 pub mod RunLaws

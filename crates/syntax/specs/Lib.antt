@@ -6,4 +6,5 @@ pub mod Grammar
 pub mod Text
 pub mod Epoch
 pub mod Scan
+pub mod Parts
 pub mod Examples

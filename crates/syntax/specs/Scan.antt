@@ -57,6 +57,10 @@ digitRun text at = record { value = clip (decimalFrom 0 (run isDigit (drop at te
 unfoldable pub digitsAt : List ℕ → ℕ → NumberAt
 digitsAt text at = numberEnding (skip isDigit text at) (numberOf (run isDigit (drop at text)))
 
+-- the number that the token at a position is
+unfoldable pub numberAt : List ℕ → ℕ → NumberAt
+numberAt text at = numberEnding (skip inToken text at) (numberOf (tokenAt text at))
+
 -- a letter and a number, as a whole token
 unfoldable pub nameAt : List ℕ → ℕ → ℕ → NumberAt
 nameAt text at letter = numberEnding (skip inToken text at) (named letter (tokenAt text at))

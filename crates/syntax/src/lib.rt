@@ -2,6 +2,7 @@
 // text is refused for, and the policy that an accepted one has).
 mod class;
 mod scan;
+mod token;
 
 pub use class::Class;
 pub use class::class_of;

@@ -6,7 +6,7 @@ ghost use Prim.Native.Nat.{_+_, _*_, _-_, _≤_};
 ghost use Rattle.policy.specs.List.{all};
 ghost use Rattle.syntax.specs.Byte.{isSpace, isDigit, endsToken};
 ghost use Rattle.syntax.specs.Number.{isEmpty};
-ghost use Rattle.syntax.specs.Scan.{skip, tokenAt, wordAt, inToken, clip, clipLimit, digitRun, digitsAt, nameAt};
+ghost use Rattle.syntax.specs.Scan.{skip, tokenAt, wordAt, inToken, clip, clipLimit, digitRun, digitsAt, numberAt, nameAt};
 use crate::class::{ends_token, is_digit, is_space};
 
 pub enum WordAt {
@@ -121,19 +121,12 @@ pub fn digits_at(text: &[u8], at: usize) -> NumberAt
     }
 }
 
-// The number of a token that is a letter and a number.
-pub fn name_at(text: &[u8], at: usize, letter: u8) -> NumberAt
-    requires { ⌜ inToken letter ≡ true ⌝ }
-    ensures { λ r. ⌜ r ≡ nameAt (now (text .entry)) at letter ⌝ }
+// The number that the token at the position is.
+pub fn number_at(text: &[u8], at: usize) -> NumberAt
+    ensures { λ r. ⌜ r ≡ numberAt (now (text .entry)) at ⌝ }
 {
-    if text.len() <= at {
-        return NumberAt::Malformed;
-    }
-    if text[at] != letter {
-        return NumberAt::Malformed;
-    }
-    let number = digits_at(text, at + 1);
-    match number {
+    let digits = digits_at(text, at);
+    match digits {
         NumberAt::Number(value, end) => {
             if at_token_end(text, end) {
                 NumberAt::Number(value, end)
@@ -142,5 +135,20 @@ pub fn name_at(text: &[u8], at: usize, letter: u8) -> NumberAt
             }
         }
         NumberAt::Malformed => NumberAt::Malformed,
+    }
+}
+
+// The number of a token that is a letter and a number.
+pub fn name_at(text: &[u8], at: usize, letter: u8) -> NumberAt
+    requires { ⌜ inToken letter ≡ true ⌝ }
+    ensures { λ r. ⌜ r ≡ nameAt (now (text .entry)) at letter ⌝ }
+{
+    if text.len() <= at {
+        return NumberAt::Malformed;
+    }
+    if text[at] == letter {
+        number_at(text, at + 1)
+    } else {
+        NumberAt::Malformed
     }
 }
