@@ -4,15 +4,15 @@ use mathlib.Core.Bool.{Bool, true, false, not, _&&_, cond}
 use mathlib.Core.List.{List, [], _∷_}
 use mathlib.Core.Path.{_≡_, refl, sym, ap, ap₂, _∙_}
 use native.Mathlib.Omega.{arith}
-use borrow.Author.Tests.{eq-eqb, ne-eqb}
-use lib.Dec.{eqb}
+use borrow.Author.Tests.{eq-eqb, ne-eqb, ltb-true, ltb-false}
+use lib.Dec.{eqb, ltb}
 use lib.ListN.{length, getD, drop, drop-of-length-le}
-use Rattle.policy.proofs.ListLaws.{and-out}
+use Rattle.policy.proofs.ListLaws.{and-out, true-false}
 use Rattle.policy.specs.List.{all}
-use Rattle.syntax.proofs.RunLaws.{at-byte, run-end, run-here, run-past}
+use Rattle.syntax.proofs.RunLaws.{at-byte, run-end, run-here, run-past, skip-past}
 use Rattle.syntax.specs.Byte.{sameBytes, endsToken}
 use Rattle.syntax.specs.Number.{isEmpty}
-use Rattle.syntax.specs.Scan.{run, inToken, tokenAt}
+use Rattle.syntax.specs.Scan.{run, skip, inToken, tokenAt}
 
 -- the test that a byte ends the token, against the byte being in it
 pub ends-here : (b : ℕ) → endsToken b ≡ true → inToken b ≡ false
@@ -84,3 +84,34 @@ word-ends t word k h = ap (sameBytes t) (drop-of-length-le word h) ∙ go t
     go : (s : List ℕ) → sameBytes s [] ≡ isEmpty s
     go [] = refl
     go (b ∷ s) = refl
+
+-- ---- whether a token stands at a position
+
+module _ (text : List ℕ) (i : ℕ) where
+  pub token-none : isEmpty (tokenAt text i) ≡ true → tokenAt text i ≡ []
+  unfolding isEmpty
+  token-none = go (tokenAt text i)
+    where
+      go : (t : List ℕ) → isEmpty t ≡ true → t ≡ []
+      go [] e = refl
+      go (b ∷ t) e = absurd (true-false e refl)
+
+  pub skip-none : isEmpty (tokenAt text i) ≡ true → skip inToken text i ≡ i
+  unfolding skip tokenAt
+  skip-none e = ap (λ (t : List ℕ). i + length t) (token-none e) ∙ omega arith
+
+  pub token-inside : isEmpty (tokenAt text i) ≡ false → i < length text
+  token-inside e = go (ltb i (length text)) refl
+    where
+      go : (b : Bool) → ltb i (length text) ≡ b → i < length text
+      go true q = ltb-true i (length text) q
+      go false q = absurd (true-false (sym (empty-end text i (ltb-false i (length text) q))) e)
+
+  first-inside : isEmpty (tokenAt text i) ≡ false → inToken (getD text i 0) ≡ true
+  first-inside e = goes-on (getD text i 0) (empty-here text i (token-inside e) ∙ e)
+
+  pub token-first : isEmpty (tokenAt text i) ≡ false → tokenAt text i ≡ getD text i 0 ∷ tokenAt text (i + 1)
+  token-first e = token-past text i (token-inside e) (first-inside e)
+
+  pub skip-first : isEmpty (tokenAt text i) ≡ false → skip inToken text i ≡ skip inToken text (i + 1)
+  skip-first e = skip-past inToken text i (token-inside e) (first-inside e)
