@@ -2,7 +2,9 @@ pub mod ClassLaws
 pub mod ConstantLaws
 pub mod DigitLaws
 pub mod Examples
+pub mod HeadLaws
 pub mod PartLaws
 pub mod RunLaws
 pub mod SymbolLaws
+pub mod TokenLaws
 pub mod WordLaws

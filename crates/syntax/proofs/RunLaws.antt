@@ -44,3 +44,7 @@ module _ (p : ℕ → Bool) (text : List ℕ) (i : ℕ) where
   pub skip-past : i < length text → p (getD text i 0) ≡ true → skip p text i ≡ skip p text (i + 1)
   unfolding skip
   skip-past h e = rw (run-past h e) (omega arith)
+
+pub skip-ge : (p : ℕ → Bool) (text : List ℕ) (i : ℕ) → i ≤ skip p text i
+unfolding skip
+skip-ge p text i = omega arith

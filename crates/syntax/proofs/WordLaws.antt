@@ -4,15 +4,16 @@ use mathlib.Core.Bool.{Bool, true, false, not, _&&_, cond}
 use mathlib.Core.List.{List, [], _∷_}
 use mathlib.Core.Path.{_≡_, refl, sym, ap, ap₂, _∙_}
 use native.Mathlib.Omega.{arith}
-use borrow.Author.Tests.{eq-eqb, ne-eqb, ltb-true, ltb-false}
+use borrow.Author.Tests.{eqb-true, eq-eqb, ne-eqb, ltb-true, ltb-false}
 use lib.Dec.{eqb, ltb}
 use lib.ListN.{length, getD, drop, drop-of-length-le}
 use Rattle.policy.proofs.ListLaws.{and-out, true-false}
 use Rattle.policy.specs.List.{all}
-use Rattle.syntax.proofs.RunLaws.{at-byte, run-end, run-here, run-past, skip-past}
+use Rattle.syntax.proofs.RunLaws.{at-byte, run-end, run-here, run-past, skip-past, skip-ge}
 use Rattle.syntax.specs.Byte.{sameBytes, endsToken}
 use Rattle.syntax.specs.Number.{isEmpty}
-use Rattle.syntax.specs.Scan.{run, skip, inToken, tokenAt}
+use Rattle.syntax.specs.Scan.{run, skip, inToken, tokenAt, wordAt}
+use Rattle.syntax.specs.declared.scan.WordAt.{WordAt}
 
 -- the test that a byte ends the token, against the byte being in it
 pub ends-here : (b : ℕ) → endsToken b ≡ true → inToken b ≡ false
@@ -115,3 +116,41 @@ module _ (text : List ℕ) (i : ℕ) where
 
   pub skip-first : isEmpty (tokenAt text i) ≡ false → skip inToken text i ≡ skip inToken text (i + 1)
   skip-first e = skip-past inToken text i (token-inside e) (first-inside e)
+
+pub skip-grows : (text : List ℕ) (i : ℕ) → isEmpty (tokenAt text i) ≡ false → i < skip inToken text i
+skip-grows text i e = omega (arith, skip-first text i e, skip-ge inToken text (i + 1))
+
+skip-token : (text : List ℕ) (at : ℕ) (word : List ℕ) → tokenAt text at ≡ word → skip inToken text at ≡ at + length word
+unfolding skip tokenAt
+skip-token text at word s = ap (λ (t : List ℕ). at + length t) s
+
+-- ---- the answers of comparing with a word
+
+same-bytes : (s t : List ℕ) → sameBytes s t ≡ true → s ≡ t
+unfolding sameBytes
+same-bytes [] [] e = refl
+same-bytes [] (y ∷ ys) e = absurd (true-false e refl)
+same-bytes (x ∷ xs) [] e = absurd (true-false e refl)
+same-bytes (x ∷ xs) (y ∷ ys) e = let p = and-out (eqb x y) (sameBytes xs ys) e in ap₂ _∷_ (eqb-true x y (p .0)) (same-bytes xs ys (p .1))
+
+module _ (text : List ℕ) (at : ℕ) (word : List ℕ) where
+  pub word-token : (e : ℕ) → wordAt text at word ≡ WordAt.Found e → (tokenAt text at ≡ word) × (e ≡ skip inToken text at)
+  unfolding wordAt
+  word-token e = go (sameBytes (tokenAt text at) word) refl
+    where
+      go : (b : Bool) → sameBytes (tokenAt text at) word ≡ b → cond b (WordAt.Found (at + length word)) WordAt.Absent ≡ WordAt.Found e → (tokenAt text at ≡ word) × (e ≡ skip inToken text at)
+      go true p q = let s = same-bytes (tokenAt text at) word p in (s, behind-word s (found q))
+        where
+          found : WordAt.Found (at + length word) ≡ WordAt.Found e → at + length word ≡ e
+          found k = cc
+          behind-word : tokenAt text at ≡ word → at + length word ≡ e → e ≡ skip inToken text at
+          behind-word s k = sym k ∙ sym (skip-token text at word s)
+      go false p q = let w : _≡_ {A = ℕ} 0 1 = cc in absurd (omega arith)
+
+  pub word-absent : wordAt text at word ≡ WordAt.Absent → sameBytes (tokenAt text at) word ≡ false
+  unfolding wordAt
+  word-absent = go (sameBytes (tokenAt text at) word)
+    where
+      go : (b : Bool) → cond b (WordAt.Found (at + length word)) WordAt.Absent ≡ WordAt.Absent → b ≡ false
+      go true q = let w : _≡_ {A = ℕ} 0 1 = cc in absurd (omega arith)
+      go false q = refl

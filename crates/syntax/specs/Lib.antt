@@ -7,4 +7,5 @@ pub mod Text
 pub mod Epoch
 pub mod Scan
 pub mod Parts
+pub mod Outcome
 pub mod Examples

@@ -7,6 +7,7 @@ use mathlib.Core.Option.{Option, none, some}
 use lib.ListN.{length, drop}
 use Rattle.syntax.specs.Byte.{sameBytes, isSpace, isLineEnd, endsToken, isDigit}
 use Rattle.syntax.specs.Grammar.{named}
+use Rattle.syntax.specs.Lines.{tokensOf}
 use Rattle.syntax.specs.Number.{numberOf, decimalFrom}
 use Rattle.syntax.specs.declared.scan.Digits.{Digits}
 use Rattle.syntax.specs.declared.scan.NumberAt.{NumberAt}
@@ -64,3 +65,13 @@ numberAt text at = numberEnding (skip inToken text at) (numberOf (tokenAt text a
 -- a letter and a number, as a whole token
 unfoldable pub nameAt : List ℕ → ℕ → ℕ → NumberAt
 nameAt text at letter = numberEnding (skip inToken text at) (named letter (tokenAt text at))
+
+-- ---- the rest of a line
+
+-- the tokens from a position to the end of its line
+unfoldable pub tokensAt : List ℕ → ℕ → List (List ℕ)
+tokensAt text at = tokensOf (lineAt text at)
+
+-- where the line of a position ends
+unfoldable pub lineEnd : List ℕ → ℕ → ℕ
+lineEnd text at = skip inLine text at

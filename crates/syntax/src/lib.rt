@@ -1,6 +1,7 @@
 // Reading rule texts and epoch lines. Start with specs/Grammar.antt (the shapes of a line) and specs/Text.antt (what a
 // text is refused for, and the policy that an accepted one has).
 mod class;
+mod line;
 mod scan;
 mod token;
 

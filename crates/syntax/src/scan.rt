@@ -4,7 +4,7 @@ ghost use mathlib.Core.Path.{_≡_};
 ghost use mathlib.Core.Bool.{true, false};
 ghost use Prim.Native.Nat.{_+_, _*_, _-_, _≤_};
 ghost use Rattle.policy.specs.List.{all};
-ghost use Rattle.syntax.specs.Byte.{isSpace, isDigit, endsToken};
+ghost use Rattle.syntax.specs.Byte.{bytes, isSpace, isDigit};
 ghost use Rattle.syntax.specs.Number.{isEmpty};
 ghost use Rattle.syntax.specs.Scan.{skip, tokenAt, wordAt, inToken, clip, clipLimit, digitRun, digitsAt, numberAt, nameAt};
 use crate::class::{ends_token, is_digit, is_space};
@@ -65,6 +65,36 @@ pub fn word_at(text: &[u8], at: usize, word: &[u8]) -> WordAt
     } else {
         WordAt::Absent
     }
+}
+
+pub fn ampersand_at(text: &[u8], at: usize) -> WordAt
+    ensures { λ r. ⌜ r ≡ wordAt (now (text .entry)) at (bytes "&") ⌝ }
+{
+    word_at(text, at, b"&")
+}
+
+pub fn comma_at(text: &[u8], at: usize) -> WordAt
+    ensures { λ r. ⌜ r ≡ wordAt (now (text .entry)) at (bytes ",") ⌝ }
+{
+    word_at(text, at, b",")
+}
+
+pub fn if_at(text: &[u8], at: usize) -> WordAt
+    ensures { λ r. ⌜ r ≡ wordAt (now (text .entry)) at (bytes "if") ⌝ }
+{
+    word_at(text, at, b"if")
+}
+
+pub fn causes_at(text: &[u8], at: usize) -> WordAt
+    ensures { λ r. ⌜ r ≡ wordAt (now (text .entry)) at (bytes "causes") ⌝ }
+{
+    word_at(text, at, b"causes")
+}
+
+pub fn never_at(text: &[u8], at: usize) -> WordAt
+    ensures { λ r. ⌜ r ≡ wordAt (now (text .entry)) at (bytes "never") ⌝ }
+{
+    word_at(text, at, b"never")
 }
 
 // One digit more.

@@ -1,0 +1,163 @@
+-- Laws of reading the heads of a line, one after another.
+use Prim.Native.Nat.{ℕ, zero, suc, _+_, _<_, _≤_}
+use mathlib.Core.Bool.{Bool, true, false, _&&_, cond, and-assoc, and-true}
+use mathlib.Core.List.{List, [], _∷_}
+use mathlib.Core.Option.{Option, none, some, Option·map}
+use mathlib.Core.Path.{_≡_, refl, sym, ap, ap₂, _∙_}
+use native.Mathlib.Omega.{arith}
+use lib.ListN.{length}
+use Rattle.policy.proofs.ListLaws.{true-false}
+use Rattle.policy.specs.Line.{pushHead}
+use Rattle.policy.specs.List.{all}
+use Rattle.policy.specs.declared.line.Line.{Line}
+use Rattle.policy.specs.declared.line.Test.{Test}
+use Rattle.syntax.proofs.TokenLaws.{tokens-after-spaces, tokens-first, tokens-ended, line-past-spaces, line-past-token, line-ended}
+use Rattle.syntax.proofs.RunLaws.{skip-ge}
+use Rattle.syntax.proofs.WordLaws.{token-inside, skip-grows, word-token, word-absent}
+use Rattle.syntax.specs.Byte.{bytes, sameBytes, is, isSpace}
+use Rattle.syntax.specs.Grammar.{Token, Joined, last, before, both, joined, literalOf, actionOf, named}
+use Rattle.syntax.specs.Number.{isEmpty}
+use Rattle.syntax.specs.Outcome.{Outcome, viewOf, failedParts, pushHeads, headsOutcome}
+use Rattle.syntax.specs.Parts.{testInRange, smallTest, testOf, headEnding, headAt}
+use Rattle.syntax.specs.Scan.{run, skip, inToken, tokenAt, wordAt, tokensAt, lineEnd}
+use Rattle.syntax.specs.declared.scan.WordAt.{WordAt}
+use Rattle.syntax.specs.declared.token.HeadAt.{HeadAt}
+
+-- ---- items joined by `&`
+
+module _ {A : Type 0} (item : Token → Option A) (t : Token) where
+  joined-bad : item t ≡ none → (ts : List Token) → joined item (t ∷ ts) ≡ none
+  unfolding joined both
+  joined-bad e [] = rw e
+  joined-bad e (s ∷ ts) = rw e (go (is "&" s))
+    where
+      go : (b : Bool) → _≡_ {A = Option (Joined A)} (cond b none none) none
+      go true = refl
+      go false = refl
+
+  module _ (x : A) (e : item t ≡ some x) where
+    joined-more : (s : Token) (ts : List Token) → is "&" s ≡ true → joined item (t ∷ s ∷ ts) ≡ Option·map (before x) (joined item ts)
+    unfolding joined both
+    joined-more s ts h = rw (h, e) (go (joined item ts))
+      where
+        go : (o : Option (Joined A)) → both before (some x) o ≡ Option·map (before x) o
+        go none = refl
+        go (some j) = refl
+
+    joined-alone : joined item (t ∷ []) ≡ some (last [] x)
+    unfolding joined
+    joined-alone = rw e
+
+    joined-last : (s : Token) (ts : List Token) → is "&" s ≡ false → joined item (t ∷ s ∷ ts) ≡ some (last (s ∷ ts) x)
+    unfolding joined
+    joined-last s ts h = rw (h, e)
+
+-- one head more, before the others or after those that were read
+heads-step : (text : List ℕ) (r : Bool) (l : Line) (e : ℕ) (x : Test) (o : Option (Joined Test)) → headsOutcome text r l e (Option·map (before x) o) ≡ headsOutcome text (r && testInRange x) (pushHead l (smallTest x)) e o
+unfolding headsOutcome pushHeads all
+heads-step text r l e x none = refl
+heads-step text r l e x (some j) =
+    ap (λ (b : Bool). record { ok = true; inRange = b; line = pushHeads (pushHead l (smallTest x)) (j .items); rest = j .rest; end = e }) (sym (and-assoc r (testInRange x) (all testInRange (j .items))))
+
+-- ---- one head at a position
+
+record HeadRead (text : List ℕ) (at : ℕ) (never : Bool) (t : Test) (ok : Bool) (e : ℕ) : Type 0 where
+  test : Test
+  read : testOf never (tokenAt text at) ≡ some test
+  small : t ≡ smallTest test
+  range : ok ≡ testInRange test
+  behind : e ≡ skip inToken text at
+
+head-some : (text : List ℕ) (at : ℕ) (never : Bool) (t : Test) (ok : Bool) (e : ℕ) → headAt text at never ≡ HeadAt.Head t ok e → HeadRead text at never t ok e
+unfolding headAt headEnding
+head-some text at never t ok e = go (testOf never (tokenAt text at)) refl
+  where
+    go : (o : Option Test) → testOf never (tokenAt text at) ≡ o → headEnding (skip inToken text at) o ≡ HeadAt.Head t ok e → HeadRead text at never t ok e
+    go none p q = let w : _≡_ {A = ℕ} 0 1 = cc in absurd (omega arith)
+    go (some x) p q = record { test = x; read = p; small = cc; range = cc; behind = cc }
+
+head-none : (text : List ℕ) (at : ℕ) (never : Bool) → headAt text at never ≡ HeadAt.Malformed → testOf never (tokenAt text at) ≡ none
+unfolding headAt headEnding
+head-none text at never = go (testOf never (tokenAt text at))
+  where
+    go : (o : Option Test) → headEnding (skip inToken text at) o ≡ HeadAt.Malformed → o ≡ none
+    go none q = refl
+    go (some x) q = let w : _≡_ {A = ℕ} 0 1 = cc in absurd (omega arith)
+
+test-token : (never : Bool) (t : Token) (x : Test) → testOf never t ≡ some x → isEmpty t ≡ false
+unfolding testOf actionOf literalOf named isEmpty
+test-token true [] x e = let w : _≡_ {A = ℕ} 0 1 = cc in absurd (omega arith)
+test-token false [] x e = let w : _≡_ {A = ℕ} 0 1 = cc in absurd (omega arith)
+test-token true (b ∷ t) x e = refl
+test-token false (b ∷ t) x e = refl
+
+-- ---- a turn of reading
+
+module _ (text : List ℕ) (at : ℕ) (never r : Bool) (l : Line) where
+  abbrev s : ℕ
+  s = skip isSpace text at
+
+  abbrev item : Token → Option Test
+  item = testOf never
+
+  abbrev outcome : Outcome
+  outcome = headsOutcome text r l (lineEnd text at) (joined item (tokensAt text at))
+
+  pub heads-failed : headAt text s never ≡ HeadAt.Malformed → viewOf text (failedParts text) ≡ outcome
+  unfolding headsOutcome joined
+  heads-failed q = ap (headsOutcome text r l (lineEnd text at)) (sym (ap (joined item) (tokens-after-spaces text at) ∙ go (isEmpty (tokenAt text s)) refl))
+    where
+      go : (b : Bool) → isEmpty (tokenAt text s) ≡ b → joined item (tokensAt text s) ≡ none
+      go true h = ap (joined item) (tokens-ended text at h)
+      go false h = ap (joined item) (tokens-first text s h) ∙ joined-bad item (tokenAt text s) (head-none text s never q) (tokensAt text (skip inToken text s))
+
+  module _ (t : Test) (ok : Bool) (e : ℕ) (q : headAt text s never ≡ HeadAt.Head t ok e) where
+    abbrev n : ℕ
+    n = skip isSpace text e
+
+    head : HeadRead text s never t ok e
+    head = head-some text s never t ok e q
+
+    solid : isEmpty (tokenAt text s) ≡ false
+    solid = test-token never (tokenAt text s) (head .test) (head .read)
+
+    -- the head, and what is behind it
+    tokens : tokensAt text at ≡ tokenAt text s ∷ tokensAt text n
+    tokens = tokens-after-spaces text at ∙ tokens-first text s solid ∙ ap (λ (k : ℕ). tokenAt text s ∷ tokensAt text k) (sym (head .behind)) ∙ ap (λ (ts : List Token). tokenAt text s ∷ ts) (tokens-after-spaces text e)
+
+    ends : lineEnd text n ≡ lineEnd text at
+    ends = line-past-spaces text e ∙ ap (lineEnd text) (head .behind) ∙ line-past-token text s ∙ line-past-spaces text at
+
+    taken : (o : Option (Joined Test)) → headsOutcome text r l (lineEnd text at) (Option·map (before (head .test)) o) ≡ headsOutcome text (r && ok) (pushHead l t) (lineEnd text n) o
+    taken o =
+        heads-step text r l (lineEnd text at) (head .test) o
+        ∙ cc (head .range, head .small, ends)
+
+    pub heads-again : (b : ℕ) → wordAt text n (bytes "&") ≡ WordAt.Found b → outcome ≡ headsOutcome text (r && ok) (pushHead l t) (lineEnd text b) (joined item (tokensAt text b))
+    unfolding is bytes isEmpty sameBytes
+    heads-again b w =
+        let f = word-token text n (bytes "&") b w in
+        ap (λ (ts : List Token). headsOutcome text r l (lineEnd text at) (joined item ts)) (tokens ∙ ap (λ (ts : List Token). tokenAt text s ∷ ts) (tokens-first text n (ap isEmpty (f .0))))
+        ∙ ap (headsOutcome text r l (lineEnd text at)) (joined-more item (tokenAt text s) (head .test) (head .read) (tokenAt text n) (tokensAt text (skip inToken text n)) (ap (λ (u : Token). sameBytes u (bytes "&")) (f .0)))
+        ∙ taken (joined item (tokensAt text (skip inToken text n)))
+        ∙ ap₂ (λ (k m : ℕ). headsOutcome text (r && ok) (pushHead l t) k (joined item (tokensAt text m))) (sym (line-past-token text n) ∙ ap (lineEnd text) (sym (f .1))) (sym (f .1))
+
+    pub heads-done : wordAt text n (bytes "&") ≡ WordAt.Absent → viewOf text (record { ok = true; «in_range» = r && ok; line = pushHead l t; at = n }) ≡ outcome
+    unfolding headsOutcome pushHeads all is bytes
+    heads-done w =
+        sym (ap (λ (ts : List Token). headsOutcome text r l (lineEnd text at) (joined item ts)) tokens
+          ∙ ap (headsOutcome text r l (lineEnd text at)) (go (isEmpty (tokenAt text n)) refl)
+          ∙ cc (head .range, head .small, ends, and-true (testInRange (head .test))))
+      where
+        go : (b : Bool) → isEmpty (tokenAt text n) ≡ b → joined item (tokenAt text s ∷ tokensAt text n) ≡ some (last (tokensAt text n) (head .test))
+        go true h = rw (tokens-ended text e h) (joined-alone item (tokenAt text s) (head .test) (head .read))
+        go false h =
+            rw (tokens-first text n h)
+              (joined-last item (tokenAt text s) (head .test) (head .read) (tokenAt text n) (tokensAt text (skip inToken text n)) (word-absent text n (bytes "&") w))
+
+    pub heads-less : (b : ℕ) → wordAt text n (bytes "&") ≡ WordAt.Found b → (at < length text) × (at < b)
+    heads-less b w =
+        let i : s < length text = token-inside text s solid in
+        let f : b ≡ skip inToken text n = word-token text n (bytes "&") b w .1 in
+        let g : e ≡ skip inToken text s = head .behind in
+        (omega (arith, skip-ge isSpace text at), omega (arith, skip-ge isSpace text at, skip-grows text s solid, skip-ge isSpace text e, skip-ge inToken text n))
