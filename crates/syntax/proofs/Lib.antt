@@ -1,5 +1,6 @@
 pub mod ClassLaws
 pub mod ConstantLaws
+pub mod ConditionLaws
 pub mod DigitLaws
 pub mod Examples
 pub mod HeadLaws

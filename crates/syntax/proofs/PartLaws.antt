@@ -319,7 +319,7 @@ operand-some text at o ok e = go (operandOf (tokenAt text at)) refl
     go none p q = let w : _≡_ {A = ℕ} 0 1 = cc in absurd (omega arith)
     go (some x) p q = record { operand = x; is = p; small = cc; range = cc; behind = cc }
 
-both-none : {A B C : Type 0} (f : A → B → C) (x : Option A) → both f x none ≡ none
+pub both-none : {A B C : Type 0} (f : A → B → C) (x : Option A) → both f x none ≡ none
 unfolding both
 both-none f none = refl
 both-none f (some x) = refl

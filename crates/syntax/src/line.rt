@@ -5,12 +5,12 @@ ghost use mathlib.Core.Bool.{true, _&&_};
 ghost use mathlib.Core.List.{[]};
 ghost use Rattle.policy.specs.Line.{lineOf};
 ghost use Rattle.policy.specs.declared.line.Ending.{Ending};
-ghost use Rattle.syntax.specs.Grammar.{joined, comparisonsOf};
+ghost use Rattle.syntax.specs.Grammar.{joined, comparisonsOf, conditionOf};
 ghost use Rattle.syntax.specs.Parts.{testOf};
 ghost use Rattle.syntax.specs.Scan.{tokensAt, lineEnd};
 ghost use Rattle.syntax.specs.Outcome.{failedParts, viewOf, headsOutcome, comparisonsParts};
-use crate::scan::{WordAt, ampersand_at, skip_spaces};
-use crate::token::{HeadAt, head_at};
+use crate::scan::{WordAt, ampersand_at, at_token_end, comma_at, if_at, skip_spaces};
+use crate::token::{ComparisonAt, HeadAt, comparison_at, head_at};
 use policy::Line;
 
 // What was read of a line: whether it has the right shape, whether every number is in range, the parts, and the position
@@ -68,4 +68,59 @@ fn read_heads(text: &[u8], from: usize, never: bool) -> Parts
         };
         at = behind;
     }
+}
+
+// The comparisons of a line, joined by `,`, to the end of the line.
+fn read_comparisons(text: &[u8], from: usize, heads: Line, heads_in_range: bool) -> Parts
+    ensures {
+        λ r. ⌜ r ≡ comparisonsParts (now (text .entry)) «heads_in_range» heads (lineEnd (now (text .entry)) from)
+            (comparisonsOf (tokensAt (now (text .entry)) from)) ⌝
+    }
+{
+    let mut line = heads;
+    let mut in_range = heads_in_range;
+    let mut at = from;
+    loop {
+        let start = skip_spaces(text, at);
+        let ComparisonAt::Comparison(comparison, ok, end) = comparison_at(text, start) else {
+            return failed(text);
+        };
+        line = line.with_comparison(comparison);
+        in_range = both(in_range, ok);
+        let next = skip_spaces(text, end);
+        if at_token_end(text, next) {
+            return Parts {
+                ok: true,
+                in_range,
+                line,
+                at: next,
+            };
+        }
+        let WordAt::Found(behind) = comma_at(text, next) else {
+            return failed(text);
+        };
+        at = behind;
+    }
+}
+
+// The condition of a line: `if` and comparisons, or nothing, to the end of the line.
+fn read_condition(text: &[u8], from: usize, heads: Line, in_range: bool) -> Parts
+    ensures {
+        λ r. ⌜ r ≡ comparisonsParts (now (text .entry)) «in_range» heads (lineEnd (now (text .entry)) from)
+            (conditionOf (tokensAt (now (text .entry)) from)) ⌝
+    }
+{
+    let start = skip_spaces(text, from);
+    if at_token_end(text, start) {
+        return Parts {
+            ok: true,
+            in_range,
+            line: heads,
+            at: start,
+        };
+    }
+    let WordAt::Found(behind) = if_at(text, start) else {
+        return failed(text);
+    };
+    read_comparisons(text, behind, heads, in_range)
 }

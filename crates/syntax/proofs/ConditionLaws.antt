@@ -1,0 +1,248 @@
+-- Laws of reading the condition of a line, one comparison after another.
+use Prim.Native.Nat.{ℕ, _+_, _<_, _≤_}
+use mathlib.Core.Bool.{Bool, true, false, _&&_, cond, and-assoc, and-true}
+use mathlib.Core.List.{List, [], _∷_}
+use mathlib.Core.Option.{Option, none, some, Option·map}
+use mathlib.Core.Path.{_≡_, refl, sym, ap, ap₂, _∙_}
+use native.Mathlib.Omega.{arith}
+use lib.ListN.{length}
+use Rattle.policy.specs.Limits.{comparisonInRange}
+use Rattle.policy.specs.Line.{pushComparison}
+use Rattle.policy.specs.List.{all}
+use Rattle.policy.specs.declared.comparison.Comparison.{Comparison}
+use Rattle.policy.specs.declared.comparison.Operand.{Operand}
+use Rattle.policy.specs.declared.line.Line.{Line}
+use Rattle.syntax.proofs.PartLaws.{both-none}
+use Rattle.syntax.proofs.RunLaws.{skip-ge}
+use Rattle.syntax.proofs.TokenLaws.{tokens-after-spaces, tokens-first, tokens-ended, line-past-spaces, line-past-token, line-ended}
+use Rattle.syntax.proofs.WordLaws.{token-inside, skip-grows, word-token, word-absent}
+use Rattle.syntax.specs.Byte.{bytes, sameBytes, is, isSpace}
+use Rattle.syntax.specs.Grammar.{Token, both, compare, named, readingOf, relationOf, orElse, operandOf, comparisonOf, comparisonsOf, conditionOf}
+use Rattle.syntax.specs.Number.{isEmpty, constantOf}
+use Rattle.syntax.specs.Outcome.{failedParts, pushComparisons, comparisonsParts}
+use Rattle.syntax.specs.Parts.{smallComparison, comparisonEnding, nextAt, comparisonAt}
+use Rattle.syntax.specs.Scan.{skip, inToken, tokenAt, wordAt, tokensAt, lineEnd}
+use Rattle.syntax.specs.declared.line.Parts.{Parts}
+use Rattle.syntax.specs.declared.scan.WordAt.{WordAt}
+use Rattle.syntax.specs.declared.token.ComparisonAt.{ComparisonAt}
+
+-- ---- a list of comparisons
+
+module _ (r q o : Token) where
+  list-bad : comparisonOf r q o ≡ none → (ts : List Token) → comparisonsOf (r ∷ q ∷ o ∷ ts) ≡ none
+  unfolding comparisonsOf both
+  list-bad e [] = rw e
+  list-bad e (t ∷ ts) = rw e (go (is "," t))
+    where
+      go : (b : Bool) → _≡_ {A = Option (List Comparison)} (cond b none none) none
+      go true = refl
+      go false = refl
+
+  module _ (x : Comparison) (e : comparisonOf r q o ≡ some x) where
+    list-alone : comparisonsOf (r ∷ q ∷ o ∷ []) ≡ some (x ∷ [])
+    unfolding comparisonsOf
+    list-alone = rw e
+
+    list-more : (t : Token) (ts : List Token) → is "," t ≡ true → comparisonsOf (r ∷ q ∷ o ∷ t ∷ ts) ≡ both _∷_ (some x) (comparisonsOf ts)
+    unfolding comparisonsOf
+    list-more t ts h = rw (h, e)
+
+    list-broken : (t : Token) (ts : List Token) → is "," t ≡ false → comparisonsOf (r ∷ q ∷ o ∷ t ∷ ts) ≡ none
+    unfolding comparisonsOf
+    list-broken t ts h = rw h
+
+-- one comparison more, before the others or after those that were read
+comparisons-step : (text : List ℕ) (r : Bool) (l : Line) (e : ℕ) (x : Comparison) (o : Option (List Comparison)) → comparisonsParts text r l e (both _∷_ (some x) o) ≡ comparisonsParts text (r && comparisonInRange x) (pushComparison l (smallComparison x)) e o
+unfolding comparisonsParts pushComparisons all both
+comparisons-step text r l e x none = refl
+comparisons-step text r l e x (some cs) =
+    ap (λ (b : Bool). record { ok = true; «in_range» = b; line = pushComparisons (pushComparison l (smallComparison x)) cs; at = e }) (sym (and-assoc r (comparisonInRange x) (all comparisonInRange cs)))
+
+-- ---- one comparison at a position
+
+record ComparisonRead (text : List ℕ) (at : ℕ) (c : Comparison) (ok : Bool) (e : ℕ) : Type 0 where
+  comparison : Comparison
+  read : comparisonOf (tokenAt text at) (tokenAt text (nextAt text at)) (tokenAt text (nextAt text (nextAt text at))) ≡ some comparison
+  small : c ≡ smallComparison comparison
+  range : ok ≡ comparisonInRange comparison
+  behind : e ≡ skip inToken text (nextAt text (nextAt text at))
+
+module _ (text : List ℕ) (at : ℕ) where
+  comparison-some : (c : Comparison) (ok : Bool) (e : ℕ) → comparisonAt text at ≡ ComparisonAt.Comparison c ok e → ComparisonRead text at c ok e
+  unfolding comparisonAt comparisonEnding
+  comparison-some c ok e = go (comparisonOf (tokenAt text at) (tokenAt text (nextAt text at)) (tokenAt text (nextAt text (nextAt text at)))) refl
+    where
+      go : (o : Option Comparison) → comparisonOf (tokenAt text at) (tokenAt text (nextAt text at)) (tokenAt text (nextAt text (nextAt text at))) ≡ o → comparisonEnding (skip inToken text (nextAt text (nextAt text at))) o ≡ ComparisonAt.Comparison c ok e → ComparisonRead text at c ok e
+      go none p q = let w : _≡_ {A = ℕ} 0 1 = cc in absurd (omega arith)
+      go (some x) p q = record { comparison = x; read = p; small = cc; range = cc; behind = cc }
+
+  comparison-none : comparisonAt text at ≡ ComparisonAt.Malformed → comparisonOf (tokenAt text at) (tokenAt text (nextAt text at)) (tokenAt text (nextAt text (nextAt text at))) ≡ none
+  unfolding comparisonAt comparisonEnding
+  comparison-none = go (comparisonOf (tokenAt text at) (tokenAt text (nextAt text at)) (tokenAt text (nextAt text (nextAt text at))))
+    where
+      go : (o : Option Comparison) → comparisonEnding (skip inToken text (nextAt text (nextAt text at))) o ≡ ComparisonAt.Malformed → o ≡ none
+      go none q = refl
+      go (some x) q = let w : _≡_ {A = ℕ} 0 1 = cc in absurd (omega arith)
+
+-- each of its tokens has a byte
+module _ (q : Token) (x : Comparison) where
+  solid-reading : (r o : Token) → comparisonOf r q o ≡ some x → isEmpty r ≡ false
+  unfolding comparisonOf readingOf named both isEmpty
+  solid-reading [] o e = let w : _≡_ {A = ℕ} 0 1 = cc in absurd (omega arith)
+  solid-reading (b ∷ r) o e = refl
+
+solid-relation : (r q o : Token) (x : Comparison) → comparisonOf r q o ≡ some x → isEmpty q ≡ false
+unfolding comparisonOf relationOf is bytes sameBytes isEmpty both
+solid-relation r [] o x e = let w : _≡_ {A = ℕ} 0 1 = cc (sym e ∙ ap (λ (f : Option (Operand → Comparison)). both (λ (g : Operand → Comparison) (y : Operand). g y) f (operandOf o)) (both-none compare (readingOf r))) in absurd (omega arith)
+solid-relation r (b ∷ q) o x e = refl
+
+solid-operand : (r q o : Token) (x : Comparison) → comparisonOf r q o ≡ some x → isEmpty o ≡ false
+unfolding comparisonOf operandOf readingOf named orElse constantOf isEmpty
+solid-operand r q [] x e = let w : _≡_ {A = ℕ} 0 1 = cc (sym e ∙ both-none (λ (f : Operand → Comparison) (y : Operand). f y) (both compare (readingOf r) (relationOf q))) in absurd (omega arith)
+solid-operand r q (b ∷ o) x e = refl
+
+-- ---- a turn of reading
+
+-- the tokens from a position, after the spaces there: none, or one and those behind it
+module _ (text : List ℕ) (at : ℕ) where
+  pub next-tokens : isEmpty (tokenAt text at) ≡ false → tokensAt text at ≡ tokenAt text at ∷ tokensAt text (nextAt text at)
+  unfolding nextAt
+  next-tokens h = tokens-first text at h ∙ ap (λ (ts : List Token). tokenAt text at ∷ ts) (tokens-after-spaces text (skip inToken text at))
+
+  pub next-ended : isEmpty (tokenAt text (nextAt text at)) ≡ true → tokensAt text (nextAt text at) ≡ []
+  unfolding nextAt
+  next-ended h = tokens-ended text (skip inToken text at) h
+
+  next-ge : at ≤ nextAt text at
+  unfolding nextAt
+  next-ge = omega (arith, skip-ge inToken text at, skip-ge isSpace text (skip inToken text at))
+
+  pub next-line : lineEnd text (nextAt text at) ≡ lineEnd text at
+  unfolding nextAt
+  next-line = line-past-spaces text (skip inToken text at) ∙ line-past-token text at
+
+module _ (text : List ℕ) (at : ℕ) (r : Bool) (l : Line) where
+  abbrev s : ℕ
+  s = skip isSpace text at
+
+  abbrev s2 : ℕ
+  s2 = nextAt text s
+
+  abbrev s3 : ℕ
+  s3 = nextAt text s2
+
+  abbrev outcome : Parts
+  outcome = comparisonsParts text r l (lineEnd text at) (comparisonsOf (tokensAt text at))
+
+  pub comparisons-failed : comparisonAt text s ≡ ComparisonAt.Malformed → failedParts text ≡ outcome
+  unfolding comparisonsParts comparisonsOf
+  comparisons-failed q = ap (comparisonsParts text r l (lineEnd text at)) (sym (ap comparisonsOf (tokens-after-spaces text at) ∙ go1 (isEmpty (tokenAt text s)) refl))
+    where
+      go3 : (b : Bool) → isEmpty (tokenAt text s3) ≡ b → comparisonsOf (tokenAt text s ∷ tokenAt text s2 ∷ tokensAt text s3) ≡ none
+      go3 true h = ap (λ (ts : List Token). comparisonsOf (tokenAt text s ∷ tokenAt text s2 ∷ ts)) (next-ended text s2 h)
+      go3 false h =
+          ap (λ (ts : List Token). comparisonsOf (tokenAt text s ∷ tokenAt text s2 ∷ ts)) (next-tokens text s3 h)
+          ∙ list-bad (tokenAt text s) (tokenAt text s2) (tokenAt text s3) (comparison-none text s q) (tokensAt text (nextAt text s3))
+      go2 : (b : Bool) → isEmpty (tokenAt text s2) ≡ b → comparisonsOf (tokenAt text s ∷ tokensAt text s2) ≡ none
+      go2 true h = ap (λ (ts : List Token). comparisonsOf (tokenAt text s ∷ ts)) (next-ended text s h)
+      go2 false h = ap (λ (ts : List Token). comparisonsOf (tokenAt text s ∷ ts)) (next-tokens text s2 h) ∙ go3 (isEmpty (tokenAt text s3)) refl
+      go1 : (b : Bool) → isEmpty (tokenAt text s) ≡ b → comparisonsOf (tokensAt text s) ≡ none
+      go1 true h = ap comparisonsOf (tokens-ended text at h)
+      go1 false h = ap comparisonsOf (next-tokens text s h) ∙ go2 (isEmpty (tokenAt text s2)) refl
+
+  module _ (c : Comparison) (ok : Bool) (e : ℕ) (q : comparisonAt text s ≡ ComparisonAt.Comparison c ok e) where
+    abbrev n : ℕ
+    n = skip isSpace text e
+
+    found : ComparisonRead text s c ok e
+    found = comparison-some text s c ok e q
+
+    solid1 : isEmpty (tokenAt text s) ≡ false
+    solid1 = solid-reading (tokenAt text s2) (found .comparison) (tokenAt text s) (tokenAt text s3) (found .read)
+
+    solid2 : isEmpty (tokenAt text s2) ≡ false
+    solid2 = solid-relation (tokenAt text s) (tokenAt text s2) (tokenAt text s3) (found .comparison) (found .read)
+
+    solid3 : isEmpty (tokenAt text s3) ≡ false
+    solid3 = solid-operand (tokenAt text s) (tokenAt text s2) (tokenAt text s3) (found .comparison) (found .read)
+
+    behind-third : n ≡ nextAt text s3
+    unfolding nextAt
+    behind-third = ap (skip isSpace text) (found .behind)
+
+    tokens : tokensAt text at ≡ tokenAt text s ∷ tokenAt text s2 ∷ tokenAt text s3 ∷ tokensAt text n
+    tokens =
+        tokens-after-spaces text at ∙ next-tokens text s solid1
+        ∙ ap (λ (ts : List Token). tokenAt text s ∷ ts) (next-tokens text s2 solid2)
+        ∙ ap (λ (ts : List Token). tokenAt text s ∷ tokenAt text s2 ∷ ts) (next-tokens text s3 solid3)
+        ∙ ap (λ (k : ℕ). tokenAt text s ∷ tokenAt text s2 ∷ tokenAt text s3 ∷ tokensAt text k) (sym behind-third)
+
+    ends : lineEnd text n ≡ lineEnd text at
+    ends = ap (lineEnd text) behind-third ∙ next-line text s3 ∙ next-line text s2 ∙ next-line text s ∙ line-past-spaces text at
+
+    taken : (o : Option (List Comparison)) → comparisonsParts text r l (lineEnd text at) (both _∷_ (some (found .comparison)) o) ≡ comparisonsParts text (r && ok) (pushComparison l c) (lineEnd text n) o
+    taken o = comparisons-step text r l (lineEnd text at) (found .comparison) o ∙ cc (found .range, found .small, ends)
+
+    start : (o : Option (List Comparison)) → comparisonsOf (tokenAt text s ∷ tokenAt text s2 ∷ tokenAt text s3 ∷ tokensAt text n) ≡ o → outcome ≡ comparisonsParts text r l (lineEnd text at) o
+    start o h = ap (λ (ts : List Token). comparisonsParts text r l (lineEnd text at) (comparisonsOf ts)) tokens ∙ ap (comparisonsParts text r l (lineEnd text at)) h
+
+    pub comparisons-done : isEmpty (tokenAt text n) ≡ true → record { ok = true; «in_range» = r && ok; line = pushComparison l c; at = n } ≡ outcome
+    unfolding comparisonsParts pushComparisons all
+    comparisons-done h =
+        sym (start (some (found .comparison ∷ []))
+            (ap (λ (ts : List Token). comparisonsOf (tokenAt text s ∷ tokenAt text s2 ∷ tokenAt text s3 ∷ ts)) (tokens-ended text e h)
+              ∙ list-alone (tokenAt text s) (tokenAt text s2) (tokenAt text s3) (found .comparison) (found .read))
+          ∙ cc (found .range, found .small, sym ends ∙ line-ended text e h, and-true (comparisonInRange (found .comparison))))
+
+    module _ (h : isEmpty (tokenAt text n) ≡ false) where
+      more : tokensAt text n ≡ tokenAt text n ∷ tokensAt text (skip inToken text n)
+      more = tokens-first text n h
+
+      pub comparisons-broken : wordAt text n (bytes ",") ≡ WordAt.Absent → failedParts text ≡ outcome
+      unfolding comparisonsParts is
+      comparisons-broken w =
+          sym (start none
+            (ap (λ (ts : List Token). comparisonsOf (tokenAt text s ∷ tokenAt text s2 ∷ tokenAt text s3 ∷ ts)) more
+              ∙ list-broken (tokenAt text s) (tokenAt text s2) (tokenAt text s3) (found .comparison) (found .read) (tokenAt text n) (tokensAt text (skip inToken text n)) (word-absent text n (bytes ",") w)))
+
+      pub comparisons-again : (b : ℕ) → wordAt text n (bytes ",") ≡ WordAt.Found b → outcome ≡ comparisonsParts text (r && ok) (pushComparison l c) (lineEnd text b) (comparisonsOf (tokensAt text b))
+      unfolding is bytes sameBytes
+      comparisons-again b w =
+          let f = word-token text n (bytes ",") b w in
+          start (both _∷_ (some (found .comparison)) (comparisonsOf (tokensAt text (skip inToken text n))))
+            (ap (λ (ts : List Token). comparisonsOf (tokenAt text s ∷ tokenAt text s2 ∷ tokenAt text s3 ∷ ts)) more
+              ∙ list-more (tokenAt text s) (tokenAt text s2) (tokenAt text s3) (found .comparison) (found .read) (tokenAt text n) (tokensAt text (skip inToken text n)) (ap (λ (u : Token). sameBytes u (bytes ",")) (f .0)))
+          ∙ taken (comparisonsOf (tokensAt text (skip inToken text n)))
+          ∙ ap₂ (λ (k m : ℕ). comparisonsParts text (r && ok) (pushComparison l c) k (comparisonsOf (tokensAt text m))) (sym (line-past-token text n) ∙ ap (lineEnd text) (sym (f .1))) (sym (f .1))
+
+      pub comparisons-less : (b : ℕ) → wordAt text n (bytes ",") ≡ WordAt.Found b → (at < length text) × (at < b)
+      comparisons-less b w =
+          let i : s < length text = token-inside text s solid1 in
+          let f : b ≡ skip inToken text n = word-token text n (bytes ",") b w .1 in
+          let j : n < b = later (skip-grows text n h) f in
+          (omega (arith, skip-ge isSpace text at), omega (arith, skip-ge isSpace text at, next-ge text s, next-ge text s2, next-ge text s3, behind-third))
+        where
+          later : n < skip inToken text n → b ≡ skip inToken text n → n < b
+          later p q′ = omega arith
+
+-- ---- the condition
+
+module _ (text : List ℕ) (at : ℕ) (r : Bool) (l : Line) where
+  pub condition-none : isEmpty (tokenAt text (skip isSpace text at)) ≡ true → record { ok = true; «in_range» = r; line = l; at = skip isSpace text at } ≡ comparisonsParts text r l (lineEnd text at) (conditionOf (tokensAt text at))
+  unfolding conditionOf comparisonsParts pushComparisons all
+  condition-none h = rw (tokens-after-spaces text at ∙ tokens-ended text at h) (cc (and-true r, sym (line-past-spaces text at) ∙ line-ended text at h))
+
+  module _ (h : isEmpty (tokenAt text (skip isSpace text at)) ≡ false) where
+    some-tokens : tokensAt text at ≡ tokenAt text (skip isSpace text at) ∷ tokensAt text (skip inToken text (skip isSpace text at))
+    some-tokens = tokens-after-spaces text at ∙ tokens-first text (skip isSpace text at) h
+
+    pub condition-bad : wordAt text (skip isSpace text at) (bytes "if") ≡ WordAt.Absent → failedParts text ≡ comparisonsParts text r l (lineEnd text at) (conditionOf (tokensAt text at))
+    unfolding conditionOf comparisonsParts is
+    condition-bad w = rw (some-tokens, word-absent text (skip isSpace text at) (bytes "if") w)
+
+    pub condition-some : (b : ℕ) → wordAt text (skip isSpace text at) (bytes "if") ≡ WordAt.Found b → comparisonsParts text r l (lineEnd text b) (comparisonsOf (tokensAt text b)) ≡ comparisonsParts text r l (lineEnd text at) (conditionOf (tokensAt text at))
+    unfolding conditionOf is bytes sameBytes
+    condition-some b w =
+        let f = word-token text (skip isSpace text at) (bytes "if") b w in
+        rw (some-tokens, f .0)
+          (ap₂ (λ (k m : ℕ). comparisonsParts text r l k (comparisonsOf (tokensAt text m))) (ap (lineEnd text) (f .1) ∙ line-past-token text (skip isSpace text at) ∙ line-past-spaces text at) (f .1))
