@@ -1,3 +1,4 @@
+pub mod CauseLaws
 pub mod ClassLaws
 pub mod ConstantLaws
 pub mod ConditionLaws
@@ -6,6 +7,7 @@ pub mod Examples
 pub mod HeadLaws
 pub mod PartLaws
 pub mod RunLaws
+pub mod ShapeLaws
 pub mod SymbolLaws
 pub mod TokenLaws
 pub mod WordLaws

@@ -39,14 +39,14 @@ use Rattle.syntax.specs.declared.token.RelationAt.{RelationAt}
 
 -- ---- clipped numbers
 
-clip-below : (limit n : ℕ) → limit ≤ clipLimit → ltb (clip n) limit ≡ ltb n limit
+pub clip-below : (limit n : ℕ) → limit ≤ clipLimit → ltb (clip n) limit ≡ ltb n limit
 clip-below limit n h = go (ltb n limit) refl
   where
     go : (b : Bool) → ltb n limit ≡ b → ltb (clip n) limit ≡ b
     go true e = let l = ltb-true n limit e in lt-ltb (clip n) limit (omega arith)
     go false e = let l = ltb-false n limit e in le-ltb (clip n) limit (omega arith)
 
-clip-same : (limit n : ℕ) → limit ≤ clipLimit → ltb n limit ≡ true → clip n ≡ n
+pub clip-same : (limit n : ℕ) → limit ≤ clipLimit → ltb n limit ≡ true → clip n ≡ n
 clip-same limit n h e = let l = ltb-true n limit e in omega arith
 
 module _ {A : Type 0} (limit n : ℕ) (h : limit ≤ clipLimit) (f : ℕ → A) (filler : A) where

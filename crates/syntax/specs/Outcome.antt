@@ -6,13 +6,16 @@ use mathlib.Core.Option.{Option, none, some}
 use lib.Dec.{ltb}
 use lib.ListN.{length}
 use Rattle.policy.specs.Limits.{inRange, comparisonInRange, endingInRange}
-use Rattle.policy.specs.Line.{PolicyLine, headsOf, comparisonsOf, endingOf, lineOf, pushHead, pushComparison}
+use Rattle.policy.specs.Line.{PolicyLine, headsOf, comparisonsOf, endingOf, lineOf, pushHead, pushComparison, endLine}
 use Rattle.policy.specs.List.{all}
+use Rattle.policy.specs.Number.{setLimit}
 use Rattle.policy.specs.declared.comparison.Comparison.{Comparison}
 use Rattle.policy.specs.declared.line.Ending.{Ending}
 use Rattle.policy.specs.declared.line.Line.{Line}
 use Rattle.policy.specs.declared.line.Test.{Test}
-use Rattle.syntax.specs.Grammar.{Token, Joined}
+use Rattle.policy.specs.declared.number.Action.{Action}
+use Rattle.syntax.specs.Byte.{is}
+use Rattle.syntax.specs.Grammar.{Token, Joined, actionOf, conditionOf}
 use Rattle.syntax.specs.Parts.{testInRange, smallTest, smallComparison}
 use Rattle.syntax.specs.Scan.{tokensAt, lineEnd}
 use Rattle.syntax.specs.declared.line.Parts.{Parts}
@@ -53,3 +56,27 @@ unfoldable pub comparisonsParts : List ℕ → Bool → Line → ℕ → Option 
 comparisonsParts text ok line end none = failedParts text
 comparisonsParts text ok line end (some cs) =
     record { ok = true; «in_range» = ok && all comparisonInRange cs; line = pushComparisons line cs; at = end }
+
+-- ---- the whole line
+
+unfoldable pub smallEnding : Ending → Ending
+smallEnding (Ending.Causes a) = cond (ltb (a .0) setLimit) (Ending.Causes a) (Ending.Causes (record { 0 = 0 }))
+smallEnding Ending.Never = Ending.Never
+
+-- what follows the literals of a rule
+unfoldable pub causedParts : List ℕ → Bool → Line → ℕ → Option Action → Option (List Comparison) → Parts
+causedParts text ok line end none o = failedParts text
+causedParts text ok line end (some a) o = comparisonsParts text (ok && endingInRange (Ending.Causes a)) (endLine line (smallEnding (Ending.Causes a))) end o
+
+unfoldable pub causeParts : List ℕ → Bool → Line → ℕ → List Token → Parts
+causeParts text ok line end [] = failedParts text
+causeParts text ok line end (t ∷ []) = failedParts text
+causeParts text ok line end (t ∷ a ∷ ts) = cond (is "causes" t) (causedParts text ok line end (actionOf a) (conditionOf ts)) (failedParts text)
+
+-- the value of a line, with a filler for each part that is out of range
+unfoldable pub smallLine : PolicyLine → Line
+smallLine l = lineOf (map smallTest (headsOf l)) (map smallComparison (comparisonsOf l)) (smallEnding (endingOf l))
+
+unfoldable pub lineParts : List ℕ → ℕ → Option PolicyLine → Parts
+lineParts text end none = failedParts text
+lineParts text end (some l) = record { ok = true; «in_range» = inRange l; line = smallLine l; at = end }

@@ -1,17 +1,19 @@
 // The lines of a rule text. A line is scanned once: its parts are collected with a flag that says whether every number is
 // in range, and the line is judged at its end.
 ghost use mathlib.Core.Path.{_≡_};
-ghost use mathlib.Core.Bool.{true, _&&_};
+ghost use mathlib.Core.Bool.{true, false, _&&_};
 ghost use mathlib.Core.List.{[]};
 ghost use Rattle.policy.specs.Line.{lineOf};
 ghost use Rattle.policy.specs.declared.line.Ending.{Ending};
-ghost use Rattle.syntax.specs.Grammar.{joined, comparisonsOf, conditionOf};
+ghost use Rattle.syntax.specs.Grammar.{joined, comparisonsOf, conditionOf, literalOf, actionOf};
+ghost use Rattle.syntax.specs.Grammar.{after, ruleAfter, constraintAfter, lineFrom};
 ghost use Rattle.syntax.specs.Parts.{testOf};
-ghost use Rattle.syntax.specs.Scan.{tokensAt, lineEnd};
-ghost use Rattle.syntax.specs.Outcome.{failedParts, viewOf, headsOutcome, comparisonsParts};
-use crate::scan::{WordAt, ampersand_at, at_token_end, comma_at, if_at, skip_spaces};
+ghost use Rattle.syntax.specs.Scan.{tokenAt, tokensAt, lineEnd};
+ghost use Rattle.syntax.specs.Number.{isEmpty};
+ghost use Rattle.syntax.specs.Outcome.{failedParts, viewOf, headsOutcome, comparisonsParts, causeParts, lineParts};
+use crate::scan::{WordAt, ampersand_at, at_token_end, causes_at, comma_at, if_at, name_at, never_at, skip_spaces, NumberAt};
 use crate::token::{ComparisonAt, HeadAt, comparison_at, head_at};
-use policy::Line;
+use policy::{Action, ActionCheck, Ending, Line};
 
 // What was read of a line: whether it has the right shape, whether every number is in range, the parts, and the position
 // behind them.
@@ -123,4 +125,74 @@ fn read_condition(text: &[u8], from: usize, heads: Line, in_range: bool) -> Part
         return failed(text);
     };
     read_comparisons(text, behind, heads, in_range)
+}
+
+// `causes`, the action and the condition of a rule whose literals were read.
+fn read_cause(text: &[u8], heads: Parts) -> Parts
+    ensures {
+        λ r. ⌜ r ≡ causeParts (now (text .entry)) (heads .«in_range») (heads .line) (lineEnd (now (text .entry)) (heads .at))
+            (tokensAt (now (text .entry)) (heads .at)) ⌝
+    }
+{
+    let first = skip_spaces(text, heads.at);
+    let WordAt::Found(behind) = causes_at(text, first) else {
+        return failed(text);
+    };
+    let second = skip_spaces(text, behind);
+    let NumberAt::Number(n, end) = name_at(text, second, b'A') else {
+        return failed(text);
+    };
+    let line = heads.line;
+    let check = Action::new(n);
+    match check {
+        ActionCheck::Valid(action) => {
+            read_condition(text, end, line.ended(Ending::Causes(action)), heads.in_range)
+        }
+        ActionCheck::OutOfRange => {
+            read_condition(text, end, line.ended(Ending::Causes(Action(0))), false)
+        }
+    }
+}
+
+fn read_rule(text: &[u8], from: usize) -> Parts
+    ensures {
+        λ r. ⌜ r ≡ lineParts (now (text .entry)) (lineEnd (now (text .entry)) from)
+            (after ruleAfter (joined literalOf (tokensAt (now (text .entry)) from))) ⌝
+    }
+{
+    let heads = read_heads(text, from, false);
+    if heads.ok {
+        read_cause(text, heads)
+    } else {
+        failed(text)
+    }
+}
+
+fn read_constraint(text: &[u8], from: usize) -> Parts
+    ensures {
+        λ r. ⌜ r ≡ lineParts (now (text .entry)) (lineEnd (now (text .entry)) from)
+            (after constraintAfter (joined actionOf (tokensAt (now (text .entry)) from))) ⌝
+    }
+{
+    let heads = read_heads(text, from, true);
+    if heads.ok {
+        let line = heads.line;
+        read_condition(text, heads.at, line, heads.in_range)
+    } else {
+        failed(text)
+    }
+}
+
+// The parts of the line whose first token is at the position.
+fn read_parts(text: &[u8], start: usize) -> Parts
+    ensures {
+        λ r. ⌜ (isEmpty (tokenAt (now (text .entry)) start) ≡ false →
+            r ≡ lineParts (now (text .entry)) (lineEnd (now (text .entry)) start) (lineFrom (tokensAt (now (text .entry)) start))) ⌝
+    }
+{
+    let never = never_at(text, start);
+    match never {
+        WordAt::Found(behind) => read_constraint(text, behind),
+        WordAt::Absent => read_rule(text, start),
+    }
 }

@@ -1,0 +1,132 @@
+-- Laws of reading `causes`, the action and the condition of a rule, and of telling the two shapes apart.
+use Prim.Native.Nat.{ℕ, _+_}
+use mathlib.Core.Bool.{Bool, true, false, _&&_, cond, and-true, and-false}
+use mathlib.Core.List.{List, [], _∷_}
+use mathlib.Core.Option.{Option, none, some, Option·map}
+use mathlib.Core.Path.{_≡_, refl, sym, ap, ap₂, _∙_}
+use native.Mathlib.Omega.{arith}
+use lib.Dec.{ltb}
+use Rattle.policy.specs.Limits.{endingInRange}
+use Rattle.policy.specs.Line.{endLine}
+use Rattle.policy.specs.Number as Number
+use Rattle.policy.specs.declared.comparison.Comparison.{Comparison}
+use Rattle.policy.specs.declared.line.Ending.{Ending}
+use Rattle.policy.specs.declared.line.Line.{Line}
+use Rattle.policy.specs.declared.number.Action.{Action}
+use Rattle.policy.specs.declared.number.ActionCheck.{ActionCheck}
+use Rattle.syntax.proofs.PartLaws.{Named, name-some, name-none, action-valid, action-outside, clip-below, clip-same}
+use Rattle.syntax.proofs.TokenLaws.{tokens-after-spaces, tokens-first, tokens-ended, line-past-spaces, line-past-token}
+use Rattle.syntax.proofs.WordLaws.{word-token, word-absent}
+use Rattle.syntax.specs.Byte.{bytes, sameBytes, is, isSpace}
+use Rattle.syntax.specs.Grammar.{Token, named, actionOf, literalOf, conditionOf, joined, ruleAfter, constraintAfter, after, lineFrom}
+use Rattle.syntax.specs.Number.{isEmpty}
+use Rattle.syntax.specs.Outcome.{failedParts, comparisonsParts, smallEnding, causedParts, causeParts, lineParts}
+use Rattle.syntax.specs.Scan.{skip, inToken, tokenAt, wordAt, nameAt, clip, tokensAt, lineEnd}
+use Rattle.syntax.specs.declared.line.Parts.{Parts}
+use Rattle.syntax.specs.declared.scan.NumberAt.{NumberAt}
+use Rattle.syntax.specs.declared.scan.WordAt.{WordAt}
+
+named-solid : (letter : ℕ) (t : Token) (n : ℕ) → named letter t ≡ some n → isEmpty t ≡ false
+unfolding named isEmpty
+named-solid letter [] n e = let w : _≡_ {A = ℕ} 0 1 = cc in absurd (omega arith)
+named-solid letter (b ∷ t) n e = refl
+
+module _ (text : List ℕ) (at : ℕ) (r : Bool) (l : Line) where
+  abbrev s : ℕ
+  s = skip isSpace text at
+
+  abbrev outcome : Parts
+  outcome = causeParts text r l (lineEnd text at) (tokensAt text at)
+
+  pub cause-absent : wordAt text s (bytes "causes") ≡ WordAt.Absent → failedParts text ≡ outcome
+  unfolding causeParts is
+  cause-absent w = sym (ap (causeParts text r l (lineEnd text at)) (tokens-after-spaces text at) ∙ go (isEmpty (tokenAt text s)) refl)
+    where
+      none-of : (ts : List Token) → causeParts text r l (lineEnd text at) (tokenAt text s ∷ ts) ≡ failedParts text
+      none-of [] = refl
+      none-of (a ∷ ts) = rw (word-absent text s (bytes "causes") w)
+      go : (b : Bool) → isEmpty (tokenAt text s) ≡ b → causeParts text r l (lineEnd text at) (tokensAt text s) ≡ failedParts text
+      go true h = ap (causeParts text r l (lineEnd text at)) (tokens-ended text at h)
+      go false h = ap (causeParts text r l (lineEnd text at)) (tokens-first text s h) ∙ none-of (tokensAt text (skip inToken text s))
+
+  module _ (b : ℕ) (w : wordAt text s (bytes "causes") ≡ WordAt.Found b) where
+    abbrev s2 : ℕ
+    s2 = skip isSpace text b
+
+    word : (tokenAt text s ≡ bytes "causes") × (b ≡ skip inToken text s)
+    word = word-token text s (bytes "causes") b w
+
+    tokens : tokensAt text at ≡ bytes "causes" ∷ tokensAt text s2
+    unfolding isEmpty bytes
+    tokens =
+        tokens-after-spaces text at ∙ tokens-first text s (ap isEmpty (word .0))
+        ∙ ap₂ (λ (t : Token) (k : ℕ). t ∷ tokensAt text k) (word .0) (sym (word .1))
+        ∙ ap (λ (ts : List Token). bytes "causes" ∷ ts) (tokens-after-spaces text b)
+
+    ends : lineEnd text s2 ≡ lineEnd text at
+    ends = line-past-spaces text b ∙ ap (lineEnd text) (word .1) ∙ line-past-token text s ∙ line-past-spaces text at
+
+    pub cause-no-action : nameAt text s2 65 ≡ NumberAt.Malformed → failedParts text ≡ outcome
+    unfolding causeParts causedParts is bytes sameBytes actionOf
+    cause-no-action q = sym (ap (causeParts text r l (lineEnd text at)) tokens ∙ go (isEmpty (tokenAt text s2)) refl)
+      where
+        go : (x : Bool) → isEmpty (tokenAt text s2) ≡ x → causeParts text r l (lineEnd text at) (bytes "causes" ∷ tokensAt text s2) ≡ failedParts text
+        go true h = ap (λ (ts : List Token). causeParts text r l (lineEnd text at) (bytes "causes" ∷ ts)) (tokens-ended text b h)
+        go false h = ap (λ (ts : List Token). causeParts text r l (lineEnd text at) (bytes "causes" ∷ ts)) (tokens-first text s2 h) ∙ rw (name-none 65 text s2 q)
+
+    module _ (v e : ℕ) (q : nameAt text s2 65 ≡ NumberAt.Number v e) where
+      name : Named 65 text s2 v e
+      name = name-some 65 text s2 v e q
+
+      action : Action
+      action = record { 0 = name .number }
+
+      both-tokens : tokensAt text at ≡ bytes "causes" ∷ tokenAt text s2 ∷ tokensAt text e
+      both-tokens =
+          tokens ∙ ap (λ (ts : List Token). bytes "causes" ∷ ts) (tokens-first text s2 (named-solid 65 (tokenAt text s2) (name .number) (name .is)))
+          ∙ ap (λ (k : ℕ). bytes "causes" ∷ tokenAt text s2 ∷ tokensAt text k) (sym (name .behind))
+
+      line : lineEnd text e ≡ lineEnd text at
+      line = ap (lineEnd text) (name .behind) ∙ line-past-token text s2 ∙ ends
+
+      caused : outcome ≡ comparisonsParts text (r && endingInRange (Ending.Causes action)) (endLine l (smallEnding (Ending.Causes action))) (lineEnd text at) (conditionOf (tokensAt text e))
+      unfolding causeParts causedParts is bytes sameBytes actionOf action
+      caused = ap (causeParts text r l (lineEnd text at)) both-tokens ∙ rw (name .is)
+
+      -- the action of a clipped number in range is that of the number
+      in-range : ltb v 64 ≡ ltb (name .number) 64
+      in-range = ap (λ (k : ℕ). ltb k 64) (name .clipped) ∙ clip-below 64 (name .number) (omega arith)
+
+      pub cause-valid : (a : Action) → Number.actionOf v ≡ ActionCheck.Valid a → comparisonsParts text r (endLine l (Ending.Causes a)) (lineEnd text e) (conditionOf (tokensAt text e)) ≡ outcome
+      unfolding endingInRange smallEnding action
+      cause-valid a h =
+          let p = action-valid v a h in
+          let k : ltb (name .number) 64 ≡ true = sym in-range ∙ p .0 in
+          let m : v ≡ name .number = name .clipped ∙ clip-same 64 (name .number) (omega arith) k in
+          sym (caused ∙ valid-of a k (p .1 ∙ ap (λ (i : ℕ). record { 0 = i }) m))
+        where
+          valid-of : (x : Action) → ltb (name .number) 64 ≡ true → x ≡ record { 0 = name .number } → comparisonsParts text (r && endingInRange (Ending.Causes action)) (endLine l (smallEnding (Ending.Causes action))) (lineEnd text at) (conditionOf (tokensAt text e)) ≡ comparisonsParts text r (endLine l (Ending.Causes x)) (lineEnd text e) (conditionOf (tokensAt text e))
+          valid-of x k i = rw (k, i, line, and-true r)
+
+      pub cause-outside : Number.actionOf v ≡ ActionCheck.OutOfRange → comparisonsParts text false (endLine l (Ending.Causes (record { 0 = 0 }))) (lineEnd text e) (conditionOf (tokensAt text e)) ≡ outcome
+      unfolding endingInRange smallEnding action
+      cause-outside h =
+          let k : ltb (name .number) 64 ≡ false = sym in-range ∙ action-outside v h in
+          sym (caused ∙ outside-of k)
+        where
+          outside-of : ltb (name .number) 64 ≡ false → comparisonsParts text (r && endingInRange (Ending.Causes action)) (endLine l (smallEnding (Ending.Causes action))) (lineEnd text at) (conditionOf (tokensAt text e)) ≡ comparisonsParts text false (endLine l (Ending.Causes (record { 0 = 0 }))) (lineEnd text e) (conditionOf (tokensAt text e))
+          outside-of k = rw (k, line, and-false r)
+
+-- ---- the shape of the line, by its first token
+
+module _ (text : List ℕ) (at : ℕ) (h : isEmpty (tokenAt text at) ≡ false) where
+  pub line-never : (b : ℕ) → wordAt text at (bytes "never") ≡ WordAt.Found b → lineParts text (lineEnd text b) (after constraintAfter (joined actionOf (tokensAt text b))) ≡ lineParts text (lineEnd text at) (lineFrom (tokensAt text at))
+  unfolding lineFrom is bytes sameBytes
+  line-never b w =
+      let f = word-token text at (bytes "never") b w in
+      rw (tokens-first text at h, f .0)
+        (ap₂ (λ (k m : ℕ). lineParts text k (after constraintAfter (joined actionOf (tokensAt text m)))) (ap (lineEnd text) (f .1) ∙ line-past-token text at) (f .1))
+
+  pub line-rule : wordAt text at (bytes "never") ≡ WordAt.Absent → lineParts text (lineEnd text at) (after ruleAfter (joined literalOf (tokensAt text at))) ≡ lineParts text (lineEnd text at) (lineFrom (tokensAt text at))
+  unfolding lineFrom is
+  line-rule w = rw (tokens-first text at h, word-absent text at (bytes "never") w)
