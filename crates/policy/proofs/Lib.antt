@@ -7,4 +7,5 @@ pub mod Monitor
 pub mod Proposals
 pub mod RelationLaws
 pub mod Resolution
+pub mod SeenLaws
 pub mod SetLaws

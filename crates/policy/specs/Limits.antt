@@ -1,5 +1,5 @@
 -- Which lines an accepted text may have: document 01's ranges, counts and repeats, and how many lines of each kind.
-use Prim.Native.Nat.{ℕ}
+use Prim.Native.Nat.{ℕ, _+_}
 use mathlib.Core.Bool.{Bool, true, false, not, _&&_, _||_}
 use mathlib.Core.List.{List, [], _∷_, map}
 use lib.Dec.{eqb, ltb}
@@ -9,9 +9,11 @@ use lib.Signed.{leZ}
 use Rattle.policy.specs.Line.{PolicyLine, headsOf, comparisonsOf, endingOf, headLimit, comparisonLimit}
 use Rattle.policy.specs.List.{all, any}
 use Rattle.policy.specs.Number.{setLimit, readingLimit}
+use Rattle.policy.specs.Set.{has, insert}
 use Rattle.policy.specs.declared.comparison.Comparison.{Comparison}
 use Rattle.policy.specs.declared.comparison.Operand.{Operand}
 use Rattle.policy.specs.declared.line.Ending.{Ending}
+use Rattle.policy.specs.declared.line.Head.{Head}
 use Rattle.policy.specs.declared.line.Test.{Test}
 
 abbrev pub ruleLimit : ℕ
@@ -28,6 +30,9 @@ isReadingValue k = leZ (negsuc 2147483647) k && leZ k (pos 2147483647)
 unfoldable pub testNumber : Test → ℕ
 testNumber (Test.Occurs l) = l .event .0
 testNumber (Test.Member a) = a .0
+
+abbrev pub headNumber : Head → ℕ
+headNumber h = testNumber (h .0)
 
 unfoldable pub operandInRange : Operand → Bool
 operandInRange (Operand.Constant k) = isReadingValue k
@@ -54,6 +59,11 @@ unfoldable pub repeats : List ℕ → Bool
 repeats [] = false
 repeats (n ∷ ns) = any (eqb n) ns || repeats ns
 
+-- the same, by the set of those that came before
+unfoldable pub seenIn : ℕ → List ℕ → Bool
+seenIn s [] = false
+seenIn s (n ∷ ns) = has s n || seenIn (insert s n) ns
+
 -- the same event twice, negated or not, or the same action twice among those of a constraint
 unfoldable pub repeated : PolicyLine → Bool
 repeated l = repeats (map testNumber (headsOf l))
@@ -61,3 +71,17 @@ repeated l = repeats (map testNumber (headsOf l))
 -- a line that an accepted text may have
 unfoldable pub valid : PolicyLine → Bool
 valid l = ltb 0 (length (headsOf l)) && inRange l && not (crowded l) && not (repeated l)
+
+-- ---- the size of a line: how many words it takes in an image
+
+-- a comparison with a constant takes two
+abbrev pub operandSize : Operand → ℕ
+operandSize (Operand.Constant k) = 2
+operandSize (Operand.Reading r) = 1
+
+unfoldable pub comparisonsSize : List Comparison → ℕ
+comparisonsSize [] = 0
+comparisonsSize (c ∷ cs) = operandSize (c .operand) + comparisonsSize cs
+
+unfoldable pub lineSize : PolicyLine → ℕ
+lineSize l = length (headsOf l) + 1 + comparisonsSize (comparisonsOf l)

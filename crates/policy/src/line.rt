@@ -1,6 +1,9 @@
 // A line of a rule text by value: a rule or a constraint, with its parts in text order.
 ghost use mathlib.Core.Path.{_≡_};
-ghost use mathlib.Core.List.{[]};
+ghost use mathlib.Core.List.{[], map};
+ghost use Prim.Native.Nat.{_+_, min};
+ghost use lib.ListN.{take};
+ghost use Rattle.policy.specs.Limits.{testNumber, headNumber, seenIn, operandSize, comparisonsSize};
 ghost use Rattle.policy.specs.Line.{lineOf, pushHead, pushComparison, endLine};
 use crate::comparison::Comparison;
 use crate::comparison::Literal;
@@ -8,6 +11,8 @@ use crate::comparison::Operand;
 use crate::comparison::Relation;
 use crate::number::Action;
 use crate::number::Reading;
+use crate::set::member;
+use crate::set::with_member;
 
 // What stands before the condition of a line: an event literal of a rule, or an action of a constraint.
 pub enum Test {
@@ -32,7 +37,81 @@ pub struct Line {
     pub ending: Ending,
 }
 
+impl Test {
+    // The number of the event or the action.
+    pub fn number(self) -> u8
+        ensures { λ r. ⌜ r ≡ testNumber self ⌝ }
+    {
+        match self {
+            Test::Occurs(literal) => literal.event.0,
+            Test::Member(action) => action.0,
+        }
+    }
+}
+
+impl Operand {
+    // How many words a comparison with the operand takes in an image.
+    fn words(self) -> usize
+        ensures { λ r. ⌜ r ≡ operandSize self ⌝ }
+    {
+        match self {
+            Operand::Constant(_) => 2,
+            Operand::Reading(_) => 1,
+        }
+    }
+}
+
+fn at_most_nine(n: usize) -> usize
+    ensures { λ r. ⌜ r ≡ min n 9 ⌝ }
+{
+    if n < 9 { n } else { 9 }
+}
+
 impl Line {
+    // Whether some event or action stands twice among the heads.
+    pub fn has_repeats(self) -> bool
+        ensures { λ r. ⌜ r ≡ seenIn 0 (map headNumber (take (self .«head_count») (self .heads))) ⌝ }
+    {
+        let heads = self.heads;
+        let count = self.head_count;
+        let mut seen = 0;
+        let mut i = 0;
+        while i < 8 {
+            if count <= i {
+                return false;
+            }
+            let head = heads[i];
+            let test = head.0;
+            let n = test.number();
+            if member(seen, n) {
+                return true;
+            }
+            seen = with_member(seen, n);
+            i += 1;
+        }
+        false
+    }
+
+    // How many words the line takes in an image.
+    pub fn words(self) -> usize
+        ensures { λ r. ⌜ r ≡ min (self .«head_count») 9 + 1 + comparisonsSize (take (self .«comparison_count») (self .comparisons)) ⌝ }
+    {
+        let comparisons = self.comparisons;
+        let count = self.comparison_count;
+        let mut words = at_most_nine(self.head_count) + 1;
+        let mut i = 0;
+        while i < 4 {
+            if count <= i {
+                return words;
+            }
+            let comparison = comparisons[i];
+            let operand = comparison.operand;
+            words += operand.words();
+            i += 1;
+        }
+        words
+    }
+
     // A line with no part yet.
     pub fn new() -> Line
         ensures { λ r. ⌜ r ≡ lineOf [] [] Ending.Never ⌝ }

@@ -45,6 +45,7 @@ module _ (text : List ℕ) (at : ℕ) (r : Bool) (l : Line) where
       none-of : (ts : List Token) → causeParts text r l (lineEnd text at) (tokenAt text s ∷ ts) ≡ failedParts text
       none-of [] = refl
       none-of (a ∷ ts) = rw (word-absent text s (bytes "causes") w)
+
       go : (b : Bool) → isEmpty (tokenAt text s) ≡ b → causeParts text r l (lineEnd text at) (tokensAt text s) ≡ failedParts text
       go true h = ap (causeParts text r l (lineEnd text at)) (tokens-ended text at h)
       go false h = ap (causeParts text r l (lineEnd text at)) (tokens-first text s h) ∙ none-of (tokensAt text (skip inToken text s))
@@ -125,7 +126,7 @@ module _ (text : List ℕ) (at : ℕ) (h : isEmpty (tokenAt text at) ≡ false) 
   line-never b w =
       let f = word-token text at (bytes "never") b w in
       rw (tokens-first text at h, f .0)
-        (ap₂ (λ (k m : ℕ). lineParts text k (after constraintAfter (joined actionOf (tokensAt text m)))) (ap (lineEnd text) (f .1) ∙ line-past-token text at) (f .1))
+      (ap₂ (λ (k m : ℕ). lineParts text k (after constraintAfter (joined actionOf (tokensAt text m)))) (ap (lineEnd text) (f .1) ∙ line-past-token text at) (f .1))
 
   pub line-rule : wordAt text at (bytes "never") ≡ WordAt.Absent → lineParts text (lineEnd text at) (after ruleAfter (joined literalOf (tokensAt text at))) ≡ lineParts text (lineEnd text at) (lineFrom (tokensAt text at))
   unfolding lineFrom is

@@ -143,9 +143,11 @@ module _ (text : List ℕ) (at : ℕ) (r : Bool) (l : Line) where
       go3 false h =
           ap (λ (ts : List Token). comparisonsOf (tokenAt text s ∷ tokenAt text s2 ∷ ts)) (next-tokens text s3 h)
           ∙ list-bad (tokenAt text s) (tokenAt text s2) (tokenAt text s3) (comparison-none text s q) (tokensAt text (nextAt text s3))
+
       go2 : (b : Bool) → isEmpty (tokenAt text s2) ≡ b → comparisonsOf (tokenAt text s ∷ tokensAt text s2) ≡ none
       go2 true h = ap (λ (ts : List Token). comparisonsOf (tokenAt text s ∷ ts)) (next-ended text s h)
       go2 false h = ap (λ (ts : List Token). comparisonsOf (tokenAt text s ∷ ts)) (next-tokens text s2 h) ∙ go3 (isEmpty (tokenAt text s3)) refl
+
       go1 : (b : Bool) → isEmpty (tokenAt text s) ≡ b → comparisonsOf (tokensAt text s) ≡ none
       go1 true h = ap comparisonsOf (tokens-ended text at h)
       go1 false h = ap comparisonsOf (next-tokens text s h) ∙ go2 (isEmpty (tokenAt text s2)) refl
@@ -190,9 +192,9 @@ module _ (text : List ℕ) (at : ℕ) (r : Bool) (l : Line) where
     unfolding comparisonsParts pushComparisons all
     comparisons-done h =
         sym (start (some (found .comparison ∷ []))
-            (ap (λ (ts : List Token). comparisonsOf (tokenAt text s ∷ tokenAt text s2 ∷ tokenAt text s3 ∷ ts)) (tokens-ended text e h)
-              ∙ list-alone (tokenAt text s) (tokenAt text s2) (tokenAt text s3) (found .comparison) (found .read))
-          ∙ cc (found .range, found .small, sym ends ∙ line-ended text e h, and-true (comparisonInRange (found .comparison))))
+        (ap (λ (ts : List Token). comparisonsOf (tokenAt text s ∷ tokenAt text s2 ∷ tokenAt text s3 ∷ ts)) (tokens-ended text e h)
+        ∙ list-alone (tokenAt text s) (tokenAt text s2) (tokenAt text s3) (found .comparison) (found .read))
+        ∙ cc (found .range, found .small, sym ends ∙ line-ended text e h, and-true (comparisonInRange (found .comparison))))
 
     module _ (h : isEmpty (tokenAt text n) ≡ false) where
       more : tokensAt text n ≡ tokenAt text n ∷ tokensAt text (skip inToken text n)
@@ -202,16 +204,16 @@ module _ (text : List ℕ) (at : ℕ) (r : Bool) (l : Line) where
       unfolding comparisonsParts is
       comparisons-broken w =
           sym (start none
-            (ap (λ (ts : List Token). comparisonsOf (tokenAt text s ∷ tokenAt text s2 ∷ tokenAt text s3 ∷ ts)) more
-              ∙ list-broken (tokenAt text s) (tokenAt text s2) (tokenAt text s3) (found .comparison) (found .read) (tokenAt text n) (tokensAt text (skip inToken text n)) (word-absent text n (bytes ",") w)))
+          (ap (λ (ts : List Token). comparisonsOf (tokenAt text s ∷ tokenAt text s2 ∷ tokenAt text s3 ∷ ts)) more
+          ∙ list-broken (tokenAt text s) (tokenAt text s2) (tokenAt text s3) (found .comparison) (found .read) (tokenAt text n) (tokensAt text (skip inToken text n)) (word-absent text n (bytes ",") w)))
 
       pub comparisons-again : (b : ℕ) → wordAt text n (bytes ",") ≡ WordAt.Found b → outcome ≡ comparisonsParts text (r && ok) (pushComparison l c) (lineEnd text b) (comparisonsOf (tokensAt text b))
       unfolding is bytes sameBytes
       comparisons-again b w =
           let f = word-token text n (bytes ",") b w in
           start (both _∷_ (some (found .comparison)) (comparisonsOf (tokensAt text (skip inToken text n))))
-            (ap (λ (ts : List Token). comparisonsOf (tokenAt text s ∷ tokenAt text s2 ∷ tokenAt text s3 ∷ ts)) more
-              ∙ list-more (tokenAt text s) (tokenAt text s2) (tokenAt text s3) (found .comparison) (found .read) (tokenAt text n) (tokensAt text (skip inToken text n)) (ap (λ (u : Token). sameBytes u (bytes ",")) (f .0)))
+          (ap (λ (ts : List Token). comparisonsOf (tokenAt text s ∷ tokenAt text s2 ∷ tokenAt text s3 ∷ ts)) more
+          ∙ list-more (tokenAt text s) (tokenAt text s2) (tokenAt text s3) (found .comparison) (found .read) (tokenAt text n) (tokensAt text (skip inToken text n)) (ap (λ (u : Token). sameBytes u (bytes ",")) (f .0)))
           ∙ taken (comparisonsOf (tokensAt text (skip inToken text n)))
           ∙ ap₂ (λ (k m : ℕ). comparisonsParts text (r && ok) (pushComparison l c) k (comparisonsOf (tokensAt text m))) (sym (line-past-token text n) ∙ ap (lineEnd text) (sym (f .1))) (sym (f .1))
 
@@ -245,4 +247,4 @@ module _ (text : List ℕ) (at : ℕ) (r : Bool) (l : Line) where
     condition-some b w =
         let f = word-token text (skip isSpace text at) (bytes "if") b w in
         rw (some-tokens, f .0)
-          (ap₂ (λ (k m : ℕ). comparisonsParts text r l k (comparisonsOf (tokensAt text m))) (ap (lineEnd text) (f .1) ∙ line-past-token text (skip isSpace text at) ∙ line-past-spaces text at) (f .1))
+        (ap₂ (λ (k m : ℕ). comparisonsParts text r l k (comparisonsOf (tokensAt text m))) (ap (lineEnd text) (f .1) ∙ line-past-token text (skip isSpace text at) ∙ line-past-spaces text at) (f .1))

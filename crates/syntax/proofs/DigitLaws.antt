@@ -32,7 +32,7 @@ unfolding decimalFrom
 clip-decimal v w [] e = e
 clip-decimal v w (d ∷ ds) e =
     clip-decimal (v * 10 + (d - 48)) (w * 10 + (d - 48)) ds
-      (sym (clip-shift v (d - 48)) ∙ ap (λ (x : ℕ). clip (x * 10 + (d - 48))) e ∙ clip-shift w (d - 48))
+    (sym (clip-shift v (d - 48)) ∙ ap (λ (x : ℕ). clip (x * 10 + (d - 48))) e ∙ clip-shift w (d - 48))
 
 -- the value of the digits from a position on, after a value
 pub digits-past : (text : List ℕ) (i v w : ℕ) → i < length text → isDigit (getD text i 0) ≡ true → w ≡ clip (v * 10 + (getD text i 0 - 48)) → clip (decimalFrom v (run isDigit (drop i text))) ≡ clip (decimalFrom w (run isDigit (drop (i + 1) text)))
@@ -144,6 +144,7 @@ next-no-digit (b ∷ s) c q e = go (isDigit b) refl (next-no-digit s c q) e
     here : (i : Bool) → cond i (b ∷ run inToken s) [] ≡ c ∷ q → b ≡ c
     here true k = cc
     here false k = let w : _≡_ {A = ℕ} 0 1 = cc in absurd (omega arith)
+
     go : (d : Bool) → isDigit b ≡ d → (run inToken (drop (length (run isDigit s)) s) ≡ c ∷ q → isDigit c ≡ false) → run inToken (drop (length (cond d (b ∷ run isDigit s) [])) (b ∷ s)) ≡ c ∷ q → isDigit c ≡ false
     go true p h k = h k
     go false p h k = ap isDigit (sym (here (inToken b) k)) ∙ p
@@ -228,6 +229,7 @@ module _ (text : List ℕ) (at : ℕ) where
       no-digits : (o : Option ℕ) → numberEnding (skip isDigit text at) o ≡ NumberAt.Malformed → o ≡ none
       no-digits none k = refl
       no-digits (some n) k = let w : _≡_ {A = ℕ} 0 1 = cc in absurd (omega arith)
+
       go : (b : Bool) → isEmpty (tokenAt text (skip isDigit text at)) ≡ b → NumberAt.Malformed ≡ numberEnding (skip inToken text at) (numberOf (tokenAt text at))
       go true h = rw (ap numberOf (whole-token h) ∙ no-digits (numberOf (run isDigit (drop at text))) q)
       go false h = rw (broken h)

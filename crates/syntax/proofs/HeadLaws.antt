@@ -146,14 +146,14 @@ module _ (text : List ℕ) (at : ℕ) (never r : Bool) (l : Line) where
     unfolding headsOutcome pushHeads all is bytes
     heads-done w =
         sym (ap (λ (ts : List Token). headsOutcome text r l (lineEnd text at) (joined item ts)) tokens
-          ∙ ap (headsOutcome text r l (lineEnd text at)) (go (isEmpty (tokenAt text n)) refl)
-          ∙ cc (head .range, head .small, ends, and-true (testInRange (head .test))))
+        ∙ ap (headsOutcome text r l (lineEnd text at)) (go (isEmpty (tokenAt text n)) refl)
+        ∙ cc (head .range, head .small, ends, and-true (testInRange (head .test))))
       where
         go : (b : Bool) → isEmpty (tokenAt text n) ≡ b → joined item (tokenAt text s ∷ tokensAt text n) ≡ some (last (tokensAt text n) (head .test))
         go true h = rw (tokens-ended text e h) (joined-alone item (tokenAt text s) (head .test) (head .read))
         go false h =
             rw (tokens-first text n h)
-              (joined-last item (tokenAt text s) (head .test) (head .read) (tokenAt text n) (tokensAt text (skip inToken text n)) (word-absent text n (bytes "&") w))
+            (joined-last item (tokenAt text s) (head .test) (head .read) (tokenAt text n) (tokensAt text (skip inToken text n)) (word-absent text n (bytes "&") w))
 
     pub heads-less : (b : ℕ) → wordAt text n (bytes "&") ≡ WordAt.Found b → (at < length text) × (at < b)
     heads-less b w =

@@ -174,9 +174,9 @@ module _ (text : List ℕ) (at : ℕ) where
   unfolding operandAt operandOf readingOf orElse operandEnding operandInRange
   operand-named n p =
       rw p
-        (ap₂ (λ (o : Operand) (b : Bool). OperandAt.Operand o b (skip inToken text at))
-          (clip-made 16 n (omega arith) (λ (k : ℕ). Operand.Reading (record { 0 = k })) (Operand.Constant (pos 0)))
-          (clip-below 16 n (omega arith)))
+      (ap₂ (λ (o : Operand) (b : Bool). OperandAt.Operand o b (skip inToken text at))
+      (clip-made 16 n (omega arith) (λ (k : ℕ). Operand.Reading (record { 0 = k })) (Operand.Constant (pos 0)))
+      (clip-below 16 n (omega arith)))
 
   pub operand-name : (v e : ℕ) → nameAt text at 82 ≡ NumberAt.Number v e → operandEnding e (some (Operand.Reading (record { 0 = v }))) ≡ operandAt text at
   operand-name v e q =
@@ -227,8 +227,8 @@ head-clipped e none f t made h m = m
 head-clipped e (some n) f t made h m =
     h (clip n) e
     ∙ ap₂ (λ (x : Test) (b : Bool). HeadAt.Head x b e)
-        (rw (t (clip n), t n) (clip-made 64 n (omega arith) f (Test.Member (record { 0 = 0 }))))
-        (rw (t (clip n), t n) (clip-below 64 n (omega arith)))
+    (rw (t (clip n), t n) (clip-made 64 n (omega arith) f (Test.Member (record { 0 = 0 }))))
+    (rw (t (clip n), t n) (clip-below 64 n (omega arith)))
 
 literal-clipped : (e : ℕ) (o : Option ℕ) (negated : Bool) → literalHead (numberEnding e o) negated ≡ headEnding e (Option·map (λ (n : ℕ). Test.Occurs (literalAs negated n)) o)
 unfolding literalHead testNumber
@@ -255,14 +255,14 @@ module _ (text : List ℕ) (at : ℕ) where
     head-negated q =
         literal-clipped (skip inToken text (at + 1)) (named 69 (tokenAt text (at + 1))) true
         ∙ sym (ap₂ headEnding (skip-first text at h)
-            (ap (λ (t : Token). Option·map Test.Occurs (literalOf t)) (token-first text at h) ∙ rw (eq-eqb (getD text at 0) 33 q) (map-map (literalAs true) Test.Occurs (named 69 (tokenAt text (at + 1))))))
+        (ap (λ (t : Token). Option·map Test.Occurs (literalOf t)) (token-first text at h) ∙ rw (eq-eqb (getD text at 0) 33 q) (map-map (literalAs true) Test.Occurs (named 69 (tokenAt text (at + 1))))))
 
     pub head-plain : (getD text at 0 ≡ 33 → ⊥) → literalHead (nameAt text at 69) false ≡ headAt text at false
     unfolding nameAt headAt testOf literalOf
     head-plain q =
         literal-clipped (skip inToken text at) (named 69 (tokenAt text at)) false
         ∙ ap (headEnding (skip inToken text at))
-            (rw (token-first text at h, ne-eqb (getD text at 0) 33 q) (sym (map-map (literalAs false) Test.Occurs (named 69 (getD text at 0 ∷ tokenAt text (at + 1))))))
+        (rw (token-first text at h, ne-eqb (getD text at 0) 33 q) (sym (map-map (literalAs false) Test.Occurs (named 69 (getD text at 0 ∷ tokenAt text (at + 1))))))
 
 -- ---- comparisons
 

@@ -81,8 +81,8 @@ module _ (text : List ℕ) (E : ℕ) where
     never-parts none = refl
     never-parts (some cs) =
         ap₂ (λ (b : Bool) (l : Line). record { ok = true; «in_range» = b; line = l; at = E })
-          (sym (and-true (all testInRange members && all comparisonInRange cs)))
-          (ap (λ (l : Line). pushComparisons l cs) (pushed-heads [] Ending.Never members) ∙ pushed-comparisons (map smallTest members) [] Ending.Never cs)
+        (sym (and-true (all testInRange members && all comparisonInRange cs)))
+        (ap (λ (l : Line). pushComparisons l cs) (pushed-heads [] Ending.Never members) ∙ pushed-comparisons (map smallTest members) [] Ending.Never cs)
 
   module _ (literals : List Literal) where
     abbrev occurring : List Test
@@ -97,10 +97,10 @@ module _ (text : List ℕ) (E : ℕ) where
     cause-parts a none = refl
     cause-parts a (some cs) =
         ap₂ (λ (b : Bool) (l : Line). record { ok = true; «in_range» = b; line = l; at = E })
-          (turned (all testInRange occurring) (endingInRange (Ending.Causes a)) (all comparisonInRange cs))
-          (ap (λ (l : Line). pushComparisons (endLine l (smallEnding (Ending.Causes a))) cs) (pushed-heads [] Ending.Never occurring)
-            ∙ ap (λ (l : Line). pushComparisons l cs) (end-line (map smallTest occurring) [] Ending.Never (smallEnding (Ending.Causes a)))
-            ∙ pushed-comparisons (map smallTest occurring) [] (smallEnding (Ending.Causes a)) cs)
+        (turned (all testInRange occurring) (endingInRange (Ending.Causes a)) (all comparisonInRange cs))
+        (ap (λ (l : Line). pushComparisons (endLine l (smallEnding (Ending.Causes a))) cs) (pushed-heads [] Ending.Never occurring)
+        ∙ ap (λ (l : Line). pushComparisons l cs) (end-line (map smallTest occurring) [] Ending.Never (smallEnding (Ending.Causes a)))
+        ∙ pushed-comparisons (map smallTest occurring) [] (smallEnding (Ending.Causes a)) cs)
 
     rule-parts : (ts : List Token) → causeParts text (true && all testInRange occurring) (pushHeads newLine occurring) E ts ≡ lineParts text E (ruleAfter literals ts)
     unfolding causeParts causedParts ruleAfter lineParts both
@@ -111,6 +111,7 @@ module _ (text : List ℕ) (E : ℕ) where
         caused : (x : Option Action) → causedParts text (true && all testInRange occurring) (pushHeads newLine occurring) E x (conditionOf ts) ≡ lineParts text E (both (causes literals) x (conditionOf ts))
         caused none = refl
         caused (some a) = cause-parts a (conditionOf ts)
+
         go : (b : Bool) (x : Option Action) → cond b (causedParts text (true && all testInRange occurring) (pushHeads newLine occurring) E x (conditionOf ts)) (failedParts text) ≡ lineParts text E (cond b (both (causes literals) x (conditionOf ts)) none)
         go true x = caused x
         go false x = refl
@@ -146,7 +147,7 @@ module _ (text : List ℕ) (from : ℕ) (p : Parts) where
     unfolding constraintAfter
     constraint-yes k =
         heads-yes text (lineEnd text from) Test.Member constraintAfter (joined actionOf (tokensAt text from)) p actions-read k
-          (λ ok line end ts. comparisonsParts text ok line end (conditionOf ts)) (λ j. never-parts text (lineEnd text from) (j .items) (conditionOf (j .rest)))
+        (λ ok line end ts. comparisonsParts text ok line end (conditionOf ts)) (λ j. never-parts text (lineEnd text from) (j .items) (conditionOf (j .rest)))
 
   module _ (h : viewOf text p ≡ headsOutcome text true newLine (lineEnd text from) (joined (testOf false) (tokensAt text from))) where
     literals-read : viewOf text p ≡ headsOutcome text true newLine (lineEnd text from) (Option·map (mapped Test.Occurs) (joined literalOf (tokensAt text from)))
@@ -159,4 +160,4 @@ module _ (text : List ℕ) (from : ℕ) (p : Parts) where
     pub rule-yes : p .ok ≡ true → causeParts text (p .«in_range») (p .line) (lineEnd text (p .at)) (tokensAt text (p .at)) ≡ lineParts text (lineEnd text from) (after ruleAfter (joined literalOf (tokensAt text from)))
     rule-yes k =
         heads-yes text (lineEnd text from) Test.Occurs ruleAfter (joined literalOf (tokensAt text from)) p literals-read k
-          (causeParts text) (λ j. rule-parts text (lineEnd text from) (j .items) (j .rest))
+        (causeParts text) (λ j. rule-parts text (lineEnd text from) (j .items) (j .rest))

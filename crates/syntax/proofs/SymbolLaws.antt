@@ -42,7 +42,7 @@ module _ (text : List ℕ) (at : ℕ) where
     unfolding relationAt
     symbol-one k =
         sym (ap₂ relationEnding (skip-first text at e ∙ skip-none text (at + 1) k)
-          (ap relationOf (token-first text at e ∙ ap (λ (t : List ℕ). getD text at 0 ∷ t) (token-none text (at + 1) k))))
+        (ap relationOf (token-first text at e ∙ ap (λ (t : List ℕ). getD text at 0 ∷ t) (token-none text (at + 1) k))))
 
     module _ (k : isEmpty (tokenAt text (at + 1)) ≡ false) where
       longer : tokenAt text at ≡ getD text at 0 ∷ getD text (at + 1) 0 ∷ tokenAt text (at + 1 + 1)
@@ -52,7 +52,7 @@ module _ (text : List ℕ) (at : ℕ) where
       unfolding relationAt
       symbol-two q l =
           sym (ap₂ relationEnding (skip-first text at e ∙ skip-first text (at + 1) k ∙ skip-none text (at + 1 + 1) l)
-            (ap relationOf (longer ∙ ap₂ (λ (c : ℕ) (t : List ℕ). getD text at 0 ∷ c ∷ t) q (token-none text (at + 1 + 1) l))))
+          (ap relationOf (longer ∙ ap₂ (λ (c : ℕ) (t : List ℕ). getD text at 0 ∷ c ∷ t) q (token-none text (at + 1 + 1) l))))
 
       malformed : eqb (getD text (at + 1) 0) 61 && sameBytes (tokenAt text (at + 1 + 1)) [] ≡ false → RelationAt.Malformed ≡ relationAt text at
       unfolding relationAt relationEnding

@@ -124,6 +124,7 @@ tokens-some (b ∷ s) h = go (kind b)
   where
     empty : run inToken (b ∷ s) ≡ [] → ⊥
     empty e = true-false refl (sym (ap isEmpty e) ∙ h)
+
     go : Kind b → first-tokens (b ∷ s) ≡ run inToken (b ∷ s) ∷ first-tokens (drop (length (run inToken (b ∷ s))) (b ∷ s))
     go (space e) = absurd (empty (rw e))
     go (ending e) = absurd (empty (rw e))
@@ -197,6 +198,7 @@ line-none (b ∷ s) h k = go (kind b)
   where
     space-run : b ≡ 32 → run isSpace (b ∷ s) ≡ b ∷ run isSpace s
     space-run q = rw (eq-eqb b 32 q)
+
     go : Kind b → run inLine (b ∷ s) ≡ []
     go (space e) = let w : _≡_ {A = ℕ} 0 1 = cc (sym (space-run e) ∙ h) in absurd (omega arith)
     go (ending e) = rw e

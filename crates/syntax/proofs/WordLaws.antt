@@ -143,6 +143,7 @@ module _ (text : List ℕ) (at : ℕ) (word : List ℕ) where
         where
           found : WordAt.Found (at + length word) ≡ WordAt.Found e → at + length word ≡ e
           found k = cc
+
           behind-word : tokenAt text at ≡ word → at + length word ≡ e → e ≡ skip inToken text at
           behind-word s k = sym k ∙ sym (skip-token text at word s)
       go false p q = let w : _≡_ {A = ℕ} 0 1 = cc in absurd (omega arith)

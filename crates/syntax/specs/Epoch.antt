@@ -61,7 +61,7 @@ addItem e (event n) = record { events = insertEvent (e .events) (record { 0 = n 
 addItem e (value n k) =
     record {
       events = e .events;
-      readings = record { given = insertReading (e .readings .given) (record { 0 = n }); values = set (e .readings .values) n k }
+      readings = record { given = insertReading (e .readings .given) (record { 0 = n }); values = set (e .readings .values) n k };
     }
 
 -- a blank line

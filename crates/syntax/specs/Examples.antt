@@ -21,13 +21,13 @@ abbrev worked : Policy
 worked =
     record {
       rules =
-        record {
-          literals = literalAs false 1 ∷ literalAs true 2 ∷ [];
-          action = record { 0 = 3 };
-          comparisons = record { reading = record { 0 = 0 }; relation = Relation.Greater; operand = Operand.Constant (pos 40) } ∷ []
-        }
-        ∷ record { literals = literalAs false 3 ∷ []; action = record { 0 = 4 }; comparisons = [] } ∷ [];
-      constraints = record { actions = record { 0 = 3 } ∷ record { 0 = 4 } ∷ []; comparisons = [] } ∷ []
+          record {
+            literals = literalAs false 1 ∷ literalAs true 2 ∷ [];
+            action = record { 0 = 3 };
+            comparisons = record { reading = record { 0 = 0 }; relation = Relation.Greater; operand = Operand.Constant (pos 40) } ∷ [];
+          }
+          ∷ record { literals = literalAs false 3 ∷ []; action = record { 0 = 4 }; comparisons = [] } ∷ [];
+      constraints = record { actions = record { 0 = 3 } ∷ record { 0 = 4 } ∷ []; comparisons = [] } ∷ [];
     }
 
 pub record TextExample : Type 0 where

@@ -11,9 +11,24 @@ ghost use Rattle.syntax.specs.Parts.{testOf};
 ghost use Rattle.syntax.specs.Scan.{tokenAt, tokensAt, lineEnd};
 ghost use Rattle.syntax.specs.Number.{isEmpty};
 ghost use Rattle.syntax.specs.Outcome.{failedParts, viewOf, headsOutcome, comparisonsParts, causeParts, lineParts};
-use crate::scan::{WordAt, ampersand_at, at_token_end, causes_at, comma_at, if_at, name_at, never_at, skip_spaces, NumberAt};
-use crate::token::{ComparisonAt, HeadAt, comparison_at, head_at};
-use policy::{Action, ActionCheck, Ending, Line};
+use crate::scan::NumberAt;
+use crate::scan::WordAt;
+use crate::scan::ampersand_at;
+use crate::scan::at_token_end;
+use crate::scan::causes_at;
+use crate::scan::comma_at;
+use crate::scan::if_at;
+use crate::scan::name_at;
+use crate::scan::never_at;
+use crate::scan::skip_spaces;
+use crate::token::ComparisonAt;
+use crate::token::HeadAt;
+use crate::token::comparison_at;
+use crate::token::head_at;
+use policy::Action;
+use policy::ActionCheck;
+use policy::Ending;
+use policy::Line;
 
 // What was read of a line: whether it has the right shape, whether every number is in range, the parts, and the position
 // behind them.
@@ -43,11 +58,9 @@ fn failed(text: &[u8]) -> Parts
 
 // The literals of a rule or the actions of a constraint, joined by `&`.
 fn read_heads(text: &[u8], from: usize, never: bool) -> Parts
-    ensures {
-        λ r. ⌜ viewOf (now (text .entry)) r
-            ≡ headsOutcome (now (text .entry)) true (lineOf [] [] Ending.Never) (lineEnd (now (text .entry)) from)
-                (joined (testOf never) (tokensAt (now (text .entry)) from)) ⌝
-    }
+    ensures { λ r. ⌜ viewOf (now (text .entry)) r
+        ≡ headsOutcome (now (text .entry)) true (lineOf [] [] Ending.Never) (lineEnd (now (text .entry)) from)
+        (joined (testOf never) (tokensAt (now (text .entry)) from)) ⌝ }
 {
     let mut line = Line::new();
     let mut in_range = true;
@@ -74,10 +87,8 @@ fn read_heads(text: &[u8], from: usize, never: bool) -> Parts
 
 // The comparisons of a line, joined by `,`, to the end of the line.
 fn read_comparisons(text: &[u8], from: usize, heads: Line, heads_in_range: bool) -> Parts
-    ensures {
-        λ r. ⌜ r ≡ comparisonsParts (now (text .entry)) «heads_in_range» heads (lineEnd (now (text .entry)) from)
-            (comparisonsOf (tokensAt (now (text .entry)) from)) ⌝
-    }
+    ensures { λ r. ⌜ r ≡ comparisonsParts (now (text .entry)) «heads_in_range» heads (lineEnd (now (text .entry)) from)
+        (comparisonsOf (tokensAt (now (text .entry)) from)) ⌝ }
 {
     let mut line = heads;
     let mut in_range = heads_in_range;
@@ -107,10 +118,8 @@ fn read_comparisons(text: &[u8], from: usize, heads: Line, heads_in_range: bool)
 
 // The condition of a line: `if` and comparisons, or nothing, to the end of the line.
 fn read_condition(text: &[u8], from: usize, heads: Line, in_range: bool) -> Parts
-    ensures {
-        λ r. ⌜ r ≡ comparisonsParts (now (text .entry)) «in_range» heads (lineEnd (now (text .entry)) from)
-            (conditionOf (tokensAt (now (text .entry)) from)) ⌝
-    }
+    ensures { λ r. ⌜ r ≡ comparisonsParts (now (text .entry)) «in_range» heads (lineEnd (now (text .entry)) from)
+        (conditionOf (tokensAt (now (text .entry)) from)) ⌝ }
 {
     let start = skip_spaces(text, from);
     if at_token_end(text, start) {
@@ -129,10 +138,8 @@ fn read_condition(text: &[u8], from: usize, heads: Line, in_range: bool) -> Part
 
 // `causes`, the action and the condition of a rule whose literals were read.
 fn read_cause(text: &[u8], heads: Parts) -> Parts
-    ensures {
-        λ r. ⌜ r ≡ causeParts (now (text .entry)) (heads .«in_range») (heads .line) (lineEnd (now (text .entry)) (heads .at))
-            (tokensAt (now (text .entry)) (heads .at)) ⌝
-    }
+    ensures { λ r. ⌜ r ≡ causeParts (now (text .entry)) (heads .«in_range») (heads .line) (lineEnd (now (text .entry)) (heads .at))
+        (tokensAt (now (text .entry)) (heads .at)) ⌝ }
 {
     let first = skip_spaces(text, heads.at);
     let WordAt::Found(behind) = causes_at(text, first) else {
@@ -146,7 +153,12 @@ fn read_cause(text: &[u8], heads: Parts) -> Parts
     let check = Action::new(n);
     match check {
         ActionCheck::Valid(action) => {
-            read_condition(text, end, line.ended(Ending::Causes(action)), heads.in_range)
+            read_condition(
+                text,
+                end,
+                line.ended(Ending::Causes(action)),
+                heads.in_range,
+            )
         }
         ActionCheck::OutOfRange => {
             read_condition(text, end, line.ended(Ending::Causes(Action(0))), false)
@@ -155,10 +167,8 @@ fn read_cause(text: &[u8], heads: Parts) -> Parts
 }
 
 fn read_rule(text: &[u8], from: usize) -> Parts
-    ensures {
-        λ r. ⌜ r ≡ lineParts (now (text .entry)) (lineEnd (now (text .entry)) from)
-            (after ruleAfter (joined literalOf (tokensAt (now (text .entry)) from))) ⌝
-    }
+    ensures { λ r. ⌜ r ≡ lineParts (now (text .entry)) (lineEnd (now (text .entry)) from)
+        (after ruleAfter (joined literalOf (tokensAt (now (text .entry)) from))) ⌝ }
 {
     let heads = read_heads(text, from, false);
     if heads.ok {
@@ -169,10 +179,8 @@ fn read_rule(text: &[u8], from: usize) -> Parts
 }
 
 fn read_constraint(text: &[u8], from: usize) -> Parts
-    ensures {
-        λ r. ⌜ r ≡ lineParts (now (text .entry)) (lineEnd (now (text .entry)) from)
-            (after constraintAfter (joined actionOf (tokensAt (now (text .entry)) from))) ⌝
-    }
+    ensures { λ r. ⌜ r ≡ lineParts (now (text .entry)) (lineEnd (now (text .entry)) from)
+        (after constraintAfter (joined actionOf (tokensAt (now (text .entry)) from))) ⌝ }
 {
     let heads = read_heads(text, from, true);
     if heads.ok {
@@ -185,10 +193,8 @@ fn read_constraint(text: &[u8], from: usize) -> Parts
 
 // The parts of the line whose first token is at the position.
 fn read_parts(text: &[u8], start: usize) -> Parts
-    ensures {
-        λ r. ⌜ (isEmpty (tokenAt (now (text .entry)) start) ≡ false →
-            r ≡ lineParts (now (text .entry)) (lineEnd (now (text .entry)) start) (lineFrom (tokensAt (now (text .entry)) start))) ⌝
-    }
+    ensures { λ r. ⌜ (isEmpty (tokenAt (now (text .entry)) start) ≡ false →
+        r ≡ lineParts (now (text .entry)) (lineEnd (now (text .entry)) start) (lineFrom (tokensAt (now (text .entry)) start))) ⌝ }
 {
     let never = never_at(text, start);
     match never {

@@ -7,7 +7,9 @@ ghost use Rattle.policy.specs.List.{all};
 ghost use Rattle.syntax.specs.Byte.{bytes, isSpace, isDigit};
 ghost use Rattle.syntax.specs.Number.{isEmpty};
 ghost use Rattle.syntax.specs.Scan.{skip, tokenAt, wordAt, inToken, clip, clipLimit, digitRun, digitsAt, numberAt, nameAt};
-use crate::class::{ends_token, is_digit, is_space};
+use crate::class::ends_token;
+use crate::class::is_digit;
+use crate::class::is_space;
 
 pub enum WordAt {
     // The position behind the word.
@@ -40,7 +42,11 @@ pub fn skip_spaces(text: &[u8], at: usize) -> usize
 pub fn at_token_end(text: &[u8], at: usize) -> bool
     ensures { λ r. ⌜ r ≡ isEmpty (tokenAt (now (text .entry)) at) ⌝ }
 {
-    if at < text.len() { ends_token(text[at]) } else { true }
+    if at < text.len() {
+        ends_token(text[at])
+    } else {
+        true
+    }
 }
 
 // Whether the token at the position is the word, in which no token ends.

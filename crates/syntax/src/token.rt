@@ -8,11 +8,22 @@ ghost use Rattle.syntax.specs.Parts.{compared, comparisonAt};
 ghost use mathlib.Core.Option.{some};
 ghost use Rattle.syntax.specs.Grammar.{relationOf};
 ghost use mathlib.Core.List.{[], _∷_};
-use crate::scan::{NumberAt, at_token_end, name_at, number_at, skip_spaces};
-use policy::{
-    Action, ActionCheck, Comparison, Event, EventCheck, Literal, Operand, Reading, ReadingCheck,
-    Relation, Test,
-};
+use crate::scan::NumberAt;
+use crate::scan::at_token_end;
+use crate::scan::name_at;
+use crate::scan::number_at;
+use crate::scan::skip_spaces;
+use policy::Action;
+use policy::ActionCheck;
+use policy::Comparison;
+use policy::Event;
+use policy::EventCheck;
+use policy::Literal;
+use policy::Operand;
+use policy::Reading;
+use policy::ReadingCheck;
+use policy::Relation;
+use policy::Test;
 
 pub enum ConstantAt {
     // The constant, and the position behind it.
@@ -209,7 +220,13 @@ pub enum ComparisonAt {
     Malformed,
 }
 
-fn compared(n: u32, relation: Relation, operand: Operand, in_range: bool, end: usize) -> ComparisonAt
+fn compared(
+    n: u32,
+    relation: Relation,
+    operand: Operand,
+    in_range: bool,
+    end: usize,
+) -> ComparisonAt
     ensures { λ r. ⌜ r ≡ compared n relation operand «in_range» end ⌝ }
 {
     let check = Reading::new(n);

@@ -40,7 +40,7 @@ failed-requires c κs = search needs
 
 -- src/line.rt:139:9
 returns : tie.Need-returns
-returns c = 
+returns c =
     let t = now (c .before .before .before .before .before .before .args .text) in
     let p = c .before .before .before .before .before .before .args .heads in
     let w = ap (λ (k : ℕ). wordAt t k (bytes "causes")) (sym (c .before .before .before .before .skip-spaces .ensures)) ∙ sym (c .before .before .before .causes-at .ensures) ∙ c .before .enum-told .given .1 in
@@ -68,7 +68,7 @@ failed-requires-2 c κs = search needs
 
 -- src/line.rt:143:9
 returns-2 : tie.Need-returns-2
-returns-2 c = 
+returns-2 c =
     let t = now (c .before .before .before .before .before .before .before .before .before .before .before .args .text) in
     let p = c .before .before .before .before .before .before .before .before .before .before .before .args .heads in
     let w = ap (λ (k : ℕ). wordAt t k (bytes "causes")) (sym (c .before .before .before .before .before .before .before .before .before .skip-spaces .ensures)) ∙ sym (c .before .before .before .before .before .before .before .before .causes-at .ensures) ∙ c .before .before .before .before .before .before .behind .given .1 in
@@ -105,7 +105,7 @@ read-condition-requires-2 c κs = search needs
 
 -- src/line.rt:131:1
 returns-3 : tie.Need-returns-3
-returns-3 c = 
+returns-3 c =
     let t = now (c .before .before .before .before .before .before .before .before .before .before .before .before .before .before .before .before .before .before .args .text) in
     let p = c .before .before .before .before .before .before .before .before .before .before .before .before .before .before .before .before .before .before .args .heads in
     let w = ap (λ (k : ℕ). wordAt t k (bytes "causes")) (sym (c .before .before .before .before .before .before .before .before .before .before .before .before .before .before .before .before .skip-spaces .ensures)) ∙ sym (c .before .before .before .before .before .before .before .before .before .before .before .before .before .before .before .causes-at .ensures) ∙ c .before .before .before .before .before .before .before .before .before .before .before .before .before .behind .given .1 in
@@ -114,7 +114,7 @@ returns-3 c =
 
 -- src/line.rt:131:1
 returns-4 : tie.Need-returns-4
-returns-4 c = 
+returns-4 c =
     let t = now (c .before .before .before .before .before .before .before .before .before .before .before .before .before .before .before .before .before .args .text) in
     let p = c .before .before .before .before .before .before .before .before .before .before .before .before .before .before .before .before .before .args .heads in
     let w = ap (λ (k : ℕ). wordAt t k (bytes "causes")) (sym (c .before .before .before .before .before .before .before .before .before .before .before .before .before .before .before .skip-spaces .ensures)) ∙ sym (c .before .before .before .before .before .before .before .before .before .before .before .before .before .before .causes-at .ensures) ∙ c .before .before .before .before .before .before .before .before .before .before .before .before .behind .given .1 in

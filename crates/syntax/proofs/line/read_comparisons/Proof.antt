@@ -55,7 +55,7 @@ failed-requires c κs = search needs
 
 -- src/line.rt:86:13
 returns : tie.Need-returns Inv-loop μ-loop
-returns c = 
+returns c =
     let t = now (c .before .before .before .before .before .before .before .args .text) in
     let l = c .before .before .before .before .before .loop in
     let q = ap (comparisonAt t) (sym (c .before .before .before .before .skip-spaces .ensures)) ∙ sym (c .before .before .before .comparison-at .ensures) ∙ c .before .enum-told .given .1 in
@@ -79,7 +79,7 @@ at-token-end-requires c κs = search needs
 
 -- src/line.rt:92:13
 returns-2 : tie.Need-returns-2 Inv-loop μ-loop
-returns-2 c = 
+returns-2 c =
     let t = now (c .before .before .before .before .before .before .before .before .before .before .before .before .args .text) in
     let l = c .before .before .before .before .before .before .before .before .before .before .loop in
     let q = ap (comparisonAt t) (sym (c .before .before .before .before .before .before .before .before .before .skip-spaces .ensures)) ∙ sym (c .before .before .before .before .before .before .before .before .comparison-at .ensures) ∙ c .before .before .before .before .before .before .comparison .given .1 in
@@ -104,7 +104,7 @@ failed-requires-2 c κs = search needs
 
 -- src/line.rt:100:13
 returns-3 : tie.Need-returns-3 Inv-loop μ-loop
-returns-3 c = 
+returns-3 c =
     let t = now (c .before .before .before .before .before .before .before .before .before .before .before .before .before .before .before .before .args .text) in
     let l = c .before .before .before .before .before .before .before .before .before .before .before .before .before .before .loop in
     let q = ap (comparisonAt t) (sym (c .before .before .before .before .before .before .before .before .before .before .before .before .before .skip-spaces .ensures)) ∙ sym (c .before .before .before .before .before .before .before .before .before .before .before .before .comparison-at .ensures) ∙ c .before .before .before .before .before .before .before .before .before .before .comparison .given .1 in
@@ -114,7 +114,7 @@ returns-3 c =
 
 -- src/line.rt:83:5
 loop-less : tie.Need-loop-less Inv-loop μ-loop
-loop-less c = 
+loop-less c =
     let t = now (c .before .before .before .before .before .before .before .before .before .before .before .before .before .before .before .before .args .text) in
     let l = c .before .before .before .before .before .before .before .before .before .before .before .before .before .before .loop in
     let q = ap (comparisonAt t) (sym (c .before .before .before .before .before .before .before .before .before .before .before .before .before .skip-spaces .ensures)) ∙ sym (c .before .before .before .before .before .before .before .before .before .before .before .before .comparison-at .ensures) ∙ c .before .before .before .before .before .before .before .before .before .before .comparison .given .1 in
@@ -125,7 +125,7 @@ loop-less c =
 
 -- src/line.rt:83:5
 loop-again : tie.Need-loop-again Inv-loop μ-loop
-loop-again c = 
+loop-again c =
     let t = now (c .before .before .before .before .before .before .before .before .before .before .before .before .before .before .before .before .args .text) in
     let l = c .before .before .before .before .before .before .before .before .before .before .before .before .before .before .loop in
     let q = ap (comparisonAt t) (sym (c .before .before .before .before .before .before .before .before .before .before .before .before .before .skip-spaces .ensures)) ∙ sym (c .before .before .before .before .before .before .before .before .before .before .before .before .comparison-at .ensures) ∙ c .before .before .before .before .before .before .before .before .before .before .comparison .given .1 in

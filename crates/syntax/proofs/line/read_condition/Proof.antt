@@ -27,7 +27,7 @@ at-token-end-requires c κs = search needs
 
 -- src/line.rt:115:9
 returns : tie.Need-returns
-returns c = 
+returns c =
     let t = now (c .before .before .before .before .args .text) in
     let a = c .before .before .before .before .args in
     let h = ap (λ (k : ℕ). isEmpty (tokenAt t k)) (sym (c .before .before .skip-spaces .ensures)) ∙ sym (c .before .at-token-end .ensures) ∙ c .if1 .taken in
@@ -51,7 +51,7 @@ failed-requires c κs = search needs
 
 -- src/line.rt:123:9
 returns-2 : tie.Need-returns-2
-returns-2 c = 
+returns-2 c =
     let t = now (c .before .before .before .before .before .before .before .before .args .text) in
     let a = c .before .before .before .before .before .before .before .before .args in
     let h = ap (λ (k : ℕ). isEmpty (tokenAt t k)) (sym (c .before .before .before .before .before .before .skip-spaces .ensures)) ∙ sym (c .before .before .before .before .before .at-token-end .ensures) ∙ c .before .before .before .before .if1 .left in
@@ -64,7 +64,7 @@ read-comparisons-requires c κs = search needs
 
 -- src/line.rt:107:1
 returns-3 : tie.Need-returns-3
-returns-3 c = 
+returns-3 c =
     let t = now (c .before .before .before .before .before .before .before .before .before .args .text) in
     let a = c .before .before .before .before .before .before .before .before .before .args in
     let h = ap (λ (k : ℕ). isEmpty (tokenAt t k)) (sym (c .before .before .before .before .before .before .before .skip-spaces .ensures)) ∙ sym (c .before .before .before .before .before .before .at-token-end .ensures) ∙ c .before .before .before .before .before .if1 .left in

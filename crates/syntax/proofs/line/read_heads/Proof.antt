@@ -59,7 +59,7 @@ failed-requires c κs = search needs
 
 -- src/line.rt:56:13
 returns : tie.Need-returns Inv-loop μ-loop
-returns c = 
+returns c =
     let t = now (c .before .before .before .before .before .before .before .before .args .text) in
     let v = c .before .before .before .before .before .before .before .before .args .never in
     let l = c .before .before .before .before .before .loop in
@@ -92,18 +92,18 @@ enum-told-2 c = search needs
 
 -- src/line.rt:62:13
 returns-2 : tie.Need-returns-2 Inv-loop μ-loop
-returns-2 c = 
+returns-2 c =
     let t = now (c .before .before .before .before .before .before .before .before .before .before .before .before .before .before .args .text) in
     let v = c .before .before .before .before .before .before .before .before .before .before .before .before .before .before .args .never in
     let l = c .before .before .before .before .before .before .before .before .before .before .before .loop in
     let q = ap (λ (k : ℕ). headAt t k v) (sym (c .before .before .before .before .before .before .before .before .before .before .skip-spaces .ensures)) ∙ sym (c .before .before .before .before .before .before .before .before .before .head-at .ensures) ∙ c .before .before .before .before .before .before .before .test .given .1 in
     let w = ap (λ (k : ℕ). wordAt t k (bytes "&")) (sym (c .before .before .before .skip-spaces2 .ensures)) ∙ sym (c .before .before .ampersand-at .ensures) ∙ c .enum-told2 .given .1 in
     rw (c .before .before .before .before .both .ensures, c .before .before .before .before .before .with-head .ensures, c .before .before .before .skip-spaces2 .ensures)
-      (heads-done t (l .at) v (l .in-range) (l .line) _ _ _ q w ∙ sym (l .inv))
+    (heads-done t (l .at) v (l .in-range) (l .line) _ _ _ q w ∙ sym (l .inv))
 
 -- src/line.rt:53:5
 loop-less : tie.Need-loop-less Inv-loop μ-loop
-loop-less c = 
+loop-less c =
     let t = now (c .before .before .before .before .before .before .before .before .before .before .before .before .before .before .before .args .text) in
     let v = c .before .before .before .before .before .before .before .before .before .before .before .before .before .before .before .args .never in
     let l = c .before .before .before .before .before .before .before .before .before .before .before .before .loop in
@@ -114,14 +114,14 @@ loop-less c =
 
 -- src/line.rt:53:5
 loop-again : tie.Need-loop-again Inv-loop μ-loop
-loop-again c = 
+loop-again c =
     let t = now (c .before .before .before .before .before .before .before .before .before .before .before .before .before .before .before .args .text) in
     let v = c .before .before .before .before .before .before .before .before .before .before .before .before .before .before .before .args .never in
     let l = c .before .before .before .before .before .before .before .before .before .before .before .before .loop in
     let q = ap (λ (k : ℕ). headAt t k v) (sym (c .before .before .before .before .before .before .before .before .before .before .before .skip-spaces .ensures)) ∙ sym (c .before .before .before .before .before .before .before .before .before .before .head-at .ensures) ∙ c .before .before .before .before .before .before .before .before .test .given .1 in
     let w = ap (λ (k : ℕ). wordAt t k (bytes "&")) (sym (c .before .before .before .before .skip-spaces2 .ensures)) ∙ sym (c .before .before .before .ampersand-at .ensures) ∙ c .before .behind .given .1 in
     rw (c .before .before .before .before .before .both .ensures, c .before .before .before .before .before .before .with-head .ensures)
-      (l .inv ∙ heads-again t (l .at) v (l .in-range) (l .line) _ _ _ q _ w)
+    (l .inv ∙ heads-again t (l .at) v (l .in-range) (l .line) _ _ _ q _ w)
 
 pub read-heads-spec : {M : Type 1} → statement M
 read-heads-spec =

@@ -49,18 +49,19 @@ loop-less c = search needs
 
 -- src/scan.rt:93:5
 loop-again : tie.Need-loop-again Inv-loop μ-loop
-loop-again c = 
+loop-again c =
     let t = now (c .before .before .before .before .before .before .before .args .text) in
     let l = c .before .before .before .before .before .loop in
-    let d : isDigit (getD t (l .i) 0) ≡ true = sym (c .before .before .is-digit .ensures) ∙ c .before .if1 .taken in
-    (l .inv .0 ∙ digits-past t (l .i) (l .value) (c .shifted .result) (c .before .before .before .before .loop-test .taken) d (c .shifted .ensures)
-    , l .inv .1 ∙ skip-past isDigit t (l .i) (c .before .before .before .before .loop-test .taken) d
-    , omega (arith, c .shifted .ensures))
+    let d : isDigit (getD t (l .i) 0) ≡ true = sym (c .before .before .is-digit .ensures) ∙ c .before .if1 .taken in (
+      l .inv .0 ∙ digits-past t (l .i) (l .value) (c .shifted .result) (c .before .before .before .before .loop-test .taken) d (c .shifted .ensures),
+      l .inv .1 ∙ skip-past isDigit t (l .i) (c .before .before .before .before .loop-test .taken) d,
+      omega (arith, c .shifted .ensures),
+    )
 
 -- src/scan.rt:99:13
 returns : tie.Need-returns Inv-loop μ-loop
 unfolding digitRun
-returns c = 
+returns c =
     let t = now (c .before .before .before .before .before .before .args .text) in
     let l = c .before .before .before .before .loop in
     let d : isDigit (getD t (l .i) 0) ≡ false = sym (c .before .is-digit .ensures) ∙ c .if1 .left in
@@ -69,7 +70,7 @@ returns c =
 -- src/scan.rt:88:1
 returns-2 : tie.Need-returns-2 Inv-loop μ-loop
 unfolding digitRun
-returns-2 c = 
+returns-2 c =
     let t = now (c .before .before .before .args .text) in
     let l = c .before .loop in
     rw (l .inv .0 ∙ digits-end t (l .i) (l .value) (l .inv .2) (c .loop-test .left), l .inv .1 ∙ skip-end isDigit t (l .i) (c .loop-test .left))

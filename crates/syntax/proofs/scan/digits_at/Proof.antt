@@ -19,7 +19,7 @@ digit-run-requires c κs = search needs
 -- src/scan.rt:112:9
 returns : tie.Need-returns
 unfolding digitRun
-returns c = 
+returns c =
     let t = now (c .before .before .before .args .text) in
     let at = c .before .before .before .args .at in
     let q = c .before .digit-run .ensures in
@@ -33,7 +33,7 @@ sub-if2 c = search needs
 -- src/scan.rt:115:9
 returns-2 : tie.Need-returns-2
 unfolding digitRun
-returns-2 c = 
+returns-2 c =
     let t = now (c .before .before .before .before .args .text) in
     let at = c .before .before .before .before .args .at in
     let q = c .before .before .digit-run .ensures in
@@ -43,7 +43,7 @@ returns-2 c =
 -- src/scan.rt:117:8
 shared-slice-read-if3 : tie.Need-shared-slice-read-if3
 unfolding digitRun
-shared-slice-read-if3 c = 
+shared-slice-read-if3 c =
     let t = now (c .before .before .before .before .before .args .text) in
     let at = c .before .before .before .before .before .args .at in
     let q = c .before .before .before .digit-run .ensures in
@@ -53,7 +53,7 @@ shared-slice-read-if3 c =
 -- src/scan.rt:106:1
 returns-3 : tie.Need-returns-3
 unfolding digitRun
-returns-3 c = 
+returns-3 c =
     let t = now (c .before .before .before .before .before .before .args .text) in
     let at = c .before .before .before .before .before .before .args .at in
     let q = c .before .before .before .before .digit-run .ensures in
@@ -63,7 +63,7 @@ returns-3 c =
 -- src/scan.rt:106:1
 returns-4 : tie.Need-returns-4
 unfolding digitRun
-returns-4 c = 
+returns-4 c =
     let t = now (c .before .before .before .before .before .before .args .text) in
     let at = c .before .before .before .before .before .before .args .at in
     let q = c .before .before .before .before .digit-run .ensures in

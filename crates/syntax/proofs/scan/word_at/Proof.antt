@@ -27,7 +27,7 @@ loop-holds c = (refl, omega arith, omega arith)
 -- src/scan.rt:55:13
 returns : tie.Need-returns Inv-loop μ-loop
 unfolding wordAt
-returns c = 
+returns c =
     let t = now (c .before .before .before .before .before .args .text) in
     let w = now (c .before .before .before .before .before .args .word) in
     let l = c .before .before .loop in
@@ -44,7 +44,7 @@ shared-slice-read-if2-2 c = search needs
 -- src/scan.rt:58:13
 returns-2 : tie.Need-returns-2 Inv-loop μ-loop
 unfolding wordAt
-returns-2 c = 
+returns-2 c =
     let t = now (c .before .before .before .before .before .before .before .before .args .text) in
     let w = now (c .before .before .before .before .before .before .before .before .args .word) in
     let l = c .before .before .before .before .before .loop in
@@ -64,7 +64,7 @@ loop-less c = search needs
 
 -- src/scan.rt:53:5
 loop-again : tie.Need-loop-again Inv-loop μ-loop
-loop-again c = 
+loop-again c =
     let t = now (c .before .before .before .before .before .before .before .before .args .text) in
     let w = now (c .before .before .before .before .before .before .before .before .args .word) in
     let l = c .before .before .before .before .before .loop in
@@ -77,7 +77,7 @@ at-token-end-requires c κs = search needs
 -- src/scan.rt:47:1
 returns-3 : tie.Need-returns-3 Inv-loop μ-loop
 unfolding wordAt
-returns-3 c = 
+returns-3 c =
     let t = now (c .before .before .before .before .before .before .args .text) in
     let w = now (c .before .before .before .before .before .before .args .word) in
     let l = c .before .before .before .loop in
@@ -87,7 +87,7 @@ returns-3 c =
 -- src/scan.rt:47:1
 returns-4 : tie.Need-returns-4 Inv-loop μ-loop
 unfolding wordAt
-returns-4 c = 
+returns-4 c =
     let t = now (c .before .before .before .before .before .before .args .text) in
     let w = now (c .before .before .before .before .before .before .args .word) in
     let l = c .before .before .before .loop in

@@ -51,7 +51,7 @@ enum-told-2 c = search needs
 
 -- src/token.rt:136:1
 returns-2 : tie.Need-returns-2
-returns-2 c = 
+returns-2 c =
     let f : SFits w32 (c .before .constant .given .0 .0) = search needs in
     rw (toZ-ofZ f) (operand-value (now (c .before .before .before .before .before .before .before .before .args .text)) (c .before .before .before .before .before .before .before .before .args .at) (sym (c .before .before .before .before .before .before .name-at .ensures) ∙ c .before .before .before .before .enum-told .given .1) _ _ (sym (c .before .before .before .constant-at .ensures) ∙ c .before .constant .given .1))
 
