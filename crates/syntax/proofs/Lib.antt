@@ -5,6 +5,7 @@ pub mod ConditionLaws
 pub mod DigitLaws
 pub mod Examples
 pub mod HeadLaws
+pub mod JudgeLaws
 pub mod PartLaws
 pub mod RunLaws
 pub mod ShapeLaws

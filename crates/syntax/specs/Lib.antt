@@ -8,4 +8,5 @@ pub mod Epoch
 pub mod Scan
 pub mod Parts
 pub mod Outcome
+pub mod Answers
 pub mod Examples

@@ -10,6 +10,8 @@ ghost use Rattle.syntax.specs.Grammar.{after, ruleAfter, constraintAfter
 ghost use Rattle.syntax.specs.Parts.{testOf};
 ghost use Rattle.syntax.specs.Scan.{tokenAt, tokensAt, lineEnd};
 ghost use Rattle.syntax.specs.Number.{isEmpty};
+ghost use Rattle.syntax.specs.Answers.{judgedLine, judgedParts, behindLine, lineReadOf, lineRead};
+ghost use Rattle.syntax.specs.Text.{LineAnswer};
 ghost use Rattle.syntax.specs.Outcome.{failedParts, viewOf, headsOutcome, comparisonsParts, causeParts, lineParts};
 use crate::scan::NumberAt;
 use crate::scan::WordAt;
@@ -25,6 +27,7 @@ use crate::token::ComparisonAt;
 use crate::token::HeadAt;
 use crate::token::comparison_at;
 use crate::token::head_at;
+use policy::Fault;
 use policy::Action;
 use policy::ActionCheck;
 use policy::Ending;
@@ -200,5 +203,119 @@ fn read_parts(text: &[u8], start: usize) -> Parts
     match never {
         WordAt::Found(behind) => read_constraint(text, behind),
         WordAt::Absent => read_rule(text, start),
+    }
+}
+
+pub enum LineStatus {
+    // A line with no token, or a comment.
+    Skipped,
+    Refused(Fault),
+    Accepted,
+}
+
+// The line at a position: what it is, its value where it is accepted, and where the next line starts unless it is
+// refused.
+pub struct LineRead {
+    pub status: LineStatus,
+    pub line: Line,
+    pub next: usize,
+}
+
+fn judged_line(line: Line) -> LineStatus
+    ensures { λ r. ⌜ r ≡ judgedLine line ⌝ }
+{
+    if 8 < line.head_count {
+        return LineStatus::Refused(Fault::TooManyParts);
+    }
+    if 4 < line.comparison_count {
+        return LineStatus::Refused(Fault::TooManyParts);
+    }
+    if line.has_repeats() {
+        LineStatus::Refused(Fault::Duplicate)
+    } else {
+        LineStatus::Accepted
+    }
+}
+
+// The faults of a line, in their order.
+fn judged(parts: Parts) -> LineStatus
+    ensures { λ r. ⌜ r ≡ judgedParts parts ⌝ }
+{
+    let line = parts.line;
+    if parts.ok {
+        if parts.in_range {
+            judged_line(line)
+        } else {
+            LineStatus::Refused(Fault::OutOfRange)
+        }
+    } else {
+        LineStatus::Refused(Fault::Syntax)
+    }
+}
+
+// Where the line that ends at a position is followed by the next one.
+fn behind_line(text: &[u8], end: usize) -> usize
+    ensures { λ r. ⌜ r ≡ behindLine (now (text .entry)) end ⌝ }
+{
+    if end < text.len() { end + 1 } else { end }
+}
+
+fn line_end(text: &[u8], at: usize) -> usize
+    ensures { λ r. ⌜ r ≡ lineEnd (now (text .entry)) at ⌝ }
+{
+    let mut i = at;
+    while i < text.len() {
+        if text[i] == b'\n' {
+            return i;
+        }
+        i += 1;
+    }
+    i
+}
+
+fn skipped(next: usize) -> LineRead
+    ensures { λ r. ⌜ r ≡ lineReadOf next LineAnswer.skipped ⌝ }
+{
+    LineRead {
+        status: LineStatus::Skipped,
+        line: Line::new(),
+        next,
+    }
+}
+
+fn refused(fault: Fault) -> LineRead
+    ensures { λ r. ⌜ r ≡ lineReadOf 0 (LineAnswer.refused fault) ⌝ }
+{
+    LineRead {
+        status: LineStatus::Refused(fault),
+        line: Line::new(),
+        next: 0,
+    }
+}
+
+// The line that starts at a position.
+pub fn read_line(text: &[u8], at: usize) -> LineRead
+    ensures { λ r. ⌜ r ≡ lineRead (now (text .entry)) at ⌝ }
+{
+    let start = skip_spaces(text, at);
+    if at_token_end(text, start) {
+        return skipped(behind_line(text, start));
+    }
+    if text[start] == b'#' {
+        return skipped(behind_line(text, line_end(text, start)));
+    }
+    let parts = read_parts(text, start);
+    let status = judged(parts);
+    match status {
+        LineStatus::Accepted => {
+            let line = parts.line;
+            LineRead {
+                status,
+                line,
+                next: behind_line(text, parts.at),
+            }
+        }
+        LineStatus::Refused(fault) => refused(fault),
+        LineStatus::Skipped => skipped(0),
     }
 }

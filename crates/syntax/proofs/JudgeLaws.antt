@@ -1,0 +1,227 @@
+-- Laws of judging a line: by its parts as by the line.
+use Prim.Native.Nat.{ℕ, zero, suc, _+_, _-_, _<_, _≤_, min}
+use mathlib.Core.Bool.{Bool, true, false, not, _&&_, _||_, cond}
+use mathlib.Core.List.{List, [], _∷_, _++_, map, append-nil}
+use mathlib.Core.Option.{Option, none, some}
+use mathlib.Core.Path.{_≡_, refl, sym, ap, ap₂, _∙_}
+use native.Mathlib.Omega.{arith}
+use borrow.Author.Tests.{lt-ltb, le-ltb, ltb-true, ltb-false, eq-eqb, ne-eqb}
+use lib.Dec.{ltb}
+use lib.ListN.{length, getD, take, drop, replicate, length-map}
+use lib.Seq.{take-all, take-at}
+use Rattle.policy.proofs.ListLaws.{true-false, and-out}
+use Rattle.policy.proofs.SeenLaws.{seen-repeats}
+use Rattle.policy.specs.Limits.{inRange, crowded, repeats, repeated, seenIn, testNumber, headNumber, comparisonInRange, endingInRange}
+use Rattle.policy.specs.Line.{PolicyLine, rule, constraint, headsOf, comparisonsOf, endingOf, lineOf, lineValue, held, counted, head, headLimit, comparisonLimit, noHead}
+use Rattle.policy.specs.List.{all}
+use Rattle.policy.specs.Number.{setLimit}
+use Rattle.policy.specs.declared.comparison.Comparison.{Comparison}
+use Rattle.policy.specs.declared.fault.Fault.{Fault}
+use Rattle.policy.specs.declared.line.Ending.{Ending}
+use Rattle.policy.specs.declared.line.Head.{Head}
+use Rattle.policy.specs.declared.line.Line.{Line}
+use Rattle.policy.specs.declared.line.Test.{Test}
+use Rattle.syntax.proofs.TokenLaws.{tokens-after-spaces, tokens-first, tokens-ended, line-past-spaces, line-ended}
+use Rattle.syntax.proofs.WordLaws.{token-first}
+use Rattle.syntax.specs.Answers.{judgedLine, judgedParts, behindLine, lineReadOf, lineRead}
+use Rattle.syntax.specs.Byte.{isSpace}
+use Rattle.syntax.specs.Grammar.{lineFrom}
+use Rattle.syntax.specs.Lines.{tokensOf}
+use Rattle.syntax.specs.Number.{isEmpty}
+use Rattle.syntax.specs.Outcome.{newLine, failedParts, smallEnding, smallLine, lineParts}
+use Rattle.syntax.specs.Parts.{testInRange, smallTest, smallComparison}
+use Rattle.syntax.specs.Scan.{skip, inToken, tokenAt, lineAt, tokensAt, lineEnd}
+use Rattle.syntax.specs.Text.{LineAnswer, skipped, refused, accepted, judge, isComment, tokensAnswer, lineAnswer}
+use Rattle.syntax.specs.declared.line.LineRead.{LineRead}
+use Rattle.syntax.specs.declared.line.LineStatus.{LineStatus}
+use Rattle.syntax.specs.declared.line.Parts.{Parts}
+
+-- ---- a line whose numbers are in range has no fillers
+
+all-kept : {A : Type 0} (p : A → Bool) (f : A → A) → ((x : A) → p x ≡ true → f x ≡ x) → (xs : List A) → all p xs ≡ true → map f xs ≡ xs
+unfolding all
+all-kept p f h [] e = refl
+all-kept p f h (x ∷ xs) e = let q = and-out (p x) (all p xs) e in ap₂ _∷_ (h x (q .0)) (all-kept p f h xs (q .1))
+
+pub in-range-value : (l : PolicyLine) → inRange l ≡ true → smallLine l ≡ lineValue l
+unfolding inRange smallLine lineValue testInRange smallTest smallComparison smallEnding endingInRange
+in-range-value l h =
+    let p = and-out (all testInRange (headsOf l) && all comparisonInRange (comparisonsOf l)) (endingInRange (endingOf l)) h in
+    let q = and-out (all testInRange (headsOf l)) (all comparisonInRange (comparisonsOf l)) (p .0) in
+    whole (all-kept testInRange smallTest (λ t k. rw k) (headsOf l) (q .0)) (all-kept comparisonInRange smallComparison (λ c k. rw k) (comparisonsOf l) (q .1)) (ending (endingOf l) (p .1))
+  where
+    ending : (e : Ending) → endingInRange e ≡ true → smallEnding e ≡ e
+    ending (Ending.Causes a) k = rw k
+    ending Ending.Never k = refl
+    whole : map smallTest (headsOf l) ≡ headsOf l → map smallComparison (comparisonsOf l) ≡ comparisonsOf l → smallEnding (endingOf l) ≡ endingOf l → lineOf (map smallTest (headsOf l)) (map smallComparison (comparisonsOf l)) (smallEnding (endingOf l)) ≡ lineOf (headsOf l) (comparisonsOf l) (endingOf l)
+    whole a b c = rw (a, b, c)
+
+-- ---- counts and repeats of a value
+
+counted-over : {A : Type 0} (limit : ℕ) (xs : List A) → ltb limit (counted limit xs) ≡ ltb limit (length xs)
+unfolding counted
+counted-over limit xs = go (ltb limit (length xs)) refl
+  where
+    go : (b : Bool) → ltb limit (length xs) ≡ b → ltb limit (min (length xs) (suc limit)) ≡ b
+    go true e = let l = ltb-true limit (length xs) e in lt-ltb limit (min (length xs) (suc limit)) (omega arith)
+    go false e = let l = ltb-false limit (length xs) e in le-ltb limit (min (length xs) (suc limit)) (omega arith)
+
+held-whole : {A : Type 0} (limit : ℕ) (filler : A) (xs : List A) → ltb limit (length xs) ≡ false → take (counted limit xs) (held limit filler xs) ≡ xs
+unfolding held counted
+held-whole limit filler xs e =
+    let l : length xs ≤ limit = ltb-false limit (length xs) e in
+    let k : length xs ≡ min (length xs) (suc limit) = omega arith in
+    ap (λ (s : List _). take (min (length xs) (suc limit)) (s ++ replicate (limit - length xs) filler)) (take-all limit xs l)
+    ∙ take-at xs (replicate (limit - length xs) filler) (min (length xs) (suc limit)) k
+
+numbers : (ts : List Test) → map headNumber (map head ts) ≡ map testNumber ts
+numbers [] = refl
+numbers (t ∷ ts) = ap (λ (l : List ℕ). testNumber t ∷ l) (numbers ts)
+
+all-numbers : (ts : List Test) → all (λ (n : ℕ). ltb n setLimit) (map testNumber ts) ≡ all testInRange ts
+unfolding all testInRange
+all-numbers [] = refl
+all-numbers (t ∷ ts) = ap (λ (b : Bool). ltb (testNumber t) 64 && b) (all-numbers ts)
+
+value-repeats : (l : PolicyLine) → inRange l ≡ true → ltb headLimit (length (headsOf l)) ≡ false → seenIn 0 (map headNumber (take (lineValue l .«head_count») (lineValue l .heads))) ≡ repeated l
+unfolding lineValue lineOf repeated inRange testInRange
+value-repeats l h k =
+    let p = and-out (all testInRange (headsOf l) && all comparisonInRange (comparisonsOf l)) (endingInRange (endingOf l)) h in
+    let q = and-out (all testInRange (headsOf l)) (all comparisonInRange (comparisonsOf l)) (p .0) in
+    let m : ltb headLimit (length (map head (headsOf l))) ≡ false = ap (ltb headLimit) (length-map (headsOf l) head) ∙ k in
+    ap (λ (s : List Head). seenIn 0 (map headNumber s)) (held-whole headLimit noHead (map head (headsOf l)) m)
+    ∙ ap (seenIn 0) (numbers (headsOf l)) ∙ seen-repeats (map testNumber (headsOf l)) (all-numbers (headsOf l) ∙ q .0)
+
+-- ---- the status
+
+statusOf : LineAnswer → LineStatus
+statusOf skipped = LineStatus.Skipped
+statusOf (refused f) = LineStatus.Refused f
+statusOf (accepted l) = LineStatus.Accepted
+
+over-heads : (l : PolicyLine) → ltb 8 (lineValue l .«head_count») ≡ ltb headLimit (length (headsOf l))
+unfolding lineValue lineOf
+over-heads l = counted-over headLimit (map head (headsOf l)) ∙ ap (ltb headLimit) (length-map (headsOf l) head)
+
+over-comparisons : (l : PolicyLine) → ltb 4 (lineValue l .«comparison_count») ≡ ltb comparisonLimit (length (comparisonsOf l))
+unfolding lineValue lineOf
+over-comparisons l = counted-over comparisonLimit (comparisonsOf l)
+
+value-judged : (l : PolicyLine) → inRange l ≡ true → judgedLine (lineValue l) ≡ statusOf (cond (crowded l) (refused Fault.TooManyParts) (cond (repeated l) (refused Fault.Duplicate) (accepted l)))
+unfolding judgedLine crowded statusOf
+value-judged l h = go (ltb headLimit (length (headsOf l))) refl (ltb comparisonLimit (length (comparisonsOf l))) refl
+  where
+    twice : (b : Bool) → cond b (LineStatus.Refused Fault.Duplicate) LineStatus.Accepted ≡ statusOf (cond b (refused Fault.Duplicate) (accepted l))
+    twice true = refl
+    twice false = refl
+    go : (x : Bool) → ltb headLimit (length (headsOf l)) ≡ x → (y : Bool) → ltb comparisonLimit (length (comparisonsOf l)) ≡ y → judgedLine (lineValue l) ≡ statusOf (cond (crowded l) (refused Fault.TooManyParts) (cond (repeated l) (refused Fault.Duplicate) (accepted l)))
+    go true p y q = rw (over-heads l, p)
+    go false p true q = rw (over-heads l, over-comparisons l, p, q)
+    go false p false q = rw (over-heads l, over-comparisons l, p, q, value-repeats l h p) (twice (repeated l))
+
+parts-judged : (text : List ℕ) (e : ℕ) (o : Option PolicyLine) → judgedParts (lineParts text e o) ≡ statusOf (judge o)
+unfolding judgedParts lineParts judge statusOf
+parts-judged text e none = refl
+parts-judged text e (some l) = go (inRange l) refl
+  where
+    go : (b : Bool) → inRange l ≡ b → cond b (judgedLine (smallLine l)) (LineStatus.Refused Fault.OutOfRange) ≡ statusOf (cond (not b) (refused Fault.OutOfRange) (cond (crowded l) (refused Fault.TooManyParts) (cond (repeated l) (refused Fault.Duplicate) (accepted l))))
+    go true h = ap judgedLine (in-range-value l h) ∙ value-judged l h
+    go false h = refl
+
+-- a line that is judged is accepted in range, or refused
+pub data Judged (o : Option PolicyLine) : Type 0 where
+  yes-line : (l : PolicyLine) → o ≡ some l → inRange l ≡ true → judge o ≡ accepted l → Judged o
+  no-line : (f : Fault) → judge o ≡ refused f → Judged o
+
+judged-cases : (o : Option PolicyLine) → Judged o
+unfolding judge
+judged-cases none = no-line Fault.Syntax refl
+judged-cases (some l) = go (inRange l) refl (crowded l) refl (repeated l) refl
+  where
+    go : (a : Bool) → inRange l ≡ a → (b : Bool) → crowded l ≡ b → (c : Bool) → repeated l ≡ c → Judged (some l)
+    go true p true q c r = no-line Fault.TooManyParts (rw (p, q))
+    go true p false q true r = no-line Fault.Duplicate (rw (p, q, r))
+    go true p false q false r = yes-line l refl p (rw (p, q, r))
+    go false p b q c r = no-line Fault.OutOfRange (rw p)
+
+-- the line as it is read, by the status of its parts
+module _ (text : List ℕ) (e next : ℕ) (o : Option PolicyLine) where
+  pub read-accepted : judgedParts (lineParts text e o) ≡ LineStatus.Accepted → record { status = LineStatus.Accepted; line = lineParts text e o .line; next = next } ≡ lineReadOf next (judge o)
+  unfolding lineParts lineReadOf statusOf
+  read-accepted q = go (judged-cases o)
+    where
+      go : Judged o → record { status = LineStatus.Accepted; line = lineParts text e o .line; next = next } ≡ lineReadOf next (judge o)
+      go (yes-line l p h k) = rw (k, p) (ap (λ (x : Line). record { status = LineStatus.Accepted; line = x; next = next }) (in-range-value l h))
+      go (no-line f k) = let w : _≡_ {A = ℕ} 0 1 = cc (sym q ∙ parts-judged text e o ∙ ap statusOf k) in absurd (omega arith)
+
+  pub read-refused : (f : Fault) → judgedParts (lineParts text e o) ≡ LineStatus.Refused f → lineReadOf 0 (refused f) ≡ lineReadOf next (judge o)
+  unfolding lineReadOf statusOf
+  read-refused f q = go (judged-cases o)
+    where
+      go : Judged o → lineReadOf 0 (refused f) ≡ lineReadOf next (judge o)
+      go (yes-line l p h k) = let w : _≡_ {A = ℕ} 0 1 = cc (sym q ∙ parts-judged text e o ∙ ap statusOf k) in absurd (omega arith)
+      go (no-line g k) = rw k (ap (λ (x : LineStatus). record { status = x; line = newLine; next = 0 }) (sym q ∙ parts-judged text e o ∙ ap statusOf k))
+
+  pub read-skipped : judgedParts (lineParts text e o) ≡ LineStatus.Skipped → (r : LineRead) → r ≡ lineReadOf next (judge o)
+  unfolding statusOf
+  read-skipped q r = go (judged-cases o)
+    where
+      go : Judged o → r ≡ lineReadOf next (judge o)
+      go (yes-line l p h k) = let w : _≡_ {A = ℕ} 0 1 = cc (sym q ∙ parts-judged text e o ∙ ap statusOf k) in absurd (omega arith)
+      go (no-line g k) = let w : _≡_ {A = ℕ} 0 1 = cc (sym q ∙ parts-judged text e o ∙ ap statusOf k) in absurd (omega arith)
+
+-- ---- the line at a position
+
+module _ (text : List ℕ) (at : ℕ) where
+  abbrev s : ℕ
+  s = skip isSpace text at
+
+  answer : lineRead text at ≡ lineReadOf (behindLine text (lineEnd text s)) (tokensAnswer (tokensAt text s))
+  unfolding lineRead lineAnswer tokensAt
+  answer = ap₂ (λ (e : ℕ) (ts : List (List ℕ)). lineReadOf (behindLine text e) (tokensAnswer ts)) (sym (line-past-spaces text at)) (same ∙ tokens-after-spaces text at)
+    where
+      same : tokensOf (lineAt text at) ≡ tokensAt text at
+      same = refl
+
+  pub line-blank : isEmpty (tokenAt text s) ≡ true → lineReadOf (behindLine text s) skipped ≡ lineRead text at
+  unfolding tokensAnswer
+  line-blank h = sym (answer ∙ ap₂ (λ (e : ℕ) (ts : List (List ℕ)). lineReadOf (behindLine text e) (tokensAnswer ts)) (line-ended text at h) (tokens-ended text at h))
+
+  module _ (h : isEmpty (tokenAt text s) ≡ false) where
+    first : tokensAt text s ≡ (getD text s 0 ∷ tokenAt text (s + 1)) ∷ tokensAt text (skip inToken text s)
+    first = tokens-first text s h ∙ ap (λ (t : List ℕ). t ∷ tokensAt text (skip inToken text s)) (token-first text s h)
+
+    pub line-comment : getD text s 0 ≡ 35 → lineReadOf (behindLine text (lineEnd text s)) skipped ≡ lineRead text at
+    unfolding tokensAnswer isComment
+    line-comment q = sym (answer ∙ ap (λ (ts : List (List ℕ)). lineReadOf (behindLine text (lineEnd text s)) (tokensAnswer ts)) first ∙ rw (eq-eqb (getD text s 0) 35 q))
+
+    pub line-other : (getD text s 0 ≡ 35 → ⊥) → lineReadOf (behindLine text (lineEnd text s)) (judge (lineFrom (tokensAt text s))) ≡ lineRead text at
+    unfolding tokensAnswer isComment
+    line-other q =
+        sym (answer ∙ ap (λ (ts : List (List ℕ)). lineReadOf (behindLine text (lineEnd text s)) (tokensAnswer ts)) first ∙ rw (ne-eqb (getD text s 0) 35 q)
+          (ap (λ (ts : List (List ℕ)). lineReadOf (behindLine text (lineEnd text s)) (judge (lineFrom ts))) (sym first)))
+
+parts-end : (text : List ℕ) (e : ℕ) (o : Option PolicyLine) → judgedParts (lineParts text e o) ≡ LineStatus.Accepted → lineParts text e o .at ≡ e
+unfolding judgedParts lineParts
+parts-end text e none q = let w : _≡_ {A = ℕ} 0 1 = cc in absurd (omega arith)
+parts-end text e (some l) q = refl
+
+-- the answer for a line that is neither blank nor a comment, by its parts
+module _ (text : List ℕ) (at start : ℕ) (k : start ≡ skip isSpace text at) (h : isEmpty (tokenAt text start) ≡ false) (q : getD text start 0 ≡ 35 → ⊥) (p : Parts)
+    (r : p ≡ lineParts text (lineEnd text start) (lineFrom (tokensAt text start))) where
+  line-parts : lineReadOf (behindLine text (lineEnd text start)) (judge (lineFrom (tokensAt text start))) ≡ lineRead text at
+  line-parts =
+      ap (λ (n : ℕ). lineReadOf (behindLine text (lineEnd text n)) (judge (lineFrom (tokensAt text n)))) k
+      ∙ line-other text at (ap (λ (n : ℕ). isEmpty (tokenAt text n)) (sym k) ∙ h) (λ e. q (ap (λ (n : ℕ). getD text n 0) k ∙ e))
+
+  pub line-accepted : (st : LineStatus) → st ≡ judgedParts p → st ≡ LineStatus.Accepted → (n : ℕ) → n ≡ behindLine text (p .at) → record { status = st; line = p .line; next = n } ≡ lineRead text at
+  line-accepted st a b n m =
+      let j : judgedParts (lineParts text (lineEnd text start) (lineFrom (tokensAt text start))) ≡ LineStatus.Accepted = sym (ap judgedParts r) ∙ sym a ∙ b in
+      let e : n ≡ behindLine text (lineEnd text start) = m ∙ ap (λ (x : Parts). behindLine text (x .at)) r ∙ ap (behindLine text) (parts-end text (lineEnd text start) (lineFrom (tokensAt text start)) j) in
+      cc (b, ap (λ (x : Parts). x .line) r, e) ∙ read-accepted text (lineEnd text start) (behindLine text (lineEnd text start)) (lineFrom (tokensAt text start)) j ∙ line-parts
+
+  pub line-refused : (f : Fault) → judgedParts p ≡ LineStatus.Refused f → lineReadOf 0 (refused f) ≡ lineRead text at
+  line-refused f a = read-refused text (lineEnd text start) (behindLine text (lineEnd text start)) (lineFrom (tokensAt text start)) f (sym (ap judgedParts r) ∙ a) ∙ line-parts
+
+  pub line-skipped : judgedParts p ≡ LineStatus.Skipped → (x : LineRead) → x ≡ lineRead text at
+  line-skipped a x = read-skipped text (lineEnd text start) (behindLine text (lineEnd text start)) (lineFrom (tokensAt text start)) (sym (ap judgedParts r) ∙ a) x ∙ line-parts
