@@ -1,7 +1,7 @@
 // A line of a rule text by value: a rule or a constraint, with its parts in text order.
 ghost use mathlib.Core.Path.{_≡_};
 ghost use mathlib.Core.List.{[], map};
-ghost use Prim.Native.Nat.{_+_, min};
+ghost use Prim.Native.Nat.{_+_, _≤_, min};
 ghost use lib.ListN.{take};
 ghost use Rattle.policy.specs.Limits.{testNumber, headNumber, seenIn, operandSize, comparisonsSize};
 ghost use Rattle.policy.specs.Line.{lineOf, pushHead, pushComparison, endLine};
@@ -95,6 +95,7 @@ impl Line {
     // How many words the line takes in an image.
     pub fn words(self) -> usize
         ensures { λ r. ⌜ r ≡ min (self .«head_count») 9 + 1 + comparisonsSize (take (self .«comparison_count») (self .comparisons)) ⌝ }
+        ensures { λ r. ⌜ r ≤ 18 ⌝ }
     {
         let comparisons = self.comparisons;
         let count = self.comparison_count;

@@ -1,15 +1,14 @@
 -- Laws of reading `causes`, the action and the condition of a rule, and of telling the two shapes apart.
-use Prim.Native.Nat.{ℕ, _+_}
-use mathlib.Core.Bool.{Bool, true, false, _&&_, cond, and-true, and-false}
+use Prim.Native.Nat.{ℕ}
+use mathlib.Core.Bool.{Bool, true, false, _&&_, and-true, and-false}
 use mathlib.Core.List.{List, [], _∷_}
-use mathlib.Core.Option.{Option, none, some, Option·map}
+use mathlib.Core.Option.{some}
 use mathlib.Core.Path.{_≡_, refl, sym, ap, ap₂, _∙_}
 use native.Mathlib.Omega.{arith}
 use lib.Dec.{ltb}
 use Rattle.policy.specs.Limits.{endingInRange}
 use Rattle.policy.specs.Line.{endLine}
 use Rattle.policy.specs.Number as Number
-use Rattle.policy.specs.declared.comparison.Comparison.{Comparison}
 use Rattle.policy.specs.declared.line.Ending.{Ending}
 use Rattle.policy.specs.declared.line.Line.{Line}
 use Rattle.policy.specs.declared.number.Action.{Action}
@@ -21,7 +20,7 @@ use Rattle.syntax.specs.Byte.{bytes, sameBytes, is, isSpace}
 use Rattle.syntax.specs.Grammar.{Token, named, actionOf, literalOf, conditionOf, joined, ruleAfter, constraintAfter, after, lineFrom}
 use Rattle.syntax.specs.Number.{isEmpty}
 use Rattle.syntax.specs.Outcome.{failedParts, comparisonsParts, smallEnding, causedParts, causeParts, lineParts}
-use Rattle.syntax.specs.Scan.{skip, inToken, tokenAt, wordAt, nameAt, clip, tokensAt, lineEnd}
+use Rattle.syntax.specs.Scan.{skip, inToken, tokenAt, wordAt, nameAt, tokensAt, lineEnd}
 use Rattle.syntax.specs.declared.line.Parts.{Parts}
 use Rattle.syntax.specs.declared.scan.NumberAt.{NumberAt}
 use Rattle.syntax.specs.declared.scan.WordAt.{WordAt}

@@ -1,15 +1,14 @@
 -- Laws of reading constants: signs, the range of readings, and clipped numbers.
-use Prim.Native.Nat.{ℕ, zero, suc, _+_, _-_, _<_, _≤_, _^_, min}
-use mathlib.Core.Bool.{Bool, true, false, _&&_, cond, and-false}
-use mathlib.Core.List.{List, [], _∷_}
+use Prim.Native.Nat.{ℕ, zero, suc, _+_, _-_, _<_, _≤_}
+use mathlib.Core.Bool.{Bool, true, false, _&&_, cond}
+use mathlib.Core.List.{List}
 use mathlib.Core.Option.{Option, none, some}
 use mathlib.Core.Path.{_≡_, refl, sym, ap, ap₂, _∙_}
 use native.Mathlib.Omega.{arith}
-use borrow.Author.Tests.{lt-ltb, le-leb, lt-leb, eq-eqb, ne-eqb, leb-true, leb-false}
-use lib.Dec.{eqb, leb, ltb}
+use borrow.Author.Tests.{le-leb, lt-leb, eq-eqb, ne-eqb, leb-true, leb-false}
+use lib.Dec.{leb}
 use lib.IntN.{ℤ, pos, negsuc, _-ℤ_}
 use lib.ListN.{length, getD}
-use lib.Signed.{leZ}
 use mir.Syntax.{w32}
 use mir.Val.{SFits, ofZ, toZ}
 use mir.Facts.{toZ-ofZ}
@@ -18,7 +17,7 @@ use Rattle.syntax.proofs.RunLaws.{skip-past}
 use Rattle.syntax.proofs.WordLaws.{token-end, token-here, token-past}
 use Rattle.syntax.specs.Number.{numberOf, positive, negative, constantOf}
 use Rattle.syntax.specs.Parts.{constantEnding, positiveAt, negativeAt, constantAt}
-use Rattle.syntax.specs.Scan.{skip, inToken, tokenAt, clip, clipLimit, numberEnding, numberAt}
+use Rattle.syntax.specs.Scan.{skip, inToken, tokenAt, clip, numberEnding, numberAt}
 use Rattle.syntax.specs.declared.scan.NumberAt.{NumberAt}
 use Rattle.syntax.specs.declared.token.ConstantAt.{ConstantAt}
 

@@ -1,21 +1,20 @@
 -- Laws of reading numbers: clipping early or late is the same, and the digits of a token against the token.
-use Prim.Native.Char.{code}
-use Prim.Native.Nat.{ℕ, zero, suc, _+_, _*_, _-_, _<_, _≤_, min}
+use Prim.Native.Nat.{ℕ, _+_, _*_, _-_, _<_, _≤_}
 use mathlib.Core.Bool.{Bool, true, false, not, _&&_, _||_, cond, or-true, and-false}
 use mathlib.Core.List.{List, [], _∷_, _++_, append-nil}
 use mathlib.Core.Option.{Option, none, some}
 use mathlib.Core.Path.{_≡_, refl, sym, ap, ap₂, _∙_}
 use native.Mathlib.Omega.{arith}
-use borrow.Author.Tests.{eq-eqb, ne-eqb, leb-true, ltb-true, ltb-false}
-use lib.Dec.{eqb, leb, ltb}
+use borrow.Author.Tests.{eq-eqb, ne-eqb, ltb-true, ltb-false}
+use lib.Dec.{eqb, ltb}
 use lib.ListN.{length, getD, drop}
 use lib.Seq.{drop-drop}
-use Rattle.policy.proofs.ListLaws.{true-false, and-in, and-out, not-true-is}
+use Rattle.policy.proofs.ListLaws.{true-false, and-in}
 use Rattle.policy.specs.List.{all}
 use Rattle.syntax.proofs.ClassLaws.{digit-apart}
 use Rattle.syntax.proofs.RunLaws.{run-end, run-here, run-past, skip-past}
 use Rattle.syntax.proofs.WordLaws.{token-end, token-here, token-past}
-use Rattle.syntax.specs.Byte.{isDigit, isSpace, endsToken}
+use Rattle.syntax.specs.Byte.{isDigit}
 use Rattle.syntax.specs.Grammar.{named}
 use Rattle.syntax.specs.Number.{decimalFrom, isEmpty, numberOf}
 use Rattle.syntax.specs.Scan.{run, skip, inToken, tokenAt, clip, clipLimit, numberEnding, digitRun, digitsAt, numberAt, nameAt}

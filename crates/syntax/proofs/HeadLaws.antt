@@ -1,17 +1,16 @@
 -- Laws of reading the heads of a line, one after another.
-use Prim.Native.Nat.{ℕ, zero, suc, _+_, _<_, _≤_}
+use Prim.Native.Nat.{ℕ, _<_}
 use mathlib.Core.Bool.{Bool, true, false, _&&_, cond, and-assoc, and-true}
 use mathlib.Core.List.{List, [], _∷_}
 use mathlib.Core.Option.{Option, none, some, Option·map}
 use mathlib.Core.Path.{_≡_, refl, sym, ap, ap₂, _∙_}
 use native.Mathlib.Omega.{arith}
 use lib.ListN.{length}
-use Rattle.policy.proofs.ListLaws.{true-false}
 use Rattle.policy.specs.Line.{pushHead}
 use Rattle.policy.specs.List.{all}
 use Rattle.policy.specs.declared.line.Line.{Line}
 use Rattle.policy.specs.declared.line.Test.{Test}
-use Rattle.syntax.proofs.TokenLaws.{tokens-after-spaces, tokens-first, tokens-ended, line-past-spaces, line-past-token, line-ended}
+use Rattle.syntax.proofs.TokenLaws.{tokens-after-spaces, tokens-first, tokens-ended, line-past-spaces, line-past-token}
 use Rattle.syntax.proofs.RunLaws.{skip-ge}
 use Rattle.syntax.proofs.WordLaws.{token-inside, skip-grows, word-token, word-absent}
 use Rattle.syntax.specs.Byte.{bytes, sameBytes, is, isSpace}
@@ -19,7 +18,7 @@ use Rattle.syntax.specs.Grammar.{Token, Joined, last, before, both, join
 use Rattle.syntax.specs.Number.{isEmpty}
 use Rattle.syntax.specs.Outcome.{Outcome, viewOf, failedParts, pushHeads, headsOutcome}
 use Rattle.syntax.specs.Parts.{testInRange, smallTest, testOf, headEnding, headAt}
-use Rattle.syntax.specs.Scan.{run, skip, inToken, tokenAt, wordAt, tokensAt, lineEnd}
+use Rattle.syntax.specs.Scan.{skip, inToken, tokenAt, wordAt, tokensAt, lineEnd}
 use Rattle.syntax.specs.declared.scan.WordAt.{WordAt}
 use Rattle.syntax.specs.declared.token.HeadAt.{HeadAt}
 

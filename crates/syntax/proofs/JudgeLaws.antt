@@ -1,21 +1,20 @@
 -- Laws of judging a line: by its parts as by the line.
-use Prim.Native.Nat.{ℕ, zero, suc, _+_, _-_, _<_, _≤_, min}
-use mathlib.Core.Bool.{Bool, true, false, not, _&&_, _||_, cond}
-use mathlib.Core.List.{List, [], _∷_, _++_, map, append-nil}
+use Prim.Native.Nat.{ℕ, suc, _+_, _-_, _≤_, min}
+use mathlib.Core.Bool.{Bool, true, false, not, _&&_, cond}
+use mathlib.Core.List.{List, [], _∷_, _++_, map}
 use mathlib.Core.Option.{Option, none, some}
 use mathlib.Core.Path.{_≡_, refl, sym, ap, ap₂, _∙_}
 use native.Mathlib.Omega.{arith}
 use borrow.Author.Tests.{lt-ltb, le-ltb, ltb-true, ltb-false, eq-eqb, ne-eqb}
 use lib.Dec.{ltb}
-use lib.ListN.{length, getD, take, drop, replicate, length-map}
+use lib.ListN.{length, getD, take, replicate, length-map}
 use lib.Seq.{take-all, take-at}
-use Rattle.policy.proofs.ListLaws.{true-false, and-out}
+use Rattle.policy.proofs.ListLaws.{and-out}
 use Rattle.policy.proofs.SeenLaws.{seen-repeats}
 use Rattle.policy.specs.Limits.{inRange, crowded, repeats, repeated, seenIn, testNumber, headNumber, comparisonInRange, endingInRange}
-use Rattle.policy.specs.Line.{PolicyLine, rule, constraint, headsOf, comparisonsOf, endingOf, lineOf, lineValue, held, counted, head, headLimit, comparisonLimit, noHead}
+use Rattle.policy.specs.Line.{PolicyLine, headsOf, comparisonsOf, endingOf, lineOf, lineValue, held, counted, head, headLimit, comparisonLimit, noHead}
 use Rattle.policy.specs.List.{all}
 use Rattle.policy.specs.Number.{setLimit}
-use Rattle.policy.specs.declared.comparison.Comparison.{Comparison}
 use Rattle.policy.specs.declared.fault.Fault.{Fault}
 use Rattle.policy.specs.declared.line.Ending.{Ending}
 use Rattle.policy.specs.declared.line.Head.{Head}
@@ -28,7 +27,7 @@ use Rattle.syntax.specs.Byte.{isSpace}
 use Rattle.syntax.specs.Grammar.{lineFrom}
 use Rattle.syntax.specs.Lines.{tokensOf}
 use Rattle.syntax.specs.Number.{isEmpty}
-use Rattle.syntax.specs.Outcome.{newLine, failedParts, smallEnding, smallLine, lineParts}
+use Rattle.syntax.specs.Outcome.{newLine, smallEnding, smallLine, lineParts}
 use Rattle.syntax.specs.Parts.{testInRange, smallTest, smallComparison}
 use Rattle.syntax.specs.Scan.{skip, inToken, tokenAt, lineAt, tokensAt, lineEnd}
 use Rattle.syntax.specs.Text.{LineAnswer, skipped, refused, accepted, judge, isComment, tokensAnswer, lineAnswer}
@@ -53,6 +52,7 @@ in-range-value l h =
     ending : (e : Ending) → endingInRange e ≡ true → smallEnding e ≡ e
     ending (Ending.Causes a) k = rw k
     ending Ending.Never k = refl
+
     whole : map smallTest (headsOf l) ≡ headsOf l → map smallComparison (comparisonsOf l) ≡ comparisonsOf l → smallEnding (endingOf l) ≡ endingOf l → lineOf (map smallTest (headsOf l)) (map smallComparison (comparisonsOf l)) (smallEnding (endingOf l)) ≡ lineOf (headsOf l) (comparisonsOf l) (endingOf l)
     whole a b c = rw (a, b, c)
 
@@ -66,7 +66,7 @@ counted-over limit xs = go (ltb limit (length xs)) refl
     go true e = let l = ltb-true limit (length xs) e in lt-ltb limit (min (length xs) (suc limit)) (omega arith)
     go false e = let l = ltb-false limit (length xs) e in le-ltb limit (min (length xs) (suc limit)) (omega arith)
 
-held-whole : {A : Type 0} (limit : ℕ) (filler : A) (xs : List A) → ltb limit (length xs) ≡ false → take (counted limit xs) (held limit filler xs) ≡ xs
+pub held-whole : {A : Type 0} (limit : ℕ) (filler : A) (xs : List A) → ltb limit (length xs) ≡ false → take (counted limit xs) (held limit filler xs) ≡ xs
 unfolding held counted
 held-whole limit filler xs e =
     let l : length xs ≤ limit = ltb-false limit (length xs) e in
@@ -114,6 +114,7 @@ value-judged l h = go (ltb headLimit (length (headsOf l))) refl (ltb comparisonL
     twice : (b : Bool) → cond b (LineStatus.Refused Fault.Duplicate) LineStatus.Accepted ≡ statusOf (cond b (refused Fault.Duplicate) (accepted l))
     twice true = refl
     twice false = refl
+
     go : (x : Bool) → ltb headLimit (length (headsOf l)) ≡ x → (y : Bool) → ltb comparisonLimit (length (comparisonsOf l)) ≡ y → judgedLine (lineValue l) ≡ statusOf (cond (crowded l) (refused Fault.TooManyParts) (cond (repeated l) (refused Fault.Duplicate) (accepted l)))
     go true p y q = rw (over-heads l, p)
     go false p true q = rw (over-heads l, over-comparisons l, p, q)
@@ -130,7 +131,7 @@ parts-judged text e (some l) = go (inRange l) refl
 
 -- a line that is judged is accepted in range, or refused
 pub data Judged (o : Option PolicyLine) : Type 0 where
-  yes-line : (l : PolicyLine) → o ≡ some l → inRange l ≡ true → judge o ≡ accepted l → Judged o
+  yes-line : (l : PolicyLine) → o ≡ some l → inRange l ≡ true → crowded l ≡ false → judge o ≡ accepted l → Judged o
   no-line : (f : Fault) → judge o ≡ refused f → Judged o
 
 judged-cases : (o : Option PolicyLine) → Judged o
@@ -141,8 +142,28 @@ judged-cases (some l) = go (inRange l) refl (crowded l) refl (repeated l) refl
     go : (a : Bool) → inRange l ≡ a → (b : Bool) → crowded l ≡ b → (c : Bool) → repeated l ≡ c → Judged (some l)
     go true p true q c r = no-line Fault.TooManyParts (rw (p, q))
     go true p false q true r = no-line Fault.Duplicate (rw (p, q, r))
-    go true p false q false r = yes-line l refl p (rw (p, q, r))
+    go true p false q false r = yes-line l refl p q (rw (p, q, r))
     go false p b q c r = no-line Fault.OutOfRange (rw p)
+
+-- an accepted line is not crowded
+pub accepted-uncrowded : (line : List ℕ) (l : PolicyLine) → lineAnswer line ≡ accepted l → crowded l ≡ false
+unfolding lineAnswer tokensAnswer
+accepted-uncrowded line l = go (tokensOf line)
+  where
+    of-judge : (o : Option PolicyLine) → Judged o → judge o ≡ accepted l → crowded l ≡ false
+    of-judge o (yes-line m p h c k) q = ap crowded (same (sym q ∙ k)) ∙ c
+      where
+        same : accepted l ≡ accepted m → l ≡ m
+        same e = cc
+    of-judge o (no-line f k) q = let w : _≡_ {A = ℕ} 0 1 = cc in absurd (omega arith)
+
+    go : (ts : List (List ℕ)) → tokensAnswer ts ≡ accepted l → crowded l ≡ false
+    go [] q = let w : _≡_ {A = ℕ} 0 1 = cc in absurd (omega arith)
+    go (t ∷ ts) q = comment (isComment t) q
+      where
+        comment : (b : Bool) → cond b skipped (judge (lineFrom (t ∷ ts))) ≡ accepted l → crowded l ≡ false
+        comment true k = let w : _≡_ {A = ℕ} 0 1 = cc in absurd (omega arith)
+        comment false k = of-judge (lineFrom (t ∷ ts)) (judged-cases (lineFrom (t ∷ ts))) k
 
 -- the line as it is read, by the status of its parts
 module _ (text : List ℕ) (e next : ℕ) (o : Option PolicyLine) where
@@ -151,7 +172,7 @@ module _ (text : List ℕ) (e next : ℕ) (o : Option PolicyLine) where
   read-accepted q = go (judged-cases o)
     where
       go : Judged o → record { status = LineStatus.Accepted; line = lineParts text e o .line; next = next } ≡ lineReadOf next (judge o)
-      go (yes-line l p h k) = rw (k, p) (ap (λ (x : Line). record { status = LineStatus.Accepted; line = x; next = next }) (in-range-value l h))
+      go (yes-line l p h _ k) = rw (k, p) (ap (λ (x : Line). record { status = LineStatus.Accepted; line = x; next = next }) (in-range-value l h))
       go (no-line f k) = let w : _≡_ {A = ℕ} 0 1 = cc (sym q ∙ parts-judged text e o ∙ ap statusOf k) in absurd (omega arith)
 
   pub read-refused : (f : Fault) → judgedParts (lineParts text e o) ≡ LineStatus.Refused f → lineReadOf 0 (refused f) ≡ lineReadOf next (judge o)
@@ -159,7 +180,7 @@ module _ (text : List ℕ) (e next : ℕ) (o : Option PolicyLine) where
   read-refused f q = go (judged-cases o)
     where
       go : Judged o → lineReadOf 0 (refused f) ≡ lineReadOf next (judge o)
-      go (yes-line l p h k) = let w : _≡_ {A = ℕ} 0 1 = cc (sym q ∙ parts-judged text e o ∙ ap statusOf k) in absurd (omega arith)
+      go (yes-line l p h _ k) = let w : _≡_ {A = ℕ} 0 1 = cc (sym q ∙ parts-judged text e o ∙ ap statusOf k) in absurd (omega arith)
       go (no-line g k) = rw k (ap (λ (x : LineStatus). record { status = x; line = newLine; next = 0 }) (sym q ∙ parts-judged text e o ∙ ap statusOf k))
 
   pub read-skipped : judgedParts (lineParts text e o) ≡ LineStatus.Skipped → (r : LineRead) → r ≡ lineReadOf next (judge o)
@@ -167,7 +188,7 @@ module _ (text : List ℕ) (e next : ℕ) (o : Option PolicyLine) where
   read-skipped q r = go (judged-cases o)
     where
       go : Judged o → r ≡ lineReadOf next (judge o)
-      go (yes-line l p h k) = let w : _≡_ {A = ℕ} 0 1 = cc (sym q ∙ parts-judged text e o ∙ ap statusOf k) in absurd (omega arith)
+      go (yes-line l p h _ k) = let w : _≡_ {A = ℕ} 0 1 = cc (sym q ∙ parts-judged text e o ∙ ap statusOf k) in absurd (omega arith)
       go (no-line g k) = let w : _≡_ {A = ℕ} 0 1 = cc (sym q ∙ parts-judged text e o ∙ ap statusOf k) in absurd (omega arith)
 
 -- ---- the line at a position
@@ -199,7 +220,7 @@ module _ (text : List ℕ) (at : ℕ) where
     unfolding tokensAnswer isComment
     line-other q =
         sym (answer ∙ ap (λ (ts : List (List ℕ)). lineReadOf (behindLine text (lineEnd text s)) (tokensAnswer ts)) first ∙ rw (ne-eqb (getD text s 0) 35 q)
-          (ap (λ (ts : List (List ℕ)). lineReadOf (behindLine text (lineEnd text s)) (judge (lineFrom ts))) (sym first)))
+        (ap (λ (ts : List (List ℕ)). lineReadOf (behindLine text (lineEnd text s)) (judge (lineFrom ts))) (sym first)))
 
 parts-end : (text : List ℕ) (e : ℕ) (o : Option PolicyLine) → judgedParts (lineParts text e o) ≡ LineStatus.Accepted → lineParts text e o .at ≡ e
 unfolding judgedParts lineParts

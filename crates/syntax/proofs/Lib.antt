@@ -10,5 +10,6 @@ pub mod PartLaws
 pub mod RunLaws
 pub mod ShapeLaws
 pub mod SymbolLaws
+pub mod TextLaws
 pub mod TokenLaws
 pub mod WordLaws

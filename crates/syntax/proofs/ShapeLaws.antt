@@ -1,17 +1,15 @@
 -- Laws of the two shapes: the parts that were read are those of the line.
-use Prim.Native.Nat.{ℕ, _+_}
-use mathlib.Core.Bool.{Bool, true, false, _&&_, cond, and-assoc, and-comm, and-true}
+use Prim.Native.Nat.{ℕ}
+use mathlib.Core.Bool.{Bool, true, false, _&&_, cond, and-comm, and-true}
 use mathlib.Core.List.{List, [], _∷_, _++_, map, append-nil, append-assoc}
 use mathlib.Core.Option.{Option, none, some, Option·map}
 use mathlib.Core.Path.{_≡_, refl, sym, ap, ap₂, _∙_}
-use native.Mathlib.Omega.{arith}
-use lib.Dec.{ltb}
 use Rattle.policy.proofs.LineLaws.{push-head, push-comparison, end-line}
 use Rattle.policy.proofs.ListLaws.{true-false}
-use Rattle.policy.specs.Limits.{inRange, testNumber, comparisonInRange, endingInRange}
+use Rattle.policy.specs.Limits.{inRange, comparisonInRange, endingInRange}
 use Rattle.policy.specs.Line as Line
 use Rattle.policy.specs.declared.line.Line.{Line}
-use Rattle.policy.specs.Line.{PolicyLine, rule, constraint, headsOf, endingOf, lineOf, pushHead, pushComparison, endLine}
+use Rattle.policy.specs.Line.{PolicyLine, headsOf, endingOf, lineOf, endLine}
 use Rattle.policy.specs.List.{all}
 use Rattle.policy.specs.Number as Number
 use Rattle.policy.specs.declared.comparison.Comparison.{Comparison}
@@ -19,12 +17,11 @@ use Rattle.policy.specs.declared.comparison.Literal.{Literal}
 use Rattle.policy.specs.declared.line.Ending.{Ending}
 use Rattle.policy.specs.declared.line.Test.{Test}
 use Rattle.policy.specs.declared.number.Action.{Action}
-use Rattle.policy.specs.declared.number.ActionCheck.{ActionCheck}
-use Rattle.syntax.specs.Byte.{bytes, sameBytes, is, isSpace}
-use Rattle.syntax.specs.Grammar.{Token, Joined, last, before, both, joined, literalOf, actionOf, conditionOf, causes, never, ruleAfter, constraintAfter, after, lineFrom}
+use Rattle.syntax.specs.Byte.{is}
+use Rattle.syntax.specs.Grammar.{Token, Joined, last, before, both, joined, literalOf, actionOf, conditionOf, causes, never, ruleAfter, constraintAfter, after}
 use Rattle.syntax.specs.Outcome.{Outcome, newLine, failedParts, viewOf, pushHeads, headsOutcome, pushComparisons, comparisonsParts, smallEnding, causedParts, causeParts, smallLine, lineParts}
 use Rattle.syntax.specs.Parts.{testInRange, smallTest, testOf, smallComparison}
-use Rattle.syntax.specs.Scan.{tokenAt, tokensAt, lineEnd}
+use Rattle.syntax.specs.Scan.{tokensAt, lineEnd}
 use Rattle.syntax.specs.declared.line.Parts.{Parts}
 
 -- ---- the value that was put together

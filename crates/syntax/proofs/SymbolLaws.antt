@@ -1,18 +1,18 @@
 -- Laws of reading a relation: a token of one byte, or of a byte and `=`.
 use Prim.Native.Nat.{ℕ, _+_}
-use mathlib.Core.Bool.{Bool, true, false, _&&_, cond, and-false}
+use mathlib.Core.Bool.{true, false, _&&_, and-false}
 use mathlib.Core.List.{List, [], _∷_}
-use mathlib.Core.Option.{Option, none, some}
+use mathlib.Core.Option.{none}
 use mathlib.Core.Path.{_≡_, refl, sym, ap, ap₂, _∙_}
-use borrow.Author.Tests.{eq-eqb, ne-eqb}
+use borrow.Author.Tests.{ne-eqb}
 use lib.Dec.{eqb}
-use lib.ListN.{length, getD}
+use lib.ListN.{getD}
 use Rattle.syntax.proofs.WordLaws.{token-none, skip-none, token-first, skip-first}
 use Rattle.syntax.specs.Byte.{bytes, sameBytes, is}
 use Rattle.syntax.specs.Grammar.{relationOf}
 use Rattle.syntax.specs.Number.{isEmpty}
 use Rattle.syntax.specs.Parts.{relationEnding, relationAt}
-use Rattle.syntax.specs.Scan.{skip, inToken, tokenAt}
+use Rattle.syntax.specs.Scan.{tokenAt}
 use Rattle.syntax.specs.declared.token.RelationAt.{RelationAt}
 
 pub one-unknown : (b : ℕ) → (b ≡ 61 → ⊥) → (b ≡ 60 → ⊥) → (b ≡ 62 → ⊥) → relationOf (b ∷ []) ≡ none

@@ -1,16 +1,16 @@
 -- Laws of the tokens from a position to the end of its line.
-use Prim.Native.Nat.{ℕ, zero, suc, _+_, _<_, _≤_}
-use mathlib.Core.Bool.{Bool, true, false, not, _&&_, _||_, cond}
-use mathlib.Core.List.{List, [], _∷_, _++_}
-use mathlib.Core.Path.{_≡_, refl, sym, ap, ap₂, _∙_}
+use Prim.Native.Nat.{ℕ, _+_}
+use mathlib.Core.Bool.{Bool, true, false, not, _||_, cond}
+use mathlib.Core.List.{List, [], _∷_}
+use mathlib.Core.Path.{_≡_, refl, sym, ap, _∙_}
 use native.Mathlib.Nat.{add-zero, add-assoc}
 use native.Mathlib.Omega.{arith}
-use borrow.Author.Tests.{eqb-true, eqb-false, eq-eqb, ne-eqb, ltb-true, ltb-false}
-use lib.Dec.{eqb, ltb}
-use lib.ListN.{length, getD, drop, drop-of-length-le}
+use borrow.Author.Tests.{eqb-true, eq-eqb}
+use lib.Dec.{eqb}
+use lib.ListN.{length, drop}
 use lib.Seq.{drop-drop}
 use Rattle.policy.proofs.ListLaws.{true-false}
-use Rattle.syntax.specs.Byte.{isSpace, isLineEnd, endsToken}
+use Rattle.syntax.specs.Byte.{isSpace}
 use Rattle.syntax.specs.Lines.{prepend, pieces, nonEmpty, tokensOf}
 use Rattle.syntax.specs.Number.{isEmpty}
 use Rattle.syntax.specs.Scan.{run, skip, inToken, inLine, tokenAt, lineAt, tokensAt, lineEnd}

@@ -1,6 +1,6 @@
 -- Laws of comparing the token at a position with a word, byte by byte.
 use Prim.Native.Nat.{ℕ, zero, suc, _+_, _<_, _≤_}
-use mathlib.Core.Bool.{Bool, true, false, not, _&&_, cond}
+use mathlib.Core.Bool.{Bool, true, false, not, cond}
 use mathlib.Core.List.{List, [], _∷_}
 use mathlib.Core.Path.{_≡_, refl, sym, ap, ap₂, _∙_}
 use native.Mathlib.Omega.{arith}
@@ -12,7 +12,7 @@ use Rattle.policy.specs.List.{all}
 use Rattle.syntax.proofs.RunLaws.{at-byte, run-end, run-here, run-past, skip-past, skip-ge}
 use Rattle.syntax.specs.Byte.{sameBytes, endsToken}
 use Rattle.syntax.specs.Number.{isEmpty}
-use Rattle.syntax.specs.Scan.{run, skip, inToken, tokenAt, wordAt}
+use Rattle.syntax.specs.Scan.{skip, inToken, tokenAt, wordAt}
 use Rattle.syntax.specs.declared.scan.WordAt.{WordAt}
 
 -- the test that a byte ends the token, against the byte being in it

@@ -1,8 +1,8 @@
 -- Document 01, the epoch line: its tokens `E5` and `R0=41`, what it is refused for (1, 12, 13, 14, each over the whole
 -- line), and the epoch that an accepted one has.
 use Prim.Native.Char.{code}
-use Prim.Native.Nat.{ℕ, suc}
-use mathlib.Core.Bool.{Bool, true, false, not, _&&_, cond}
+use Prim.Native.Nat.{ℕ}
+use mathlib.Core.Bool.{Bool, not, _&&_, cond}
 use mathlib.Core.List.{List, [], _∷_, foldl}
 use mathlib.Core.Option.{Option, none, some, Option·map}
 use lib.Dec.{eqb, ltb}
@@ -16,7 +16,7 @@ use Rattle.policy.specs.Set.{noEvents, insertEvent, noReadings, insertReading}
 use Rattle.policy.specs.declared.fault.Fault.{Fault}
 use Rattle.syntax.specs.Grammar.{Token, named, orElse, both}
 use Rattle.syntax.specs.Lines.{tokensOf}
-use Rattle.syntax.specs.Number.{numberOf, constantOf}
+use Rattle.syntax.specs.Number.{constantOf}
 
 pub data Item : Type 0 where
   event : ℕ → Item

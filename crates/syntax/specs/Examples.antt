@@ -1,5 +1,4 @@
 -- Texts and epoch lines of document 01, and lines that are easily read wrong, one row each.
-use Prim.Native.Nat.{ℕ}
 use Prim.Native.String.{String}
 use mathlib.Core.Bool.{true, false}
 use mathlib.Core.List.{List, [], _∷_}

@@ -6,15 +6,12 @@ use mathlib.Core.Bool.{Bool, true, false, cond}
 use mathlib.Core.List.{List, [], _∷_}
 use mathlib.Core.Option.{Option, none, some, Option·map}
 use lib.Dec.{eqb}
-use lib.IntN.{ℤ}
 use Rattle.policy.specs.Line.{PolicyLine, rule, constraint}
-use Rattle.policy.specs.Policy.{Rule, Constraint}
 use Rattle.policy.specs.declared.comparison.Comparison.{Comparison}
 use Rattle.policy.specs.declared.comparison.Literal.{Literal}
 use Rattle.policy.specs.declared.comparison.Operand.{Operand}
 use Rattle.policy.specs.declared.comparison.Relation.{Relation}
 use Rattle.policy.specs.declared.number.Action.{Action}
-use Rattle.policy.specs.declared.number.Event.{Event}
 use Rattle.policy.specs.declared.number.Reading.{Reading}
 use Rattle.syntax.specs.Byte.{is}
 use Rattle.syntax.specs.Number.{numberOf, constantOf}

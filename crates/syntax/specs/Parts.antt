@@ -1,12 +1,11 @@
 -- What stands at a position of a text, read as a part of a line: notions of the reading functions, not of document 01.
 -- A part out of range is read as a filler, and flagged.
-use Prim.Native.Nat.{ℕ, zero, suc, _+_}
+use Prim.Native.Nat.{ℕ, zero, suc}
 use mathlib.Core.Bool.{Bool, true, false, _&&_, cond}
-use mathlib.Core.List.{List, [], _∷_}
+use mathlib.Core.List.{List}
 use mathlib.Core.Option.{Option, none, some, Option·map}
 use lib.Dec.{ltb}
 use lib.IntN.{ℤ, pos, negsuc}
-use lib.ListN.{length}
 use Rattle.policy.specs.Limits.{isReadingValue, operandInRange, comparisonInRange, testNumber}
 use Rattle.policy.specs.Line.{noComparison}
 use Rattle.policy.specs.Number.{setLimit, readingLimit}

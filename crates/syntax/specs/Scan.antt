@@ -5,7 +5,7 @@ use mathlib.Core.Bool.{Bool, not, cond}
 use mathlib.Core.List.{List, [], _∷_}
 use mathlib.Core.Option.{Option, none, some}
 use lib.ListN.{length, drop}
-use Rattle.syntax.specs.Byte.{sameBytes, isSpace, isLineEnd, endsToken, isDigit}
+use Rattle.syntax.specs.Byte.{sameBytes, isLineEnd, endsToken, isDigit}
 use Rattle.syntax.specs.Grammar.{named}
 use Rattle.syntax.specs.Lines.{tokensOf}
 use Rattle.syntax.specs.Number.{numberOf, decimalFrom}

@@ -3,6 +3,7 @@
 mod class;
 mod line;
 mod scan;
+mod text;
 mod token;
 
 pub use class::Class;

@@ -27,10 +27,10 @@ use crate::token::ComparisonAt;
 use crate::token::HeadAt;
 use crate::token::comparison_at;
 use crate::token::head_at;
-use policy::Fault;
 use policy::Action;
 use policy::ActionCheck;
 use policy::Ending;
+use policy::Fault;
 use policy::Line;
 
 // What was read of a line: whether it has the right shape, whether every number is in range, the parts, and the position

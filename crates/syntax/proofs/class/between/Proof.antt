@@ -1,16 +1,10 @@
-use borrow.Author.Needs.{needs}
 use borrow.Author.Tests.{le-leb, lt-leb}
-use native.Mathlib.Omega.{arith}
 use Rattle.syntax.proofs.class.between.Statement.{statement}
 use Rattle.syntax.proofs.class.between.Tie as tie
-use Rattle.syntax.proofs.class.between.Reads as reads
-use Rattle.syntax.proofs.class.between.Lts as lts
 
--- src/class.rt:16:1
 returns : tie.Need-returns
 returns c = rw (le-leb _ _ (c .if1 .taken))
 
--- src/class.rt:16:1
 returns-2 : tie.Need-returns-2
 returns-2 c = rw (lt-leb _ _ (c .if1 .left))
 

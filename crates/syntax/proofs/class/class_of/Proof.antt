@@ -1,62 +1,46 @@
-use native.Mathlib.Omega.{arith}
 use borrow.Author.Needs.{needs}
 use borrow.Author.Tests.{eq-eqb, ne-eqb}
 use mathlib.Core.Path.{sym, _∙_}
 use Rattle.syntax.specs.Byte.{classOf}
 use Rattle.syntax.proofs.class.class_of.Statement.{statement}
 use Rattle.syntax.proofs.class.class_of.Tie as tie
-use Rattle.syntax.proofs.class.class_of.Reads as reads
-use Rattle.syntax.proofs.class.class_of.Lts as lts
-use Rattle.syntax.proofs.class.between.Reads as between-reads
-use Rattle.syntax.proofs.class.is_sign.Reads as is-sign-reads
 
--- src/class.rt:56:15
 between-requires : tie.Need-between-requires
 between-requires c κs = search needs
 
--- src/class.rt:58:15
 between-requires-2 : tie.Need-between-requires-2
 between-requires-2 c κs = search needs
 
--- src/class.rt:60:15
 between-requires-3 : tie.Need-between-requires-3
 between-requires-3 c κs = search needs
 
--- src/class.rt:62:15
 is-sign-requires : tie.Need-is-sign-requires
 is-sign-requires c κs = search needs
 
--- src/class.rt:49:1
 returns : tie.Need-returns
 unfolding classOf
 returns c = simp (eq-eqb _ 32 (c .if1 .taken))
 
--- src/class.rt:49:1
 returns-2 : tie.Need-returns-2
 unfolding classOf
 returns-2 c = simp (ne-eqb _ 32 (c .before .if1 .left), eq-eqb _ 10 (c .if2 .taken))
 
--- src/class.rt:49:1
 returns-3 : tie.Need-returns-3
 unfolding classOf
 returns-3 c = simp (ne-eqb _ 32 (c .before .before .before .if1 .left), ne-eqb _ 10 (c .before .before .if2 .left), sym (c .before .between .ensures) ∙ c .if3 .taken)
 
--- src/class.rt:49:1
 returns-4 : tie.Need-returns-4
 unfolding classOf
 returns-4 c = simp (ne-eqb _ 32 (c .before .before .before .before .before .if1 .left), ne-eqb _ 10 (c .before .before .before .before .if2 .left), sym (c .before .before .before .between .ensures) ∙ c .before .before .if3 .left, sym (c .before .between2 .ensures) ∙ c .if4 .taken)
 
--- src/class.rt:49:1
 returns-5 : tie.Need-returns-5
 unfolding classOf
 returns-5 c = simp (ne-eqb _ 32 (c .before .before .before .before .before .before .before .if1 .left), ne-eqb _ 10 (c .before .before .before .before .before .before .if2 .left), sym (c .before .before .before .before .before .between .ensures) ∙ c .before .before .before .before .if3 .left, sym (c .before .before .before .between2 .ensures) ∙ c .before .before .if4 .left, sym (c .before .between3 .ensures) ∙ c .if5 .taken)
 
--- src/class.rt:49:1
 returns-6 : tie.Need-returns-6
 unfolding classOf
 returns-6 c = simp (ne-eqb _ 32 (c .before .before .before .before .before .before .before .before .before .if1 .left), ne-eqb _ 10 (c .before .before .before .before .before .before .before .before .if2 .left), sym (c .before .before .before .before .before .before .before .between .ensures) ∙ c .before .before .before .before .before .before .if3 .left, sym (c .before .before .before .before .before .between2 .ensures) ∙ c .before .before .before .before .if4 .left, sym (c .before .before .before .between3 .ensures) ∙ c .before .before .if5 .left, sym (c .before .is-sign .ensures) ∙ c .if6 .taken)
 
--- src/class.rt:49:1
 returns-7 : tie.Need-returns-7
 unfolding classOf
 returns-7 c = simp (ne-eqb _ 32 (c .before .before .before .before .before .before .before .before .before .if1 .left), ne-eqb _ 10 (c .before .before .before .before .before .before .before .before .if2 .left), sym (c .before .before .before .before .before .before .before .between .ensures) ∙ c .before .before .before .before .before .before .if3 .left, sym (c .before .before .before .before .before .between2 .ensures) ∙ c .before .before .before .before .if4 .left, sym (c .before .before .before .between3 .ensures) ∙ c .before .before .if5 .left, sym (c .before .is-sign .ensures) ∙ c .if6 .left)

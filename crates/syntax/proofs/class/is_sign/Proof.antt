@@ -1,51 +1,38 @@
-use borrow.Author.Needs.{needs}
 use Rattle.syntax.proofs.ClassLaws.{sign-last}
 use mathlib.Core.Path.{refl}
-use mathlib.Core.Bool.{or-false}
 use Rattle.policy.specs.List.{any}
 use Rattle.syntax.specs.Byte.{bytes}
-use native.Mathlib.Omega.{arith}
 use Rattle.syntax.proofs.class.is_sign.Statement.{statement}
 use Rattle.syntax.proofs.class.is_sign.Tie as tie
-use Rattle.syntax.proofs.class.is_sign.Reads as reads
-use Rattle.syntax.proofs.class.is_sign.Lts as lts
 
--- src/class.rt:26:9
 returns : tie.Need-returns
 unfolding any bytes
 returns c = rw (c .if1 .taken) refl
 
--- src/class.rt:29:9
 returns-2 : tie.Need-returns-2
 unfolding any bytes
 returns-2 c = rw (c .if2 .taken) refl
 
--- src/class.rt:32:9
 returns-3 : tie.Need-returns-3
 unfolding any bytes
 returns-3 c = rw (c .if3 .taken) refl
 
--- src/class.rt:35:9
 returns-4 : tie.Need-returns-4
 unfolding any bytes
 returns-4 c = rw (c .if4 .taken) refl
 
--- src/class.rt:38:9
 returns-5 : tie.Need-returns-5
 unfolding any bytes
 returns-5 c = rw (c .if5 .taken) refl
 
--- src/class.rt:41:9
 returns-6 : tie.Need-returns-6
 unfolding any bytes
 returns-6 c = rw (c .if6 .taken) refl
 
--- src/class.rt:44:9
 returns-7 : tie.Need-returns-7
 unfolding any bytes
 returns-7 c = rw (c .if7 .taken) refl
 
--- src/class.rt:22:1
 returns-8 : tie.Need-returns-8
 returns-8 c = sign-last _ (c .before .before .before .before .before .before .if1 .left) (c .before .before .before .before .before .if2 .left) (c .before .before .before .before .if3 .left) (c .before .before .before .if4 .left) (c .before .before .if5 .left) (c .before .if6 .left) (c .if7 .left)
 

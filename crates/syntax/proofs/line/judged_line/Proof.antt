@@ -1,34 +1,25 @@
 use mathlib.Core.Path.{sym, _∙_}
 use borrow.Author.Tests.{lt-ltb, le-ltb}
 use Rattle.syntax.specs.Answers.{judgedLine}
-use native.Mathlib.Omega.{arith}
 use borrow.Author.Needs.{needs}
 use Rattle.syntax.proofs.line.judged_line.Statement.{statement}
 use Rattle.syntax.proofs.line.judged_line.Tie as tie
-use Rattle.syntax.proofs.line.judged_line.Reads as reads
-use Rattle.syntax.proofs.line.judged_line.Lts as lts
-use Rattle.policy.proofs.line.Line.has_repeats.Reads as has-repeats-reads
 
--- src/line.rt:228:9
 returns : tie.Need-returns
 unfolding judgedLine
 returns c = rw (lt-ltb 8 _ (c .if1 .taken))
 
--- src/line.rt:231:9
 returns-2 : tie.Need-returns-2
 unfolding judgedLine
 returns-2 c = rw (le-ltb 8 _ (c .before .before .if1 .left), lt-ltb 4 _ (c .if2 .taken))
 
--- src/line.rt:233:8
 has-repeats-requires : tie.Need-has-repeats-requires
 has-repeats-requires c κs = search needs
 
--- src/line.rt:224:1
 returns-3 : tie.Need-returns-3
 unfolding judgedLine
 returns-3 c = rw (le-ltb 8 _ (c .before .before .before .before .if1 .left), le-ltb 4 _ (c .before .before .if2 .left), sym (c .before .has-repeats .ensures) ∙ c .if3 .taken)
 
--- src/line.rt:224:1
 returns-4 : tie.Need-returns-4
 unfolding judgedLine
 returns-4 c = rw (le-ltb 8 _ (c .before .before .before .before .if1 .left), le-ltb 4 _ (c .before .before .if2 .left), sym (c .before .has-repeats .ensures) ∙ c .if3 .left)

@@ -7,11 +7,8 @@ use denote.Ref.{now}
 use Rattle.syntax.proofs.RunLaws.{skip-here, skip-past, skip-end}
 use Rattle.syntax.specs.Scan.{skip, inLine, lineEnd}
 use borrow.Author.Needs.{needs}
-use native.Mathlib.Omega.{arith}
 use Rattle.syntax.proofs.line.line_end.Statement.{statement}
 use Rattle.syntax.proofs.line.line_end.Tie as tie
-use Rattle.syntax.proofs.line.line_end.Reads as reads
-use Rattle.syntax.proofs.line.line_end.Lts as lts
 
 abbrev Inv-loop : tie.InvT-loop
 Inv-loop text at i₀ i = skip inLine text at ≡ skip inLine text i
@@ -19,32 +16,25 @@ Inv-loop text at i₀ i = skip inLine text at ≡ skip inLine text i
 abbrev μ-loop : tie.MeasureT-loop
 μ-loop text at i₀ i = length text - i
 
--- src/line.rt:259:5
 loop-holds : tie.Need-loop-holds Inv-loop μ-loop
 loop-holds c = refl
 
--- src/line.rt:260:12
 shared-slice-read-if1 : tie.Need-shared-slice-read-if1 Inv-loop μ-loop
 shared-slice-read-if1 c = search needs
 
--- src/line.rt:261:13
 returns : tie.Need-returns Inv-loop μ-loop
 unfolding lineEnd
 returns c = sym (c .before .before .before .loop .inv ∙ skip-here inLine (now (c .before .before .before .before .args .text)) (c .before .before .before .loop .i) (c .before .before .loop-test .taken) (ap not (eq-eqb _ 10 (c .if1 .taken))))
 
--- src/line.rt:263:9
 add-i : tie.Need-add-i Inv-loop μ-loop
 add-i c = search needs
 
--- src/line.rt:259:5
 loop-less : tie.Need-loop-less Inv-loop μ-loop
 loop-less c = search needs
 
--- src/line.rt:259:5
 loop-again : tie.Need-loop-again Inv-loop μ-loop
 loop-again c = c .before .before .before .loop .inv ∙ skip-past inLine (now (c .before .before .before .before .args .text)) (c .before .before .before .loop .i) (c .before .before .loop-test .taken) (ap not (ne-eqb _ 10 (c .if1 .left)))
 
--- src/line.rt:255:1
 returns-2 : tie.Need-returns-2 Inv-loop μ-loop
 unfolding lineEnd
 returns-2 c = sym (c .before .loop .inv ∙ skip-end inLine (now (c .before .before .args .text)) (c .before .loop .i) (c .loop-test .left))

@@ -4,41 +4,25 @@ use denote.Ref.{now}
 use Rattle.syntax.proofs.CauseLaws.{cause-absent, cause-no-action, cause-valid, cause-outside}
 use Rattle.syntax.specs.Byte.{bytes}
 use Rattle.syntax.specs.Scan.{wordAt, nameAt}
-use native.Mathlib.Omega.{arith}
 use borrow.Author.Needs.{needs}
 use Rattle.syntax.proofs.line.read_cause.Statement.{statement}
 use Rattle.syntax.proofs.line.read_cause.Tie as tie
-use Rattle.syntax.proofs.line.read_cause.Reads as reads
-use Rattle.syntax.proofs.line.read_cause.Lts as lts
-use Rattle.policy.proofs.line.Line.ended.Reads as ended-reads
-use Rattle.policy.proofs.number.Action.new.Reads as new-reads
-use Rattle.syntax.proofs.line.failed.Reads as failed-reads
-use Rattle.syntax.proofs.line.read_condition.Reads as read-condition-reads
-use Rattle.syntax.proofs.scan.causes_at.Reads as causes-at-reads
-use Rattle.syntax.proofs.scan.name_at.Reads as name-at-reads
-use Rattle.syntax.proofs.scan.skip_spaces.Reads as skip-spaces-reads
 
--- src/line.rt:137:9
 skip-spaces-requires : tie.Need-skip-spaces-requires
 skip-spaces-requires c κs = search needs
 
--- src/line.rt:138:33
 causes-at-requires : tie.Need-causes-at-requires
 causes-at-requires c κs = search needs
 
--- src/line.rt:138:23
 enum-known-behind : tie.Need-enum-known-behind
 enum-known-behind c = search needs
 
--- src/line.rt:139:9
 enum-told : tie.Need-enum-told
 enum-told c = search needs
 
--- src/line.rt:139:9
 failed-requires : tie.Need-failed-requires
 failed-requires c κs = search needs
 
--- src/line.rt:139:9
 returns : tie.Need-returns
 returns c =
     let t = now (c .before .before .before .before .before .before .args .text) in
@@ -46,27 +30,21 @@ returns c =
     let w = ap (λ (k : ℕ). wordAt t k (bytes "causes")) (sym (c .before .before .before .before .skip-spaces .ensures)) ∙ sym (c .before .before .before .causes-at .ensures) ∙ c .before .enum-told .given .1 in
     c .failed .ensures ∙ cause-absent t (p .at) (p .«in_range») (p .line) w
 
--- src/line.rt:141:9
 skip-spaces-requires-2 : tie.Need-skip-spaces-requires-2
 skip-spaces-requires-2 c κs = search needs
 
--- src/line.rt:142:36
 name-at-requires : tie.Need-name-at-requires
 name-at-requires c κs = search needs
 
--- src/line.rt:142:26
 enum-known-n : tie.Need-enum-known-n
 enum-known-n c = search needs
 
--- src/line.rt:143:9
 enum-told-2 : tie.Need-enum-told-2
 enum-told-2 c = search needs
 
--- src/line.rt:143:9
 failed-requires-2 : tie.Need-failed-requires-2
 failed-requires-2 c κs = search needs
 
--- src/line.rt:143:9
 returns-2 : tie.Need-returns-2
 returns-2 c =
     let t = now (c .before .before .before .before .before .before .before .before .before .before .before .args .text) in
@@ -75,35 +53,27 @@ returns-2 c =
     let q = ap (λ (k : ℕ). nameAt t k 65) (sym (c .before .before .before .before .skip-spaces2 .ensures)) ∙ sym (c .before .before .before .name-at .ensures) ∙ c .before .enum-told2 .given .1 in
     c .failed2 .ensures ∙ cause-no-action t (p .at) (p .«in_range») (p .line) _ w q
 
--- src/line.rt:146:9
 new-requires : tie.Need-new-requires
 new-requires c κs = search needs
 
--- src/line.rt:148:28
 enum-known-check : tie.Need-enum-known-check
 enum-known-check c = search needs
 
--- src/line.rt:149:39
 ended-requires : tie.Need-ended-requires
 ended-requires c κs = search needs
 
--- src/line.rt:149:13
 read-condition-requires : tie.Need-read-condition-requires
 read-condition-requires c κs = search needs
 
--- src/line.rt:152:65
 enum-told-3 : tie.Need-enum-told-3
 enum-told-3 c = search needs
 
--- src/line.rt:152:39
 ended-requires-2 : tie.Need-ended-requires-2
 ended-requires-2 c κs = search needs
 
--- src/line.rt:152:13
 read-condition-requires-2 : tie.Need-read-condition-requires-2
 read-condition-requires-2 c κs = search needs
 
--- src/line.rt:131:1
 returns-3 : tie.Need-returns-3
 returns-3 c =
     let t = now (c .before .before .before .before .before .before .before .before .before .before .before .before .before .before .before .before .before .before .args .text) in
@@ -112,7 +82,6 @@ returns-3 c =
     let q = ap (λ (k : ℕ). nameAt t k 65) (sym (c .before .before .before .before .before .before .before .before .before .before .before .skip-spaces2 .ensures)) ∙ sym (c .before .before .before .before .before .before .before .before .before .before .name-at .ensures) ∙ c .before .before .before .before .before .before .before .before .n .given .1 in
     c .read-condition .ensures ∙ rw (c .before .ended .ensures) (cause-valid t (p .at) (p .«in_range») (p .line) _ w _ _ q _ (sym (c .before .before .before .before .before .new .ensures) ∙ c .before .before .before .check .given .1))
 
--- src/line.rt:131:1
 returns-4 : tie.Need-returns-4
 returns-4 c =
     let t = now (c .before .before .before .before .before .before .before .before .before .before .before .before .before .before .before .before .before .args .text) in

@@ -13,15 +13,6 @@ use borrow.Author.Needs.{needs}
 use native.Mathlib.Omega.{arith}
 use Rattle.syntax.proofs.line.read_comparisons.Statement.{statement}
 use Rattle.syntax.proofs.line.read_comparisons.Tie as tie
-use Rattle.syntax.proofs.line.read_comparisons.Reads as reads
-use Rattle.syntax.proofs.line.read_comparisons.Lts as lts
-use Rattle.policy.proofs.line.Line.with_comparison.Reads as with-comparison-reads
-use Rattle.syntax.proofs.line.both.Reads as both-reads
-use Rattle.syntax.proofs.line.failed.Reads as failed-reads
-use Rattle.syntax.proofs.scan.at_token_end.Reads as at-token-end-reads
-use Rattle.syntax.proofs.scan.comma_at.Reads as comma-at-reads
-use Rattle.syntax.proofs.scan.skip_spaces.Reads as skip-spaces-reads
-use Rattle.syntax.proofs.token.comparison_at.Reads as comparison-at-reads
 
 abbrev Inv-loop : tie.InvT-loop
 Inv-loop text from heads-in-range line₀ in-range₀ at₀ line in-range at = comparisonsParts text in-range₀ line₀ (lineEnd text at₀) (comparisonsOf (tokensAt text at₀)) ≡ comparisonsParts text in-range line (lineEnd text at) (comparisonsOf (tokensAt text at))
@@ -29,31 +20,24 @@ Inv-loop text from heads-in-range line₀ in-range₀ at₀ line in-range at = c
 abbrev μ-loop : tie.MeasureT-loop
 μ-loop text from heads-in-range line₀ in-range₀ at₀ line in-range at = length text - at
 
--- src/line.rt:83:5
 loop-holds : tie.Need-loop-holds Inv-loop μ-loop
 loop-holds c = refl
 
--- src/line.rt:84:13
 skip-spaces-requires : tie.Need-skip-spaces-requires Inv-loop μ-loop
 skip-spaces-requires c κs = search needs
 
--- src/line.rt:85:61
 comparison-at-requires : tie.Need-comparison-at-requires Inv-loop μ-loop
 comparison-at-requires c κs = search needs
 
--- src/line.rt:85:38
 enum-known-comparison : tie.Need-enum-known-comparison Inv-loop μ-loop
 enum-known-comparison c = search needs
 
--- src/line.rt:86:13
 enum-told : tie.Need-enum-told Inv-loop μ-loop
 enum-told c = search needs
 
--- src/line.rt:86:13
 failed-requires : tie.Need-failed-requires Inv-loop μ-loop
 failed-requires c κs = search needs
 
--- src/line.rt:86:13
 returns : tie.Need-returns Inv-loop μ-loop
 returns c =
     let t = now (c .before .before .before .before .before .before .before .args .text) in
@@ -61,23 +45,18 @@ returns c =
     let q = ap (comparisonAt t) (sym (c .before .before .before .before .skip-spaces .ensures)) ∙ sym (c .before .before .before .comparison-at .ensures) ∙ c .before .enum-told .given .1 in
     c .failed .ensures ∙ comparisons-failed t (l .at) (l .in-range) (l .line) q ∙ sym (l .inv)
 
--- src/line.rt:88:9
 with-comparison-requires : tie.Need-with-comparison-requires Inv-loop μ-loop
 with-comparison-requires c κs = search needs
 
--- src/line.rt:89:9
 both-requires : tie.Need-both-requires Inv-loop μ-loop
 both-requires c κs = search needs
 
--- src/line.rt:90:13
 skip-spaces-requires-2 : tie.Need-skip-spaces-requires-2 Inv-loop μ-loop
 skip-spaces-requires-2 c κs = search needs
 
--- src/line.rt:91:12
 at-token-end-requires : tie.Need-at-token-end-requires Inv-loop μ-loop
 at-token-end-requires c κs = search needs
 
--- src/line.rt:92:13
 returns-2 : tie.Need-returns-2 Inv-loop μ-loop
 returns-2 c =
     let t = now (c .before .before .before .before .before .before .before .before .before .before .before .before .args .text) in
@@ -86,23 +65,18 @@ returns-2 c =
     let h = ap (λ (k : ℕ). isEmpty (tokenAt t k)) (sym (c .before .before .skip-spaces2 .ensures)) ∙ sym (c .before .at-token-end .ensures) ∙ c .if1 .taken in
     rw (c .before .before .before .both .ensures, c .before .before .before .before .with-comparison .ensures, c .before .before .skip-spaces2 .ensures) (comparisons-done t (l .at) (l .in-range) (l .line) _ _ _ q h ∙ sym (l .inv))
 
--- src/line.rt:99:37
 comma-at-requires : tie.Need-comma-at-requires Inv-loop μ-loop
 comma-at-requires c κs = search needs
 
--- src/line.rt:99:27
 enum-known-behind : tie.Need-enum-known-behind Inv-loop μ-loop
 enum-known-behind c = search needs
 
--- src/line.rt:100:13
 enum-told-2 : tie.Need-enum-told-2 Inv-loop μ-loop
 enum-told-2 c = search needs
 
--- src/line.rt:100:13
 failed-requires-2 : tie.Need-failed-requires-2 Inv-loop μ-loop
 failed-requires-2 c κs = search needs
 
--- src/line.rt:100:13
 returns-3 : tie.Need-returns-3 Inv-loop μ-loop
 returns-3 c =
     let t = now (c .before .before .before .before .before .before .before .before .before .before .before .before .before .before .before .before .args .text) in
@@ -112,7 +86,6 @@ returns-3 c =
     let w = ap (λ (k : ℕ). wordAt t k (bytes ",")) (sym (c .before .before .before .before .before .before .skip-spaces2 .ensures)) ∙ sym (c .before .before .before .comma-at .ensures) ∙ c .before .enum-told2 .given .1 in
     c .failed2 .ensures ∙ comparisons-broken t (l .at) (l .in-range) (l .line) _ _ _ q h w ∙ sym (l .inv)
 
--- src/line.rt:83:5
 loop-less : tie.Need-loop-less Inv-loop μ-loop
 loop-less c =
     let t = now (c .before .before .before .before .before .before .before .before .before .before .before .before .before .before .before .before .args .text) in
@@ -123,7 +96,6 @@ loop-less c =
     let k = comparisons-less t (l .at) (l .in-range) (l .line) _ _ _ q h _ w in
     omega arith
 
--- src/line.rt:83:5
 loop-again : tie.Need-loop-again Inv-loop μ-loop
 loop-again c =
     let t = now (c .before .before .before .before .before .before .before .before .before .before .before .before .before .before .before .before .args .text) in

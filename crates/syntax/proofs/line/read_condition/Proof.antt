@@ -5,27 +5,16 @@ use Rattle.syntax.proofs.ConditionLaws.{condition-none, condition-bad, 
 use Rattle.syntax.specs.Byte.{bytes}
 use Rattle.syntax.specs.Number.{isEmpty}
 use Rattle.syntax.specs.Scan.{tokenAt, wordAt}
-use native.Mathlib.Omega.{arith}
 use borrow.Author.Needs.{needs}
 use Rattle.syntax.proofs.line.read_condition.Statement.{statement}
 use Rattle.syntax.proofs.line.read_condition.Tie as tie
-use Rattle.syntax.proofs.line.read_condition.Reads as reads
-use Rattle.syntax.proofs.line.read_condition.Lts as lts
-use Rattle.syntax.proofs.line.failed.Reads as failed-reads
-use Rattle.syntax.proofs.line.read_comparisons.Reads as read-comparisons-reads
-use Rattle.syntax.proofs.scan.at_token_end.Reads as at-token-end-reads
-use Rattle.syntax.proofs.scan.if_at.Reads as if-at-reads
-use Rattle.syntax.proofs.scan.skip_spaces.Reads as skip-spaces-reads
 
--- src/line.rt:113:9
 skip-spaces-requires : tie.Need-skip-spaces-requires
 skip-spaces-requires c κs = search needs
 
--- src/line.rt:114:8
 at-token-end-requires : tie.Need-at-token-end-requires
 at-token-end-requires c κs = search needs
 
--- src/line.rt:115:9
 returns : tie.Need-returns
 returns c =
     let t = now (c .before .before .before .before .args .text) in
@@ -33,23 +22,18 @@ returns c =
     let h = ap (λ (k : ℕ). isEmpty (tokenAt t k)) (sym (c .before .before .skip-spaces .ensures)) ∙ sym (c .before .at-token-end .ensures) ∙ c .if1 .taken in
     rw (c .before .before .skip-spaces .ensures) (condition-none t (a .from) (a .in-range) (a .heads) h)
 
--- src/line.rt:122:33
 if-at-requires : tie.Need-if-at-requires
 if-at-requires c κs = search needs
 
--- src/line.rt:122:23
 enum-known-behind : tie.Need-enum-known-behind
 enum-known-behind c = search needs
 
--- src/line.rt:123:9
 enum-told : tie.Need-enum-told
 enum-told c = search needs
 
--- src/line.rt:123:9
 failed-requires : tie.Need-failed-requires
 failed-requires c κs = search needs
 
--- src/line.rt:123:9
 returns-2 : tie.Need-returns-2
 returns-2 c =
     let t = now (c .before .before .before .before .before .before .before .before .args .text) in
@@ -58,11 +42,9 @@ returns-2 c =
     let w = ap (λ (k : ℕ). wordAt t k (bytes "if")) (sym (c .before .before .before .before .before .before .skip-spaces .ensures)) ∙ sym (c .before .before .before .if-at .ensures) ∙ c .before .enum-told .given .1 in
     c .failed .ensures ∙ condition-bad t (a .from) (a .in-range) (a .heads) h w
 
--- src/line.rt:125:5
 read-comparisons-requires : tie.Need-read-comparisons-requires
 read-comparisons-requires c κs = search needs
 
--- src/line.rt:107:1
 returns-3 : tie.Need-returns-3
 returns-3 c =
     let t = now (c .before .before .before .before .before .before .before .before .before .args .text) in

@@ -13,15 +13,6 @@ use borrow.Author.Needs.{needs}
 use native.Mathlib.Omega.{arith}
 use Rattle.syntax.proofs.line.read_heads.Statement.{statement}
 use Rattle.syntax.proofs.line.read_heads.Tie as tie
-use Rattle.syntax.proofs.line.read_heads.Reads as reads
-use Rattle.syntax.proofs.line.read_heads.Lts as lts
-use Rattle.policy.proofs.line.Line.new.Reads as new-reads
-use Rattle.policy.proofs.line.Line.with_head.Reads as with-head-reads
-use Rattle.syntax.proofs.line.both.Reads as both-reads
-use Rattle.syntax.proofs.line.failed.Reads as failed-reads
-use Rattle.syntax.proofs.scan.ampersand_at.Reads as ampersand-at-reads
-use Rattle.syntax.proofs.scan.skip_spaces.Reads as skip-spaces-reads
-use Rattle.syntax.proofs.token.head_at.Reads as head-at-reads
 
 abbrev Inv-loop : tie.InvT-loop
 Inv-loop text from never line₀ in-range₀ at₀ line in-range at = headsOutcome text true newLine (lineEnd text from) (joined (testOf never) (tokensAt text from)) ≡ headsOutcome text in-range line (lineEnd text at) (joined (testOf never) (tokensAt text at))
@@ -29,35 +20,27 @@ Inv-loop text from never line₀ in-range₀ at₀ line in-range at = headsOutco
 abbrev μ-loop : tie.MeasureT-loop
 μ-loop text from never line₀ in-range₀ at₀ line in-range at = length text - at
 
--- src/line.rt:50:9
 new-requires : tie.Need-new-requires Inv-loop μ-loop
 new-requires c κs = search needs
 
--- src/line.rt:53:5
 loop-holds : tie.Need-loop-holds Inv-loop μ-loop
 loop-holds c = rw (c .new .ensures)
 
--- src/line.rt:54:13
 skip-spaces-requires : tie.Need-skip-spaces-requires Inv-loop μ-loop
 skip-spaces-requires c κs = search needs
 
--- src/line.rt:55:43
 head-at-requires : tie.Need-head-at-requires Inv-loop μ-loop
 head-at-requires c κs = search needs
 
--- src/line.rt:55:26
 enum-known-test : tie.Need-enum-known-test Inv-loop μ-loop
 enum-known-test c = search needs
 
--- src/line.rt:56:13
 enum-told : tie.Need-enum-told Inv-loop μ-loop
 enum-told c = search needs
 
--- src/line.rt:56:13
 failed-requires : tie.Need-failed-requires Inv-loop μ-loop
 failed-requires c κs = search needs
 
--- src/line.rt:56:13
 returns : tie.Need-returns Inv-loop μ-loop
 returns c =
     let t = now (c .before .before .before .before .before .before .before .before .args .text) in
@@ -66,31 +49,24 @@ returns c =
     let q = ap (λ (k : ℕ). headAt t k v) (sym (c .before .before .before .before .skip-spaces .ensures)) ∙ sym (c .before .before .before .head-at .ensures) ∙ c .before .enum-told .given .1 in
     rw (c .failed .ensures) (heads-failed t (l .at) v (l .in-range) (l .line) q ∙ sym (l .inv))
 
--- src/line.rt:58:9
 with-head-requires : tie.Need-with-head-requires Inv-loop μ-loop
 with-head-requires c κs = search needs
 
--- src/line.rt:59:9
 both-requires : tie.Need-both-requires Inv-loop μ-loop
 both-requires c κs = search needs
 
--- src/line.rt:60:13
 skip-spaces-requires-2 : tie.Need-skip-spaces-requires-2 Inv-loop μ-loop
 skip-spaces-requires-2 c κs = search needs
 
--- src/line.rt:61:37
 ampersand-at-requires : tie.Need-ampersand-at-requires Inv-loop μ-loop
 ampersand-at-requires c κs = search needs
 
--- src/line.rt:61:27
 enum-known-behind : tie.Need-enum-known-behind Inv-loop μ-loop
 enum-known-behind c = search needs
 
--- src/line.rt:62:13
 enum-told-2 : tie.Need-enum-told-2 Inv-loop μ-loop
 enum-told-2 c = search needs
 
--- src/line.rt:62:13
 returns-2 : tie.Need-returns-2 Inv-loop μ-loop
 returns-2 c =
     let t = now (c .before .before .before .before .before .before .before .before .before .before .before .before .before .before .args .text) in
@@ -101,7 +77,6 @@ returns-2 c =
     rw (c .before .before .before .before .both .ensures, c .before .before .before .before .before .with-head .ensures, c .before .before .before .skip-spaces2 .ensures)
     (heads-done t (l .at) v (l .in-range) (l .line) _ _ _ q w ∙ sym (l .inv))
 
--- src/line.rt:53:5
 loop-less : tie.Need-loop-less Inv-loop μ-loop
 loop-less c =
     let t = now (c .before .before .before .before .before .before .before .before .before .before .before .before .before .before .before .args .text) in
@@ -112,7 +87,6 @@ loop-less c =
     let h = heads-less t (l .at) v (l .in-range) (l .line) _ _ _ q _ w in
     omega arith
 
--- src/line.rt:53:5
 loop-again : tie.Need-loop-again Inv-loop μ-loop
 loop-again c =
     let t = now (c .before .before .before .before .before .before .before .before .before .before .before .before .before .before .before .args .text) in

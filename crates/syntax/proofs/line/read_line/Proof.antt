@@ -4,77 +4,54 @@ use lib.ListN.{getD}
 use denote.Ref.{now}
 use Rattle.syntax.proofs.JudgeLaws.{line-blank, line-comment, line-accepted, line-refused, line-skipped}
 use Rattle.syntax.proofs.WordLaws.{token-inside}
-use Rattle.syntax.specs.Answers.{behindLine, lineReadOf, judgedParts}
+use Rattle.syntax.specs.Answers.{behindLine, lineReadOf}
 use Rattle.syntax.specs.Byte.{isSpace}
-use Rattle.syntax.specs.Grammar.{lineFrom}
 use Rattle.syntax.specs.Number.{isEmpty}
-use Rattle.syntax.specs.Outcome.{lineParts}
-use Rattle.syntax.specs.Scan.{skip, tokenAt, tokensAt, lineEnd}
+use Rattle.syntax.specs.Scan.{skip, tokenAt, lineEnd}
 use Rattle.syntax.specs.Text.{LineAnswer}
-use native.Mathlib.Omega.{arith}
 use borrow.Author.Needs.{needs}
 use Rattle.syntax.proofs.line.read_line.Statement.{statement}
 use Rattle.syntax.proofs.line.read_line.Tie as tie
-use Rattle.syntax.proofs.line.read_line.Reads as reads
-use Rattle.syntax.proofs.line.read_line.Lts as lts
-use Rattle.syntax.proofs.line.behind_line.Reads as behind-line-reads
-use Rattle.syntax.proofs.line.judged.Reads as judged-reads
-use Rattle.syntax.proofs.line.line_end.Reads as line-end-reads
-use Rattle.syntax.proofs.line.read_parts.Reads as read-parts-reads
-use Rattle.syntax.proofs.line.refused.Reads as refused-reads
-use Rattle.syntax.proofs.line.skipped.Reads as skipped-reads
-use Rattle.syntax.proofs.scan.at_token_end.Reads as at-token-end-reads
-use Rattle.syntax.proofs.scan.skip_spaces.Reads as skip-spaces-reads
 
--- src/line.rt:300:9
 skip-spaces-requires : tie.Need-skip-spaces-requires
 skip-spaces-requires c κs = search needs
 
--- src/line.rt:301:8
 at-token-end-requires : tie.Need-at-token-end-requires
 at-token-end-requires c κs = search needs
 
--- src/line.rt:302:24
 behind-line-requires : tie.Need-behind-line-requires
 behind-line-requires c κs = search needs
 
--- src/line.rt:302:9
 skipped-requires : tie.Need-skipped-requires
 skipped-requires c κs = search needs
 
--- src/line.rt:302:9
 returns : tie.Need-returns
-returns c = 
+returns c =
     let t = now (c .before .before .before .before .before .before .args .text) in
     let a = c .before .before .before .before .before .before .args .at in
     let k = c .before .before .before .before .skip-spaces .ensures in
     let h = ap (λ (n : ℕ). isEmpty (tokenAt t n)) (sym k) ∙ sym (c .before .before .before .at-token-end .ensures) ∙ c .before .before .if1 .taken in
     c .skipped .ensures ∙ ap (λ (n : ℕ). lineReadOf n LineAnswer.skipped) (c .before .behind-line .ensures ∙ ap (behindLine t) k) ∙ line-blank t a h
 
--- src/line.rt:304:8
 shared-slice-read-if2 : tie.Need-shared-slice-read-if2
-shared-slice-read-if2 c = 
+shared-slice-read-if2 c =
     let t = now (c .before .before .before .before .before .args .text) in
     let a = c .before .before .before .before .before .args .at in
     let k = c .before .before .before .skip-spaces .ensures in
     let h = ap (λ (n : ℕ). isEmpty (tokenAt t n)) (sym k) ∙ sym (c .before .before .at-token-end .ensures) ∙ c .before .if1 .left in
     rw k (token-inside t (skip isSpace t a) h)
 
--- src/line.rt:305:42
 line-end-requires : tie.Need-line-end-requires
 line-end-requires c κs = search needs
 
--- src/line.rt:305:24
 behind-line-requires-2 : tie.Need-behind-line-requires-2
 behind-line-requires-2 c κs = search needs
 
--- src/line.rt:305:9
 skipped-requires-2 : tie.Need-skipped-requires-2
 skipped-requires-2 c κs = search needs
 
--- src/line.rt:305:9
 returns-2 : tie.Need-returns-2
-returns-2 c = 
+returns-2 c =
     let t = now (c .before .before .before .before .before .before .before .before .before .args .text) in
     let a = c .before .before .before .before .before .before .before .before .before .args .at in
     let k = c .before .before .before .before .before .before .before .skip-spaces .ensures in
@@ -83,53 +60,42 @@ returns-2 c =
     ∙ ap (λ (n : ℕ). lineReadOf n LineAnswer.skipped) (c .before .behind-line2 .ensures ∙ ap (behindLine t) (c .before .before .line-end .ensures ∙ ap (lineEnd t) k))
     ∙ line-comment t a h (ap (λ (n : ℕ). getD t n 0) (sym k) ∙ c .before .before .before .if2 .taken)
 
--- src/line.rt:307:9
 read-parts-requires : tie.Need-read-parts-requires
 read-parts-requires c κs = search needs
 
--- src/line.rt:308:9
 judged-requires : tie.Need-judged-requires
 judged-requires c κs = search needs
 
--- src/line.rt:311:17
 enum-told : tie.Need-enum-told
 enum-told c = search needs
 
--- src/line.rt:315:23
 behind-line-requires-3 : tie.Need-behind-line-requires-3
 behind-line-requires-3 c κs = search needs
 
--- src/line.rt:318:29
 enum-known-status : tie.Need-enum-known-status
 enum-known-status c = search needs
 
--- src/line.rt:318:39
 refused-requires : tie.Need-refused-requires
 refused-requires c κs = search needs
 
--- src/line.rt:319:32
 enum-told-2 : tie.Need-enum-told-2
 enum-told-2 c = search needs
 
--- src/line.rt:319:32
 skipped-requires-3 : tie.Need-skipped-requires-3
 skipped-requires-3 c κs = search needs
 
--- src/line.rt:297:1
 returns-3 : tie.Need-returns-3
 returns-3 c =
     let t = now (c .before .before .before .before .before .before .before .before .before .before .before .before .args .text) in
     let h = sym (c .before .before .before .before .before .before .before .before .before .at-token-end .ensures) ∙ c .before .before .before .before .before .before .before .before .if1 .left in
     line-accepted t (c .before .before .before .before .before .before .before .before .before .before .before .before .args .at) _ (c .before .before .before .before .before .before .before .before .before .before .skip-spaces .ensures) h (c .before .before .before .before .before .before .if2 .left) (c .before .before .before .before .before .read-parts .result) (c .before .before .before .before .before .read-parts .ensures h) _ (c .before .before .before .before .judged .ensures) (c .before .before .enum-told .given .1) _ (c .behind-line3 .ensures)
 
--- src/line.rt:297:1
 returns-4 : tie.Need-returns-4
 returns-4 c =
     let t = now (c .before .before .before .before .before .before .before .before .before .before .before .before .args .text) in
     let h = sym (c .before .before .before .before .before .before .before .before .before .at-token-end .ensures) ∙ c .before .before .before .before .before .before .before .before .if1 .left in
     c .refused .ensures ∙ line-refused t (c .before .before .before .before .before .before .before .before .before .before .before .before .args .at) _ (c .before .before .before .before .before .before .before .before .before .before .skip-spaces .ensures) h (c .before .before .before .before .before .before .if2 .left) (c .before .before .before .before .before .read-parts .result) (c .before .before .before .before .before .read-parts .ensures h) _ (sym (c .before .before .before .before .judged .ensures) ∙ c .before .before .status .given .1)
 
--- src/line.rt:297:1
 returns-5 : tie.Need-returns-5
 returns-5 c =
     let t = now (c .before .before .before .before .before .before .before .before .before .before .before .args .text) in

@@ -1,41 +1,28 @@
 use mathlib.Core.Path.{sym, _∙_}
 use denote.Ref.{now}
 use Rattle.syntax.proofs.CauseLaws.{line-never, line-rule}
-use native.Mathlib.Omega.{arith}
 use borrow.Author.Needs.{needs}
 use Rattle.syntax.proofs.line.read_parts.Statement.{statement}
 use Rattle.syntax.proofs.line.read_parts.Tie as tie
-use Rattle.syntax.proofs.line.read_parts.Reads as reads
-use Rattle.syntax.proofs.line.read_parts.Lts as lts
-use Rattle.syntax.proofs.line.read_constraint.Reads as read-constraint-reads
-use Rattle.syntax.proofs.line.read_rule.Reads as read-rule-reads
-use Rattle.syntax.proofs.scan.never_at.Reads as never-at-reads
 
--- src/line.rt:193:9
 never-at-requires : tie.Need-never-at-requires
 never-at-requires c κs = search needs
 
--- src/line.rt:195:23
 enum-known-never : tie.Need-enum-known-never
 enum-known-never c = search needs
 
--- src/line.rt:195:34
 read-constraint-requires : tie.Need-read-constraint-requires
 read-constraint-requires c κs = search needs
 
--- src/line.rt:196:27
 enum-told : tie.Need-enum-told
 enum-told c = search needs
 
--- src/line.rt:196:27
 read-rule-requires : tie.Need-read-rule-requires
 read-rule-requires c κs = search needs
 
--- src/line.rt:187:1
 returns : tie.Need-returns
 returns c = λ h. c .read-constraint .ensures ∙ line-never (now (c .before .before .before .before .before .before .args .text)) (c .before .before .before .before .before .before .args .start) h _ (sym (c .before .before .before .before .never-at .ensures) ∙ c .before .before .never .given .1)
 
--- src/line.rt:187:1
 returns-2 : tie.Need-returns-2
 returns-2 c = λ h. c .read-rule .ensures ∙ line-rule (now (c .before .before .before .before .before .args .text)) (c .before .before .before .before .before .args .start) h (sym (c .before .before .before .never-at .ensures) ∙ c .before .enum-told .given .1)
 

@@ -12,10 +12,6 @@ use borrow.Author.Needs.{needs}
 use native.Mathlib.Omega.{arith}
 use Rattle.syntax.proofs.scan.digit_run.Statement.{statement}
 use Rattle.syntax.proofs.scan.digit_run.Tie as tie
-use Rattle.syntax.proofs.scan.digit_run.Reads as reads
-use Rattle.syntax.proofs.scan.digit_run.Lts as lts
-use Rattle.syntax.proofs.class.is_digit.Reads as is-digit-reads
-use Rattle.syntax.proofs.scan.shifted.Reads as shifted-reads
 
 abbrev Inv-loop : tie.InvT-loop
 Inv-loop text at i₀ value₀ i value = (clip (decimalFrom 0 (run isDigit (drop at text))) ≡ clip (decimalFrom value (run isDigit (drop i text)))) × (skip isDigit text at ≡ skip isDigit text i) × (value ≤ clipLimit)
@@ -23,31 +19,24 @@ Inv-loop text at i₀ value₀ i value = (clip (decimalFrom 0 (run isDigit (drop
 abbrev μ-loop : tie.MeasureT-loop
 μ-loop text at i₀ value₀ i value = length text - i
 
--- src/scan.rt:93:5
 loop-holds : tie.Need-loop-holds Inv-loop μ-loop
 loop-holds c = (refl, refl, omega arith)
 
--- src/scan.rt:94:17
 shared-slice-read-b : tie.Need-shared-slice-read-b Inv-loop μ-loop
 shared-slice-read-b c = search needs
 
--- src/scan.rt:95:12
 is-digit-requires : tie.Need-is-digit-requires Inv-loop μ-loop
 is-digit-requires c κs = search needs
 
--- src/scan.rt:96:13
 shifted-requires : tie.Need-shifted-requires Inv-loop μ-loop
 shifted-requires c κs = (c .before .before .before .before .loop .inv .2, sym (c .before .is-digit .ensures) ∙ c .if1 .taken)
 
--- src/scan.rt:97:13
 add-i : tie.Need-add-i Inv-loop μ-loop
 add-i c = search needs
 
--- src/scan.rt:93:5
 loop-less : tie.Need-loop-less Inv-loop μ-loop
 loop-less c = search needs
 
--- src/scan.rt:93:5
 loop-again : tie.Need-loop-again Inv-loop μ-loop
 loop-again c =
     let t = now (c .before .before .before .before .before .before .before .args .text) in
@@ -58,7 +47,6 @@ loop-again c =
       omega (arith, c .shifted .ensures),
     )
 
--- src/scan.rt:99:13
 returns : tie.Need-returns Inv-loop μ-loop
 unfolding digitRun
 returns c =
@@ -67,7 +55,6 @@ returns c =
     let d : isDigit (getD t (l .i) 0) ≡ false = sym (c .before .is-digit .ensures) ∙ c .if1 .left in
     rw (l .inv .0 ∙ digits-here t (l .i) (l .value) (l .inv .2) (c .before .before .before .loop-test .taken) d, l .inv .1 ∙ skip-here isDigit t (l .i) (c .before .before .before .loop-test .taken) d)
 
--- src/scan.rt:88:1
 returns-2 : tie.Need-returns-2 Inv-loop μ-loop
 unfolding digitRun
 returns-2 c =

@@ -8,15 +8,10 @@ use native.Mathlib.Omega.{arith}
 use borrow.Author.Needs.{needs}
 use Rattle.syntax.proofs.scan.digits_at.Statement.{statement}
 use Rattle.syntax.proofs.scan.digits_at.Tie as tie
-use Rattle.syntax.proofs.scan.digits_at.Reads as reads
-use Rattle.syntax.proofs.scan.digits_at.Lts as lts
-use Rattle.syntax.proofs.scan.digit_run.Reads as digit-run-reads
 
--- src/scan.rt:109:9
 digit-run-requires : tie.Need-digit-run-requires
 digit-run-requires c κs = search needs
 
--- src/scan.rt:112:9
 returns : tie.Need-returns
 unfolding digitRun
 returns c =
@@ -26,11 +21,9 @@ returns c =
     let e : c .before .digit-run .result .end ≡ skip isDigit t at = ap (λ (d : Digits). d .end) q in
     digits-malformed t at (digits-none t at (omega arith))
 
--- src/scan.rt:114:8
 sub-if2 : tie.Need-sub-if2
 sub-if2 c = search needs
 
--- src/scan.rt:115:9
 returns-2 : tie.Need-returns-2
 unfolding digitRun
 returns-2 c =
@@ -40,7 +33,6 @@ returns-2 c =
     let e : c .before .before .digit-run .result .end ≡ skip isDigit t at = ap (λ (d : Digits). d .end) q in
     digits-number t at (c .before .before .digit-run .result) q (digits-one t at (omega arith) (omega arith))
 
--- src/scan.rt:117:8
 shared-slice-read-if3 : tie.Need-shared-slice-read-if3
 unfolding digitRun
 shared-slice-read-if3 c =
@@ -50,7 +42,6 @@ shared-slice-read-if3 c =
     let e : c .before .before .before .digit-run .result .end ≡ skip isDigit t at = ap (λ (d : Digits). d .end) q in
     digits-inside t at (omega arith)
 
--- src/scan.rt:106:1
 returns-3 : tie.Need-returns-3
 unfolding digitRun
 returns-3 c =
@@ -60,7 +51,6 @@ returns-3 c =
     let e : c .before .before .before .before .digit-run .result .end ≡ skip isDigit t at = ap (λ (d : Digits). d .end) q in
     digits-malformed t at (digits-zero t at (omega arith) (λ k. c .before .before .if2 .left (omega arith)) (c .if3 .taken))
 
--- src/scan.rt:106:1
 returns-4 : tie.Need-returns-4
 unfolding digitRun
 returns-4 c =

@@ -1,35 +1,25 @@
 use mathlib.Core.Path.{_∙_}
 use denote.Ref.{now}
 use Rattle.syntax.proofs.DigitLaws.{name-end, name-other, name-number}
-use native.Mathlib.Omega.{arith}
 use borrow.Author.Needs.{needs}
 use Rattle.syntax.proofs.scan.name_at.Statement.{statement}
 use Rattle.syntax.proofs.scan.name_at.Tie as tie
-use Rattle.syntax.proofs.scan.name_at.Reads as reads
-use Rattle.syntax.proofs.scan.name_at.Lts as lts
-use Rattle.syntax.proofs.scan.number_at.Reads as number-at-reads
 
--- src/scan.rt:147:9
 returns : tie.Need-returns
 returns c = name-end (now (c .before .before .args .text)) (c .before .before .args .at) (c .before .before .args .letter) (c .if1 .taken)
 
--- src/scan.rt:149:8
 shared-slice-read-if2 : tie.Need-shared-slice-read-if2
 shared-slice-read-if2 c = search needs
 
--- src/scan.rt:150:25
 add-number-at : tie.Need-add-number-at
 add-number-at c = search needs
 
--- src/scan.rt:150:9
 number-at-requires : tie.Need-number-at-requires
 number-at-requires c κs = search needs
 
--- src/scan.rt:142:1
 returns-2 : tie.Need-returns-2
 returns-2 c = c .number-at .ensures ∙ name-number (now (c .before .before .before .before .before .args .text)) (c .before .before .before .before .before .args .at) (c .before .before .before .before .before .args .letter) (c .before .before .before .before .before .pre) (c .before .before .before .if1 .left) (c .before .if2 .taken)
 
--- src/scan.rt:142:1
 returns-3 : tie.Need-returns-3
 returns-3 c = name-other (now (c .before .before .before .before .args .text)) (c .before .before .before .before .args .at) (c .before .before .before .before .args .letter) (c .before .before .if1 .left) (c .if2 .left)
 

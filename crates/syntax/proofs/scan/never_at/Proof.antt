@@ -1,24 +1,17 @@
 use mathlib.Core.Path.{refl}
 use Rattle.policy.specs.List.{all}
 use Rattle.syntax.specs.Byte.{bytes}
-use native.Mathlib.Omega.{arith}
 use borrow.Author.Needs.{needs}
 use Rattle.syntax.proofs.scan.never_at.Statement.{statement}
 use Rattle.syntax.proofs.scan.never_at.Tie as tie
-use Rattle.syntax.proofs.scan.never_at.Reads as reads
-use Rattle.syntax.proofs.scan.never_at.Lts as lts
-use Rattle.syntax.proofs.scan.word_at.Reads as word-at-reads
 
--- src/scan.rt:97:23
 slice-aggregate-word-at : tie.Need-slice-aggregate-word-at
 slice-aggregate-word-at c = search needs
 
--- src/scan.rt:97:5
 word-at-requires : tie.Need-word-at-requires
 unfolding all
 word-at-requires c κs = refl
 
--- src/scan.rt:94:1
 returns : tie.Need-returns
 unfolding bytes
 returns c = c .word-at .ensures

@@ -1,40 +1,28 @@
 use mathlib.Core.Path.{sym, _∙_}
 use denote.Ref.{now}
 use Rattle.syntax.proofs.DigitLaws.{token-number, token-longer, token-malformed}
-use native.Mathlib.Omega.{arith}
 use borrow.Author.Needs.{needs}
 use Rattle.syntax.proofs.scan.number_at.Statement.{statement}
 use Rattle.syntax.proofs.scan.number_at.Tie as tie
-use Rattle.syntax.proofs.scan.number_at.Reads as reads
-use Rattle.syntax.proofs.scan.number_at.Lts as lts
-use Rattle.syntax.proofs.scan.at_token_end.Reads as at-token-end-reads
-use Rattle.syntax.proofs.scan.digits_at.Reads as digits-at-reads
 
--- src/scan.rt:128:9
 digits-at-requires : tie.Need-digits-at-requires
 digits-at-requires c κs = search needs
 
--- src/scan.rt:130:26
 enum-known-digits : tie.Need-enum-known-digits
 enum-known-digits c = search needs
 
--- src/scan.rt:131:16
 at-token-end-requires : tie.Need-at-token-end-requires
 at-token-end-requires c κs = search needs
 
--- src/scan.rt:137:32
 enum-told : tie.Need-enum-told
 enum-told c = search needs
 
--- src/scan.rt:125:1
 returns : tie.Need-returns
 returns c = token-number (now (c .before .before .before .before .before .before .before .args .text)) (c .before .before .before .before .before .before .before .args .at) _ _ (sym (c .before .before .before .before .before .digits-at .ensures) ∙ c .before .before .before .digits .given .1) (sym (c .before .at-token-end .ensures) ∙ c .if1 .taken)
 
--- src/scan.rt:125:1
 returns-2 : tie.Need-returns-2
 returns-2 c = token-longer (now (c .before .before .before .before .before .before .before .args .text)) (c .before .before .before .before .before .before .before .args .at) _ _ (sym (c .before .before .before .before .before .digits-at .ensures) ∙ c .before .before .before .digits .given .1) (sym (c .before .at-token-end .ensures) ∙ c .if1 .left)
 
--- src/scan.rt:125:1
 returns-3 : tie.Need-returns-3
 returns-3 c = token-malformed (now (c .before .before .before .before .args .text)) (c .before .before .before .before .args .at) (sym (c .before .before .digits-at .ensures) ∙ c .enum-told .given .1)
 

@@ -3,30 +3,22 @@ use native.Mathlib.Omega.{arith}
 use borrow.Author.Needs.{needs}
 use Rattle.syntax.proofs.scan.shifted.Statement.{statement}
 use Rattle.syntax.proofs.scan.shifted.Tie as tie
-use Rattle.syntax.proofs.scan.shifted.Reads as reads
-use Rattle.syntax.proofs.scan.shifted.Lts as lts
 
--- src/scan.rt:77:9
 mul-result : tie.Need-mul-result
 mul-result c = search needs
 
--- src/scan.rt:77:23
 sub-result : tie.Need-sub-result
 sub-result c = omega (arith, digit-bounds (c .before .args .digit) (c .before .pre .1))
 
--- src/scan.rt:77:22
 cast-result : tie.Need-cast-result
 cast-result c = omega (arith, digit-bounds (c .before .args .digit) (c .before .pre .1))
 
--- src/scan.rt:77:9
 add-result : tie.Need-add-result
 add-result c = omega (arith, digit-bounds (c .before .args .digit) (c .before .pre .1))
 
--- src/scan.rt:71:1
 returns : tie.Need-returns
 returns c = omega (arith, digit-bounds (c .before .args .digit) (c .before .pre .1))
 
--- src/scan.rt:71:1
 returns-2 : tie.Need-returns-2
 returns-2 c = search needs
 

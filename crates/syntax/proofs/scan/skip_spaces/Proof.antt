@@ -6,12 +6,8 @@ use Rattle.syntax.proofs.RunLaws.{skip-here, skip-past, skip-end}
 use Rattle.syntax.specs.Byte.{isSpace}
 use Rattle.syntax.specs.Scan.{skip}
 use borrow.Author.Needs.{needs}
-use native.Mathlib.Omega.{arith}
 use Rattle.syntax.proofs.scan.skip_spaces.Statement.{statement}
 use Rattle.syntax.proofs.scan.skip_spaces.Tie as tie
-use Rattle.syntax.proofs.scan.skip_spaces.Reads as reads
-use Rattle.syntax.proofs.scan.skip_spaces.Lts as lts
-use Rattle.syntax.proofs.class.is_space.Reads as is-space-reads
 
 abbrev Inv-loop : tie.InvT-loop
 Inv-loop text at i₀ i = skip isSpace text at ≡ skip isSpace text i
@@ -19,35 +15,27 @@ Inv-loop text at i₀ i = skip isSpace text at ≡ skip isSpace text i
 abbrev μ-loop : tie.MeasureT-loop
 μ-loop text at i₀ i = length text - i
 
--- src/scan.rt:29:5
 loop-holds : tie.Need-loop-holds Inv-loop μ-loop
 loop-holds c = refl
 
--- src/scan.rt:30:21
 shared-slice-read-is-space : tie.Need-shared-slice-read-is-space Inv-loop μ-loop
 shared-slice-read-is-space c = search needs
 
--- src/scan.rt:30:12
 is-space-requires : tie.Need-is-space-requires Inv-loop μ-loop
 is-space-requires c κs = search needs
 
--- src/scan.rt:31:13
 add-i : tie.Need-add-i Inv-loop μ-loop
 add-i c = search needs
 
--- src/scan.rt:29:5
 loop-less : tie.Need-loop-less Inv-loop μ-loop
 loop-less c = search needs
 
--- src/scan.rt:29:5
 loop-again : tie.Need-loop-again Inv-loop μ-loop
 loop-again c = c .before .before .before .before .loop .inv ∙ skip-past isSpace (now (c .before .before .before .before .before .before .args .text)) (c .before .before .before .before .loop .i) (c .before .before .before .loop-test .taken) (sym (c .before .is-space .ensures) ∙ c .if1 .taken)
 
--- src/scan.rt:33:13
 returns : tie.Need-returns Inv-loop μ-loop
 returns c = sym (c .before .before .before .before .loop .inv ∙ skip-here isSpace (now (c .before .before .before .before .before .before .args .text)) (c .before .before .before .before .loop .i) (c .before .before .before .loop-test .taken) (sym (c .before .is-space .ensures) ∙ c .if1 .left))
 
--- src/scan.rt:25:1
 returns-2 : tie.Need-returns-2 Inv-loop μ-loop
 returns-2 c = sym (c .before .loop .inv ∙ skip-end isSpace (now (c .before .before .before .args .text)) (c .before .loop .i) (c .loop-test .left))
 

@@ -10,9 +10,6 @@ use borrow.Author.Needs.{needs}
 use native.Mathlib.Omega.{arith}
 use Rattle.syntax.proofs.scan.word_at.Statement.{statement}
 use Rattle.syntax.proofs.scan.word_at.Tie as tie
-use Rattle.syntax.proofs.scan.word_at.Reads as reads
-use Rattle.syntax.proofs.scan.word_at.Lts as lts
-use Rattle.syntax.proofs.scan.at_token_end.Reads as at-token-end-reads
 
 abbrev Inv-loop : tie.InvT-loop
 Inv-loop text at word i₀ k₀ i k = (sameBytes (tokenAt text at) word ≡ sameBytes (tokenAt text i) (drop k word)) × (k ≤ length word) × (i ≡ at + k)
@@ -20,11 +17,9 @@ Inv-loop text at word i₀ k₀ i k = (sameBytes (tokenAt text at) word ≡ same
 abbrev μ-loop : tie.MeasureT-loop
 μ-loop text at word i₀ k₀ i k = length word - k
 
--- src/scan.rt:53:5
 loop-holds : tie.Need-loop-holds Inv-loop μ-loop
 loop-holds c = (refl, omega arith, omega arith)
 
--- src/scan.rt:55:13
 returns : tie.Need-returns Inv-loop μ-loop
 unfolding wordAt
 returns c =
@@ -33,15 +28,12 @@ returns c =
     let l = c .before .before .loop in
     rw (l .inv .0 ∙ word-short t (l .i) w (l .k) (c .before .loop-test .taken) (c .if1 .taken))
 
--- src/scan.rt:57:12
 shared-slice-read-if2 : tie.Need-shared-slice-read-if2 Inv-loop μ-loop
 shared-slice-read-if2 c = search needs
 
--- src/scan.rt:57:23
 shared-slice-read-if2-2 : tie.Need-shared-slice-read-if2-2 Inv-loop μ-loop
 shared-slice-read-if2-2 c = search needs
 
--- src/scan.rt:58:13
 returns-2 : tie.Need-returns-2 Inv-loop μ-loop
 unfolding wordAt
 returns-2 c =
@@ -50,19 +42,15 @@ returns-2 c =
     let l = c .before .before .before .before .before .loop in
     rw (l .inv .0 ∙ word-differs t (l .i) w (l .k) (c .before .before .before .before .loop-test .taken) (c .before .before .before .if1 .left) (c .if2 .taken))
 
--- src/scan.rt:60:9
 add-i : tie.Need-add-i Inv-loop μ-loop
 add-i c = search needs
 
--- src/scan.rt:61:9
 add-k : tie.Need-add-k Inv-loop μ-loop
 add-k c = search needs
 
--- src/scan.rt:53:5
 loop-less : tie.Need-loop-less Inv-loop μ-loop
 loop-less c = search needs
 
--- src/scan.rt:53:5
 loop-again : tie.Need-loop-again Inv-loop μ-loop
 loop-again c =
     let t = now (c .before .before .before .before .before .before .before .before .args .text) in
@@ -70,11 +58,9 @@ loop-again c =
     let l = c .before .before .before .before .before .loop in
     (l .inv .0 ∙ word-goes-on t (l .i) w (l .k) (c .before .before .before .before .loop-test .taken) (c .before .before .before .before .before .before .before .before .pre) (c .before .before .before .if1 .left) (c .if2 .left), omega arith, omega arith)
 
--- src/scan.rt:63:8
 at-token-end-requires : tie.Need-at-token-end-requires Inv-loop μ-loop
 at-token-end-requires c κs = search needs
 
--- src/scan.rt:47:1
 returns-3 : tie.Need-returns-3 Inv-loop μ-loop
 unfolding wordAt
 returns-3 c =
@@ -84,7 +70,6 @@ returns-3 c =
     let e : l .i ≡ c .before .before .before .before .before .before .args .at + length w = omega arith in
     rw (l .inv .0 ∙ word-ends (tokenAt t (l .i)) w (l .k) (c .before .before .loop-test .left) ∙ sym (c .before .at-token-end .ensures) ∙ c .if3 .taken) (ap WordAt.Found e)
 
--- src/scan.rt:47:1
 returns-4 : tie.Need-returns-4 Inv-loop μ-loop
 unfolding wordAt
 returns-4 c =

@@ -1,43 +1,31 @@
 use mathlib.Core.Path.{sym, ap, _∙_}
 use Rattle.syntax.proofs.PartLaws.{member-valid, member-outside}
 use Rattle.syntax.specs.Parts.{actionHead}
-use native.Mathlib.Omega.{arith}
 use borrow.Author.Needs.{needs}
 use Rattle.syntax.proofs.token.action_head.Statement.{statement}
 use Rattle.syntax.proofs.token.action_head.Tie as tie
-use Rattle.syntax.proofs.token.action_head.Reads as reads
-use Rattle.syntax.proofs.token.action_head.Lts as lts
-use Rattle.policy.proofs.number.Action.new.Reads as new-reads
 
--- src/token.rt:178:26
 enum-known-number : tie.Need-enum-known-number
 enum-known-number c = search needs
 
--- src/token.rt:179:17
 new-requires : tie.Need-new-requires
 new-requires c κs = search needs
 
--- src/token.rt:181:36
 enum-known-check : tie.Need-enum-known-check
 enum-known-check c = search needs
 
--- src/token.rt:182:70
 enum-told : tie.Need-enum-told
 enum-told c = search needs
 
--- src/token.rt:185:32
 enum-told-2 : tie.Need-enum-told-2
 enum-told-2 c = search needs
 
--- src/token.rt:174:1
 returns : tie.Need-returns
 returns c = member-valid _ _ _ (sym (c .before .before .before .new .ensures) ∙ c .before .check .given .1) ∙ ap actionHead (sym (c .before .before .before .before .before .number .given .1))
 
--- src/token.rt:174:1
 returns-2 : tie.Need-returns-2
 returns-2 c = member-outside _ _ (sym (c .before .before .new .ensures) ∙ c .enum-told .given .1) ∙ ap actionHead (sym (c .before .before .before .before .number .given .1))
 
--- src/token.rt:174:1
 returns-3 : tie.Need-returns-3
 unfolding actionHead
 returns-3 c = ap actionHead (sym (c .enum-told2 .given .1))

@@ -2,79 +2,55 @@ use mathlib.Core.Path.{sym, ap, _∙_}
 use denote.Ref.{now}
 use Rattle.syntax.proofs.PartLaws.{comparison-no-reading, comparison-no-relation, comparison-no-operand, comparison-some}
 use Rattle.syntax.specs.Parts.{relationAt, operandAt}
-use native.Mathlib.Omega.{arith}
 use borrow.Author.Needs.{needs}
 use Rattle.syntax.proofs.token.comparison_at.Statement.{statement}
 use Rattle.syntax.proofs.token.comparison_at.Tie as tie
-use Rattle.syntax.proofs.token.comparison_at.Reads as reads
-use Rattle.syntax.proofs.token.comparison_at.Lts as lts
-use Rattle.syntax.proofs.scan.name_at.Reads as name-at-reads
-use Rattle.syntax.proofs.scan.skip_spaces.Reads as skip-spaces-reads
-use Rattle.syntax.proofs.token.compared.Reads as compared-reads
-use Rattle.syntax.proofs.token.operand_at.Reads as operand-at-reads
-use Rattle.syntax.proofs.token.relation_at.Reads as relation-at-reads
 
--- src/token.rt:238:39
 name-at-requires : tie.Need-name-at-requires
 name-at-requires c κs = search needs
 
--- src/token.rt:238:26
 enum-known-n : tie.Need-enum-known-n
 enum-known-n c = search needs
 
--- src/token.rt:239:9
 enum-told : tie.Need-enum-told
 enum-told c = search needs
 
--- src/token.rt:239:9
 returns : tie.Need-returns
 returns c = comparison-no-reading (now (c .before .before .before .before .args .text)) (c .before .before .before .before .args .at) (sym (c .before .before .name-at .ensures) ∙ c .enum-told .given .1)
 
--- src/token.rt:241:9
 skip-spaces-requires : tie.Need-skip-spaces-requires
 skip-spaces-requires c κs = search needs
 
--- src/token.rt:242:50
 relation-at-requires : tie.Need-relation-at-requires
 relation-at-requires c κs = search needs
 
--- src/token.rt:242:30
 enum-known-relation : tie.Need-enum-known-relation
 enum-known-relation c = search needs
 
--- src/token.rt:243:9
 enum-told-2 : tie.Need-enum-told-2
 enum-told-2 c = search needs
 
--- src/token.rt:243:9
 returns-2 : tie.Need-returns-2
 returns-2 c = comparison-no-relation (now (c .before .before .before .before .before .before .before .before .before .args .text)) (c .before .before .before .before .before .before .before .before .before .args .at) _ _ (sym (c .before .before .before .before .before .before .before .name-at .ensures) ∙ c .before .before .before .before .before .n .given .1) (ap (relationAt (now (c .before .before .before .before .before .before .before .before .before .args .text))) (sym (c .before .before .before .skip-spaces .ensures)) ∙ sym (c .before .before .relation-at .ensures) ∙ c .enum-told2 .given .1)
 
--- src/token.rt:245:9
 skip-spaces-requires-2 : tie.Need-skip-spaces-requires-2
 skip-spaces-requires-2 c κs = search needs
 
--- src/token.rt:246:54
 operand-at-requires : tie.Need-operand-at-requires
 operand-at-requires c κs = search needs
 
--- src/token.rt:246:28
 enum-known-operand : tie.Need-enum-known-operand
 enum-known-operand c = search needs
 
--- src/token.rt:247:9
 enum-told-3 : tie.Need-enum-told-3
 enum-told-3 c = search needs
 
--- src/token.rt:247:9
 returns-3 : tie.Need-returns-3
 returns-3 c = comparison-no-operand (now (c .before .before .before .before .before .before .before .before .before .before .before .before .before .before .args .text)) (c .before .before .before .before .before .before .before .before .before .before .before .before .before .before .args .at) _ _ (sym (c .before .before .before .before .before .before .before .before .before .before .before .before .name-at .ensures) ∙ c .before .before .before .before .before .before .before .before .before .before .n .given .1) _ _ (ap (relationAt (now (c .before .before .before .before .before .before .before .before .before .before .before .before .before .before .args .text))) (sym (c .before .before .before .before .before .before .before .before .skip-spaces .ensures)) ∙ sym (c .before .before .before .before .before .before .before .relation-at .ensures) ∙ c .before .before .before .before .before .relation .given .1) (ap (operandAt (now (c .before .before .before .before .before .before .before .before .before .before .before .before .before .before .args .text))) (sym (c .before .before .before .skip-spaces2 .ensures)) ∙ sym (c .before .before .operand-at .ensures) ∙ c .enum-told3 .given .1)
 
--- src/token.rt:249:5
 compared-requires : tie.Need-compared-requires
 compared-requires c κs = search needs
 
--- src/token.rt:235:1
 returns-4 : tie.Need-returns-4
 returns-4 c = c .compared .ensures ∙ comparison-some (now (c .before .before .before .before .before .before .before .before .before .before .before .before .before .before .before .before .args .text)) (c .before .before .before .before .before .before .before .before .before .before .before .before .before .before .before .before .args .at) _ _ (sym (c .before .before .before .before .before .before .before .before .before .before .before .before .before .before .name-at .ensures) ∙ c .before .before .before .before .before .before .before .before .before .before .before .before .n .given .1) _ _ (ap (relationAt (now (c .before .before .before .before .before .before .before .before .before .before .before .before .before .before .before .before .args .text))) (sym (c .before .before .before .before .before .before .before .before .before .before .skip-spaces .ensures)) ∙ sym (c .before .before .before .before .before .before .before .before .before .relation-at .ensures) ∙ c .before .before .before .before .before .before .before .relation .given .1) _ _ _ (ap (operandAt (now (c .before .before .before .before .before .before .before .before .before .before .before .before .before .before .before .before .args .text))) (sym (c .before .before .before .before .before .skip-spaces2 .ensures)) ∙ sym (c .before .before .before .before .operand-at .ensures) ∙ c .before .before .operand .given .1)
 

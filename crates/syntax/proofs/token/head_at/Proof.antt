@@ -9,62 +9,43 @@ use native.Mathlib.Omega.{arith}
 use borrow.Author.Needs.{needs}
 use Rattle.syntax.proofs.token.head_at.Statement.{statement}
 use Rattle.syntax.proofs.token.head_at.Tie as tie
-use Rattle.syntax.proofs.token.head_at.Reads as reads
-use Rattle.syntax.proofs.token.head_at.Lts as lts
-use Rattle.syntax.proofs.scan.at_token_end.Reads as at-token-end-reads
-use Rattle.syntax.proofs.scan.name_at.Reads as name-at-reads
-use Rattle.syntax.proofs.token.action_head.Reads as action-head-reads
-use Rattle.syntax.proofs.token.literal_head.Reads as literal-head-reads
 
--- src/token.rt:194:28
 name-at-requires : tie.Need-name-at-requires
 name-at-requires c κs = search needs
 
--- src/token.rt:194:9
 action-head-requires : tie.Need-action-head-requires
 action-head-requires c κs = search needs
 
--- src/token.rt:194:9
 returns : tie.Need-returns
 returns c = c .action-head .ensures ∙ ap actionHead (c .before .name-at .ensures) ∙ head-action (now (c .before .before .before .before .args .text)) (c .before .before .before .before .args .at) ∙ ap (headAt (now (c .before .before .before .before .args .text)) (c .before .before .before .before .args .at)) (sym (c .before .before .if1 .taken))
 
--- src/token.rt:196:8
 at-token-end-requires : tie.Need-at-token-end-requires
 at-token-end-requires c κs = search needs
 
--- src/token.rt:197:9
 returns-2 : tie.Need-returns-2
 returns-2 c = head-none (now (c .before .before .before .before .args .text)) (c .before .before .before .before .args .at) (sym (c .before .at-token-end .ensures) ∙ c .if2 .taken) ∙ ap (headAt (now (c .before .before .before .before .args .text)) (c .before .before .before .before .args .at)) (sym (c .before .before .if1 .left))
 
--- src/token.rt:199:8
 shared-slice-read-if3 : tie.Need-shared-slice-read-if3
 shared-slice-read-if3 c = token-inside (now (c .before .before .before .before .before .args .text)) (c .before .before .before .before .before .args .at) (sym (c .before .before .at-token-end .ensures) ∙ c .before .if2 .left)
 
--- src/token.rt:200:36
 add-name-at : tie.Need-add-name-at
 add-name-at c = let l = token-inside (now (c .before .before .before .before .before .before .args .text)) (c .before .before .before .before .before .before .args .at) (sym (c .before .before .before .at-token-end .ensures) ∙ c .before .before .if2 .left) in omega arith
 
--- src/token.rt:200:22
 name-at-requires-2 : tie.Need-name-at-requires-2
 name-at-requires-2 c κs = search needs
 
--- src/token.rt:200:9
 literal-head-requires : tie.Need-literal-head-requires
 literal-head-requires c κs = search needs
 
--- src/token.rt:202:22
 name-at-requires-3 : tie.Need-name-at-requires-3
 name-at-requires-3 c κs = search needs
 
--- src/token.rt:202:9
 literal-head-requires-2 : tie.Need-literal-head-requires-2
 literal-head-requires-2 c κs = search needs
 
--- src/token.rt:190:1
 returns-3 : tie.Need-returns-3
 returns-3 c = c .literal-head .ensures ∙ ap (λ (x : NumberAt). literalHead x true) (c .before .name-at2 .ensures) ∙ head-negated (now (c .before .before .before .before .before .before .before .before .args .text)) (c .before .before .before .before .before .before .before .before .args .at) (sym (c .before .before .before .before .before .at-token-end .ensures) ∙ c .before .before .before .before .if2 .left) (c .before .before .if3 .taken) ∙ ap (headAt (now (c .before .before .before .before .before .before .before .before .args .text)) (c .before .before .before .before .before .before .before .before .args .at)) (sym (c .before .before .before .before .before .before .if1 .left))
 
--- src/token.rt:190:1
 returns-4 : tie.Need-returns-4
 returns-4 c = c .literal-head2 .ensures ∙ ap (λ (x : NumberAt). literalHead x false) (c .before .name-at3 .ensures) ∙ head-plain (now (c .before .before .before .before .before .before .before .before .args .text)) (c .before .before .before .before .before .before .before .before .args .at) (sym (c .before .before .before .before .before .at-token-end .ensures) ∙ c .before .before .before .before .if2 .left) (c .before .before .if3 .left) ∙ ap (headAt (now (c .before .before .before .before .before .before .before .before .args .text)) (c .before .before .before .before .before .before .before .before .args .at)) (sym (c .before .before .before .before .before .before .if1 .left))
 

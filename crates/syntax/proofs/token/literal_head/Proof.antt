@@ -2,43 +2,31 @@ use mathlib.Core.Path.{sym, ap, _∙_}
 use Rattle.syntax.proofs.PartLaws.{literal-valid, literal-outside}
 use Rattle.syntax.specs.Parts.{literalHead}
 use Rattle.syntax.specs.declared.scan.NumberAt.{NumberAt}
-use native.Mathlib.Omega.{arith}
 use borrow.Author.Needs.{needs}
 use Rattle.syntax.proofs.token.literal_head.Statement.{statement}
 use Rattle.syntax.proofs.token.literal_head.Tie as tie
-use Rattle.syntax.proofs.token.literal_head.Reads as reads
-use Rattle.syntax.proofs.token.literal_head.Lts as lts
-use Rattle.policy.proofs.number.Event.new.Reads as new-reads
 
--- src/token.rt:161:26
 enum-known-number : tie.Need-enum-known-number
 enum-known-number c = search needs
 
--- src/token.rt:162:17
 new-requires : tie.Need-new-requires
 new-requires c κs = search needs
 
--- src/token.rt:164:35
 enum-known-check : tie.Need-enum-known-check
 enum-known-check c = search needs
 
--- src/token.rt:167:69
 enum-told : tie.Need-enum-told
 enum-told c = search needs
 
--- src/token.rt:170:32
 enum-told-2 : tie.Need-enum-told-2
 enum-told-2 c = search needs
 
--- src/token.rt:157:1
 returns : tie.Need-returns
 returns c = literal-valid _ _ _ _ (sym (c .before .before .before .new .ensures) ∙ c .before .check .given .1) ∙ ap (λ (x : NumberAt). literalHead x (c .before .before .before .before .before .before .before .args .negated)) (sym (c .before .before .before .before .before .number .given .1))
 
--- src/token.rt:157:1
 returns-2 : tie.Need-returns-2
 returns-2 c = literal-outside _ _ _ (sym (c .before .before .new .ensures) ∙ c .enum-told .given .1) ∙ ap (λ (x : NumberAt). literalHead x (c .before .before .before .before .before .before .args .negated)) (sym (c .before .before .before .before .number .given .1))
 
--- src/token.rt:157:1
 returns-3 : tie.Need-returns-3
 unfolding literalHead
 returns-3 c = ap (λ (x : NumberAt). literalHead x (c .before .before .args .negated)) (sym (c .enum-told2 .given .1))

@@ -7,43 +7,32 @@ use native.Mathlib.Omega.{arith}
 use borrow.Author.Needs.{needs}
 use Rattle.syntax.proofs.token.negative.Statement.{statement}
 use Rattle.syntax.proofs.token.negative.Tie as tie
-use Rattle.syntax.proofs.token.negative.Reads as reads
-use Rattle.syntax.proofs.token.negative.Lts as lts
 
--- src/token.rt:38:26
 enum-known-number : tie.Need-enum-known-number
 enum-known-number c = search needs
 
--- src/token.rt:40:17
 returns : tie.Need-returns
 unfolding negativeAt
 returns c = ap negativeAt (sym (c .before .before .number .given .1 ∙ ap (λ (n : ℕ). NumberAt.Number n (c .before .before .number .given .0 .1 .0)) (c .if1 .taken)))
 
--- src/token.rt:43:42
 sub-t7 : tie.Need-sub-t7
 sub-t7 c = nonzero _ (c .before .if1 .left)
 
--- src/token.rt:43:41
 cast-t8 : tie.Need-cast-t8
 cast-t8 c = small-pos _ (omega arith)
 
--- src/token.rt:43:35
 sub-t9 : tie.Need-sub-t9
 sub-t9 c = minus-fits (c .before .before .before .number .given .0 .0 - 1) (omega arith)
 
--- src/token.rt:48:32
 enum-told : tie.Need-enum-told
 enum-told c = search needs
 
--- src/token.rt:34:1
 returns-2 : tie.Need-returns-2
 returns-2 c = negative-value (c .before .before .before .number .given .0 .0) (c .before .before .before .number .given .0 .1 .0) (c .before .if1 .left) (c .if2 .taken) ∙ ap negativeAt (sym (c .before .before .before .number .given .1))
 
--- src/token.rt:34:1
 returns-3 : tie.Need-returns-3
 returns-3 c = negative-past (c .before .before .before .number .given .0 .0) (c .before .before .before .number .given .0 .1 .0) (c .before .if1 .left) (c .if2 .left) ∙ ap negativeAt (sym (c .before .before .before .number .given .1))
 
--- src/token.rt:34:1
 returns-4 : tie.Need-returns-4
 unfolding negativeAt
 returns-4 c = ap negativeAt (sym (c .enum-told .given .1))

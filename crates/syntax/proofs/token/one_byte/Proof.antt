@@ -2,29 +2,21 @@ use Rattle.syntax.proofs.SymbolLaws.{one-unknown}
 use Rattle.syntax.specs.Byte.{bytes, sameBytes, is}
 use Rattle.syntax.specs.Grammar.{relationOf}
 use Rattle.syntax.specs.Parts.{relationEnding}
-use borrow.Author.Needs.{needs}
-use native.Mathlib.Omega.{arith}
 use Rattle.syntax.proofs.token.one_byte.Statement.{statement}
 use Rattle.syntax.proofs.token.one_byte.Tie as tie
-use Rattle.syntax.proofs.token.one_byte.Reads as reads
-use Rattle.syntax.proofs.token.one_byte.Lts as lts
 
--- src/token.rt:76:1
 returns : tie.Need-returns
 unfolding relationOf is bytes sameBytes relationEnding
 returns c = rw (c .match .keys1)
 
--- src/token.rt:76:1
 returns-2 : tie.Need-returns-2
 unfolding relationOf is bytes sameBytes relationEnding
 returns-2 c = rw (c .match .keys2)
 
--- src/token.rt:76:1
 returns-3 : tie.Need-returns-3
 unfolding relationOf is bytes sameBytes relationEnding
 returns-3 c = rw (c .match .keys3)
 
--- src/token.rt:76:1
 returns-4 : tie.Need-returns-4
 unfolding relationEnding
 returns-4 c = rw (one-unknown _ (c .match .rest .0 .0 .1) (c .match .rest .0 .1) (c .match .rest .1))

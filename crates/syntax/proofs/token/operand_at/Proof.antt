@@ -4,62 +4,45 @@ use mir.Facts.{toZ-ofZ}
 use mir.Syntax.{w32}
 use mir.Val.{SFits}
 use Rattle.syntax.proofs.PartLaws.{operand-name, operand-value, operand-past, operand-malformed}
-use native.Mathlib.Omega.{arith}
 use borrow.Author.Needs.{needs}
 use Rattle.syntax.proofs.token.operand_at.Statement.{statement}
 use Rattle.syntax.proofs.token.operand_at.Tie as tie
-use Rattle.syntax.proofs.token.operand_at.Reads as reads
-use Rattle.syntax.proofs.token.operand_at.Lts as lts
-use Rattle.syntax.proofs.scan.name_at.Reads as name-at-reads
-use Rattle.syntax.proofs.token.constant_at.Reads as constant-at-reads
-use Rattle.syntax.proofs.token.reading_operand.Reads as reading-operand-reads
 
--- src/token.rt:139:9
 name-at-requires : tie.Need-name-at-requires
 name-at-requires c κs = search needs
 
--- src/token.rt:140:29
 enum-known-name : tie.Need-enum-known-name
 enum-known-name c = search needs
 
--- src/token.rt:141:9
 reading-operand-requires : tie.Need-reading-operand-requires
 reading-operand-requires c κs = search needs
 
--- src/token.rt:141:9
 returns : tie.Need-returns
 returns c = c .reading-operand .ensures ∙ operand-name (now (c .before .before .before .before .before .before .args .text)) (c .before .before .before .before .before .before .args .at) _ _ (sym (c .before .before .before .before .name-at .ensures) ∙ c .before .before .name .given .1)
 
 enum-told : tie.Need-enum-told
 enum-told c = search needs
 
--- src/token.rt:143:9
 constant-at-requires : tie.Need-constant-at-requires
 constant-at-requires c κs = search needs
 
--- src/token.rt:145:27
 enum-known-constant : tie.Need-enum-known-constant
 enum-known-constant c = search needs
 
--- src/token.rt:146:32
 enum-known-constant-2 : tie.Need-enum-known-constant-2
 enum-known-constant-2 c = search needs
 
--- src/token.rt:147:34
 enum-told-2 : tie.Need-enum-told-2
 enum-told-2 c = search needs
 
--- src/token.rt:136:1
 returns-2 : tie.Need-returns-2
 returns-2 c =
     let f : SFits w32 (c .before .constant .given .0 .0) = search needs in
     rw (toZ-ofZ f) (operand-value (now (c .before .before .before .before .before .before .before .before .args .text)) (c .before .before .before .before .before .before .before .before .args .at) (sym (c .before .before .before .before .before .before .name-at .ensures) ∙ c .before .before .before .before .enum-told .given .1) _ _ (sym (c .before .before .before .constant-at .ensures) ∙ c .before .constant .given .1))
 
--- src/token.rt:136:1
 returns-3 : tie.Need-returns-3
 returns-3 c = operand-past (now (c .before .before .before .before .before .before .before .before .args .text)) (c .before .before .before .before .before .before .before .before .args .at) (sym (c .before .before .before .before .before .before .name-at .ensures) ∙ c .before .before .before .before .enum-told .given .1) _ (sym (c .before .before .before .constant-at .ensures) ∙ c .before .constant2 .given .1)
 
--- src/token.rt:136:1
 returns-4 : tie.Need-returns-4
 returns-4 c = operand-malformed (now (c .before .before .before .before .before .before .before .args .text)) (c .before .before .before .before .before .before .before .args .at) (sym (c .before .before .before .before .before .name-at .ensures) ∙ c .before .before .before .enum-told .given .1) (sym (c .before .before .constant-at .ensures) ∙ c .enum-told2 .given .1)
 

@@ -1,34 +1,25 @@
 use mathlib.Core.Path.{sym, ap, _∙_}
 use Rattle.syntax.proofs.ConstantLaws.{small-pos, positive-value, positive-past}
 use Rattle.syntax.specs.Parts.{positiveAt}
-use native.Mathlib.Omega.{arith}
 use borrow.Author.Needs.{needs}
 use Rattle.syntax.proofs.token.positive.Statement.{statement}
 use Rattle.syntax.proofs.token.positive.Tie as tie
-use Rattle.syntax.proofs.token.positive.Reads as reads
-use Rattle.syntax.proofs.token.positive.Lts as lts
 
--- src/token.rt:22:26
 enum-known-number : tie.Need-enum-known-number
 enum-known-number c = search needs
 
--- src/token.rt:24:35
 cast-t7 : tie.Need-cast-t7
 cast-t7 c = small-pos _ (c .if1 .taken)
 
--- src/token.rt:29:32
 enum-told : tie.Need-enum-told
 enum-told c = search needs
 
--- src/token.rt:18:1
 returns : tie.Need-returns
 returns c = positive-value (c .before .before .number .given .0 .0) (c .before .before .number .given .0 .1 .0) (c .if1 .taken) ∙ ap positiveAt (sym (c .before .before .number .given .1))
 
--- src/token.rt:18:1
 returns-2 : tie.Need-returns-2
 returns-2 c = positive-past (c .before .before .number .given .0 .0) (c .before .before .number .given .0 .1 .0) (c .if1 .left) ∙ ap positiveAt (sym (c .before .before .number .given .1))
 
--- src/token.rt:18:1
 returns-3 : tie.Need-returns-3
 unfolding positiveAt
 returns-3 c = ap positiveAt (sym (c .enum-told .given .1))

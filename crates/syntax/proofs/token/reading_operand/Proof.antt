@@ -1,30 +1,21 @@
 use mathlib.Core.Path.{sym, _∙_}
 use Rattle.syntax.proofs.PartLaws.{operand-valid, operand-outside}
-use native.Mathlib.Omega.{arith}
 use borrow.Author.Needs.{needs}
 use Rattle.syntax.proofs.token.reading_operand.Statement.{statement}
 use Rattle.syntax.proofs.token.reading_operand.Tie as tie
-use Rattle.syntax.proofs.token.reading_operand.Reads as reads
-use Rattle.syntax.proofs.token.reading_operand.Lts as lts
-use Rattle.policy.proofs.number.Reading.new.Reads as new-reads
 
--- src/token.rt:129:9
 new-requires : tie.Need-new-requires
 new-requires c κs = search needs
 
--- src/token.rt:131:29
 enum-known-check : tie.Need-enum-known-check
 enum-known-check c = search needs
 
--- src/token.rt:132:56
 enum-told : tie.Need-enum-told
 enum-told c = search needs
 
--- src/token.rt:126:1
 returns : tie.Need-returns
 returns c = operand-valid _ _ _ (sym (c .before .before .before .new .ensures) ∙ c .before .check .given .1)
 
--- src/token.rt:126:1
 returns-2 : tie.Need-returns-2
 returns-2 c = operand-outside _ _ (sym (c .before .before .new .ensures) ∙ c .enum-told .given .1)
 

@@ -7,69 +7,49 @@ use native.Mathlib.Omega.{arith}
 use borrow.Author.Needs.{needs}
 use Rattle.syntax.proofs.token.relation_at.Statement.{statement}
 use Rattle.syntax.proofs.token.relation_at.Tie as tie
-use Rattle.syntax.proofs.token.relation_at.Reads as reads
-use Rattle.syntax.proofs.token.relation_at.Lts as lts
-use Rattle.syntax.proofs.scan.at_token_end.Reads as at-token-end-reads
-use Rattle.syntax.proofs.token.one_byte.Reads as one-byte-reads
-use Rattle.syntax.proofs.token.two_bytes.Reads as two-bytes-reads
 
--- src/token.rt:102:8
 at-token-end-requires : tie.Need-at-token-end-requires
 at-token-end-requires c κs = search needs
 
--- src/token.rt:103:9
 returns : tie.Need-returns
 returns c = symbol-none (now (c .before .before .before .args .text)) (c .before .before .before .args .at) (sym (c .before .at-token-end .ensures) ∙ c .if1 .taken)
 
--- src/token.rt:105:13
 shared-slice-read-b : tie.Need-shared-slice-read-b
 shared-slice-read-b c = token-inside (now (c .before .before .before .before .args .text)) (c .before .before .before .before .args .at) (sym (c .before .before .at-token-end .ensures) ∙ c .before .if1 .left)
 
--- src/token.rt:106:18
 add-second : tie.Need-add-second
 add-second c = let l = token-inside (now (c .before .before .before .before .args .text)) (c .before .before .before .before .args .at) (sym (c .before .before .at-token-end .ensures) ∙ c .before .if1 .left) in omega arith
 
--- src/token.rt:107:8
 at-token-end-requires-2 : tie.Need-at-token-end-requires-2
 at-token-end-requires-2 c κs = search needs
 
--- src/token.rt:108:9
 one-byte-requires : tie.Need-one-byte-requires
 one-byte-requires c κs = search needs
 
--- src/token.rt:108:9
 returns-2 : tie.Need-returns-2
 returns-2 c = c .one-byte .ensures ∙ symbol-one (now (c .before .before .before .before .before .before .before .args .text)) (c .before .before .before .before .before .before .before .args .at) (sym (c .before .before .before .before .before .at-token-end .ensures) ∙ c .before .before .before .before .if1 .left) (sym (c .before .before .at-token-end2 .ensures) ∙ c .before .if2 .taken)
 
--- src/token.rt:110:8
 shared-slice-read-if3 : tie.Need-shared-slice-read-if3
 shared-slice-read-if3 c = token-inside (now (c .before .before .before .before .before .before .before .args .text)) (c .before .before .before .before .before .before .before .args .at + 1) (sym (c .before .before .at-token-end2 .ensures) ∙ c .before .if2 .left)
 
--- src/token.rt:111:31
 add-at-token-end : tie.Need-add-at-token-end
 add-at-token-end c = let l = token-inside (now (c .before .before .before .before .before .before .before .before .args .text)) (c .before .before .before .before .before .before .before .before .args .at + 1) (sym (c .before .before .before .at-token-end2 .ensures) ∙ c .before .before .if2 .left) in omega arith
 
--- src/token.rt:111:12
 at-token-end-requires-3 : tie.Need-at-token-end-requires-3
 at-token-end-requires-3 c κs = search needs
 
--- src/token.rt:112:33
 add-two-bytes : tie.Need-add-two-bytes
 add-two-bytes c = let l = token-inside (now (c .before .before .before .before .before .before .before .before .before .before .args .text)) (c .before .before .before .before .before .before .before .before .before .before .args .at + 1) (sym (c .before .before .before .before .before .at-token-end2 .ensures) ∙ c .before .before .before .before .if2 .left) in omega arith
 
--- src/token.rt:112:13
 two-bytes-requires : tie.Need-two-bytes-requires
 two-bytes-requires c κs = search needs
 
--- src/token.rt:112:13
 returns-3 : tie.Need-returns-3
 returns-3 c = c .two-bytes .ensures ∙ symbol-two (now (c .before .before .before .before .before .before .before .before .before .before .before .args .text)) (c .before .before .before .before .before .before .before .before .before .before .before .args .at) (sym (c .before .before .before .before .before .before .before .before .before .at-token-end .ensures) ∙ c .before .before .before .before .before .before .before .before .if1 .left) (sym (c .before .before .before .before .before .before .at-token-end2 .ensures) ∙ c .before .before .before .before .before .if2 .left) (c .before .before .before .if3 .taken) (sym (c .before .before .at-token-end3 .ensures) ∙ c .before .if4 .taken)
 
--- src/token.rt:99:1
 returns-4 : tie.Need-returns-4
 returns-4 c = symbol-longer (now (c .before .before .before .before .before .before .before .before .before .before .args .text)) (c .before .before .before .before .before .before .before .before .before .before .args .at) (sym (c .before .before .before .before .before .before .before .before .at-token-end .ensures) ∙ c .before .before .before .before .before .before .before .if1 .left) (sym (c .before .before .before .before .before .at-token-end2 .ensures) ∙ c .before .before .before .before .if2 .left) (sym (c .before .at-token-end3 .ensures) ∙ c .if4 .left)
 
--- src/token.rt:99:1
 returns-5 : tie.Need-returns-5
 returns-5 c = symbol-other (now (c .before .before .before .before .before .before .before .before .args .text)) (c .before .before .before .before .before .before .before .before .args .at) (sym (c .before .before .before .before .before .before .at-token-end .ensures) ∙ c .before .before .before .before .before .if1 .left) (sym (c .before .before .before .at-token-end2 .ensures) ∙ c .before .before .if2 .left) (c .if3 .left)
 

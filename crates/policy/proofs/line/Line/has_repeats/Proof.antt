@@ -3,7 +3,7 @@ use mathlib.Core.Bool.{false}
 use Rattle.policy.specs.declared.line.Head.{Head}
 use Rattle.policy.specs.declared.line.Test.{Test}
 use Rattle.policy.specs.Set.{has, insert}
-use Prim.Native.Nat.{ℕ, _-_}
+use Prim.Native.Nat.{_-_}
 use mathlib.Core.List.{map}
 use mathlib.Core.Path.{_≡_, refl, sym, ap, _∙_}
 use lib.ListN.{length, take, drop}
@@ -12,11 +12,6 @@ use borrow.Author.Needs.{needs}
 use native.Mathlib.Omega.{arith}
 use Rattle.policy.proofs.line.Line.has_repeats.Statement.{statement}
 use Rattle.policy.proofs.line.Line.has_repeats.Tie as tie
-use Rattle.policy.proofs.line.Line.has_repeats.Reads as reads
-use Rattle.policy.proofs.line.Line.has_repeats.Lts as lts
-use Rattle.policy.proofs.line.Test.number.Reads as number-reads
-use Rattle.policy.proofs.set.member.Reads as member-reads
-use Rattle.policy.proofs.set.with_member.Reads as with-member-reads
 
 -- what an array of heads is read as past its end
 abbrev zeroHead : Head
@@ -28,36 +23,29 @@ Inv-loop heads count seen₀ i₀ seen i = (seenIn 0 (map headNumber (take count
 abbrev μ-loop : tie.MeasureT-loop
 μ-loop heads count seen₀ i₀ seen i = 8 - i
 
--- src/line.rt:78:9
 loop-holds : tie.Need-loop-holds Inv-loop μ-loop
 loop-holds c =
     let h : length (c .before .args .self .heads) ≡ 8 = search (needs, length-mapped) in
     (refl, h)
 
--- src/line.rt:80:17
 returns : tie.Need-returns Inv-loop μ-loop
 returns c =
     let s = c .before .before .before .before .args .self in
     let l = c .before .before .loop in
     seen-none headNumber (l .seen) _ (part-counted (s .heads) (s .«head_count») (l .i) (c .if1 .taken)) ∙ sym (l .inv .0)
 
--- src/line.rt:82:24
 mul-head : tie.Need-mul-head Inv-loop μ-loop
 mul-head c = search needs
 
--- src/line.rt:82:24
 array-copy-out-head : tie.Need-array-copy-out-head Inv-loop μ-loop
 array-copy-out-head c = search needs
 
--- src/line.rt:84:17
 number-requires : tie.Need-number-requires Inv-loop μ-loop
 number-requires c κs = search needs
 
--- src/line.rt:85:16
 member-requires : tie.Need-member-requires Inv-loop μ-loop
 member-requires c κs = search needs
 
--- src/line.rt:86:17
 returns-2 : tie.Need-returns-2 Inv-loop μ-loop
 returns-2 c =
     let s = c .before .before .before .before .before .before .before .before .args .self in
@@ -65,19 +53,15 @@ returns-2 c =
     seen-here headNumber (l .seen) _ _ _ (part-past (s .heads) (s .«head_count») (l .i) zeroHead (c .before .before .before .before .if1 .left) (omega arith))
     (ap (has (l .seen)) (sym (c .before .before .number .ensures)) ∙ sym (c .before .member .ensures) ∙ c .if2 .taken) ∙ sym (l .inv .0)
 
--- src/line.rt:88:13
 with-member-requires : tie.Need-with-member-requires Inv-loop μ-loop
 with-member-requires c κs = search needs
 
--- src/line.rt:89:13
 add-i : tie.Need-add-i Inv-loop μ-loop
 add-i c = search needs
 
--- src/line.rt:78:9
 loop-less : tie.Need-loop-less Inv-loop μ-loop
 loop-less c = search needs
 
--- src/line.rt:78:9
 loop-again : tie.Need-loop-again Inv-loop μ-loop
 loop-again c =
     let s = c .before .before .before .before .before .before .before .before .before .args .self in
@@ -88,7 +72,6 @@ loop-again c =
       l .inv .1,
     )
 
--- src/line.rt:71:5
 returns-3 : tie.Need-returns-3 Inv-loop μ-loop
 returns-3 c =
     let s = c .before .before .before .args .self in

@@ -1,25 +1,18 @@
 use Rattle.policy.specs.Limits.{testNumber}
-use native.Mathlib.Omega.{arith}
 use borrow.Author.Needs.{needs}
 use Rattle.policy.proofs.line.Test.number.Statement.{statement}
 use Rattle.policy.proofs.line.Test.number.Tie as tie
-use Rattle.policy.proofs.line.Test.number.Reads as reads
-use Rattle.policy.proofs.line.Test.number.Lts as lts
 
--- src/line.rt:45:26
 enum-known-self : tie.Need-enum-known-self
 enum-known-self c = search needs
 
--- src/line.rt:46:26
 enum-known-self-2 : tie.Need-enum-known-self-2
 enum-known-self-2 c = search needs
 
--- src/line.rt:41:5
 returns : tie.Need-returns
 unfolding testNumber
 returns c = rw (c .before .self .given .1)
 
--- src/line.rt:41:5
 returns-2 : tie.Need-returns-2
 unfolding testNumber
 returns-2 c = rw (c .before .self2 .given .1)
