@@ -131,10 +131,10 @@ parts-judged text e (some l) = go (inRange l) refl
 
 -- a line that is judged is accepted in range, or refused
 pub data Judged (o : Option PolicyLine) : Type 0 where
-  yes-line : (l : PolicyLine) → o ≡ some l → inRange l ≡ true → crowded l ≡ false → judge o ≡ accepted l → Judged o
+  yes-line : (l : PolicyLine) → o ≡ some l → inRange l ≡ true → crowded l ≡ false → repeated l ≡ false → judge o ≡ accepted l → Judged o
   no-line : (f : Fault) → judge o ≡ refused f → Judged o
 
-judged-cases : (o : Option PolicyLine) → Judged o
+pub judged-cases : (o : Option PolicyLine) → Judged o
 unfolding judge
 judged-cases none = no-line Fault.Syntax refl
 judged-cases (some l) = go (inRange l) refl (crowded l) refl (repeated l) refl
@@ -142,7 +142,7 @@ judged-cases (some l) = go (inRange l) refl (crowded l) refl (repeated l) refl
     go : (a : Bool) → inRange l ≡ a → (b : Bool) → crowded l ≡ b → (c : Bool) → repeated l ≡ c → Judged (some l)
     go true p true q c r = no-line Fault.TooManyParts (rw (p, q))
     go true p false q true r = no-line Fault.Duplicate (rw (p, q, r))
-    go true p false q false r = yes-line l refl p q (rw (p, q, r))
+    go true p false q false r = yes-line l refl p q r (rw (p, q, r))
     go false p b q c r = no-line Fault.OutOfRange (rw p)
 
 -- an accepted line is not crowded
@@ -151,7 +151,7 @@ unfolding lineAnswer tokensAnswer
 accepted-uncrowded line l = go (tokensOf line)
   where
     of-judge : (o : Option PolicyLine) → Judged o → judge o ≡ accepted l → crowded l ≡ false
-    of-judge o (yes-line m p h c k) q = ap crowded (same (sym q ∙ k)) ∙ c
+    of-judge o (yes-line m p h c _ k) q = ap crowded (same (sym q ∙ k)) ∙ c
       where
         same : accepted l ≡ accepted m → l ≡ m
         same e = cc
@@ -172,7 +172,7 @@ module _ (text : List ℕ) (e next : ℕ) (o : Option PolicyLine) where
   read-accepted q = go (judged-cases o)
     where
       go : Judged o → record { status = LineStatus.Accepted; line = lineParts text e o .line; next = next } ≡ lineReadOf next (judge o)
-      go (yes-line l p h _ k) = rw (k, p) (ap (λ (x : Line). record { status = LineStatus.Accepted; line = x; next = next }) (in-range-value l h))
+      go (yes-line l p h _ _ k) = rw (k, p) (ap (λ (x : Line). record { status = LineStatus.Accepted; line = x; next = next }) (in-range-value l h))
       go (no-line f k) = let w : _≡_ {A = ℕ} 0 1 = cc (sym q ∙ parts-judged text e o ∙ ap statusOf k) in absurd (omega arith)
 
   pub read-refused : (f : Fault) → judgedParts (lineParts text e o) ≡ LineStatus.Refused f → lineReadOf 0 (refused f) ≡ lineReadOf next (judge o)
@@ -180,7 +180,7 @@ module _ (text : List ℕ) (e next : ℕ) (o : Option PolicyLine) where
   read-refused f q = go (judged-cases o)
     where
       go : Judged o → lineReadOf 0 (refused f) ≡ lineReadOf next (judge o)
-      go (yes-line l p h _ k) = let w : _≡_ {A = ℕ} 0 1 = cc (sym q ∙ parts-judged text e o ∙ ap statusOf k) in absurd (omega arith)
+      go (yes-line l p h _ _ k) = let w : _≡_ {A = ℕ} 0 1 = cc (sym q ∙ parts-judged text e o ∙ ap statusOf k) in absurd (omega arith)
       go (no-line g k) = rw k (ap (λ (x : LineStatus). record { status = x; line = newLine; next = 0 }) (sym q ∙ parts-judged text e o ∙ ap statusOf k))
 
   pub read-skipped : judgedParts (lineParts text e o) ≡ LineStatus.Skipped → (r : LineRead) → r ≡ lineReadOf next (judge o)
@@ -188,7 +188,7 @@ module _ (text : List ℕ) (e next : ℕ) (o : Option PolicyLine) where
   read-skipped q r = go (judged-cases o)
     where
       go : Judged o → r ≡ lineReadOf next (judge o)
-      go (yes-line l p h _ k) = let w : _≡_ {A = ℕ} 0 1 = cc (sym q ∙ parts-judged text e o ∙ ap statusOf k) in absurd (omega arith)
+      go (yes-line l p h _ _ k) = let w : _≡_ {A = ℕ} 0 1 = cc (sym q ∙ parts-judged text e o ∙ ap statusOf k) in absurd (omega arith)
       go (no-line g k) = let w : _≡_ {A = ℕ} 0 1 = cc (sym q ∙ parts-judged text e o ∙ ap statusOf k) in absurd (omega arith)
 
 -- ---- the line at a position

@@ -1,3 +1,4 @@
+pub mod Accepted
 pub mod CauseLaws
 pub mod ClassLaws
 pub mod ConstantLaws
