@@ -81,20 +81,20 @@ impl Class {
     }
 }
 
-pub fn is_space(b: u8) -> bool
+pub(crate) fn is_space(b: u8) -> bool
     ensures { λ r. ⌜ r ≡ isSpace b ⌝ }
 {
     class_of(b).code() == 0
 }
 
-pub fn is_digit(b: u8) -> bool
+pub(crate) fn is_digit(b: u8) -> bool
     ensures { λ r. ⌜ r ≡ isDigit b ⌝ }
 {
     class_of(b).code() == 2
 }
 
 // A space or a line end: what stands behind a token.
-pub fn ends_token(b: u8) -> bool
+pub(crate) fn ends_token(b: u8) -> bool
     ensures { λ r. ⌜ r ≡ endsToken b ⌝ }
 {
     class_of(b).code() < 2

@@ -8,3 +8,5 @@ mod token;
 
 pub use class::Class;
 pub use class::class_of;
+pub use line::{LineRead, LineStatus, read_line};
+pub use text::{TextCounts, TextRead, read_text};

@@ -24,7 +24,7 @@ pub enum NumberAt {
 }
 
 // The first position from `at` on that holds no space.
-pub fn skip_spaces(text: &[u8], at: usize) -> usize
+pub(crate) fn skip_spaces(text: &[u8], at: usize) -> usize
     ensures { λ r. ⌜ r ≡ skip isSpace (now (text .entry)) at ⌝ }
 {
     let mut i = at;
@@ -39,7 +39,7 @@ pub fn skip_spaces(text: &[u8], at: usize) -> usize
 }
 
 // Whether no byte of a token stands at the position.
-pub fn at_token_end(text: &[u8], at: usize) -> bool
+pub(crate) fn at_token_end(text: &[u8], at: usize) -> bool
     ensures { λ r. ⌜ r ≡ isEmpty (tokenAt (now (text .entry)) at) ⌝ }
 {
     if at < text.len() {
@@ -50,7 +50,7 @@ pub fn at_token_end(text: &[u8], at: usize) -> bool
 }
 
 // Whether the token at the position is the word, in which no token ends.
-pub fn word_at(text: &[u8], at: usize, word: &[u8]) -> WordAt
+pub(crate) fn word_at(text: &[u8], at: usize, word: &[u8]) -> WordAt
     requires { ⌜ all inToken (now word) ≡ true ⌝ }
     ensures { λ r. ⌜ r ≡ wordAt (now (text .entry)) at (now (word .entry)) ⌝ }
 {
@@ -73,31 +73,31 @@ pub fn word_at(text: &[u8], at: usize, word: &[u8]) -> WordAt
     }
 }
 
-pub fn ampersand_at(text: &[u8], at: usize) -> WordAt
+pub(crate) fn ampersand_at(text: &[u8], at: usize) -> WordAt
     ensures { λ r. ⌜ r ≡ wordAt (now (text .entry)) at (bytes "&") ⌝ }
 {
     word_at(text, at, b"&")
 }
 
-pub fn comma_at(text: &[u8], at: usize) -> WordAt
+pub(crate) fn comma_at(text: &[u8], at: usize) -> WordAt
     ensures { λ r. ⌜ r ≡ wordAt (now (text .entry)) at (bytes ",") ⌝ }
 {
     word_at(text, at, b",")
 }
 
-pub fn if_at(text: &[u8], at: usize) -> WordAt
+pub(crate) fn if_at(text: &[u8], at: usize) -> WordAt
     ensures { λ r. ⌜ r ≡ wordAt (now (text .entry)) at (bytes "if") ⌝ }
 {
     word_at(text, at, b"if")
 }
 
-pub fn causes_at(text: &[u8], at: usize) -> WordAt
+pub(crate) fn causes_at(text: &[u8], at: usize) -> WordAt
     ensures { λ r. ⌜ r ≡ wordAt (now (text .entry)) at (bytes "causes") ⌝ }
 {
     word_at(text, at, b"causes")
 }
 
-pub fn never_at(text: &[u8], at: usize) -> WordAt
+pub(crate) fn never_at(text: &[u8], at: usize) -> WordAt
     ensures { λ r. ⌜ r ≡ wordAt (now (text .entry)) at (bytes "never") ⌝ }
 {
     word_at(text, at, b"never")
@@ -139,7 +139,7 @@ fn digit_run(text: &[u8], at: usize) -> Digits
 }
 
 // The number that the digits at the position are: 0, or digits that do not start with 0.
-pub fn digits_at(text: &[u8], at: usize) -> NumberAt
+pub(crate) fn digits_at(text: &[u8], at: usize) -> NumberAt
     ensures { λ r. ⌜ r ≡ digitsAt (now (text .entry)) at ⌝ }
 {
     let digits = digit_run(text, at);
@@ -158,7 +158,7 @@ pub fn digits_at(text: &[u8], at: usize) -> NumberAt
 }
 
 // The number that the token at the position is.
-pub fn number_at(text: &[u8], at: usize) -> NumberAt
+pub(crate) fn number_at(text: &[u8], at: usize) -> NumberAt
     ensures { λ r. ⌜ r ≡ numberAt (now (text .entry)) at ⌝ }
 {
     let digits = digits_at(text, at);
@@ -175,7 +175,7 @@ pub fn number_at(text: &[u8], at: usize) -> NumberAt
 }
 
 // The number of a token that is a letter and a number.
-pub fn name_at(text: &[u8], at: usize, letter: u8) -> NumberAt
+pub(crate) fn name_at(text: &[u8], at: usize, letter: u8) -> NumberAt
     requires { ⌜ inToken letter ≡ true ⌝ }
     ensures { λ r. ⌜ r ≡ nameAt (now (text .entry)) at letter ⌝ }
 {

@@ -67,7 +67,7 @@ fn negative(number: NumberAt) -> ConstantAt
 }
 
 // The constant that the token at the position is, in a rule text or an epoch line.
-pub fn constant_at(text: &[u8], at: usize) -> ConstantAt
+pub(crate) fn constant_at(text: &[u8], at: usize) -> ConstantAt
     ensures { λ r. ⌜ r ≡ constantAt (now (text .entry)) at ⌝ }
 {
     if text.len() <= at {
@@ -198,7 +198,7 @@ fn action_head(number: NumberAt) -> HeadAt
 }
 
 // An action of a constraint, or a literal of a rule.
-pub fn head_at(text: &[u8], at: usize, never: bool) -> HeadAt
+pub(crate) fn head_at(text: &[u8], at: usize, never: bool) -> HeadAt
     ensures { λ r. ⌜ r ≡ headAt (now (text .entry)) at never ⌝ }
 {
     if never {
@@ -249,7 +249,7 @@ fn compared(
 }
 
 // A comparison: three tokens, the first at the position.
-pub fn comparison_at(text: &[u8], at: usize) -> ComparisonAt
+pub(crate) fn comparison_at(text: &[u8], at: usize) -> ComparisonAt
     ensures { λ r. ⌜ r ≡ comparisonAt (now (text .entry)) at ⌝ }
 {
     let NumberAt::Number(n, behind) = name_at(text, at, b'R') else {
