@@ -54,12 +54,14 @@ module _ {A : Type 0} where
         where
           same : some (before y k) ≡ some j → before y k ≡ j
           same h = cc
+
       alone : (o : Option A) → Option·map (last (s ∷ ts)) o ≡ some j → 0 < length (j .items)
       alone none q = let w : _≡_ {A = ℕ} 0 1 = cc in absurd (omega arith)
       alone (some y) q = rw (← same q) (omega arith)
         where
           same : some (last (s ∷ ts) y) ≡ some j → last (s ∷ ts) y ≡ j
           same h = cc
+
       go : (b : Bool) (o : Option A) (x : Option (Joined A)) → cond b (both before o x) (Option·map (last (s ∷ ts)) o) ≡ some j → 0 < length (j .items)
       go true o x q = more o x q
       go false o x q = alone o q
@@ -90,11 +92,13 @@ module _ (l : PolicyLine) where
         where
           same : some (causes (j .items) a cs) ≡ some l → causes (j .items) a cs ≡ l
           same k = cc
+
       shape : (b : Bool) (x : Option Action) (y : Option (List Comparison)) → cond b (both (causes (j .items)) x y) none ≡ some l → 0 < length (headsOf l)
       shape true none y q = let w : _≡_ {A = ℕ} 0 1 = cc in absurd (omega arith)
       shape true (some a) none q = let w : _≡_ {A = ℕ} 0 1 = cc in absurd (omega arith)
       shape true (some a) (some cs) q = made a cs q
       shape false x y q = let w : _≡_ {A = ℕ} 0 1 = cc in absurd (omega arith)
+
       go : (ts : List Token) → ruleAfter (j .items) ts ≡ some l → 0 < length (headsOf l)
       go [] q = let w : _≡_ {A = ℕ} 0 1 = cc in absurd (omega arith)
       go (t ∷ []) q = let w : _≡_ {A = ℕ} 0 1 = cc in absurd (omega arith)
@@ -121,6 +125,7 @@ accepted-valid line l = go (tokensOf line)
         same : accepted l ≡ accepted m → l ≡ m
         same e = cc
     of-line ts (no-line f k) q = let w : _≡_ {A = ℕ} 0 1 = cc in absurd (omega arith)
+
     go : (ts : List Token) → tokensAnswer ts ≡ accepted l → ltb 0 (length (headsOf l)) && inRange l && not (crowded l) && not (repeated l) ≡ true
     go [] q = let w : _≡_ {A = ℕ} 0 1 = cc in absurd (omega arith)
     go (t ∷ ts) q = comment (isComment t) q
@@ -153,7 +158,7 @@ keeps n p (accepted (rule r)) v w = go (ltb (length (p .rules)) ruleLimit) refl
           rules = room-after (p .rules) r ruleLimit e;
           constraints = w .constraints;
           validRules = one-more (p .rules) r (λ (y : Rule). valid (rule y) ≡ true) (w .validRules) (v (rule r) refl);
-          validConstraints = w .validConstraints
+          validConstraints = w .validConstraints;
         }
     go false e = tt
 keeps n p (accepted (constraint c)) v w = go (ltb (length (p .constraints)) constraintLimit) refl
@@ -164,7 +169,7 @@ keeps n p (accepted (constraint c)) v w = go (ltb (length (p .constraints)) cons
           rules = w .rules;
           constraints = room-after (p .constraints) c constraintLimit e;
           validRules = w .validRules;
-          validConstraints = one-more (p .constraints) c (λ (y : Constraint). valid (constraint y) ≡ true) (w .validConstraints) (v (constraint c) refl)
+          validConstraints = one-more (p .constraints) c (λ (y : Constraint). valid (constraint y) ≡ true) (w .validConstraints) (v (constraint c) refl);
         }
     go false e = tt
 
@@ -183,12 +188,14 @@ accepted-within text n p e = go (ltb textLimit (length text)) e
   where
     started : Within emptyPolicy
     started = record { rules = omega arith; constraints = omega arith; validRules = λ r m. absurd (List·Memᴰ·not-nil m); validConstraints = λ c m. absurd (List·Memᴰ·not-nil m) }
+
     of-reading : (s : Progress) → still s → s ≡ reading n p → Within p
     of-reading (reading m q) w k = rw (← same k) w
       where
         same : reading m q ≡ reading n p → q ≡ p
         same h = cc
     of-reading (stopped f m) w k = let z : _≡_ {A = ℕ} 0 1 = cc in absurd (omega arith)
+
     go : (b : Bool) → cond b (stopped Fault.TooLong 0) (foldl readLine (reading 1 emptyPolicy) (linesOf text)) ≡ reading n p → Within p
     go true k = let z : _≡_ {A = ℕ} 0 1 = cc in absurd (omega arith)
     go false k = of-reading (foldl readLine (reading 1 emptyPolicy) (linesOf text)) (keeps-lines (linesOf text) (reading 1 emptyPolicy) started) k

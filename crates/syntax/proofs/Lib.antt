@@ -4,8 +4,10 @@ pub mod ClassLaws
 pub mod ConstantLaws
 pub mod ConditionLaws
 pub mod DigitLaws
+pub mod EpochLaws
 pub mod Examples
 pub mod HeadLaws
+pub mod ItemLaws
 pub mod JudgeLaws
 pub mod PartLaws
 pub mod RunLaws

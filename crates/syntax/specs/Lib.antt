@@ -5,6 +5,7 @@ pub mod Lines
 pub mod Grammar
 pub mod Text
 pub mod Epoch
+pub mod EpochScan
 pub mod Scan
 pub mod Parts
 pub mod Outcome

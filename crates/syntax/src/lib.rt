@@ -1,6 +1,7 @@
 // Reading rule texts and epoch lines. Start with specs/Grammar.antt (the shapes of a line) and specs/Text.antt (what a
 // text is refused for, and the policy that an accepted one has).
 mod class;
+mod epoch;
 mod line;
 mod scan;
 mod text;
@@ -8,5 +9,12 @@ mod token;
 
 pub use class::Class;
 pub use class::class_of;
-pub use line::{LineRead, LineStatus, read_line};
-pub use text::{TextCounts, TextRead, read_text};
+pub use epoch::EpochRead;
+pub use epoch::EpochStatus;
+pub use epoch::read_epoch;
+pub use line::LineRead;
+pub use line::LineStatus;
+pub use line::read_line;
+pub use text::TextCounts;
+pub use text::TextRead;
+pub use text::read_text;

@@ -1,0 +1,316 @@
+-- Laws of reading one token of an epoch line: an event, or a reading, `=` and a constant.
+use Prim.Native.Nat.{ℕ, _+_, _<_, _≤_}
+use mathlib.Core.Bool.{Bool, true, false, _&&_, cond}
+use mathlib.Core.List.{List, [], _∷_}
+use mathlib.Core.Option.{Option, none, some}
+use mathlib.Core.Path.{_≡_, refl, sym, ap, ap₂, _∙_}
+use native.Mathlib.Nat.{add-assoc}
+use native.Mathlib.Omega.{arith}
+use borrow.Author.Tests.{eqb-true, eq-eqb, ne-eqb}
+use lib.Dec.{eqb, ltb}
+use lib.IntN.{ℤ}
+use lib.ListN.{length, getD, drop, drop-of-length-le}
+use lib.Seq.{drop-drop}
+use Rattle.policy.proofs.ListLaws.{true-false}
+use Rattle.policy.specs.Limits.{isReadingValue}
+use Rattle.policy.specs.List.{all}
+use Rattle.policy.specs.Number as Number
+use Rattle.policy.specs.declared.number.Event.{Event}
+use Rattle.policy.specs.declared.number.EventCheck.{EventCheck}
+use Rattle.policy.specs.declared.number.Reading.{Reading}
+use Rattle.policy.specs.declared.number.ReadingCheck.{ReadingCheck}
+use Rattle.syntax.proofs.ClassLaws.{digit-apart, digit-bounds}
+use Rattle.syntax.proofs.PartLaws.{name-some, name-none, clip-below, clip-same}
+use Rattle.syntax.proofs.RunLaws.{at-byte, skip-past}
+use Rattle.syntax.proofs.WordLaws.{token-end, token-here, token-past}
+use Rattle.syntax.specs.Byte.{isDigit}
+use Rattle.syntax.specs.Epoch.{Item, event, value, Halves, toLeft, atEquals, valueOf, itemOf, itemInRange}
+use Rattle.syntax.specs.EpochScan.{itemWithin, itemEnding, valueItem, valueAt, itemAt}
+use Rattle.syntax.specs.Grammar.{named, orElse, both}
+use Rattle.syntax.specs.Number.{numberOf, constantOf}
+use Rattle.syntax.specs.Parts.{constantEnding, constantAt}
+use Rattle.syntax.specs.Scan.{run, skip, inToken, tokenAt, clip, numberEnding, digitsAt, nameAt}
+use Rattle.syntax.specs.declared.epoch.ItemAt.{ItemAt}
+use Rattle.syntax.specs.declared.scan.NumberAt.{NumberAt}
+use Rattle.syntax.specs.declared.token.ConstantAt.{ConstantAt}
+
+-- ---- checked numbers
+
+module _ (n e : ℕ) where
+  pub event-valid : (x : Event) → Number.eventOf n ≡ EventCheck.Valid x → ItemAt.Event x e ≡ itemEnding e (some (event n))
+  unfolding itemEnding itemWithin itemInRange
+  event-valid x = go (ltb n 64)
+    where
+      go : (b : Bool) → cond b (EventCheck.Valid (record { 0 = n })) EventCheck.OutOfRange ≡ EventCheck.Valid x → ItemAt.Event x e ≡ cond b (ItemAt.Event (record { 0 = n }) e) (ItemAt.OutOfRange e)
+      go true q = cc
+      go false q = let w : _≡_ {A = ℕ} 0 1 = cc in absurd (omega arith)
+
+  pub event-outside : Number.eventOf n ≡ EventCheck.OutOfRange → ItemAt.OutOfRange e ≡ itemEnding e (some (event n))
+  unfolding itemEnding itemWithin itemInRange
+  event-outside = go (ltb n 64)
+    where
+      go : (b : Bool) → cond b (EventCheck.Valid (record { 0 = n })) EventCheck.OutOfRange ≡ EventCheck.OutOfRange → ItemAt.OutOfRange e ≡ cond b (ItemAt.Event (record { 0 = n }) e) (ItemAt.OutOfRange e)
+      go true q = let w : _≡_ {A = ℕ} 0 1 = cc in absurd (omega arith)
+      go false q = refl
+
+  module _ (k : ℤ) where
+    pub value-valid : (r : Reading) → Number.readingOf n ≡ ReadingCheck.Valid r → ItemAt.Value r k e ≡ valueItem n (ConstantAt.Value k e)
+    unfolding valueItem
+    value-valid r = go (ltb n 16)
+      where
+        go : (b : Bool) → cond b (ReadingCheck.Valid (record { 0 = n })) ReadingCheck.OutOfRange ≡ ReadingCheck.Valid r → ItemAt.Value r k e ≡ cond b (ItemAt.Value (record { 0 = n }) k e) (ItemAt.OutOfRange e)
+        go true q = cc
+        go false q = let w : _≡_ {A = ℕ} 0 1 = cc in absurd (omega arith)
+
+    pub value-outside : Number.readingOf n ≡ ReadingCheck.OutOfRange → ItemAt.OutOfRange e ≡ valueItem n (ConstantAt.Value k e)
+    unfolding valueItem
+    value-outside = go (ltb n 16)
+      where
+        go : (b : Bool) → cond b (ReadingCheck.Valid (record { 0 = n })) ReadingCheck.OutOfRange ≡ ReadingCheck.OutOfRange → ItemAt.OutOfRange e ≡ cond b (ItemAt.Value (record { 0 = n }) k e) (ItemAt.OutOfRange e)
+        go true q = let w : _≡_ {A = ℕ} 0 1 = cc in absurd (omega arith)
+        go false q = refl
+
+-- a value is read from a clipped number and a constant as from the number and the constant
+value-clipped : (n e : ℕ) (o : Option ℤ) → valueItem (clip n) (constantEnding e o) ≡ itemEnding e (both value (some n) o)
+unfolding valueItem constantEnding itemEnding itemInRange itemWithin both
+value-clipped n e none = refl
+value-clipped n e (some k) = go (ltb n 16) refl (isReadingValue k)
+  where
+    go : (b : Bool) → ltb n 16 ≡ b → (v : Bool) → valueItem (clip n) (cond v (ConstantAt.Value k e) (ConstantAt.OutOfRange e)) ≡ cond (b && v) (ItemAt.Value (record { 0 = n }) k e) (ItemAt.OutOfRange e)
+    go true p true = rw (clip-below 16 n (omega arith), p) (ap (λ (m : ℕ). ItemAt.Value (record { 0 = m }) k e) (clip-same 16 n (omega arith) p))
+    go true p false = refl
+    go false p true = rw (clip-below 16 n (omega arith), p)
+    go false p false = refl
+
+-- ---- the first `=` of a token that begins with digits
+
+digit-inside : (b : ℕ) → isDigit b ≡ true → inToken b ≡ true
+digit-inside b e = rw (digit-apart b 32 (omega arith) e, digit-apart b 10 (omega arith) e)
+
+digit-no-equals : (b : ℕ) → isDigit b ≡ true → eqb b 61 ≡ false
+digit-no-equals b e = ne-eqb b 61 (λ q. omega (arith, digit-bounds b e))
+
+-- the `=` stands right behind the digits
+equals-here : (s r : List ℕ) → drop (length (run isDigit s)) s ≡ 61 ∷ r → atEquals (run inToken s) ≡ some (record { left = run isDigit s; right = run inToken r })
+unfolding run atEquals toLeft
+equals-here [] r e = let w : _≡_ {A = ℕ} 0 1 = cc in absurd (omega arith)
+equals-here (b ∷ s) r e = go (isDigit b) refl (equals-here s r) e
+  where
+    go : (d : Bool) → isDigit b ≡ d → (drop (length (run isDigit s)) s ≡ 61 ∷ r → atEquals (run inToken s) ≡ some (record { left = run isDigit s; right = run inToken r })) → drop (length (cond d (b ∷ run isDigit s) [])) (b ∷ s) ≡ 61 ∷ r → atEquals (run inToken (b ∷ s)) ≡ some (record { left = cond d (b ∷ run isDigit s) []; right = run inToken r })
+    go true p h k = rw (digit-inside b p, digit-no-equals b p, h k)
+    go false p h k = ap (λ (l : List ℕ). atEquals (run inToken l)) k
+
+-- no `=`, or a left half with another byte than a digit
+unfoldable noDigits : Option Halves → Bool
+noDigits none = true
+noDigits (some h) = cond (all isDigit (h .left)) false true
+
+left-more : (b : ℕ) (o : Option Halves) → noDigits o ≡ true → noDigits (toLeft b o) ≡ true
+unfolding noDigits toLeft all
+left-more b none e = refl
+left-more b (some h) e = go (isDigit b) (all isDigit (h .left)) e
+  where
+    go : (x y : Bool) → cond y false true ≡ true → cond (x && y) false true ≡ true
+    go true y q = q
+    go false y q = refl
+
+left-other : (b : ℕ) (o : Option Halves) → isDigit b ≡ false → noDigits (toLeft b o) ≡ true
+unfolding noDigits toLeft all
+left-other b none e = refl
+left-other b (some h) e = rw e
+
+equals-none : (s : List ℕ) → ((r : List ℕ) → drop (length (run isDigit s)) s ≡ 61 ∷ r → ⊥) → noDigits (atEquals (run inToken s)) ≡ true
+unfolding run atEquals noDigits
+equals-none [] q = refl
+equals-none (b ∷ s) q = go (isDigit b) refl (equals-none s) q
+  where
+    other : (i : Bool) → (b ≡ 61 → ⊥) → isDigit b ≡ false → noDigits (atEquals (cond i (b ∷ run inToken s) [])) ≡ true
+    other true n e = rw (ne-eqb b 61 n) (left-other b (atEquals (run inToken s)) e)
+    other false n e = refl
+
+    go : (d : Bool) → isDigit b ≡ d → (((r : List ℕ) → drop (length (run isDigit s)) s ≡ 61 ∷ r → ⊥) → noDigits (atEquals (run inToken s)) ≡ true) → ((r : List ℕ) → drop (length (cond d (b ∷ run isDigit s) [])) (b ∷ s) ≡ 61 ∷ r → ⊥) → noDigits (atEquals (run inToken (b ∷ s))) ≡ true
+    go true p h k = rw (digit-inside b p, digit-no-equals b p) (left-more b (atEquals (run inToken s)) (h k))
+    go false p h k = other (inToken b) (λ e. k s (ap (λ (x : ℕ). x ∷ s) e)) p
+
+-- ---- the value of a token, by its first byte
+
+other-left : (b : ℕ) (o : Option Halves) → (b ≡ 82 → ⊥) → valueOf (toLeft b o) ≡ none
+unfolding valueOf toLeft named both
+other-left b none q = refl
+other-left b (some h) q = rw (ne-eqb b 82 q)
+
+other-value : (b : ℕ) (t : List ℕ) → (b ≡ 82 → ⊥) → valueOf (atEquals (b ∷ t)) ≡ none
+unfolding valueOf atEquals named both
+other-value b t q = go (eqb b 61) refl
+  where
+    go : (x : Bool) → eqb b 61 ≡ x → valueOf (cond x (some (record { left = []; right = t })) (toLeft b (atEquals t))) ≡ none
+    go true e = refl
+    go false e = other-left b (atEquals t) q
+
+number-all : (l : List ℕ) → all isDigit l ≡ false → numberOf l ≡ none
+unfolding numberOf all
+number-all [] e = absurd (true-false refl e)
+number-all (d ∷ ds) e = rw e
+
+value-none : (o : Option Halves) → noDigits o ≡ true → valueOf (toLeft 82 o) ≡ none
+unfolding noDigits valueOf toLeft named both
+value-none none e = refl
+value-none (some h) e = rw (number-all (h .left) (not-all (all isDigit (h .left)) e))
+  where
+    not-all : (b : Bool) → cond b false true ≡ true → b ≡ false
+    not-all true q = absurd (true-false q refl)
+    not-all false q = refl
+
+-- the value of a token `R` and the token at `s`
+valueFrom : List ℕ → Option Item
+valueFrom s = valueOf (toLeft 82 (atEquals (run inToken s)))
+
+from-none : (s : List ℕ) → ((r : List ℕ) → drop (length (run isDigit s)) s ≡ 61 ∷ r → ⊥) → valueFrom s ≡ none
+unfolding valueFrom
+from-none s q = value-none (atEquals (run inToken s)) (equals-none s q)
+
+from-some : (s r : List ℕ) → drop (length (run isDigit s)) s ≡ 61 ∷ r → valueFrom s ≡ both value (numberOf (run isDigit s)) (constantOf (run inToken r))
+unfolding valueFrom valueOf toLeft named
+from-some s r e = rw (equals-here s r e)
+
+from-malformed : (s : List ℕ) → numberOf (run isDigit s) ≡ none → valueFrom s ≡ none
+unfolding both
+from-malformed s e = go (drop (length (run isDigit s)) s) refl
+  where
+    none-of : (c : ℕ) (r : List ℕ) → drop (length (run isDigit s)) s ≡ c ∷ r → (b : Bool) → eqb c 61 ≡ b → valueFrom s ≡ none
+    none-of c r q true p = from-some s r (q ∙ ap (λ (x : ℕ). x ∷ r) (eqb-true c 61 p)) ∙ rw e
+    none-of c r q false p = from-none s (λ r₂ k. true-false (eq-eqb c 61 (first (sym q ∙ k))) p)
+      where
+        first : {r₂ : List ℕ} → c ∷ r ≡ 61 ∷ r₂ → c ≡ 61
+        first k = cc
+
+    go : (l : List ℕ) → drop (length (run isDigit s)) s ≡ l → valueFrom s ≡ none
+    go [] q = from-none s (λ r k. let w : _≡_ {A = ℕ} 0 1 = cc in absurd (omega arith))
+    go (c ∷ r) q = none-of c r q (eqb c 61) refl
+
+-- ---- the token at a position
+
+-- what passes one test and then another, which all that pass the first pass
+run-on : (p q : ℕ → Bool) → ((b : ℕ) → q b ≡ true → p b ≡ true) → (s : List ℕ) → length (run q s) + length (run p (drop (length (run q s)) s)) ≡ length (run p s)
+unfolding run
+run-on p q h [] = refl
+run-on p q h (b ∷ s) = go (q b) refl (run-on p q h s)
+  where
+    go : (x : Bool) → q b ≡ x → length (run q s) + length (run p (drop (length (run q s)) s)) ≡ length (run p s) → length (cond x (b ∷ run q s) []) + length (run p (drop (length (cond x (b ∷ run q s) [])) (b ∷ s))) ≡ length (run p (b ∷ s))
+    go true e k = rw (h b e) (omega arith)
+    go false e k = omega arith
+
+module _ (line : List ℕ) (at : ℕ) where
+  drop-digits : drop (skip isDigit line at) line ≡ drop (length (run isDigit (drop at line))) (drop at line)
+  unfolding skip
+  drop-digits = sym (drop-drop (length (run isDigit (drop at line))) at line)
+
+  skip-digits : skip inToken line (skip isDigit line at) ≡ skip inToken line at
+  unfolding skip
+  skip-digits =
+      ap (λ (s : List ℕ). at + length (run isDigit (drop at line)) + length (run inToken s)) drop-digits
+      ∙ add-assoc at (length (run isDigit (drop at line))) (length (run inToken (drop (length (run isDigit (drop at line))) (drop at line))))
+      ∙ ap (λ (n : ℕ). at + n) (run-on inToken isDigit digit-inside (drop at line))
+
+  digits-none : digitsAt line at ≡ NumberAt.Malformed → numberOf (run isDigit (drop at line)) ≡ none
+  unfolding digitsAt numberEnding
+  digits-none = go (numberOf (run isDigit (drop at line)))
+    where
+      go : (o : Option ℕ) → numberEnding (skip isDigit line at) o ≡ NumberAt.Malformed → o ≡ none
+      go none q = refl
+      go (some n) q = let w : _≡_ {A = ℕ} 0 1 = cc in absurd (omega arith)
+
+  digits-end : (v e : ℕ) → digitsAt line at ≡ NumberAt.Number v e → e ≡ skip isDigit line at
+  unfolding digitsAt numberEnding
+  digits-end v e = go (numberOf (run isDigit (drop at line)))
+    where
+      go : (o : Option ℕ) → numberEnding (skip isDigit line at) o ≡ NumberAt.Number v e → e ≡ skip isDigit line at
+      go none q = let w : _≡_ {A = ℕ} 0 1 = cc in absurd (omega arith)
+      go (some n) q = cc
+
+module _ (line : List ℕ) (at : ℕ) where
+  pub value-end : length line ≤ at → ItemAt.Malformed ≡ valueAt line at
+  unfolding valueAt valueOf atEquals itemEnding
+  value-end h = rw (token-end line at h)
+
+  -- another byte than `R`
+  pub value-other : at < length line → (getD line at 0 ≡ 82 → ⊥) → ItemAt.Malformed ≡ valueAt line at
+  unfolding valueAt itemEnding valueOf atEquals
+  value-other h q = sym (ap (itemEnding (skip inToken line at)) (go (inToken (getD line at 0)) refl))
+    where
+      go : (b : Bool) → inToken (getD line at 0) ≡ b → valueOf (atEquals (tokenAt line at)) ≡ none
+      go true e = ap (λ (t : List ℕ). valueOf (atEquals t)) (token-past line at h e) ∙ other-value (getD line at 0) (tokenAt line (at + 1)) q
+      go false e = ap (λ (t : List ℕ). valueOf (atEquals t)) (token-here line at h e)
+
+  module _ (h : at < length line) (q : getD line at 0 ≡ 82) where
+    inside : inToken (getD line at 0) ≡ true
+    inside = ap inToken q
+
+    from-first : valueAt line at ≡ itemEnding (skip inToken line (at + 1)) (valueFrom (drop (at + 1) line))
+    unfolding valueAt valueFrom tokenAt atEquals
+    from-first =
+        ap₂ itemEnding (skip-past inToken line at h inside)
+        (ap (λ (t : List ℕ). valueOf (atEquals t)) (token-past line at h inside ∙ ap (λ (b : ℕ). b ∷ tokenAt line (at + 1)) q))
+
+    no-value : valueFrom (drop (at + 1) line) ≡ none → ItemAt.Malformed ≡ valueAt line at
+    unfolding itemEnding
+    no-value e = sym (from-first ∙ ap (itemEnding (skip inToken line (at + 1))) e)
+
+    pub value-no-number : digitsAt line (at + 1) ≡ NumberAt.Malformed → ItemAt.Malformed ≡ valueAt line at
+    value-no-number d = no-value (from-malformed (drop (at + 1) line) (digits-none line (at + 1) d))
+
+    module _ (v e : ℕ) (d : digitsAt line (at + 1) ≡ NumberAt.Number v e) where
+      left : drop (length (run isDigit (drop (at + 1) line))) (drop (at + 1) line) ≡ drop e line
+      left = sym (ap (λ (k : ℕ). drop k line) (digits-end line (at + 1) v e d) ∙ drop-digits line (at + 1))
+
+      pub value-ended : length line ≤ e → ItemAt.Malformed ≡ valueAt line at
+      value-ended l = no-value (from-none (drop (at + 1) line) (λ r k. nothing (sym (drop-of-length-le line l) ∙ sym left ∙ k)))
+        where
+          nothing : {r : List ℕ} → [] ≡ 61 ∷ r → ⊥
+          nothing k = let w : _≡_ {A = ℕ} 0 1 = cc in omega arith
+
+      pub value-no-equals : e < length line → (getD line e 0 ≡ 61 → ⊥) → ItemAt.Malformed ≡ valueAt line at
+      value-no-equals l z = no-value (from-none (drop (at + 1) line) (λ r k. z (first (sym (at-byte line e l) ∙ sym left ∙ k))))
+        where
+          first : {r : List ℕ} → getD line e 0 ∷ drop (e + 1) line ≡ 61 ∷ r → getD line e 0 ≡ 61
+          first k = cc
+
+      pub value-read : e < length line → getD line e 0 ≡ 61 → valueItem v (constantAt line (e + 1)) ≡ valueAt line at
+      unfolding constantAt tokenAt digitsAt numberEnding
+      value-read l z = go (numberOf (run isDigit (drop (at + 1) line))) refl d
+        where
+          ends : skip inToken line (at + 1) ≡ skip inToken line (e + 1)
+          ends =
+              sym (skip-digits line (at + 1)) ∙ ap (skip inToken line) (sym (digits-end line (at + 1) v e d))
+              ∙ skip-past inToken line e l (ap inToken z)
+
+          equals : drop (length (run isDigit (drop (at + 1) line))) (drop (at + 1) line) ≡ 61 ∷ drop (e + 1) line
+          equals = left ∙ at-byte line e l ∙ ap (λ (b : ℕ). b ∷ drop (e + 1) line) z
+
+          go : (o : Option ℕ) → numberOf (run isDigit (drop (at + 1) line)) ≡ o → numberEnding (skip isDigit line (at + 1)) o ≡ NumberAt.Number v e → valueItem v (constantAt line (e + 1)) ≡ valueAt line at
+          go none p k = let w : _≡_ {A = ℕ} 0 1 = cc in absurd (omega arith)
+          go (some n) p k =
+              let c : v ≡ clip n = cc in
+              ap (λ (m : ℕ). valueItem m (constantAt line (e + 1))) c
+              ∙ value-clipped n (skip inToken line (e + 1)) (constantOf (tokenAt line (e + 1)))
+              ∙ sym (from-first ∙ ap₂ itemEnding ends (from-some (drop (at + 1) line) (drop (e + 1) line) equals ∙ ap (λ (o : Option ℕ). both value o (constantOf (tokenAt line (e + 1)))) p))
+
+  -- ---- an event, or else a value
+
+  event-clipped : (n e : ℕ) → itemEnding e (some (event (clip n))) ≡ itemEnding e (some (event n))
+  unfolding itemEnding itemInRange itemWithin
+  event-clipped n e = rw (clip-below 64 n (omega arith)) (go (ltb n 64) refl)
+    where
+      go : (b : Bool) → ltb n 64 ≡ b → cond b (ItemAt.Event (record { 0 = clip n }) e) (ItemAt.OutOfRange e) ≡ cond b (ItemAt.Event (record { 0 = n }) e) (ItemAt.OutOfRange e)
+      go true p = ap (λ (m : ℕ). ItemAt.Event (record { 0 = m }) e) (clip-same 64 n (omega arith) p)
+      go false p = refl
+
+  pub item-event : (v e : ℕ) → nameAt line at 69 ≡ NumberAt.Number v e → itemEnding e (some (event v)) ≡ itemAt line at
+  unfolding itemAt itemOf orElse
+  item-event v e q =
+      let p = name-some 69 line at v e q in
+      ap₂ (λ (k n : ℕ). itemEnding k (some (event n))) (p .behind) (p .clipped) ∙ event-clipped (p .number) (skip inToken line at) ∙ sym (rw (p .is))
+
+  pub item-value : nameAt line at 69 ≡ NumberAt.Malformed → valueAt line at ≡ itemAt line at
+  unfolding itemAt itemOf orElse valueAt
+  item-value q = rw (name-none 69 line at q)
