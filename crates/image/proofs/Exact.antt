@@ -1,0 +1,415 @@
+-- The loader takes exactly the images of policies that an accepted text may have, refuses others at the right place, and
+-- refuses every image in which one word was changed.
+use Prim.Native.Nat.{ℕ, zero, suc, _+_, _*_, _%_, _≤_, _<_}
+use mathlib.Core.Bool.{Bool, true, false, _&&_}
+use mathlib.Core.List.{List, [], _∷_, _++_, map}
+use mathlib.Core.Logic.{_↔_}
+use mathlib.Core.Path.{_≡_, refl, sym, ap, ap₂, _∙_}
+use native.Mathlib.Omega.{arith}
+use borrow.Author.Tests.{le-leb, eq-eqb, eqb-true}
+use lib.Dec.{leb, eqb}
+use lib.ListN.{length, getD, set, length-append, length-map}
+use Rattle.policy.proofs.ListLaws.{and-in, and-out}
+use Rattle.policy.specs.Fault.{faultNumber}
+use Rattle.policy.specs.Limits.{valid}
+use Rattle.policy.specs.Line.{PolicyLine, rule, constraint}
+use Rattle.policy.specs.List.{all}
+use Rattle.policy.specs.Policy.{Policy}
+use Rattle.policy.specs.declared.fault.Fault.{Fault}
+use Rattle.image.proofs.ImageLaws.{below-append, below-cons, below-none, lines-below, rules-between, constraints-between, rules-size, constraints-size, parts-of}
+use Rattle.image.proofs.PartLines.{lines-limit, lines-found, AreLines, lines-written, lines-fault, rules-kind, constraints-kind, rules-back, constraints-back, rules-there, constraints-there}
+use Rattle.image.proofs.SumLaws.{check-word, check-sum, check-below, sum-append, sum-set}
+use Rattle.image.proofs.WordLaws.{Below, words-below, words-of-bytes, bytes-of-words, bytes-length, header-below, form-header, rules-header, constraints-header, header-fields}
+use Rattle.image.specs.Layout.{linesWords, knownForm, checkCount, sum, checkWord, checkWords, headerWord, ruleWords, constraintWords, contentWords, imageWords, imageOf}
+use Rattle.image.specs.Load.{Lines, whole, fault, linesFrom, partLines, ruleCount, constraintCount, formByte, ruleLines, constraintLines, wellSized, countsFit, sumsToZero, bodyAnswer, loadWords, load, linesIn, policyIn, Acceptable, Checked, RefusedEarly, NoLineAt, FirstFault, inRules, inConstraints}
+use Rattle.image.specs.Word.{wordLimit, wordsOf, wordAt, bytesOf, between, packHeader, formOf, ruleCountOf, constraintCountOf}
+use Rattle.image.specs.declared.line.Part.{Part}
+use Rattle.image.specs.declared.load.Loaded.{Loaded}
+use Rattle.image.specs.declared.load.Parts.{Parts}
+
+known-one : (form : ℕ) → knownForm form ≡ true → form ≡ 1
+unfolding knownForm
+known-one form k = eqb-true form 1 k
+
+-- ---- the image of an acceptable policy
+
+-- what the loader says of it
+abbrev pub partsOf : ℕ → Policy → Parts
+partsOf form p = record { form = form; «rule_words» = length (ruleWords p); «constraint_words» = length (constraintWords p); rules = length (p .rules); constraints = length (p .constraints) }
+
+module _ (form : ℕ) (known : knownForm form ≡ true) (p : Policy) (ok : Acceptable p) where
+  abbrev P : ℕ
+  P = length (ruleWords p)
+
+  abbrev N : ℕ
+  N = length (constraintWords p)
+
+  P-limit : P ≤ 2176
+  unfolding ruleWords
+  P-limit = omega (arith, lines-limit (map rule (p .rules)) (ok .rules-valid), length-map (p .rules) rule, ok .few-rules)
+
+  N-limit : N ≤ 1088
+  unfolding constraintWords
+  N-limit = omega (arith, lines-limit (map constraint (p .constraints)) (ok .constraints-valid), length-map (p .constraints) constraint, ok .few-constraints)
+
+  form-small : form < 256
+  form-small = omega (arith, known-one form known)
+
+  content-below : Below wordLimit (contentWords form p)
+  unfolding contentWords headerWord ruleWords constraintWords
+  content-below =
+      below-cons wordLimit (packHeader form P N) (ruleWords p ++ constraintWords p) (header-below form P N form-small (omega (arith, P-limit)) (omega (arith, N-limit)))
+      (below-append wordLimit (ruleWords p) (constraintWords p) (lines-below (map rule (p .rules)) (ok .rules-valid)) (lines-below (map constraint (p .constraints)) (ok .constraints-valid)))
+
+  image-below : Below wordLimit (imageWords form p)
+  unfolding imageWords checkWords
+  image-below = below-append wordLimit (contentWords form p) (checkWord (contentWords form p) ∷ []) content-below (below-cons wordLimit (checkWord (contentWords form p)) [] (check-below (contentWords form p)) below-none)
+
+  image-words : wordsOf (imageOf form p) ≡ imageWords form p
+  unfolding imageOf
+  image-words = words-of-bytes (imageWords form p) image-below
+
+  image-length : length (imageWords form p) ≡ 1 + P + N + 1
+  unfolding imageWords contentWords checkWords
+  image-length = omega (arith, length-append (contentWords form p) (checkWord (contentWords form p) ∷ []), length-append (ruleWords p) (constraintWords p))
+
+  image-size : wellSized (length (imageOf form p)) ≡ true
+  unfolding wellSized imageOf
+  image-size =
+      let n : length (bytesOf (imageWords form p)) ≡ (1 + P + N + 1) * 4 = bytes-length (imageWords form p) ∙ ap (λ (k : ℕ). k * 4) image-length in
+      let a = P-limit in
+      let b = N-limit in
+      and-in (and-in (le-leb 8 (length (bytesOf (imageWords form p))) (omega arith)) (le-leb (length (bytesOf (imageWords form p))) 13064 (omega arith)))
+      (eq-eqb (length (bytesOf (imageWords form p)) % 4) 0 (omega arith))
+
+  first-word : getD (imageWords form p) 0 0 ≡ packHeader form P N
+  unfolding imageWords contentWords headerWord
+  first-word = refl
+
+  form-is : formByte (imageWords form p) ≡ form
+  form-is = ap formOf first-word ∙ form-header form P N form-small (omega (arith, P-limit)) (omega (arith, N-limit))
+
+  rules-are : ruleCount (imageWords form p) ≡ P
+  rules-are = ap ruleCountOf first-word ∙ rules-header form P N form-small (omega (arith, P-limit)) (omega (arith, N-limit))
+
+  constraints-are : constraintCount (imageWords form p) ≡ N
+  constraints-are = ap constraintCountOf first-word ∙ constraints-header form P N form-small (omega (arith, P-limit)) (omega (arith, N-limit))
+
+  counts : countsFit (imageWords form p) ≡ true
+  unfolding countsFit checkCount
+  counts =
+      rw (rules-are, constraints-are)
+      (and-in (and-in (le-leb P 2176 P-limit) (le-leb N 1088 N-limit)) (eq-eqb (length (imageWords form p)) (1 + P + N + 1) image-length))
+
+  sums : sumsToZero (imageWords form p) ≡ true
+  unfolding sumsToZero imageWords checkWords
+  sums = eq-eqb (sum (contentWords form p ++ checkWord (contentWords form p) ∷ []) % wordLimit) 0 (check-sum (contentWords form p))
+
+  image-rules : between 1 (1 + P) (imageWords form p) ≡ ruleWords p
+  unfolding imageWords contentWords checkWords
+  image-rules = rules-between (headerWord form (ruleWords p) (constraintWords p)) (ruleWords p) (constraintWords p) (checkWord (contentWords form p) ∷ []) P N refl refl
+
+  image-constraints : between (1 + P) (1 + P + N) (imageWords form p) ≡ constraintWords p
+  unfolding imageWords contentWords checkWords
+  image-constraints = constraints-between (headerWord form (ruleWords p) (constraintWords p)) (ruleWords p) (constraintWords p) (checkWord (contentWords form p) ∷ []) P N refl refl
+
+  rules-found : linesFrom Part.Rules 128 1 (ruleWords p) ≡ whole (map rule (p .rules))
+  unfolding ruleWords
+  rules-found = lines-found Part.Rules (map rule (p .rules)) 128 1 (rules-kind (p .rules)) (ok .rules-valid) (omega (arith, length-map (p .rules) rule, ok .few-rules))
+
+  constraints-found : (at : ℕ) → linesFrom Part.Constraints 64 at (constraintWords p) ≡ whole (map constraint (p .constraints))
+  unfolding constraintWords
+  constraints-found at = lines-found Part.Constraints (map constraint (p .constraints)) 64 at (constraints-kind (p .constraints)) (ok .constraints-valid) (omega (arith, length-map (p .constraints) constraint, ok .few-constraints))
+
+  rule-lines : ruleLines (imageWords form p) ≡ whole (map rule (p .rules))
+  unfolding partLines
+  rule-lines =
+      ap (λ (k : ℕ). linesFrom Part.Rules 128 1 (between 1 (1 + k) (imageWords form p))) rules-are ∙ ap (linesFrom Part.Rules 128 1) image-rules ∙ rules-found
+
+  constraint-lines : constraintLines (imageWords form p) ≡ whole (map constraint (p .constraints))
+  unfolding partLines
+  constraint-lines =
+      ap₂ (λ (k m : ℕ). linesFrom Part.Constraints 64 (1 + k) (between (1 + k) (1 + k + m) (imageWords form p))) rules-are constraints-are
+      ∙ ap (linesFrom Part.Constraints 64 (1 + P)) image-constraints ∙ constraints-found (1 + P)
+
+  -- 2: the loader takes the image of every acceptable policy, and says how many words and lines it has
+  pub image-taken : load (imageOf form p) ≡ Loaded.Image (partsOf form p)
+  unfolding load loadWords bodyAnswer
+  image-taken =
+      rw (image-size, image-words, rule-lines, constraint-lines, form-is, known, counts, sums, rules-are, constraints-are, length-map (p .rules) rule, length-map (p .constraints) constraint)
+
+  -- 2: the policy that it then holds is that policy
+  pub image-holds : policyIn (imageOf form p) ≡ p
+  unfolding policyIn linesIn
+  image-holds =
+      rw (image-words, rule-lines, constraint-lines)
+      (λ i. record { rules = rules-back (p .rules) i; constraints = constraints-back (p .constraints) i })
+
+-- ---- what the loader answers, taken apart
+
+-- which check it stopped at
+data Answered (bytes : List ℕ) : Type 0 where
+  early : RefusedEarly (load bytes) → Answered bytes
+  late : Checked bytes → load bytes ≡ bodyAnswer (formByte (wordsOf bytes)) (ruleCount (wordsOf bytes)) (constraintCount (wordsOf bytes)) (ruleLines (wordsOf bytes)) (constraintLines (wordsOf bytes)) → Answered bytes
+
+answered : (bytes : List ℕ) → Answered bytes
+unfolding load loadWords
+answered bytes = size (wellSized (length bytes)) refl
+  where
+    ws : List ℕ
+    ws = wordsOf bytes
+
+    check : wellSized (length bytes) ≡ true → knownForm (formByte ws) ≡ true → countsFit ws ≡ true → (b : Bool) → sumsToZero ws ≡ b → Answered bytes
+    check s f c true q = late (record { size = s; form = f; count = c; check = q }) (rw (s, f, c, q))
+    check s f c false q = early (record { ground = Fault.ImageSum; refused = rw (s, f, c, q); from = omega arith; upto = omega arith })
+
+    count : wellSized (length bytes) ≡ true → knownForm (formByte ws) ≡ true → (b : Bool) → countsFit ws ≡ b → Answered bytes
+    count s f true q = check s f q (sumsToZero ws) refl
+    count s f false q = early (record { ground = Fault.ImageCount; refused = rw (s, f, q); from = omega arith; upto = omega arith })
+
+    form : wellSized (length bytes) ≡ true → (b : Bool) → knownForm (formByte ws) ≡ b → Answered bytes
+    form s true q = count s q (countsFit ws) refl
+    form s false q = early (record { ground = Fault.ImageForm; refused = rw (s, q); from = omega arith; upto = omega arith })
+
+    size : (b : Bool) → wellSized (length bytes) ≡ b → Answered bytes
+    size true q = form q (knownForm (formByte ws)) refl
+    size false q = early (record { ground = Fault.ImageSize; refused = rw q; from = omega arith; upto = omega arith })
+
+-- an image that is taken passed all checks, and both parts are lines
+record Took (bytes : List ℕ) (parts : Parts) : Type 0 where
+  checked : Checked bytes
+  rules : List PolicyLine
+  constraints : List PolicyLine
+  rules-whole : ruleLines (wordsOf bytes) ≡ whole rules
+  constraints-whole : constraintLines (wordsOf bytes) ≡ whole constraints
+  form-is : parts .form ≡ formByte (wordsOf bytes)
+  rule-words-are : parts .«rule_words» ≡ ruleCount (wordsOf bytes)
+  constraint-words-are : parts .«constraint_words» ≡ constraintCount (wordsOf bytes)
+
+took : (bytes : List ℕ) (parts : Parts) → load bytes ≡ Loaded.Image parts → Took bytes parts
+unfolding bodyAnswer
+took bytes parts e = go (answered bytes)
+  where
+    ws : List ℕ
+    ws = wordsOf bytes
+
+    body : Checked bytes → (x y : Lines) → ruleLines ws ≡ x → constraintLines ws ≡ y → bodyAnswer (formByte ws) (ruleCount ws) (constraintCount ws) x y ≡ Loaded.Image parts → Took bytes parts
+    body c (fault n) y p q r = let z : _≡_ {A = ℕ} 0 1 = cc in absurd (omega arith)
+    body c (whole rs) (fault n) p q r = let z : _≡_ {A = ℕ} 0 1 = cc in absurd (omega arith)
+    body c (whole rs) (whole cs) p q r =
+        let same : record { form = formByte ws; «rule_words» = ruleCount ws; «constraint_words» = constraintCount ws; rules = length rs; constraints = length cs } ≡ parts = cc in
+        record { checked = c; rules = rs; constraints = cs; rules-whole = p; constraints-whole = q; form-is = sym (ap (λ (x : Parts). x .form) same); rule-words-are = sym (ap (λ (x : Parts). x .«rule_words») same); constraint-words-are = sym (ap (λ (x : Parts). x .«constraint_words») same) }
+
+    go : Answered bytes → Took bytes parts
+    go (early r) = let a : Loaded.Image parts ≡ Loaded.Refused (r .ground) 0 = sym e ∙ r .refused in let z : _≡_ {A = ℕ} 0 1 = cc in absurd (omega arith)
+    go (late c q) = body c (ruleLines ws) (constraintLines ws) refl refl (sym q ∙ e)
+
+-- ---- whatever is taken is the image of the policy that it holds
+
+module _ (bytes : List ℕ) (bounded : Below 256 bytes) (parts : Parts) (taken : load bytes ≡ Loaded.Image parts) where
+  t : Took bytes parts
+  t = took bytes parts taken
+
+  ws : List ℕ
+  ws = wordsOf bytes
+
+  counted : length ws ≡ 1 + ruleCount ws + constraintCount ws + 1
+  unfolding countsFit checkCount ws
+  counted = eqb-true (length (wordsOf bytes)) (1 + ruleCount (wordsOf bytes) + constraintCount (wordsOf bytes) + 1) (and-out (leb (ruleCount (wordsOf bytes)) 2176 && leb (constraintCount (wordsOf bytes)) 1088) (eqb (length (wordsOf bytes)) (1 + ruleCount (wordsOf bytes) + constraintCount (wordsOf bytes) + 1)) (t .checked .count) .1)
+
+  rule-part : AreLines Part.Rules 128 (between 1 (1 + ruleCount ws) ws) (t .rules)
+  unfolding partLines ws
+  rule-part = lines-written Part.Rules 128 1 (between 1 (1 + ruleCount (wordsOf bytes)) (wordsOf bytes)) (t .rules) (t .rules-whole)
+
+  constraint-part : AreLines Part.Constraints 64 (between (1 + ruleCount ws) (1 + ruleCount ws + constraintCount ws) ws) (t .constraints)
+  unfolding partLines ws
+  constraint-part = lines-written Part.Constraints 64 (1 + ruleCount (wordsOf bytes)) (between (1 + ruleCount (wordsOf bytes)) (1 + ruleCount (wordsOf bytes) + constraintCount (wordsOf bytes)) (wordsOf bytes)) (t .constraints) (t .constraints-whole)
+
+  rules-held : map rule (policyIn bytes .rules) ≡ t .rules
+  unfolding policyIn linesIn ws
+  rules-held = rw (t .rules-whole) (rules-there (t .rules) (rule-part .kind))
+
+  constraints-held : map constraint (policyIn bytes .constraints) ≡ t .constraints
+  unfolding policyIn linesIn ws
+  constraints-held = rw (t .constraints-whole) (constraints-there (t .constraints) (constraint-part .kind))
+
+  -- 3: its lines are valid, and not too many
+  pub held-acceptable : Acceptable (policyIn bytes)
+  held-acceptable =
+      record {
+        rules-valid = ap (all valid) rules-held ∙ rule-part .sound;
+        constraints-valid = ap (all valid) constraints-held ∙ constraint-part .sound;
+        few-rules = omega (arith, length-map (policyIn bytes .rules) rule, ap length rules-held, rule-part .few);
+        few-constraints = omega (arith, length-map (policyIn bytes .constraints) constraint, ap length constraints-held, constraint-part .few);
+      }
+
+  ruleSize : ℕ
+  ruleSize = ruleCount ws
+
+  constraintSize : ℕ
+  constraintSize = constraintCount ws
+
+  R : List ℕ
+  R = between 1 (1 + ruleSize) ws
+
+  C : List ℕ
+  C = between (1 + ruleSize) (1 + ruleSize + constraintSize) ws
+
+  last : ℕ
+  last = getD ws (1 + ruleSize + constraintSize) 0
+
+  rules-same : ruleWords (policyIn bytes) ≡ R
+  unfolding ruleWords R ruleSize
+  rules-same = ap linesWords rules-held ∙ sym (rule-part .words)
+
+  constraints-same : constraintWords (policyIn bytes) ≡ C
+  unfolding constraintWords C ruleSize constraintSize
+  constraints-same = ap linesWords constraints-held ∙ sym (constraint-part .words)
+
+  words-small : Below wordLimit ws
+  unfolding ws
+  words-small = words-below bytes bounded
+
+  header-same : packHeader (parts .form) (length R) (length C) ≡ getD ws 0 0
+  unfolding R C ruleSize constraintSize ws
+  header-same =
+      ap₂ (λ (a b : ℕ). packHeader (parts .form) a b) (rules-size (wordsOf bytes) (ruleCount (wordsOf bytes)) (constraintCount (wordsOf bytes)) counted) (constraints-size (wordsOf bytes) (ruleCount (wordsOf bytes)) (constraintCount (wordsOf bytes)) counted)
+      ∙ ap (λ (f : ℕ). packHeader f (ruleCount (wordsOf bytes)) (constraintCount (wordsOf bytes))) (t .form-is)
+      ∙ header-fields (getD (wordsOf bytes) 0 0) (words-small 0)
+
+  content-same : contentWords (parts .form) (policyIn bytes) ≡ getD ws 0 0 ∷ R ++ C
+  unfolding contentWords headerWord
+  content-same = rw (rules-same, constraints-same) (ap (λ (h : ℕ). h ∷ R ++ C) header-same)
+
+  split : ws ≡ (getD ws 0 0 ∷ R ++ C) ++ last ∷ []
+  unfolding R C ruleSize constraintSize last
+  split = parts-of ws (ruleCount ws) (constraintCount ws) counted
+
+  zero-sum : sum ws % wordLimit ≡ 0
+  unfolding sumsToZero ws
+  zero-sum = eqb-true (sum (wordsOf bytes) % wordLimit) 0 (t .checked .check)
+
+  sum-one : (n : ℕ) → sum (n ∷ []) ≡ n
+  unfolding sum
+  sum-one n = omega arith
+
+  last-small : last < wordLimit
+  unfolding last
+  last-small = words-small (1 + ruleSize + constraintSize)
+
+  last-same : last ≡ checkWord (getD ws 0 0 ∷ R ++ C)
+  last-same = check-word (getD ws 0 0 ∷ R ++ C) (sum (getD ws 0 0 ∷ R ++ C) % wordLimit) last refl adds-up small
+    where
+      one : (n : ℕ) → sum (n ∷ []) ≡ n
+      one n = sum-one n
+
+      small : last < wordLimit
+      small = last-small
+
+      adds-up : (last + sum (getD ws 0 0 ∷ R ++ C) % wordLimit) % wordLimit ≡ 0
+      adds-up =
+          let a : sum ws ≡ sum (getD ws 0 0 ∷ R ++ C) + sum (last ∷ []) = ap sum split ∙ sum-append (getD ws 0 0 ∷ R ++ C) (last ∷ []) in
+          let b = one last in
+          let c = zero-sum in
+          omega arith
+
+  whole-same : imageWords (parts .form) (policyIn bytes) ≡ ws
+  unfolding imageWords checkWords
+  whole-same = rw content-same (ap (λ (x : ℕ). (getD ws 0 0 ∷ R ++ C) ++ x ∷ []) (sym last-same) ∙ sym split)
+
+  -- 3: it is the image of the policy that it holds, byte for byte
+  pub held-image : imageOf (parts .form) (policyIn bytes) ≡ bytes
+  unfolding imageOf wellSized ws
+  held-image =
+      ap bytesOf whole-same
+      ∙ bytes-of-words bytes bounded (eqb-true (length bytes % 4) 0 (and-out (leb 8 (length bytes) && leb (length bytes) 13064) (eqb (length bytes % 4) 0) (t .checked .size) .1))
+
+  -- 3: and of a form that is known
+  pub held-form : knownForm (parts .form) ≡ true
+  held-form = ap knownForm (t .form-is) ∙ t .checked .form
+
+  -- the parts of a taken image are the words of its policy
+  pub taken-rules : between 1 (1 + parts .«rule_words») (wordsOf bytes) ≡ ruleWords (policyIn bytes)
+  unfolding R ruleSize ws
+  taken-rules = ap (λ (n : ℕ). between 1 (1 + n) (wordsOf bytes)) (t .rule-words-are) ∙ sym rules-same
+
+  pub taken-constraints : between (1 + parts .«rule_words») (1 + parts .«rule_words» + parts .«constraint_words») (wordsOf bytes) ≡ constraintWords (policyIn bytes)
+  unfolding C ruleSize constraintSize ws
+  taken-constraints = ap₂ (λ (n m : ℕ). between (1 + n) (1 + n + m) (wordsOf bytes)) (t .rule-words-are) (t .constraint-words-are) ∙ sym constraints-same
+
+-- 2 and 3 together: the loader takes exactly the images of acceptable policies
+pub record IsImage (bytes : List ℕ) : Type 0 where
+  pub form : ℕ
+  pub policy : Policy
+  pub known : knownForm form ≡ true
+  pub acceptable : Acceptable policy
+  pub same : imageOf form policy ≡ bytes
+
+pub exactly-images : (bytes : List ℕ) → Below 256 bytes → ((parts : Parts) × (load bytes ≡ Loaded.Image parts)) ↔ IsImage bytes
+exactly-images bytes bounded = (
+  λ x. record { form = x .0 .form; policy = policyIn bytes; known = held-form bytes bounded (x .0) (x .1); acceptable = held-acceptable bytes bounded (x .0) (x .1); same = held-image bytes bounded (x .0) (x .1) },
+  λ x. (partsOf (x .form) (x .policy), ap load (sym (x .same)) ∙ image-taken (x .form) (x .known) (x .policy) (x .acceptable)),
+)
+
+-- ---- the place of ground 11
+
+rules-none : (ws : List ℕ) (place : ℕ) → ruleLines ws ≡ fault place → NoLineAt Part.Rules 128 1 (between 1 (1 + ruleCount ws) ws) place
+unfolding partLines
+rules-none ws place e = lines-fault Part.Rules 128 1 place (between 1 (1 + ruleCount ws) ws) e
+
+constraints-none : (ws : List ℕ) (place : ℕ) → constraintLines ws ≡ fault place → NoLineAt Part.Constraints 64 (1 + ruleCount ws) (between (1 + ruleCount ws) (1 + ruleCount ws + constraintCount ws) ws) place
+unfolding partLines
+constraints-none ws place e = lines-fault Part.Constraints 64 (1 + ruleCount ws) place (between (1 + ruleCount ws) (1 + ruleCount ws + constraintCount ws) ws) e
+
+-- 4: where the loader refuses under 11, every line before the place is whole and valid, and at the place none fits
+
+pub fault-place : (bytes : List ℕ) (place : ℕ) → load bytes ≡ Loaded.Refused Fault.ImageBody place → FirstFault (wordsOf bytes) place
+unfolding bodyAnswer
+fault-place bytes place e = go (answered bytes)
+  where
+    ws′ : List ℕ
+    ws′ = wordsOf bytes
+
+    body : (x y : Lines) → ruleLines ws′ ≡ x → constraintLines ws′ ≡ y → bodyAnswer (formByte ws′) (ruleCount ws′) (constraintCount ws′) x y ≡ Loaded.Refused Fault.ImageBody place → FirstFault ws′ place
+    body (fault n) y p q r = let m : n ≡ place = cc in inRules (rules-none ws′ place (p ∙ ap fault m))
+    body (whole rs) (fault n) p q r = let m : n ≡ place = cc in inConstraints rs p (constraints-none ws′ place (q ∙ ap fault m))
+    body (whole rs) (whole cs) p q r = let z : _≡_ {A = ℕ} 0 1 = cc in absurd (omega arith)
+
+    go : Answered bytes → FirstFault ws′ place
+    go (early r) =
+        let a : Loaded.Refused Fault.ImageBody place ≡ Loaded.Refused (r .ground) 0 = sym e ∙ r .refused in
+        let b : Fault.ImageBody ≡ r .ground = cc in
+        absurd (omega (arith, ap faultNumber b, r .upto))
+    go (late c q) = body (ruleLines ws′) (constraintLines ws′) refl refl (sym q ∙ e)
+
+-- ---- one word changed
+
+-- the bytes with the value v in the place of the word i
+abbrev pub changed : List ℕ → ℕ → ℕ → List ℕ
+changed bytes i v = bytesOf (set (wordsOf bytes) i v)
+
+set-below : (ws : List ℕ) (i v : ℕ) → v < wordLimit → Below wordLimit ws → Below wordLimit (set ws i v)
+set-below [] i v h b j = b j
+set-below (w ∷ ws) zero v h b zero = h
+set-below (w ∷ ws) zero v h b (suc j) = b (suc j)
+set-below (w ∷ ws) (suc i) v h b zero = b 0
+set-below (w ∷ ws) (suc i) v h b (suc j) = set-below ws i v h (λ k. b (suc k)) j
+
+same-word : (s s′ old v : ℕ) → s′ % wordLimit ≡ 0 → s % wordLimit ≡ 0 → s′ + old ≡ s + v → v < wordLimit → old < wordLimit → v ≡ old
+same-word s s′ old v a b e h k = omega arith
+
+-- 6: bytes that pass the checks 7 to 10, with any other value in the place of one word, are refused under one of them
+pub one-word-changed : (bytes : List ℕ) → Below 256 bytes → Checked bytes → (i v : ℕ) → i < length (wordsOf bytes) → v < wordLimit → ¬ (v ≡ wordAt bytes i) → RefusedEarly (load (changed bytes i v))
+unfolding sumsToZero
+one-word-changed bytes bounded ok i v l small other = go (answered (changed bytes i v))
+  where
+    words : List ℕ
+    words = set (wordsOf bytes) i v
+
+    go : Answered (changed bytes i v) → RefusedEarly (load (changed bytes i v))
+    go (early r) = r
+    go (late c q) =
+        let e : wordsOf (bytesOf words) ≡ words = words-of-bytes words (set-below (wordsOf bytes) i v small (words-below bytes bounded)) in
+        let a : sum words % wordLimit ≡ 0 = ap (λ (ws : List ℕ). sum ws % wordLimit) (sym e) ∙ eqb-true (sum (wordsOf (changed bytes i v)) % wordLimit) 0 (c .check) in
+        let b : sum (wordsOf bytes) % wordLimit ≡ 0 = eqb-true (sum (wordsOf bytes) % wordLimit) 0 (ok .check) in
+        absurd (other (same-word (sum (wordsOf bytes)) (sum words) (wordAt bytes i) v a b (sum-set (wordsOf bytes) i v l) small (words-below bytes bounded i)))

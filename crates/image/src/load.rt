@@ -1,0 +1,127 @@
+// The loader: which bytes are an image, and where its parts stand.
+ghost use mathlib.Core.Path.{_≡_};
+ghost use Prim.Native.Nat.{_+_, _/_, _≤_};
+ghost use lib.ListN.{length};
+ghost use Rattle.image.specs.Word.{wordsOf, formOf, ruleCountOf, constraintCountOf};
+ghost use Rattle.image.specs.Load.{load, bodyAnswer, partLines, wellSized};
+use crate::checksum::sum_words;
+use crate::line::Part;
+use crate::line::PartCheck;
+use crate::line::part_lines;
+use crate::word::word_at;
+use policy::Fault;
+
+const SIZE_LIMIT: usize = 13064;
+
+const RULE_WORD_LIMIT: usize = 2176;
+
+const CONSTRAINT_WORD_LIMIT: usize = 1088;
+
+const RULE_LIMIT: usize = 128;
+
+const CONSTRAINT_LIMIT: usize = 64;
+
+// The counts of an image that the loader took.
+pub struct Parts {
+    pub form: u32,
+    pub rule_words: usize,
+    pub constraint_words: usize,
+    pub rules: usize,
+    pub constraints: usize,
+}
+
+pub enum Loaded {
+    Refused(Fault, usize),
+    Image(Parts),
+}
+
+fn well_sized(size: usize) -> bool
+    ensures { λ r. ⌜ r ≡ wellSized size ⌝ }
+{
+    if size < 8 {
+        return false;
+    }
+    if SIZE_LIMIT < size {
+        return false;
+    }
+    size % 4 == 0
+}
+
+fn form_of(header: u32) -> u32
+    ensures { λ r. ⌜ r ≡ formOf header ⌝ }
+{
+    (header >> 24) % 256
+}
+
+fn rule_words_of(header: u32) -> u32
+    ensures { λ r. ⌜ r ≡ ruleCountOf header ⌝ }
+{
+    (header >> 12) % 4096
+}
+
+fn constraint_words_of(header: u32) -> u32
+    ensures { λ r. ⌜ r ≡ constraintCountOf header ⌝ }
+{
+    header % 4096
+}
+
+// The lines of both parts, which fit the image.
+fn load_body(image: &[u8], form: u32, rule_words: usize, constraint_words: usize) -> Loaded
+    requires { ⌜ 1 + «rule_words» + «constraint_words» ≤ length (now image) / 4 ⌝ }
+    ensures { λ r. ⌜ r ≡ bodyAnswer form «rule_words» «constraint_words» (partLines Part.Rules 1 (1 + «rule_words») (wordsOf (now (image .entry)))) (partLines Part.Constraints (1 + «rule_words») (1 + «rule_words» + «constraint_words») (wordsOf (now (image .entry)))) ⌝ }
+{
+    let middle = 1 + rule_words;
+    let rules = part_lines(image, Part::Rules, 1, middle, RULE_LIMIT);
+    match rules {
+        PartCheck::Fault(at) => Loaded::Refused(Fault::ImageBody, at),
+        PartCheck::Lines(rule_count) => {
+            let constraints = part_lines(
+                image,
+                Part::Constraints,
+                middle,
+                middle + constraint_words,
+                CONSTRAINT_LIMIT,
+            );
+            match constraints {
+                PartCheck::Fault(at) => Loaded::Refused(Fault::ImageBody, at),
+                PartCheck::Lines(constraint_count) => Loaded::Image(Parts {
+                    form,
+                    rule_words,
+                    constraint_words,
+                    rules: rule_count,
+                    constraints: constraint_count,
+                }),
+            }
+        }
+    }
+}
+
+// The parts of an image, or why and where it is refused.
+pub fn load_image(image: &[u8]) -> Loaded
+    ensures { λ r. ⌜ r ≡ load (now (image .entry)) ⌝ }
+{
+    let size = image.len();
+    if !well_sized(size) {
+        return Loaded::Refused(Fault::ImageSize, 0);
+    }
+    let header = word_at(image, 0);
+    let form = form_of(header);
+    if form != 1 {
+        return Loaded::Refused(Fault::ImageForm, 0);
+    }
+    let rule_words = rule_words_of(header) as usize;
+    let constraint_words = constraint_words_of(header) as usize;
+    if RULE_WORD_LIMIT < rule_words {
+        return Loaded::Refused(Fault::ImageCount, 0);
+    }
+    if CONSTRAINT_WORD_LIMIT < constraint_words {
+        return Loaded::Refused(Fault::ImageCount, 0);
+    }
+    if size / 4 != 1 + rule_words + constraint_words + 1 {
+        return Loaded::Refused(Fault::ImageCount, 0);
+    }
+    if sum_words(image, size / 4) != 0 {
+        return Loaded::Refused(Fault::ImageSum, 0);
+    }
+    load_body(image, form, rule_words, constraint_words)
+}
