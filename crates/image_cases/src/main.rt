@@ -1,0 +1,60 @@
+// Runs the loader on cases from standard input and writes what it answers, one line a case. A case is its size in two bytes,
+// the more significant first, and then its bytes.
+use image::Loaded;
+use libc::STDIN_FILENO;
+use libc::STDOUT_FILENO;
+
+fn write(text: &[u8]) {
+    io::write_all(STDOUT_FILENO, text);
+}
+
+fn write_number(n: usize) {
+    io::print_decimal(STDOUT_FILENO, n as u64);
+}
+
+fn show_case(case: &[u8]) {
+    let loaded = image::load_image(case);
+    match loaded {
+        Loaded::Refused(fault, place) => {
+            write(b"refused ");
+            write_number(fault.number() as usize);
+            write(b" place ");
+            write_number(place);
+        }
+        Loaded::Image(parts) => {
+            write(b"image rules ");
+            write_number(parts.rules);
+            write(b" constraints ");
+            write_number(parts.constraints);
+            write(b" words ");
+            write_number(parts.rule_words);
+            write(b" ");
+            write_number(parts.constraint_words);
+        }
+    }
+    write(b"\n");
+}
+
+fn size_of(high: u8, low: u8) -> usize {
+    (high as usize) * 256 + (low as usize)
+}
+
+fn run(input: &[u8]) {
+    let mut at = 0;
+    while 2 <= input.len() - at {
+        let size = size_of(input[at], input[at + 1]);
+        let start = at + 2;
+        if input.len() - start < size {
+            return;
+        }
+        let end = start + size;
+        show_case(&input[start..end]);
+        at = end;
+    }
+}
+
+fn main() {
+    let mut input = [0u8; 131072];
+    let n = io::read_full(STDIN_FILENO, &mut input);
+    run(&input[..n]);
+}
