@@ -260,7 +260,13 @@ pub fn line_length(image: &[u8], part: Part, at: usize, end: usize) -> usize
 }
 
 // The lines between two words of an image, at most `limit` of them.
-pub fn part_lines(image: &[u8], part: Part, start: usize, end: usize, limit: usize) -> PartCheck
+pub(crate) fn part_lines(
+    image: &[u8],
+    part: Part,
+    start: usize,
+    end: usize,
+    limit: usize,
+) -> PartCheck
     requires { ⌜ (start ≤ end) × (end ≤ length (now image) / 4) ⌝ }
     ensures { λ r. ⌜ r ≡ partAnswer 0 (linesFrom part limit start (between start end (wordsOf (now (image .entry))))) ⌝ }
 {
