@@ -11,7 +11,7 @@ use lib.Dec.{leb, eqb}
 use lib.ListN.{length, getD, set, length-append, length-map}
 use Rattle.policy.proofs.ListLaws.{and-in, and-out}
 use Rattle.policy.specs.Fault.{faultNumber}
-use Rattle.policy.specs.Limits.{valid}
+use Rattle.policy.specs.Limits.{valid, Acceptable}
 use Rattle.policy.specs.Line.{PolicyLine, rule, constraint}
 use Rattle.policy.specs.List.{all}
 use Rattle.policy.specs.Policy.{Policy}
@@ -21,7 +21,7 @@ use Rattle.image.proofs.PartLines.{lines-limit, lines-found, AreLines, 
 use Rattle.image.proofs.SumLaws.{check-word, check-sum, check-below, sum-append, sum-set}
 use Rattle.image.proofs.WordLaws.{Below, words-below, words-of-bytes, bytes-of-words, bytes-length, header-below, form-header, rules-header, constraints-header, header-fields}
 use Rattle.image.specs.Layout.{linesWords, knownForm, checkCount, sum, checkWord, checkWords, headerWord, ruleWords, constraintWords, contentWords, imageWords, imageOf}
-use Rattle.image.specs.Load.{Lines, whole, fault, linesFrom, partLines, ruleCount, constraintCount, formByte, ruleLines, constraintLines, wellSized, countsFit, sumsToZero, bodyAnswer, loadWords, load, linesIn, policyIn, Acceptable, Checked, RefusedEarly, NoLineAt, FirstFault, inRules, inConstraints}
+use Rattle.image.specs.Load.{Lines, whole, fault, linesFrom, partLines, ruleCount, constraintCount, formByte, ruleLines, constraintLines, wellSized, countsFit, sumsToZero, bodyAnswer, loadWords, load, linesIn, policyIn, Checked, RefusedEarly, NoLineAt, FirstFault, inRules, inConstraints}
 use Rattle.image.specs.Word.{wordLimit, wordsOf, wordAt, bytesOf, between, packHeader, formOf, ruleCountOf, constraintCountOf}
 use Rattle.image.specs.declared.line.Part.{Part}
 use Rattle.image.specs.declared.load.Loaded.{Loaded}

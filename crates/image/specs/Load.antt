@@ -206,13 +206,6 @@ lineAnswer at (some l) = record { line = lineValue l; next = at + length (lineWo
 
 -- ---- for the statements
 
--- a policy that an accepted text may have: its lines are valid and not too many
-pub record Acceptable (p : Policy) : Type 0 where
-  pub rules-valid : all valid (map rule (p .rules)) ≡ true
-  pub constraints-valid : all valid (map constraint (p .constraints)) ≡ true
-  pub few-rules : length (p .rules) ≤ ruleLimit
-  pub few-constraints : length (p .constraints) ≤ constraintLimit
-
 -- the bytes pass the checks 7 to 10
 pub record Checked (bytes : List ℕ) : Type 0 where
   pub size : wellSized (length bytes) ≡ true

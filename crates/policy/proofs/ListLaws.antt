@@ -1,7 +1,7 @@
 -- Tests as facts: what it says that a test of Bools, or of a whole list, holds.
 use Prim.Native.Nat.{ℕ}
 use mathlib.Core.Bool.{Bool, true, false, _&&_, _||_}
-use mathlib.Core.List.{List, [], _∷_, List·Memᴰ, List·Memᴰ·head, List·Memᴰ·tail}
+use mathlib.Core.List.{List, [], _∷_, _++_, List·Memᴰ, List·Memᴰ·head, List·Memᴰ·tail}
 use mathlib.Core.Path.{_≡_, refl, sym, ap, _∙_}
 use native.Mathlib.Omega.{arith}
 use Rattle.policy.specs.List.{all, any}
@@ -39,6 +39,11 @@ module _ {A : Type 0} (p : A → Bool) where
   unfolding all
   all-out (y ∷ ys) e x (List·Memᴰ·head q) = ap p q ∙ and-out (p y) (all p ys) e .0
   all-out (y ∷ ys) e x (List·Memᴰ·tail m) = all-out ys (and-out (p y) (all p ys) e .1) x m
+
+  pub all-append : (xs ys : List A) → all p xs ≡ true → all p ys ≡ true → all p (xs ++ ys) ≡ true
+  unfolding all
+  all-append [] ys e f = f
+  all-append (x ∷ xs) ys e f = let h = and-out (p x) (all p xs) e in and-in (h .0) (all-append xs ys (h .1) f)
 
   pub any-in : (xs : List A) (x : A) → List·Memᴰ x xs → p x ≡ true → any p xs ≡ true
   unfolding any

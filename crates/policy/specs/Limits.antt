@@ -1,14 +1,16 @@
 -- Which lines an accepted text may have: document 01's ranges, counts and repeats, and how many lines of each kind.
-use Prim.Native.Nat.{ℕ, _+_}
+use Prim.Native.Nat.{ℕ, _+_, _≤_}
 use mathlib.Core.Bool.{Bool, true, false, not, _&&_, _||_}
 use mathlib.Core.List.{List, [], _∷_, map}
+use mathlib.Core.Path.{_≡_}
 use lib.Dec.{eqb, ltb}
 use lib.IntN.{ℤ, pos, negsuc}
 use lib.ListN.{length}
 use lib.Signed.{leZ}
-use Rattle.policy.specs.Line.{PolicyLine, headsOf, comparisonsOf, endingOf, headLimit, comparisonLimit}
+use Rattle.policy.specs.Line.{PolicyLine, rule, constraint, headsOf, comparisonsOf, endingOf, headLimit, comparisonLimit}
 use Rattle.policy.specs.List.{all, any}
 use Rattle.policy.specs.Number.{setLimit, readingLimit}
+use Rattle.policy.specs.Policy.{Policy}
 use Rattle.policy.specs.Set.{has, insert}
 use Rattle.policy.specs.declared.comparison.Comparison.{Comparison}
 use Rattle.policy.specs.declared.comparison.Operand.{Operand}
@@ -71,6 +73,13 @@ repeated l = repeats (map testNumber (headsOf l))
 -- a line that an accepted text may have
 unfoldable pub valid : PolicyLine → Bool
 valid l = ltb 0 (length (headsOf l)) && inRange l && not (crowded l) && not (repeated l)
+
+-- a policy that an accepted text may have: its lines are valid and not too many
+pub record Acceptable (p : Policy) : Type 0 where
+  pub rules-valid : all valid (map rule (p .rules)) ≡ true
+  pub constraints-valid : all valid (map constraint (p .constraints)) ≡ true
+  pub few-rules : length (p .rules) ≤ ruleLimit
+  pub few-constraints : length (p .constraints) ≤ constraintLimit
 
 -- ---- the size of a line: how many words it takes in an image
 

@@ -1,17 +1,17 @@
 -- What an accepted text has: lines within the limits, and not too many of them.
 use Prim.Native.Nat.{ℕ, suc, _+_, _≤_, _<_}
 use mathlib.Core.Bool.{Bool, true, false, not, _&&_, cond}
-use mathlib.Core.List.{List, [], _∷_, _++_, map, foldl, List·Memᴰ, List·Memᴰ·append-cases, List·Memᴰ·eq-of-singleton, List·Memᴰ·not-nil}
-use mathlib.Core.Logic.{⊎-elim}
+use mathlib.Core.List.{List, [], _∷_, _++_, map, foldl, map-append}
 use mathlib.Core.Option.{Option, none, some, Option·map}
-use mathlib.Core.Path.{_≡_, refl, sym, ap, _∙_, subst⁻¹}
+use mathlib.Core.Path.{_≡_, refl, sym, ap, _∙_}
 use native.Mathlib.Omega.{arith}
 use borrow.Author.Tests.{ltb-true, lt-ltb, le-ltb}
 use lib.Dec.{ltb}
 use lib.ListN.{length, length-append, length-map}
-use Rattle.policy.proofs.ListLaws.{true-false, and-in}
-use Rattle.policy.specs.Limits.{valid, inRange, crowded, repeated, ruleLimit, constraintLimit}
+use Rattle.policy.proofs.ListLaws.{and-in, all-append}
+use Rattle.policy.specs.Limits.{valid, inRange, crowded, repeated, ruleLimit, constraintLimit, Acceptable}
 use Rattle.policy.specs.Line.{PolicyLine, rule, constraint, headsOf}
+use Rattle.policy.specs.List.{all}
 use Rattle.policy.specs.Policy.{Policy, Rule, Constraint}
 use Rattle.policy.specs.declared.comparison.Comparison.{Comparison}
 use Rattle.policy.specs.declared.comparison.Literal.{Literal}
@@ -23,13 +23,6 @@ use Rattle.syntax.specs.Grammar.{Token, Joined, last, before, both, join
 use Rattle.syntax.specs.Byte.{is}
 use Rattle.syntax.specs.Lines.{linesOf, tokensOf}
 use Rattle.syntax.specs.Text.{LineAnswer, skipped, refused, accepted, judge, isComment, tokensAnswer, lineAnswer, Progress, reading, stopped, withRule, withConstraint, advance, readLine, emptyPolicy, textLimit, readText, policyOf}
-
--- a policy such as an accepted text has
-pub record Within (p : Policy) : Type 0 where
-  pub rules : length (p .rules) ≤ ruleLimit
-  pub constraints : length (p .constraints) ≤ constraintLimit
-  pub validRules : (r : Rule) → List·Memᴰ r (p .rules) → valid (rule r) ≡ true
-  pub validConstraints : (c : Constraint) → List·Memᴰ c (p .constraints) → valid (constraint c) ≡ true
 
 -- ---- a line of either shape has a literal or an action
 
@@ -137,16 +130,17 @@ accepted-valid line l = go (tokensOf line)
 -- ---- an accepted text is within the limits
 
 still : Progress → Type 0
-still (reading n p) = Within p
+still (reading n p) = Acceptable p
 still (stopped f n) = Unit {0}
 
-one-more : {A : Type 0} (xs : List A) (x : A) (P : A → Type 0) → ((y : A) → List·Memᴰ y xs → P y) → P x → (y : A) → List·Memᴰ y (xs ++ x ∷ []) → P y
-one-more xs x P h k y m = ⊎-elim (h y) (λ e. subst⁻¹ P (List·Memᴰ·eq-of-singleton e) k) (List·Memᴰ·append-cases xs m)
+one-more : {A : Type 0} (line : A → PolicyLine) (xs : List A) (x : A) → all valid (map line xs) ≡ true → valid (line x) ≡ true → all valid (map line (xs ++ x ∷ [])) ≡ true
+unfolding all
+one-more line xs x h k = rw (map-append line xs (x ∷ [])) (all-append valid (map line xs) (line x ∷ []) h (and-in k refl))
 
 room-after : {A : Type 0} (xs : List A) (x : A) (limit : ℕ) → ltb (length xs) limit ≡ true → length (xs ++ x ∷ []) ≤ limit
 room-after xs x limit e = let l = ltb-true (length xs) limit e in omega (arith, length-append xs (x ∷ []))
 
-keeps : (n : ℕ) (p : Policy) (a : LineAnswer) → ((l : PolicyLine) → a ≡ accepted l → valid l ≡ true) → Within p → still (advance n p a)
+keeps : (n : ℕ) (p : Policy) (a : LineAnswer) → ((l : PolicyLine) → a ≡ accepted l → valid l ≡ true) → Acceptable p → still (advance n p a)
 unfolding advance still
 keeps n p skipped v w = w
 keeps n p (refused f) v w = tt
@@ -155,10 +149,10 @@ keeps n p (accepted (rule r)) v w = go (ltb (length (p .rules)) ruleLimit) refl
     go : (b : Bool) → ltb (length (p .rules)) ruleLimit ≡ b → still (cond b (reading (suc n) (withRule p r)) (stopped Fault.TooManyLines n))
     go true e =
         record {
-          rules = room-after (p .rules) r ruleLimit e;
-          constraints = w .constraints;
-          validRules = one-more (p .rules) r (λ (y : Rule). valid (rule y) ≡ true) (w .validRules) (v (rule r) refl);
-          validConstraints = w .validConstraints;
+          rules-valid = one-more rule (p .rules) r (w .rules-valid) (v (rule r) refl);
+          constraints-valid = w .constraints-valid;
+          few-rules = room-after (p .rules) r ruleLimit e;
+          few-constraints = w .few-constraints;
         }
     go false e = tt
 keeps n p (accepted (constraint c)) v w = go (ltb (length (p .constraints)) constraintLimit) refl
@@ -166,10 +160,10 @@ keeps n p (accepted (constraint c)) v w = go (ltb (length (p .constraints)) cons
     go : (b : Bool) → ltb (length (p .constraints)) constraintLimit ≡ b → still (cond b (reading (suc n) (withConstraint p c)) (stopped Fault.TooManyLines n))
     go true e =
         record {
-          rules = w .rules;
-          constraints = room-after (p .constraints) c constraintLimit e;
-          validRules = w .validRules;
-          validConstraints = one-more (p .constraints) c (λ (y : Constraint). valid (constraint y) ≡ true) (w .validConstraints) (v (constraint c) refl);
+          rules-valid = w .rules-valid;
+          constraints-valid = one-more constraint (p .constraints) c (w .constraints-valid) (v (constraint c) refl);
+          few-rules = w .few-rules;
+          few-constraints = room-after (p .constraints) c constraintLimit e;
         }
     go false e = tt
 
@@ -182,21 +176,21 @@ keeps-lines : (ls : List (List ℕ)) (s : Progress) → still s → still (foldl
 keeps-lines [] s w = w
 keeps-lines (l ∷ ls) s w = keeps-lines ls (readLine s l) (keeps-line s l w)
 
-pub accepted-within : (text : List ℕ) (n : ℕ) (p : Policy) → readText text ≡ reading n p → Within p
-unfolding readText still
-accepted-within text n p e = go (ltb textLimit (length text)) e
+pub accepted-acceptable : (text : List ℕ) (n : ℕ) (p : Policy) → readText text ≡ reading n p → Acceptable p
+unfolding readText still all
+accepted-acceptable text n p e = go (ltb textLimit (length text)) e
   where
-    started : Within emptyPolicy
-    started = record { rules = omega arith; constraints = omega arith; validRules = λ r m. absurd (List·Memᴰ·not-nil m); validConstraints = λ c m. absurd (List·Memᴰ·not-nil m) }
+    started : Acceptable emptyPolicy
+    started = record { rules-valid = refl; constraints-valid = refl; few-rules = omega arith; few-constraints = omega arith }
 
-    of-reading : (s : Progress) → still s → s ≡ reading n p → Within p
+    of-reading : (s : Progress) → still s → s ≡ reading n p → Acceptable p
     of-reading (reading m q) w k = rw (← same k) w
       where
         same : reading m q ≡ reading n p → q ≡ p
         same h = cc
     of-reading (stopped f m) w k = let z : _≡_ {A = ℕ} 0 1 = cc in absurd (omega arith)
 
-    go : (b : Bool) → cond b (stopped Fault.TooLong 0) (foldl readLine (reading 1 emptyPolicy) (linesOf text)) ≡ reading n p → Within p
+    go : (b : Bool) → cond b (stopped Fault.TooLong 0) (foldl readLine (reading 1 emptyPolicy) (linesOf text)) ≡ reading n p → Acceptable p
     go true k = let z : _≡_ {A = ℕ} 0 1 = cc in absurd (omega arith)
     go false k = of-reading (foldl readLine (reading 1 emptyPolicy) (linesOf text)) (keeps-lines (linesOf text) (reading 1 emptyPolicy) started) k
 
