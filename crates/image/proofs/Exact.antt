@@ -44,18 +44,18 @@ module _ (form : ℕ) (known : knownForm form ≡ true) (p : Policy) (ok : Accep
   abbrev N : ℕ
   N = length (constraintWords p)
 
-  P-limit : P ≤ 2176
+  pub P-limit : P ≤ 2176
   unfolding ruleWords
   P-limit = omega (arith, lines-limit (map rule (p .rules)) (ok .rules-valid), length-map (p .rules) rule, ok .few-rules)
 
-  N-limit : N ≤ 1088
+  pub N-limit : N ≤ 1088
   unfolding constraintWords
   N-limit = omega (arith, lines-limit (map constraint (p .constraints)) (ok .constraints-valid), length-map (p .constraints) constraint, ok .few-constraints)
 
   form-small : form < 256
   form-small = omega (arith, known-one form known)
 
-  content-below : Below wordLimit (contentWords form p)
+  pub content-below : Below wordLimit (contentWords form p)
   unfolding contentWords headerWord ruleWords constraintWords
   content-below =
       below-cons wordLimit (packHeader form P N) (ruleWords p ++ constraintWords p) (header-below form P N form-small (omega (arith, P-limit)) (omega (arith, N-limit)))
@@ -69,11 +69,11 @@ module _ (form : ℕ) (known : knownForm form ≡ true) (p : Policy) (ok : Accep
   unfolding imageOf
   image-words = words-of-bytes (imageWords form p) image-below
 
-  image-length : length (imageWords form p) ≡ 1 + P + N + 1
+  pub image-length : length (imageWords form p) ≡ 1 + P + N + 1
   unfolding imageWords contentWords checkWords
   image-length = omega (arith, length-append (contentWords form p) (checkWord (contentWords form p) ∷ []), length-append (ruleWords p) (constraintWords p))
 
-  image-size : wellSized (length (imageOf form p)) ≡ true
+  pub image-size : wellSized (length (imageOf form p)) ≡ true
   unfolding wellSized imageOf
   image-size =
       let n : length (bytesOf (imageWords form p)) ≡ (1 + P + N + 1) * 4 = bytes-length (imageWords form p) ∙ ap (λ (k : ℕ). k * 4) image-length in

@@ -1,6 +1,6 @@
 -- Laws of bytes and words, both ways, and of packing a word and taking it apart.
 use Prim.Native.Nat.{ℕ, zero, suc, _+_, _*_, _/_, _%_, _^_, _<_}
-use mathlib.Core.List.{List, [], _∷_, _++_}
+use mathlib.Core.List.{List, [], _∷_, _++_, append-nil}
 use mathlib.Core.Path.{_≡_, refl, sym, ap, ap₂, _∙_}
 use native.Mathlib.Omega.{arith}
 use lib.ListN.{length, getD}
@@ -68,11 +68,15 @@ join-bytes w h =
     let top : w / 2 ^ 24 ≡ w / 2 ^ 24 % 256 = omega arith in
     join-linear w (w / 2 ^ 24 % 256) (w / 2 ^ 16 % 256) (w / 2 ^ 8 % 256) (w % 256) (w / 2 ^ 8) (w / 2 ^ 16) (w / 2 ^ 24) (lowest w 8) (parts w 8 8) (parts w 16 8) top
 
--- words to bytes to words
-pub words-of-bytes : (words : List ℕ) → Below wordLimit words → wordsOf (bytesOf words) ≡ words
+-- words to bytes to words, whatever stands behind them
+pub words-append : (words rest : List ℕ) → Below wordLimit words → wordsOf (bytesOf words ++ rest) ≡ words ++ wordsOf rest
 unfolding wordsOf bytesOf
-words-of-bytes [] h = refl
-words-of-bytes (w ∷ ws) h = ap₂ (λ (x : ℕ) (xs : List ℕ). x ∷ xs) (join-bytes w (h 0)) (words-of-bytes ws (λ i. h (suc i)))
+words-append [] rest h = refl
+words-append (w ∷ ws) rest h = ap₂ (λ (x : ℕ) (xs : List ℕ). x ∷ xs) (join-bytes w (h 0)) (words-append ws rest (λ i. h (suc i)))
+
+pub words-of-bytes : (words : List ℕ) → Below wordLimit words → wordsOf (bytesOf words) ≡ words
+unfolding wordsOf
+words-of-bytes words h = ap wordsOf (sym (append-nil (bytesOf words))) ∙ words-append words [] h ∙ append-nil words
 
 byte-1 : (a b c d : ℕ) → a < 256 → b < 256 → c < 256 → d < 256 → join a b c d / 2 ^ 24 % 256 ≡ a
 byte-1 a b c d ha hb hc hd = omega arith

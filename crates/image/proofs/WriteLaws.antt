@@ -7,7 +7,7 @@ use native.Mathlib.Nat.{add-assoc, add-zero}
 use native.Mathlib.Omega.{arith}
 use borrow.Author.Tests.{le-leb, lt-leb, leb-true}
 use lib.ListN.{length, take, drop, set, length-append, length-drop, take-append-drop}
-use lib.Seq.{sets-eq, take-at, drop-drop, length-take-le, drop-append-add}
+use lib.Seq.{sets-eq, take-at, drop-drop, length-take-le, take-append-seam, take-append-le, drop-append-le, drop-append-add}
 use Rattle.image.proofs.WordLaws.{bytes-append, bytes-length}
 use Rattle.image.specs.Word.{bytesOf}
 use Rattle.image.specs.Write.{putBytes, fits, putWords}
@@ -92,3 +92,35 @@ put-none buffer index = go (fits buffer index 0)
     go : (b : Bool) → cond b (take (index * 4) buffer ++ [] ++ drop (index * 4 + 0) buffer) buffer ≡ buffer
     go true = ap₂ (λ (a : List ℕ) (n : ℕ). a ++ drop n buffer) (append-nil (take (index * 4) buffer)) (add-zero (index * 4)) ∙ take-append-drop (index * 4) buffer
     go false = refl
+
+-- ---- one before the other
+
+module _ (u v : List ℕ) where
+  put-left : (at : ℕ) (x : List ℕ) → at + length x ≤ length u → putBytes (u ++ v) at x ≡ putBytes u at x ++ v
+  unfolding putBytes
+  put-left at x h =
+      ap₂ (λ (a b : List ℕ). a ++ x ++ b) (take-append-le at u v (omega arith)) (drop-append-le (at + length x) u v h)
+      ∙ sym (append-assoc (take at u ++ x) (drop (at + length x) u) v)
+
+  put-right : (x : List ℕ) → putBytes (u ++ v) (length u) x ≡ u ++ (x ++ drop (length x) v)
+  unfolding putBytes
+  put-right x = ap₂ (λ (a b : List ℕ). a ++ x ++ b) (take-append-seam u v) (drop-append-add u v (length x)) ∙ append-assoc u x (drop (length x) v)
+
+-- bytes that do not overlap can be put in either order
+put-bytes-swap : (buffer : List ℕ) (i j : ℕ) (x y : List ℕ) → i + length x ≤ j → j + length y ≤ length buffer → putBytes (putBytes buffer j y) i x ≡ putBytes (putBytes buffer i x) j y
+put-bytes-swap buffer i j x y h k =
+    rw (sym (take-append-drop j buffer)) (apart (take j buffer) (drop j buffer) (length-take-le j buffer (omega arith)))
+  where
+    apart : (u v : List ℕ) → length u ≡ j → putBytes (putBytes (u ++ v) j y) i x ≡ putBytes (putBytes (u ++ v) i x) j y
+    apart u v e =
+        let l : length (putBytes u i x) ≡ j = put-bytes-length u i x (omega arith) ∙ e in
+        ap (λ (n : ℕ). putBytes (putBytes (u ++ v) n y) i x) (sym e) ∙ ap (λ (b : List ℕ). putBytes b i x) (put-right u v y) ∙ put-left u (y ++ drop (length y) v) i x (omega arith)
+        ∙ sym (ap (λ (b : List ℕ). putBytes b j y) (put-left u v i x (omega arith)) ∙ ap (λ (n : ℕ). putBytes (putBytes u i x ++ v) n y) (sym l) ∙ put-right (putBytes u i x) v y)
+
+pub put-swap : (buffer : List ℕ) (i j : ℕ) (x y : List ℕ) → i + length x ≤ j → j + length y ≤ length buffer / 4 → putWords (putWords buffer j y) i x ≡ putWords (putWords buffer i x) j y
+put-swap buffer i j x y h k =
+    let a : i + length x ≤ length (putWords buffer j y) / 4 = omega (arith, put-length buffer j y) in
+    let b : j + length y ≤ length (putWords buffer i x) / 4 = omega (arith, put-length buffer i x) in
+    put-in (putWords buffer j y) i x a ∙ ap (λ (c : List ℕ). putBytes c (i * 4) (bytesOf x)) (put-in buffer j y k)
+    ∙ put-bytes-swap buffer (i * 4) (j * 4) (bytesOf x) (bytesOf y) (omega (arith, bytes-length x)) (omega (arith, bytes-length y))
+    ∙ sym (put-in (putWords buffer i x) j y b ∙ ap (λ (c : List ℕ). putBytes c (j * 4) (bytesOf y)) (put-in buffer i x (omega arith)))

@@ -1,0 +1,133 @@
+-- The lines of an accepted text make up its policy, and how many words they take.
+use Prim.Native.Nat.{ℕ, suc, _+_, _≤_}
+use mathlib.Core.Bool.{Bool, true, false, cond}
+use mathlib.Core.List.{List, [], _∷_, _++_, map, foldl, append-assoc, append-nil}
+use mathlib.Core.Path.{_≡_, refl, sym, ap, _∙_}
+use native.Mathlib.Omega.{arith}
+use borrow.Author.Tests.{ltb-false}
+use lib.Dec.{ltb}
+use lib.ListN.{length, length-append}
+use Rattle.policy.specs.Limits.{comparisonsSize, lineSize, ruleLimit, constraintLimit, Acceptable}
+use Rattle.policy.specs.Line.{PolicyLine, rule, constraint, headsOf, comparisonsOf, endingOf}
+use Rattle.policy.specs.Policy.{Policy}
+use Rattle.policy.specs.declared.comparison.Comparison.{Comparison}
+use Rattle.policy.specs.declared.comparison.Operand.{Operand}
+use Rattle.policy.specs.declared.fault.Fault.{Fault}
+use Rattle.image.proofs.Exact.{P-limit, N-limit}
+use Rattle.image.proofs.LayoutLaws.{part-length}
+use Rattle.image.specs.Layout.{lineWords, linesWords, ruleWords, constraintWords, operandSize, comparisonSize, conditionSize, knownForm}
+use Rattle.image.specs.Load.{rulesIn, constraintsIn}
+use Rattle.syntax.proofs.Accepted.{accepted-acceptable}
+use Rattle.syntax.specs.Answers.{linesSize, countsOf, textReadOf, textRead}
+use Rattle.syntax.specs.Lines.{linesOf}
+use Rattle.syntax.specs.Text.{LineAnswer, skipped, refused, accepted, lineAnswer, Progress, reading, stopped, withRule, withConstraint, advance, readLine, emptyPolicy, textLimit, readText}
+use Rattle.syntax.specs.declared.text.TextCounts.{TextCounts}
+use Rattle.syntax.specs.declared.text.TextRead.{TextRead}
+use Rattle.codegen.specs.Compile.{newestForm}
+use Rattle.codegen.specs.Put.{acceptedLine, acceptedLines}
+
+-- ---- the lines that were accepted are those of the policy
+
+stays : (f : Fault) (n : ℕ) (ls : List (List ℕ)) → foldl readLine (stopped f n) ls ≡ stopped f n
+unfolding readLine
+stays f n [] = refl
+stays f n (l ∷ ls) = stays f n ls
+
+no-reading : (f : Fault) (n m : ℕ) (p : Policy) → stopped f n ≡ reading m p → ⊥
+no-reading f n m p e = let w : _≡_ {A = ℕ} 0 1 = cc in omega arith
+
+-- the policy q is p with the lines behind it
+record Extends (p : Policy) (ls : List PolicyLine) (q : Policy) : Type 0 where
+  rules : q .rules ≡ p .rules ++ rulesIn ls
+  constraints : q .constraints ≡ p .constraints ++ constraintsIn ls
+
+abbrev Extending : List (List ℕ) → Type 0
+Extending ls = (n m : ℕ) (p q : Policy) → foldl readLine (reading n p) ls ≡ reading m q → Extends p (acceptedLines ls) q
+
+extends : (ls : List (List ℕ)) → Extending ls
+unfolding acceptedLines acceptedLine rulesIn constraintsIn readLine advance
+extends [] n m p q e = let s : p ≡ q = cc in record { rules = ap (λ (x : Policy). x .rules) (sym s) ∙ sym (append-nil (p .rules)); constraints = ap (λ (x : Policy). x .constraints) (sym s) ∙ sym (append-nil (p .constraints)) }
+extends (l ∷ ls) n m p q e = go (lineAnswer l) (extends ls) e
+  where
+    go : (a : LineAnswer) → Extending ls → foldl readLine (advance n p a) ls ≡ reading m q → Extends p (acceptedLine a (acceptedLines ls)) q
+    go skipped later k = later (suc n) m p q k
+    go (refused f) later k = absurd (no-reading f n m q (sym (stays f n ls) ∙ k))
+    go (accepted (rule r)) later k = room (ltb (length (p .rules)) ruleLimit) k
+      where
+        room : (b : Bool) → foldl readLine (cond b (reading (suc n) (withRule p r)) (stopped Fault.TooManyLines n)) ls ≡ reading m q → Extends p (rule r ∷ acceptedLines ls) q
+        room true h = let x = later (suc n) m (withRule p r) q h in record { rules = x .rules ∙ append-assoc (p .rules) (r ∷ []) (rulesIn (acceptedLines ls)); constraints = x .constraints }
+        room false h = absurd (no-reading Fault.TooManyLines n m q (sym (stays Fault.TooManyLines n ls) ∙ h))
+    go (accepted (constraint c)) later k = room (ltb (length (p .constraints)) constraintLimit) k
+      where
+        room : (b : Bool) → foldl readLine (cond b (reading (suc n) (withConstraint p c)) (stopped Fault.TooManyLines n)) ls ≡ reading m q → Extends p (constraint c ∷ acceptedLines ls) q
+        room true h = let x = later (suc n) m (withConstraint p c) q h in record { rules = x .rules; constraints = x .constraints ∙ append-assoc (p .constraints) (c ∷ []) (constraintsIn (acceptedLines ls)) }
+        room false h = absurd (no-reading Fault.TooManyLines n m q (sym (stays Fault.TooManyLines n ls) ∙ h))
+
+-- ---- how many words a line takes
+
+condition-size : (cs : List Comparison) → conditionSize cs ≡ 1 + comparisonsSize cs
+unfolding conditionSize comparisonsSize comparisonSize operandSize
+condition-size [] = refl
+condition-size (c ∷ cs) = go (c .operand) (condition-size cs)
+  where
+    go : (o : Operand) → conditionSize cs ≡ 1 + comparisonsSize cs → operandSize o + conditionSize cs ≡ 1 + (Rattle.policy.specs.Limits.operandSize o + comparisonsSize cs)
+    go (Operand.Constant k) e = omega arith
+    go (Operand.Reading r) e = omega arith
+
+line-size : (l : PolicyLine) → lineSize l ≡ length (lineWords l)
+unfolding lineSize lineWords
+line-size l = omega (arith, part-length (headsOf l) (comparisonsOf l) (endingOf l), condition-size (comparisonsOf l))
+
+lines-size : (ls : List PolicyLine) → linesSize ls ≡ length (linesWords ls)
+unfolding linesSize linesWords
+lines-size [] = refl
+lines-size (l ∷ ls) = omega (arith, line-size l, lines-size ls, length-append (lineWords l) (linesWords ls))
+
+-- ---- an accepted text
+
+pub newest-known : knownForm newestForm ≡ true
+unfolding knownForm
+newest-known = refl
+
+pub record AcceptedText (text : List ℕ) (counts : TextCounts) : Type 0 where
+  pub number : ℕ
+  pub policy : Policy
+  pub read : readText text ≡ reading number policy
+  pub acceptable : Acceptable policy
+  pub short : length text ≤ textLimit
+  pub rule-count : counts .«rule_words» ≡ length (ruleWords policy)
+  pub constraint-count : counts .«constraint_words» ≡ length (constraintWords policy)
+  pub rule-limit : length (ruleWords policy) ≤ 2176
+  pub constraint-limit : length (constraintWords policy) ≤ 1088
+  pub rules : rulesIn (acceptedLines (linesOf text)) ≡ policy .rules
+  pub constraints : constraintsIn (acceptedLines (linesOf text)) ≡ policy .constraints
+
+pub accepted-text : (text : List ℕ) (counts : TextCounts) → textRead text ≡ TextRead.Accepted counts → AcceptedText text counts
+unfolding textRead textReadOf readText countsOf ruleWords constraintWords
+accepted-text text counts e = go (readText text) refl e
+  where
+    fold : (b : Bool) (n : ℕ) (p : Policy) → ltb textLimit (length text) ≡ b → cond b (stopped Fault.TooLong 0) (foldl readLine (reading 1 emptyPolicy) (linesOf text)) ≡ reading n p → (length text ≤ textLimit) × Extends emptyPolicy (acceptedLines (linesOf text)) p
+    fold true n p h k = absurd (no-reading Fault.TooLong 0 n p k)
+    fold false n p h k = (ltb-false textLimit (length text) h, extends (linesOf text) 1 n emptyPolicy p k)
+
+    found : (n : ℕ) (p : Policy) → readText text ≡ reading n p → countsOf p ≡ counts → AcceptedText text counts
+    found n p r c =
+        let ok = accepted-acceptable text n p r in
+        let f = fold (ltb textLimit (length text)) n p refl r in
+        record {
+          number = n;
+          policy = p;
+          read = r;
+          acceptable = ok;
+          short = f .0;
+          rule-count = ap (λ (x : TextCounts). x .«rule_words») (sym c) ∙ lines-size (map rule (p .rules));
+          constraint-count = ap (λ (x : TextCounts). x .«constraint_words») (sym c) ∙ lines-size (map constraint (p .constraints));
+          rule-limit = P-limit newestForm newest-known p ok;
+          constraint-limit = N-limit newestForm newest-known p ok;
+          rules = sym (f .1 .rules);
+          constraints = sym (f .1 .constraints);
+        }
+
+    go : (s : Progress) → readText text ≡ s → textReadOf s ≡ TextRead.Accepted counts → AcceptedText text counts
+    go (reading n p) r k = let c : countsOf p ≡ counts = cc in found n p r c
+    go (stopped f n) r k = let w : _≡_ {A = ℕ} 0 1 = cc in absurd (omega arith)

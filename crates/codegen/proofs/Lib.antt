@@ -1,0 +1,4 @@
+pub mod AcceptedLaws
+pub mod Compilation
+pub mod CompileLaws
+pub mod PutLaws

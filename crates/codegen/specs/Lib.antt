@@ -1,0 +1,3 @@
+-- What a reader must believe of this layer: `Compile`.
+pub mod Compile
+pub mod Put

@@ -1,0 +1,119 @@
+// The compiler: from a rule text to the image of its policy, in a lent buffer. Start with specs/Compile.antt.
+ghost use mathlib.Core.Path.{_≡_};
+ghost use Prim.Native.Nat.{_≤_};
+ghost use lib.ListN.{length};
+ghost use Rattle.image.specs.Layout.{valueWords};
+ghost use Rattle.image.specs.Write.{putWords};
+ghost use Rattle.syntax.specs.Lines.{linesOf};
+ghost use Rattle.codegen.specs.Compile.{compiled};
+ghost use Rattle.codegen.specs.Put.{placeFor, placesAfter, acceptedLines, putLines, putImage, Near};
+use image::header;
+use image::put_check_words;
+use image::put_line;
+use image::put_word;
+use policy::Ending;
+use policy::Fault;
+use policy::Line;
+use syntax::LineStatus;
+use syntax::TextRead;
+use syntax::read_line;
+use syntax::read_text;
+
+const FORM: u8 = 1;
+
+pub enum Compiled {
+    // The fault, and the line that has it, counted from 1; 0 where it is no line's.
+    Refused(Fault, usize),
+    // How many bytes the image has.
+    Image(usize),
+}
+
+// The words at which the next rule and the next constraint go.
+pub struct Places {
+    pub rules: usize,
+    pub constraints: usize,
+}
+
+// A line put in behind those of its kind.
+fn put_next(out: &mut [u8], places: Places, line: Line) -> Places
+    requires { ⌜ Near places × (length (valueWords line) ≤ 17) ⌝ }
+    ensures { λ r. ⌜ (r ≡ placesAfter (line .ending) places (length (valueWords line))) × (now (out .exit) ≡ putWords (now (out .entry)) (placeFor (line .ending) places) (valueWords line)) ⌝ }
+{
+    let ending = line.ending;
+    match ending {
+        Ending::Causes(_) => {
+            let words = put_line(out, places.rules, line);
+            Places {
+                rules: places.rules + words,
+                constraints: places.constraints,
+            }
+        }
+        Ending::Never => {
+            let words = put_line(out, places.constraints, line);
+            Places {
+                rules: places.rules,
+                constraints: places.constraints + words,
+            }
+        }
+    }
+}
+
+// The lines of a text, up to the first that is refused.
+fn put_lines(out: &mut [u8], text: &[u8], start: Places)
+    requires { ⌜ (start .rules ≤ 4096) × (start .constraints ≤ 4096) × (length (now text) ≤ 32768) ⌝ }
+    ensures { λ _. ⌜ now (out .exit) ≡ putLines (acceptedLines (linesOf (now (text .entry)))) start (now (out .entry)) ⌝ }
+{
+    let mut places = start;
+    let mut at = 0;
+    while at < text.len() {
+        let read = read_line(text, at);
+        let status = read.status;
+        let line = read.line;
+        match status {
+            LineStatus::Accepted => {
+                places = put_next(out, places, line);
+            }
+            LineStatus::Skipped => {}
+            LineStatus::Refused(_) => {
+                return;
+            }
+        }
+        at = read.next;
+    }
+}
+
+// The image of an accepted text, for which there is room.
+fn put_image(out: &mut [u8], text: &[u8], rule_words: usize, constraint_words: usize)
+    requires { ⌜ (length (now text) ≤ 32768) × («rule_words» ≤ 2176) × («constraint_words» ≤ 1088) ⌝ }
+    ensures { λ _. ⌜ now (out .exit) ≡ putImage (acceptedLines (linesOf (now (text .entry)))) «rule_words» «constraint_words» (now (out .entry)) ⌝ }
+{
+    put_word(out, 0, header(FORM, rule_words, constraint_words));
+    let middle = 1 + rule_words;
+    put_lines(
+        out,
+        text,
+        Places {
+            rules: 1,
+            constraints: middle,
+        },
+    );
+    put_check_words(out, FORM, middle + constraint_words);
+}
+
+// The image of a text from the start of the buffer on, or why there is none. A refusal leaves the buffer as it is.
+pub fn compile(text: &[u8], out: &mut [u8]) -> Compiled
+    ensures { λ r. ⌜ (r ≡ compiled (now (text .entry)) (now (out .entry)) .answer) × (now (out .exit) ≡ compiled (now (text .entry)) (now (out .entry)) .buffer) ⌝ }
+{
+    let read = read_text(text);
+    match read {
+        TextRead::Refused(fault, line) => Compiled::Refused(fault, line),
+        TextRead::Accepted(counts) => {
+            let size = (counts.rule_words + counts.constraint_words + 2) * 4;
+            if out.len() < size {
+                return Compiled::Refused(Fault::BufferTooSmall, 0);
+            }
+            put_image(out, text, counts.rule_words, counts.constraint_words);
+            Compiled::Image(size)
+        }
+    }
+}
