@@ -1,0 +1,20 @@
+-- Each row of the table of texts is printed as it stands.
+use Prim.Native.String.{String}
+use mathlib.Core.List.{map}
+use mathlib.Core.Option.{some}
+use mathlib.Core.Path.{_≡_, refl}
+use Rattle.policy.specs.Limits.{isReadingValue, testNumber, operandInRange, comparisonInRange, endingInRange, inRange, crowded, repeats, repeated}
+use Rattle.policy.specs.Line.{headsOf, comparisonsOf, endingOf}
+use Rattle.policy.specs.List.{all, any}
+use Rattle.printer.specs.Examples.{printedTexts, reprinted}
+use Rattle.printer.specs.Printed.{digits, decimal, constantToken, literalToken, actionToken, readingToken, relationToken, operandToken, comparisonTokens, joinedBy, headTokens, conditionTokens, lineTokens, lineBytes, linesText, textOf}
+use Rattle.syntax.specs.Byte.{bytes, sameBytes, is}
+use Rattle.syntax.specs.Grammar as Grammar
+use Rattle.syntax.specs.Grammar.{named, literalOf, actionOf, readingOf, relationOf, orElse, operandOf, both, comparisonOf, conditionOf, joined, ruleAfter, constraintAfter, after, lineFrom}
+use Rattle.syntax.specs.Lines.{prepend, pieces, linesOf, nonEmpty, tokensOf}
+use Rattle.syntax.specs.Number.{decimalFrom, isEmpty, numberOf, positive, negative, constantOf}
+use Rattle.syntax.specs.Text.{judge, isComment, tokensAnswer, lineAnswer, advance, readLine, readText, policyOf}
+
+pub texts-printed : map reprinted printedTexts ≡ map (λ (s : String). some (bytes s)) printedTexts
+unfolding printedTexts reprinted digits decimal constantToken literalToken actionToken readingToken relationToken operandToken comparisonTokens joinedBy headTokens conditionTokens lineTokens lineBytes linesText textOf bytes sameBytes is named literalOf actionOf readingOf relationOf orElse operandOf both comparisonOf Grammar.comparisonsOf conditionOf joined ruleAfter constraintAfter after lineFrom prepend pieces linesOf nonEmpty tokensOf decimalFrom isEmpty numberOf positive negative constantOf judge isComment tokensAnswer lineAnswer advance readLine readText policyOf isReadingValue testNumber operandInRange comparisonInRange endingInRange inRange crowded repeats repeated headsOf comparisonsOf endingOf all any
+texts-printed = refl

@@ -1,0 +1,143 @@
+-- Laws of lengths: the bytes of a valid line.
+use Prim.Native.Nat.{ℕ, suc, _+_, _*_, _≤_, _<_}
+use mathlib.Core.Bool.{Bool, true, false, _&&_, cond}
+use mathlib.Core.List.{List, [], _∷_, _++_, map}
+use mathlib.Core.Path.{_≡_, refl, sym, ap, _∙_}
+use native.Mathlib.Omega.{arith}
+use borrow.Author.Tests.{ltb-true, leb-true}
+use lib.Dec.{ltb, leb}
+use lib.IntN.{ℤ, pos, negsuc}
+use lib.ListN.{length, length-append, length-map}
+use Rattle.policy.proofs.ListLaws.{and-out}
+use Rattle.policy.specs.Limits.{valid, isReadingValue, testNumber, operandInRange, comparisonInRange, endingInRange}
+use Rattle.policy.specs.Line.{PolicyLine, rule, constraint, headsOf, comparisonsOf, endingOf}
+use Rattle.policy.specs.List.{all}
+use Rattle.policy.specs.declared.comparison.Comparison.{Comparison}
+use Rattle.policy.specs.declared.comparison.Literal.{Literal}
+use Rattle.policy.specs.declared.comparison.Operand.{Operand}
+use Rattle.policy.specs.declared.comparison.Relation.{Relation}
+use Rattle.policy.specs.declared.line.Test.{Test}
+use Rattle.policy.specs.declared.number.Action.{Action}
+use Rattle.policy.specs.declared.number.Reading.{Reading}
+use Rattle.syntax.specs.Byte.{bytes}
+use Rattle.syntax.specs.Grammar.{Token}
+use Rattle.printer.proofs.DecimalLaws.{decimal-few}
+use Rattle.printer.proofs.ValidLaws.{ValidLine, inLimit, valid-line}
+use Rattle.printer.specs.Printed.{decimal, constantToken, literalToken, actionToken, readingToken, relationToken, operandToken, comparisonTokens, joinedBy, headTokens, conditionTokens, lineTokens, lineBytes}
+
+all-map : {A B : Type 0} (p : B → Bool) (f : A → B) (xs : List A) → all p (map f xs) ≡ all (λ x. p (f x)) xs
+unfolding all
+all-map p f [] = refl
+all-map p f (x ∷ xs) = ap (_&&_ (p (f x))) (all-map p f xs)
+
+-- ---- tokens with a space behind each
+
+room : List Token → ℕ
+room [] = 0
+room (t ∷ ts) = length t + 1 + room ts
+
+room-append : (ts us : List Token) → room (ts ++ us) ≡ room ts + room us
+unfolding room
+room-append [] us = omega arith
+room-append (t ∷ ts) us = omega (arith, room-append ts us)
+
+joined-short : (ts : List Token) → length (joinedBy 32 ts) ≤ room ts
+unfolding joinedBy room
+joined-short [] = omega arith
+joined-short (t ∷ []) = omega arith
+joined-short (t ∷ u ∷ us) = omega (arith, length-append t (32 ∷ joinedBy 32 (u ∷ us)), joined-short (u ∷ us))
+
+module _ {A : Type 0} (p : A → Bool) (f : A → List Token) (sep : Token) (w : ℕ) (fits : (x : A) → p x ≡ true → room (f x) ≤ w) where
+  joined-room : (xs : List A) → all p xs ≡ true → room (joinedBy sep (map f xs)) ≤ length xs * (w + (length sep + 1))
+  unfolding joinedBy room all
+  joined-room [] h = omega arith
+  joined-room (x ∷ []) h = omega (arith, fits x (and-out (p x) true h .0))
+  joined-room (x ∷ y ∷ ys) h =
+      let r = and-out (p x) (all p (y ∷ ys)) h in
+      omega (arith, room-append (f x) (sep ∷ joinedBy sep (map f (y ∷ ys))), fits x (r .0), joined-room (y ∷ ys) (r .1))
+
+-- ---- the parts of a line
+
+name-short : (n : ℕ) → n < 100 → length (decimal n) ≤ 2
+name-short n h = decimal-few n 1 (omega arith)
+
+literal-short : (l : Literal) → inLimit (Test.Occurs l) ≡ true → length (literalToken l) ≤ 4
+unfolding literalToken bytes testNumber
+literal-short l h = go (l .negated) (name-short (l .event .0) (omega (arith, ltb-true (l .event .0) 64 h)))
+  where
+    go : (b : Bool) → length (decimal (l .event .0)) ≤ 2 → length (cond b (33 ∷ []) [] ++ 69 ∷ decimal (l .event .0)) ≤ 4
+    go true k = omega arith
+    go false k = omega arith
+
+action-short : (a : Action) → inLimit (Test.Member a) ≡ true → length (actionToken a) ≤ 3
+unfolding actionToken testNumber
+action-short a h = omega (arith, name-short (a .0) (omega (arith, ltb-true (a .0) 64 h)))
+
+reading-short : (r : Reading) → ltb (r .0) 16 ≡ true → length (readingToken r) ≤ 3
+unfolding readingToken
+reading-short r h = omega (arith, name-short (r .0) (omega (arith, ltb-true (r .0) 16 h)))
+
+relation-short : (r : Relation) → length (relationToken r) ≤ 2
+unfolding relationToken bytes
+relation-short Relation.Equal = omega arith
+relation-short Relation.NotEqual = omega arith
+relation-short Relation.Less = omega arith
+relation-short Relation.LessOrEqual = omega arith
+relation-short Relation.Greater = omega arith
+relation-short Relation.GreaterOrEqual = omega arith
+
+constant-short : (k : ℤ) → isReadingValue k ≡ true → length (constantToken k) ≤ 11
+unfolding constantToken isReadingValue
+constant-short (pos n) h =
+    let l : n ≤ 2147483647 = leb-true n 2147483647 (and-out true (leb n 2147483647) h .1) in
+    omega (arith, decimal-few n 9 (omega arith))
+constant-short (negsuc n) h =
+    let l : n ≤ 2147483647 = leb-true n 2147483647 (and-out (leb n 2147483647) true h .0) in
+    omega (arith, decimal-few (suc n) 9 (omega arith))
+
+operand-short : (o : Operand) → operandInRange o ≡ true → length (operandToken o) ≤ 11
+unfolding operandToken operandInRange
+operand-short (Operand.Constant k) h = constant-short k h
+operand-short (Operand.Reading r) h = omega (arith, reading-short r h)
+
+comparison-room : (c : Comparison) → comparisonInRange c ≡ true → room (comparisonTokens c) ≤ 19
+unfolding comparisonTokens comparisonInRange room
+comparison-room c h =
+    let r = and-out (ltb (c .reading .0) 16) (operandInRange (c .operand)) h in
+    omega (arith, reading-short (c .reading) (r .0), relation-short (c .relation), operand-short (c .operand) (r .1))
+
+condition-room : (cs : List Comparison) → all comparisonInRange cs ≡ true → length cs ≤ 4 → room (conditionTokens cs) ≤ 87
+unfolding conditionTokens room bytes
+condition-room [] h k = omega arith
+condition-room (c ∷ cs) h k = omega (arith, joined-room comparisonInRange comparisonTokens (bytes ",") 19 comparison-room (c ∷ cs) h)
+
+-- eight literals or actions
+module _ {A : Type 0} (token : A → Token) (test : A → Test) (short : (x : A) → inLimit (test x) ≡ true → length (token x) ≤ 4) where
+  heads-room : (xs : List A) → all inLimit (map test xs) ≡ true → length (map test xs) ≤ 8 → room (headTokens token xs) ≤ 56
+  unfolding headTokens bytes room
+  heads-room xs h k =
+      let one : (x : A) → inLimit (test x) ≡ true → room (token x ∷ []) ≤ 5 = λ x q. omega (arith, short x q) in
+      omega
+      (arith, length-map xs test, joined-room (λ x. inLimit (test x)) (λ x. token x ∷ []) (bytes "&") 5 one xs (sym (all-map inLimit test xs) ∙ h))
+
+-- ---- the line
+
+line-room : (l : PolicyLine) → ValidLine l → room (lineTokens l) ≤ 154
+unfolding lineTokens headsOf comparisonsOf endingOf endingInRange testNumber room bytes
+line-room (rule r) v =
+    let heads : room (headTokens literalToken (r .literals)) ≤ 56 = heads-room literalToken Test.Occurs literal-short (r .literals) (v .heads) (v .few-heads) in
+    let condition : room (conditionTokens (r .comparisons)) ≤ 87 = condition-room (r .comparisons) (v .comparisons) (v .few-comparisons) in
+    omega (
+      arith,
+      action-short (r .action) (v .ending),
+      room-append (headTokens literalToken (r .literals)) (bytes "causes" ∷ actionToken (r .action) ∷ conditionTokens (r .comparisons)),
+    )
+line-room (constraint c) v =
+    let short : (a : Action) → inLimit (Test.Member a) ≡ true → length (actionToken a) ≤ 4 = λ a q. omega (arith, action-short a q) in
+    let heads : room (headTokens actionToken (c .actions)) ≤ 56 = heads-room actionToken Test.Member short (c .actions) (v .heads) (v .few-heads) in
+    let condition : room (conditionTokens (c .comparisons)) ≤ 87 = condition-room (c .comparisons) (v .comparisons) (v .few-comparisons) in
+    omega (arith, room-append (headTokens actionToken (c .actions)) (conditionTokens (c .comparisons)))
+
+pub line-length : (l : PolicyLine) → valid l ≡ true → length (lineBytes l) ≤ 154
+unfolding lineBytes
+line-length l v = omega (arith, joined-short (lineTokens l), line-room l (valid-line l v))

@@ -1,0 +1,7 @@
+pub mod DecimalLaws
+pub mod Examples
+pub mod LengthLaws
+pub mod ParseLaws
+pub mod Printing
+pub mod SplitLaws
+pub mod ValidLaws

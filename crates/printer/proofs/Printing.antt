@@ -1,0 +1,103 @@
+-- The text of an acceptable policy: it is within the limit, reading it back yields the policy, and no other policy has it.
+use Prim.Native.Nat.{ℕ, suc, _+_, _*_, _≤_, _<_}
+use mathlib.Core.Bool.{true}
+use mathlib.Core.List.{List, [], _∷_, _++_, map, foldl, foldl-append, map-append, append-nil}
+use mathlib.Core.Logic.{_↔_}
+use mathlib.Core.Option.{some}
+use mathlib.Core.Path.{_≡_, sym, ap, _∙_}
+use native.Mathlib.Omega.{arith}
+use borrow.Author.Tests.{lt-ltb, le-ltb}
+use lib.ListN.{length, length-append, length-map}
+use lib.Seq.{append-snoc}
+use Rattle.policy.proofs.ListLaws.{and-out, all-append}
+use Rattle.policy.specs.Limits.{valid, ruleLimit, constraintLimit, Acceptable}
+use Rattle.policy.specs.Line.{PolicyLine, rule, constraint}
+use Rattle.policy.specs.List.{all}
+use Rattle.policy.specs.Policy.{Policy, Rule, Constraint}
+use Rattle.syntax.proofs.Accepted.{accepted-acceptable}
+use Rattle.syntax.specs.Text.{accepted, Progress, reading, advance, readLine, emptyPolicy, textLimit, readText, policyOf}
+use Rattle.printer.proofs.LengthLaws.{line-length}
+use Rattle.printer.proofs.ParseLaws.{line-read}
+use Rattle.printer.proofs.SplitLaws.{text-lines}
+use Rattle.printer.specs.Printed.{lineBytes, linesText, policyLines, textOf}
+
+-- ---- the length
+
+lines-length : (ls : List PolicyLine) → all valid ls ≡ true → length (linesText ls) ≤ length ls * 155
+unfolding linesText all
+lines-length [] h = omega arith
+lines-length (l ∷ ls) h =
+    let r = and-out (valid l) (all valid ls) h in
+    omega (arith, length-append (lineBytes l) (10 ∷ linesText ls), line-length l (r .0), lines-length ls (r .1))
+
+pub text-length : (p : Policy) → Acceptable p → length (textOf p) ≤ textLimit
+unfolding textOf
+text-length p a =
+    let rs : List PolicyLine = map rule (p .rules) in
+    let cs : List PolicyLine = map constraint (p .constraints) in
+    let v : all valid (policyLines p) ≡ true = all-append valid rs cs (a .rules-valid) (a .constraints-valid) in
+    let r : length rs ≤ ruleLimit = rw (length-map (p .rules) rule) (a .few-rules) in
+    let c : length cs ≤ constraintLimit = rw (length-map (p .constraints) constraint) (a .few-constraints) in
+    omega (arith, lines-length (policyLines p) v, length-append rs cs)
+
+-- ---- reading it back, one part after the other
+
+module _ {A : Type 0} (line : A → PolicyLine) (part : List A → Policy) (limit : ℕ) where
+  -- a line goes to the end of its part, if there is room for it
+  abbrev Adds : Type 0
+  Adds = (n : ℕ) (xs : List A) (x : A) → length xs < limit → advance n (part xs) (accepted (line x)) ≡ reading (suc n) (part (xs ++ x ∷ []))
+
+  part-read : Adds → (xs read : List A) (n : ℕ) → all valid (map line xs) ≡ true → length read + length xs ≤ limit
+      → foldl readLine (reading n (part read)) (map lineBytes (map line xs)) ≡ reading (n + length xs) (part (read ++ xs))
+  unfolding all readLine
+  part-read add [] read n v h = rw (append-nil read) (ap (λ (k : ℕ). reading k (part read)) (omega arith))
+  part-read add (x ∷ xs) read n v h =
+      let r = and-out (valid (line x)) (all valid (map line xs)) v in
+      let one : readLine (reading n (part read)) (lineBytes (line x)) ≡ reading (suc n) (part (read ++ x ∷ [])) =
+      ap (advance n (part read)) (line-read (line x) (r .0)) ∙ add n read x (omega arith) in
+      ap (λ (s : Progress). foldl readLine s (map lineBytes (map line xs))) one
+      ∙ part-read add xs (read ++ x ∷ []) (suc n) (r .1) (omega (arith, length-append read (x ∷ [])))
+      ∙ rw (append-snoc read x xs) (ap (λ (m : ℕ). reading m (part (read ++ x ∷ xs))) (omega arith))
+
+abbrev policyWith : List Rule → List Constraint → Policy
+policyWith rs cs = record { rules = rs; constraints = cs }
+
+add-rule : Adds rule (λ rs. policyWith rs []) ruleLimit
+unfolding advance
+add-rule n rs r h = rw (lt-ltb (length rs) ruleLimit h)
+
+add-constraint : (rs : List Rule) → Adds constraint (policyWith rs) constraintLimit
+unfolding advance
+add-constraint rs n cs c h = rw (lt-ltb (length cs) constraintLimit h)
+
+lines-read : (p : Policy) → Acceptable p
+    → foldl readLine (reading 1 emptyPolicy) (map lineBytes (policyLines p)) ≡ reading (1 + length (p .rules) + length (p .constraints)) p
+lines-read p a =
+    let rs : List (List ℕ) = map lineBytes (map rule (p .rules)) in
+    let cs : List (List ℕ) = map lineBytes (map constraint (p .constraints)) in
+    ap (foldl readLine (reading 1 emptyPolicy)) (map-append lineBytes (map rule (p .rules)) (map constraint (p .constraints)))
+    ∙ foldl-append readLine (reading 1 emptyPolicy) rs cs
+    ∙ ap (λ (s : Progress). foldl readLine s cs)
+    (part-read rule (λ rs. policyWith rs []) ruleLimit add-rule (p .rules) [] 1 (a .rules-valid) (omega (arith, a .few-rules)))
+    ∙ part-read constraint (policyWith (p .rules)) constraintLimit (add-constraint (p .rules)) (p .constraints) [] (1 + length (p .rules))
+    (a .constraints-valid) (omega (arith, a .few-constraints))
+
+-- the number is that of the line that would come next
+pub text-read : (p : Policy) → Acceptable p → readText (textOf p) ≡ reading (1 + length (p .rules) + length (p .constraints)) p
+unfolding readText textOf
+text-read p a = rw (le-ltb textLimit (length (textOf p)) (text-length p a), text-lines (policyLines p)) (lines-read p a)
+
+pub text-policy : (p : Policy) → Acceptable p → policyOf (textOf p) ≡ some p
+unfolding policyOf
+text-policy p a = rw (text-read p a)
+
+pub text-injective : (p q : Policy) → Acceptable p → Acceptable q → textOf p ≡ textOf q → p ≡ q
+text-injective p q a b e = same (sym (text-policy p a) ∙ ap policyOf e ∙ text-policy q b)
+  where
+    same : some p ≡ some q → p ≡ q
+    same k = cc
+
+-- so the acceptable policies are those of the accepted texts
+pub acceptable-texts : (p : Policy) → Acceptable p ↔ ((text : List ℕ) × (n : ℕ) × (readText text ≡ reading n p))
+acceptable-texts p =
+    (λ a. (textOf p, 1 + length (p .rules) + length (p .constraints), text-read p a), λ r. accepted-acceptable (r .0) (r .1) p (r .2))
