@@ -18,7 +18,7 @@ use Rattle.syntax.proofs.Accepted.{accepted-acceptable}
 use Rattle.syntax.specs.Text.{accepted, Progress, reading, advance, readLine, emptyPolicy, textLimit, readText, policyOf}
 use Rattle.printer.proofs.LengthLaws.{line-length}
 use Rattle.printer.proofs.ParseLaws.{line-read}
-use Rattle.printer.proofs.SplitLaws.{text-lines}
+use Rattle.printer.proofs.SplitLaws.{text-lines, ascii, lines-ascii}
 use Rattle.printer.specs.Printed.{lineBytes, linesText, policyLines, textOf}
 
 -- ---- the length
@@ -101,3 +101,8 @@ text-injective p q a b e = same (sym (text-policy p a) ∙ ap policyOf e ∙ tex
 pub acceptable-texts : (p : Policy) → Acceptable p ↔ ((text : List ℕ) × (n : ℕ) × (readText text ≡ reading n p))
 acceptable-texts p =
     (λ a. (textOf p, 1 + length (p .rules) + length (p .constraints), text-read p a), λ r. accepted-acceptable (r .0) (r .1) p (r .2))
+
+-- it is ASCII
+pub text-ascii : (p : Policy) → all ascii (textOf p) ≡ true
+unfolding textOf
+text-ascii p = lines-ascii (policyLines p)

@@ -3,8 +3,9 @@ use Prim.Native.Nat.{ℕ, suc}
 use mathlib.Core.Bool.{Bool, true, false, not, _&&_, _||_, cond}
 use mathlib.Core.List.{List, [], _∷_, _++_, map}
 use mathlib.Core.Path.{_≡_, refl, ap, _∙_}
-use borrow.Author.Tests.{eq-eqb, not-true}
-use lib.Dec.{eqb}
+use native.Mathlib.Omega.{arith}
+use borrow.Author.Tests.{eq-eqb, not-true, lt-ltb, leb-true}
+use lib.Dec.{eqb, leb, ltb}
 use lib.IntN.{pos, negsuc}
 use Rattle.policy.proofs.ListLaws.{true-false, and-in, and-out, all-append}
 use Rattle.policy.specs.Line.{PolicyLine, rule, constraint}
@@ -63,24 +64,33 @@ pieces-last end b (c ∷ t) h =
     let r = and-out (other end b) (all (other end) (c ∷ t)) h in
     rw (not-true (eqb b end) (r .0)) (ap (prepend b) (pieces-last end c t (r .1)))
 
--- ---- clean tokens: with a byte, and none that ends a token
+-- ---- clean tokens: with a byte, and none that ends a token or is not ASCII
+
+abbrev pub ascii : ℕ → Bool
+ascii b = ltb b 128
+
+abbrev inside : ℕ → Bool
+inside b = inToken b && ascii b
 
 pub clean : Token → Bool
-clean t = not (isEmpty t) && all inToken t
+clean t = not (isEmpty t) && all inside t
 
-clean-all : (p : ℕ → Bool) → ((b : ℕ) → inToken b ≡ true → p b ≡ true) → (t : Token) → clean t ≡ true → all p t ≡ true
+clean-all : (p : ℕ → Bool) → ((b : ℕ) → inside b ≡ true → p b ≡ true) → (t : Token) → clean t ≡ true → all p t ≡ true
 unfolding clean
-clean-all p f t h = all-weaker inToken p f t (and-out (not (isEmpty t)) (all inToken t) h .1)
+clean-all p f t h = all-weaker inside p f t (and-out (not (isEmpty t)) (all inside t) h .1)
 
-no-space : (b : ℕ) → inToken b ≡ true → other 32 b ≡ true
-no-space b = go (eqb b 32) (eqb b 10)
+is-ascii : (b : ℕ) → inside b ≡ true → ascii b ≡ true
+is-ascii b h = and-out (inToken b) (ascii b) h .1
+
+no-space : (b : ℕ) → inside b ≡ true → other 32 b ≡ true
+no-space b k = go (eqb b 32) (eqb b 10) (and-out (inToken b) (ascii b) k .0)
   where
     go : (x y : Bool) → not (x || y) ≡ true → not x ≡ true
     go true y h = absurd (true-false h refl)
     go false y h = refl
 
-no-end : (b : ℕ) → inToken b ≡ true → other 10 b ≡ true
-no-end b = go (eqb b 32) (eqb b 10)
+no-end : (b : ℕ) → inside b ≡ true → other 10 b ≡ true
+no-end b k = go (eqb b 32) (eqb b 10) (and-out (inToken b) (ascii b) k .0)
   where
     go : (x y : Bool) → not (x || y) ≡ true → not y ≡ true
     go true y h = absurd (true-false h refl)
@@ -99,16 +109,19 @@ tokens-joined ((b ∷ t) ∷ u ∷ us) h =
 
 -- ---- the tokens of a line are clean
 
-decimal-inside : (n : ℕ) → all inToken (decimal n) ≡ true
-decimal-inside n = all-weaker isDigit inToken (λ d h. rw (digit-not d 32 h refl, digit-not d 10 h refl)) (decimal n) (decimal-all n)
+decimal-inside : (n : ℕ) → all inside (decimal n) ≡ true
+decimal-inside n = all-weaker isDigit inside (λ d h. rw (digit-not d 32 h refl, digit-not d 10 h refl) (digit-ascii d h)) (decimal n) (decimal-all n)
+  where
+    digit-ascii : (d : ℕ) → isDigit d ≡ true → ascii d ≡ true
+    digit-ascii d h = let l = leb-true d 57 (and-out (leb 48 d) (leb d 57) h .1) in lt-ltb d 128 (omega arith)
 
 decimal-clean : (n : ℕ) → clean (decimal n) ≡ true
 unfolding clean
 decimal-clean n = rw (decimal-some n) (decimal-inside n)
 
-sign-clean : (b : ℕ) (t : Token) → inToken b ≡ true → clean t ≡ true → clean (b ∷ t) ≡ true
+sign-clean : (b : ℕ) (t : Token) → inside b ≡ true → clean t ≡ true → clean (b ∷ t) ≡ true
 unfolding clean all isEmpty
-sign-clean b t h k = and-in h (and-out (not (isEmpty t)) (all inToken t) k .1)
+sign-clean b t h k = and-in h (and-out (not (isEmpty t)) (all inside t) k .1)
 
 literal-clean : (l : Literal) → clean (literalToken l) ≡ true
 unfolding literalToken bytes
@@ -177,3 +190,12 @@ pub text-lines : (ls : List PolicyLine) → linesOf (linesText ls) ≡ map lineB
 unfolding linesOf linesText pieces
 text-lines [] = refl
 text-lines (l ∷ ls) = pieces-past 10 (lineBytes l) (linesText ls) (line-ends l) ∙ ap (λ (ts : List Token). lineBytes l ∷ ts) (text-lines ls)
+
+line-ascii : (l : PolicyLine) → all ascii (lineBytes l) ≡ true
+unfolding lineBytes
+line-ascii l = all-joined ascii 32 (lineTokens l) refl (all-weaker clean (all ascii) (clean-all ascii is-ascii) (lineTokens l) (line-clean l))
+
+pub lines-ascii : (ls : List PolicyLine) → all ascii (linesText ls) ≡ true
+unfolding linesText all
+lines-ascii [] = refl
+lines-ascii (l ∷ ls) = all-append ascii (lineBytes l) (10 ∷ linesText ls) (line-ascii l) (lines-ascii ls)
