@@ -8,7 +8,7 @@ use mathlib.Core.Path.{_≡_, refl, sym, ap, ap₂, _∙_}
 use native.Mathlib.Omega.{arith}
 use borrow.Author.Tests.{le-leb, eq-eqb, eqb-true}
 use lib.Dec.{leb, eqb}
-use lib.ListN.{length, getD, set, length-append, length-map}
+use lib.ListN.{length, length-set, getD, set, length-append, length-map}
 use Rattle.policy.proofs.ListLaws.{and-in, and-out}
 use Rattle.policy.specs.Fault.{faultNumber}
 use Rattle.policy.specs.Limits.{valid, Acceptable}
@@ -19,7 +19,7 @@ use Rattle.policy.specs.declared.fault.Fault.{Fault}
 use Rattle.image.proofs.ImageLaws.{below-append, below-cons, below-none, lines-below, rules-between, constraints-between, rules-size, constraints-size, parts-of}
 use Rattle.image.proofs.PartLines.{lines-limit, lines-found, AreLines, lines-written, lines-fault, rules-kind, constraints-kind, rules-back, constraints-back, rules-there, constraints-there}
 use Rattle.image.proofs.SumLaws.{check-word, check-sum, check-below, sum-append, sum-set}
-use Rattle.image.proofs.WordLaws.{Below, words-below, words-of-bytes, bytes-of-words, bytes-length, header-below, form-header, rules-header, constraints-header, header-fields}
+use Rattle.image.proofs.WordLaws.{Below, words-length, words-below, words-of-bytes, bytes-of-words, bytes-length, header-below, form-header, rules-header, constraints-header, header-fields}
 use Rattle.image.specs.Layout.{linesWords, knownForm, checkCount, sum, checkWord, checkWords, headerWord, ruleWords, constraintWords, contentWords, imageWords, imageOf}
 use Rattle.image.specs.Load.{Lines, whole, fault, linesFrom, partLines, ruleCount, constraintCount, formByte, ruleLines, constraintLines, wellSized, countsFit, sumsToZero, bodyAnswer, loadWords, load, linesIn, policyIn, Checked, RefusedEarly, NoLineAt, FirstFault, inRules, inConstraints}
 use Rattle.image.specs.Word.{wordLimit, wordsOf, wordAt, bytesOf, between, packHeader, formOf, ruleCountOf, constraintCountOf}
@@ -148,11 +148,11 @@ module _ (form : ℕ) (known : knownForm form ≡ true) (p : Policy) (ok : Accep
 -- ---- what the loader answers, taken apart
 
 -- which check it stopped at
-data Answered (bytes : List ℕ) : Type 0 where
+pub data Answered (bytes : List ℕ) : Type 0 where
   early : RefusedEarly (load bytes) → Answered bytes
   late : Checked bytes → load bytes ≡ bodyAnswer (formByte (wordsOf bytes)) (ruleCount (wordsOf bytes)) (constraintCount (wordsOf bytes)) (ruleLines (wordsOf bytes)) (constraintLines (wordsOf bytes)) → Answered bytes
 
-answered : (bytes : List ℕ) → Answered bytes
+pub answered : (bytes : List ℕ) → Answered bytes
 unfolding load loadWords
 answered bytes = size (wellSized (length bytes)) refl
   where
@@ -176,17 +176,17 @@ answered bytes = size (wellSized (length bytes)) refl
     size false q = early (record { ground = Fault.ImageSize; refused = rw q; from = omega arith; upto = omega arith })
 
 -- an image that is taken passed all checks, and both parts are lines
-record Took (bytes : List ℕ) (parts : Parts) : Type 0 where
-  checked : Checked bytes
-  rules : List PolicyLine
-  constraints : List PolicyLine
-  rules-whole : ruleLines (wordsOf bytes) ≡ whole rules
-  constraints-whole : constraintLines (wordsOf bytes) ≡ whole constraints
-  form-is : parts .form ≡ formByte (wordsOf bytes)
-  rule-words-are : parts .«rule_words» ≡ ruleCount (wordsOf bytes)
-  constraint-words-are : parts .«constraint_words» ≡ constraintCount (wordsOf bytes)
+pub record Took (bytes : List ℕ) (parts : Parts) : Type 0 where
+  pub checked : Checked bytes
+  pub rules : List PolicyLine
+  pub constraints : List PolicyLine
+  pub rules-whole : ruleLines (wordsOf bytes) ≡ whole rules
+  pub constraints-whole : constraintLines (wordsOf bytes) ≡ whole constraints
+  pub form-is : parts .form ≡ formByte (wordsOf bytes)
+  pub rule-words-are : parts .«rule_words» ≡ ruleCount (wordsOf bytes)
+  pub constraint-words-are : parts .«constraint_words» ≡ constraintCount (wordsOf bytes)
 
-took : (bytes : List ℕ) (parts : Parts) → load bytes ≡ Loaded.Image parts → Took bytes parts
+pub took : (bytes : List ℕ) (parts : Parts) → load bytes ≡ Loaded.Image parts → Took bytes parts
 unfolding bodyAnswer
 took bytes parts e = go (answered bytes)
   where
@@ -395,6 +395,13 @@ set-below (w ∷ ws) zero v h b (suc j) = b (suc j)
 set-below (w ∷ ws) (suc i) v h b zero = b 0
 set-below (w ∷ ws) (suc i) v h b (suc j) = set-below ws i v h (λ k. b (suc k)) j
 
+-- its words are the others and v; it has as many bytes
+pub changed-words : (bytes : List ℕ) → Below 256 bytes → (i v : ℕ) → v < wordLimit → wordsOf (changed bytes i v) ≡ set (wordsOf bytes) i v
+changed-words bytes bounded i v small = words-of-bytes (set (wordsOf bytes) i v) (set-below (wordsOf bytes) i v small (words-below bytes bounded))
+
+pub changed-length : (bytes : List ℕ) (i v : ℕ) → length bytes % 4 ≡ 0 → length (changed bytes i v) ≡ length bytes
+changed-length bytes i v aligned = omega (arith, bytes-length (set (wordsOf bytes) i v), length-set (wordsOf bytes) i v, words-length bytes)
+
 same-word : (s s′ old v : ℕ) → s′ % wordLimit ≡ 0 → s % wordLimit ≡ 0 → s′ + old ≡ s + v → v < wordLimit → old < wordLimit → v ≡ old
 same-word s s′ old v a b e h k = omega arith
 
@@ -409,7 +416,7 @@ one-word-changed bytes bounded ok i v l small other = go (answered (changed byte
     go : Answered (changed bytes i v) → RefusedEarly (load (changed bytes i v))
     go (early r) = r
     go (late c q) =
-        let e : wordsOf (bytesOf words) ≡ words = words-of-bytes words (set-below (wordsOf bytes) i v small (words-below bytes bounded)) in
+        let e = changed-words bytes bounded i v small in
         let a : sum words % wordLimit ≡ 0 = ap (λ (ws : List ℕ). sum ws % wordLimit) (sym e) ∙ eqb-true (sum (wordsOf (changed bytes i v)) % wordLimit) 0 (c .check) in
         let b : sum (wordsOf bytes) % wordLimit ≡ 0 = eqb-true (sum (wordsOf bytes) % wordLimit) 0 (ok .check) in
         absurd (other (same-word (sum (wordsOf bytes)) (sum words) (wordAt bytes i) v a b (sum-set (wordsOf bytes) i v l) small (words-below bytes bounded i)))

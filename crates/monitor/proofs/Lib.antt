@@ -1,0 +1,4 @@
+pub mod DecideLaws
+pub mod Decisions
+pub mod Examples
+pub mod ResolveLaws

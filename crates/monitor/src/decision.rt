@@ -1,0 +1,100 @@
+// The decision on an epoch. The image is refused or run where it stands: nothing of it is copied.
+ghost use mathlib.Core.Path.{_≡_};
+ghost use Prim.Native.Nat.{_<_};
+ghost use Rattle.image.specs.Word.{wordsOf, between};
+ghost use Rattle.monitor.specs.Decision.{keptBy, issuedBy, decision};
+use image::Loaded;
+use image::Parts;
+use image::load_image;
+use policy::Action;
+use policy::ActionSet;
+use policy::EventSet;
+use policy::Fault;
+use policy::ReadingSet;
+use run::run_constraints;
+use run::run_rules;
+use syntax::EpochStatus;
+use syntax::read_epoch;
+
+// What was decided: of the proposed actions, those to be executed and all others.
+pub struct Actions {
+    pub accepted: ActionSet,
+    pub cancelled: ActionSet,
+}
+
+pub enum Decision {
+    // The fault and its location.
+    Refused(Fault, usize),
+    Issued(Actions),
+}
+
+// What is kept of the proposed actions: by rising number, each unless a constraint of the words from index `start` up to
+// `end` holds on those kept so far together with it.
+fn resolve(
+    image: &[u8],
+    start: usize,
+    end: usize,
+    proposed: ActionSet,
+    given: ReadingSet,
+    values: &[i32],
+) -> ActionSet
+    ensures { λ r. ⌜ r ≡ keptBy (between start end (wordsOf (now (image .entry)))) (record { given = given; values = now (values .entry) }) proposed ⌝ }
+{
+    let mut kept = ActionSet::EMPTY;
+    // The proposed actions from n on: bit 0 is n.
+    let mut left = proposed.0;
+    let mut n = 0;
+    while left != 0 {
+        if left % 2 == 1 {
+            let more = kept.insert(Action(n));
+            if !run_constraints(image, start, end, more, given, values) {
+                kept = more;
+            }
+        }
+        left /= 2;
+        n += 1;
+    }
+    kept
+}
+
+// The words of an image that the loader took, run on an epoch.
+fn issue(image: &[u8], parts: Parts, events: EventSet, given: ReadingSet, values: &[i32]) -> Actions
+    requires { ⌜ parts .«rule_words» < 4096 ⌝ ∗ ⌜ parts .«constraint_words» < 4096 ⌝ }
+    ensures { λ r. ⌜ r ≡ issuedBy parts (wordsOf (now (image .entry))) (record { events = events; readings = record { given = given; values = now (values .entry) } }) ⌝ }
+{
+    let middle = 1 + parts.rule_words;
+    let proposed = run_rules(image, 1, middle, events, given, values);
+    let accepted = resolve(
+        image,
+        middle,
+        middle + parts.constraint_words,
+        proposed,
+        given,
+        values,
+    );
+    Actions {
+        accepted,
+        cancelled: proposed.without(accepted),
+    }
+}
+
+// The decision of an image on an epoch line, without its line end.
+pub fn decide(image: &[u8], line: &[u8]) -> Decision
+    ensures { λ r. ⌜ r ≡ decision (now (image .entry)) (now (line .entry)) ⌝ }
+{
+    let loaded = load_image(image);
+    match loaded {
+        Loaded::Refused(fault, at) => Decision::Refused(fault, at),
+        Loaded::Image(parts) => {
+            let epoch = read_epoch(line);
+            let status = epoch.status;
+            match status {
+                EpochStatus::Refused(fault) => Decision::Refused(fault, 0),
+                EpochStatus::Accepted => {
+                    let values = epoch.values;
+                    Decision::Issued(issue(image, parts, epoch.events, epoch.given, &values))
+                }
+            }
+        }
+    }
+}

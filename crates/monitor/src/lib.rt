@@ -1,0 +1,6 @@
+// The monitor: what is decided on an image and an epoch line. Start with specs/Decision.antt.
+mod decision;
+
+pub use decision::Actions;
+pub use decision::Decision;
+pub use decision::decide;
