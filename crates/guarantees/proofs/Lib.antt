@@ -1,2 +1,3 @@
 pub mod Demand3
 pub mod Exactness
+pub mod Examples
