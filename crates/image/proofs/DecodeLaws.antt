@@ -22,7 +22,7 @@ use Rattle.image.proofs.LayoutLaws.{condition-length, part-length, cond
 use Rattle.image.proofs.ValidLaws.{valid-out, testInRange}
 use Rattle.image.specs.Layout.{testWord, comparisonWords, endingWord, conditionWords, partWords, conditionSize, lineWords}
 use Rattle.image.specs.Load.{addLiteral, addMember, addComparison, decodeWord, decode, isPrefix, inPart, standsAt, keepIf, lineAt}
-use Rattle.image.specs.Operation.{Operation, againstConstant, againstReading, proposes, member, never, operationOf, eventFrom}
+use Rattle.word.specs.Operation.{Operation, againstConstant, againstReading, proposes, member, never, operationOf, eventFrom}
 use Rattle.image.specs.declared.line.Part.{Part}
 
 decode-cons : (w : ℕ) (ws : List ℕ) → decode (w ∷ ws) ≡ decodeWord (operationOf w) w (getD ws 0 0) (decode ws) (decode (drop 1 ws))

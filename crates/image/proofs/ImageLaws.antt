@@ -17,9 +17,9 @@ use Rattle.policy.specs.declared.line.Test.{Test}
 use Rattle.image.proofs.CodecLaws.{Written, withConstant, withReading, written, test-below, causes-below, never-below}
 use Rattle.image.proofs.LayoutLaws.{condition-length, part-length, condition-size-limit}
 use Rattle.image.proofs.ValidLaws.{valid-out, testInRange}
-use Rattle.image.proofs.WordLaws.{Below}
+use Rattle.word.proofs.WordLaws.{Below}
 use Rattle.image.specs.Layout.{testWord, comparisonWords, endingWord, conditionWords, partWords, conditionSize, lineWords, linesWords}
-use Rattle.image.specs.Word.{wordLimit, between}
+use Rattle.word.specs.Word.{wordLimit, between}
 
 -- ---- words below 2 ^ 32
 

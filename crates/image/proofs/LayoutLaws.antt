@@ -17,10 +17,10 @@ use Rattle.policy.specs.declared.line.Ending.{Ending}
 use Rattle.policy.specs.declared.line.Head.{Head}
 use Rattle.policy.specs.declared.line.Line.{Line}
 use Rattle.policy.specs.declared.line.Test.{Test}
-use Rattle.image.proofs.WriteLaws.{put-append, put-length, put-none}
+use Rattle.word.proofs.WriteLaws.{put-append, put-length, put-none}
 use Rattle.image.specs.Layout.{testWord, operandWords, comparisonWords, endingWord, conditionWords, partWords, headWords, operandSize, comparisonSize, conditionSize, testsOf, valueWords, lineWords}
-use Rattle.image.specs.Operation.{relationCode}
-use Rattle.image.specs.Write.{putWords}
+use Rattle.word.specs.Operation.{relationCode}
+use Rattle.word.specs.Write.{putWords}
 
 pub relation-below : (r : Relation) → relationCode r < 6
 unfolding relationCode

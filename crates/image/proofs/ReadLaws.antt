@@ -23,13 +23,13 @@ use Rattle.image.proofs.CodecLaws.{Written, withConstant, withReading, 
 use Rattle.image.proofs.LayoutLaws.{condition-length, part-length, condition-size-limit}
 use Rattle.image.proofs.ValidLaws.{valid-out, testInRange}
 use Rattle.image.specs.Layout.{testWord, comparisonWords, endingWord, conditionWords, partWords, conditionSize, lineWords}
-use Rattle.image.specs.Operation.{Operation, againstConstant, againstReading, member, operationFrom, operationOf, eventFrom, constantComparison, readingComparison}
+use Rattle.word.specs.Operation.{Operation, againstConstant, againstReading, member, operationFrom, operationOf, eventFrom, constantComparison, readingComparison}
 use Rattle.image.specs.Load.{lineAt, lineLength, lineAnswer}
-use Rattle.image.specs.Word.{wordsOf, wordAt, opcodeOf}
+use Rattle.word.specs.Word.{wordsOf, wordAt, opcodeOf}
 use Rattle.image.specs.declared.line.Part.{Part}
 use Rattle.image.proofs.DecodeLaws.{Stands, line-out}
 use Rattle.image.proofs.PartLaws.{Found, isNone, isLine, found}
-use Rattle.image.proofs.WordLaws.{words-length}
+use Rattle.word.proofs.WordLaws.{words-length}
 use Rattle.image.specs.Scan.{readWord, hasConstant, readFrom}
 
 read-by : (l : Line) (n w : ℕ) (ws : List ℕ) (o : Operation) → operationOf w ≡ o → readFrom l (suc n) false (w ∷ ws) ≡ readFrom (readWord o w (getD ws 0 0) l) n (hasConstant o) ws

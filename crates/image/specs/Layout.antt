@@ -15,8 +15,8 @@ use Rattle.policy.specs.declared.line.Ending.{Ending}
 use Rattle.policy.specs.declared.line.Head.{Head}
 use Rattle.policy.specs.declared.line.Line.{Line}
 use Rattle.policy.specs.declared.line.Test.{Test}
-use Rattle.image.specs.Word.{wordLimit, bytesOf, pack, packHeader}
-use Rattle.image.specs.Operation.{relationCode}
+use Rattle.word.specs.Word.{wordLimit, bytesOf, pack, packHeader}
+use Rattle.word.specs.Operation.{relationCode}
 
 -- ---- the words of a line
 

@@ -5,13 +5,11 @@ ghost use Prim.Native.Nat.{_+_, _/_, _%_, _<_, _≤_};
 ghost use lib.ListN.{length, take};
 ghost use mir.Syntax.{w32};
 ghost use mir.Val.{ofZ};
-ghost use Rattle.image.specs.Word.{pack, packHeader};
-ghost use Rattle.image.specs.Operation.{relationCode};
+ghost use Rattle.word.specs.Word.{pack, packHeader};
+ghost use Rattle.word.specs.Operation.{relationCode};
 ghost use Rattle.image.specs.Layout.{testWord, comparisonWords, comparisonSize, endingWord, conditionWords, conditionSize};
 ghost use Rattle.image.specs.Layout.{headWords, testsOf, valueWords};
-ghost use Rattle.image.specs.Write.{putWords};
-use crate::word::at_most;
-use crate::word::put_word;
+ghost use Rattle.word.specs.Write.{putWords};
 use policy::Comparison;
 use policy::Ending;
 use policy::Head;
@@ -19,6 +17,8 @@ use policy::Line;
 use policy::Operand;
 use policy::Relation;
 use policy::Test;
+use word::at_most;
+use word::put_word;
 
 fn pack_word(opcode: u32, first: u8, second: u8, relation: u32, skip: u32) -> u32
     requires { ⌜ (opcode < 8) × (relation < 8) × (skip < 32) ⌝ }

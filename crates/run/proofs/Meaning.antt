@@ -27,9 +27,9 @@ use Rattle.image.proofs.LayoutLaws.{condition-length, part-length, condition-si
 use Rattle.run.proofs.RunLaws.{rules-pass, constraints-pass}
 use Rattle.image.proofs.ValidLaws.{valid-out, testInRange}
 use Rattle.image.specs.Layout.{testWord, comparisonWords, endingWord, conditionWords, partWords, conditionSize, lineWords, linesWords, ruleWords, constraintWords}
-use Rattle.image.specs.Operation.{Operation, againstConstant, againstReading, operationOf, eventFrom, constantComparison, readingComparison}
+use Rattle.word.specs.Operation.{Operation, againstConstant, againstReading, operationOf, eventFrom, constantComparison, readingComparison}
 use Rattle.run.specs.Run.{passed, rulePasses, ruleProposes, runRules, constraintPasses, isNever, runConstraints}
-use Rattle.image.specs.Word.{skipOf}
+use Rattle.word.specs.Word.{skipOf}
 
 -- ---- a line, for any way of running that tests comparisons by operations 3 and 4
 

@@ -1,12 +1,12 @@
 use mathlib.Core.Path.{sym, _∙_}
 use lib.ListN.{List·getD-eq-default}
 use denote.Ref.{now}
-use Rattle.image.specs.Word.{wordsOf}
-use Rattle.image.proofs.WordLaws.{word-at, words-length}
+use Rattle.word.specs.Word.{wordsOf}
+use Rattle.word.proofs.WordLaws.{word-at, words-length}
 use native.Mathlib.Omega.{arith}
 use borrow.Author.Needs.{needs}
-use Rattle.image.proofs.word.word_at.Statement.{statement}
-use Rattle.image.proofs.word.word_at.Tie as tie
+use Rattle.word.proofs.word.word_at.Statement.{statement}
+use Rattle.word.proofs.word.word_at.Tie as tie
 
 mul-at : tie.Need-mul-at
 mul-at c = search needs

@@ -3,7 +3,7 @@ use Prim.Native.Nat.{ℕ, zero, suc, _≤_, _<_}
 use mathlib.Core.Path.{_≡_, refl}
 use native.Mathlib.Omega.{arith}
 use Rattle.policy.specs.declared.comparison.Relation.{Relation}
-use Rattle.image.specs.Operation.{unknown, operationFrom, relationCode, relationFrom}
+use Rattle.word.specs.Operation.{unknown, operationFrom, relationCode, relationFrom}
 
 pub relation-back : (r : Relation) → relationFrom (relationCode r) ≡ r
 unfolding relationFrom relationCode

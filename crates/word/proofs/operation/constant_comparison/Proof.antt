@@ -1,10 +1,10 @@
 use mir.Facts.{toZ-ofZ}
 use mir.Syntax.{w32}
 use mir.Val.{SFits}
-use Rattle.image.specs.Operation.{constantComparison}
+use Rattle.word.specs.Operation.{constantComparison}
 use borrow.Author.Needs.{needs}
-use Rattle.image.proofs.operation.constant_comparison.Statement.{statement}
-use Rattle.image.proofs.operation.constant_comparison.Tie as tie
+use Rattle.word.proofs.operation.constant_comparison.Statement.{statement}
+use Rattle.word.proofs.operation.constant_comparison.Tie as tie
 
 first-requires : tie.Need-first-requires
 first-requires c κs = search needs

@@ -2,11 +2,11 @@ use mathlib.Core.List.{[], _∷_}
 use mathlib.Core.Path.{sym}
 use lib.ListN.{length-set}
 use denote.Ref.{now}
-use Rattle.image.proofs.WriteLaws.{fits-in, fits-out, store-word, put-out}
+use Rattle.word.proofs.WriteLaws.{fits-in, fits-out, store-word, put-out}
 use native.Mathlib.Omega.{arith}
 use borrow.Author.Needs.{needs}
-use Rattle.image.proofs.word.put_word.Statement.{statement}
-use Rattle.image.proofs.word.put_word.Tie as tie
+use Rattle.word.proofs.word.put_word.Statement.{statement}
+use Rattle.word.proofs.word.put_word.Tie as tie
 
 mul-at : tie.Need-mul-at
 mul-at c = search needs

@@ -7,7 +7,7 @@ use Rattle.policy.specs.declared.comparison.Operand.{Operand}
 use Rattle.policy.specs.declared.comparison.Relation.{Relation}
 use Rattle.policy.specs.declared.number.Action.{Action}
 use Rattle.policy.specs.declared.number.Event.{Event}
-use Rattle.image.specs.Word.{opcodeOf, firstOf, secondOf, relationOf}
+use Rattle.word.specs.Word.{opcodeOf, firstOf, secondOf, relationOf}
 
 pub data Operation : Type 0 where
   -- 1, 2: the event must be present, absent

@@ -2,11 +2,11 @@ use mathlib.Core.Path.{refl, ap}
 use mir.Facts.{sfits-toZ, ofZ-toZ}
 use mir.Syntax.{w32}
 use mir.Val.{toZ}
-use Rattle.image.proofs.ConstantLaws.{high-constant}
+use Rattle.word.proofs.ConstantLaws.{high-constant}
 use native.Mathlib.Omega.{arith}
 use borrow.Author.Needs.{needs}
-use Rattle.image.proofs.operation.constant_from.Statement.{statement}
-use Rattle.image.proofs.operation.constant_from.Tie as tie
+use Rattle.word.proofs.operation.constant_from.Statement.{statement}
+use Rattle.word.proofs.operation.constant_from.Tie as tie
 
 cast-result : tie.Need-cast-result
 cast-result c = search needs

@@ -1,8 +1,8 @@
-use Rattle.image.specs.Operation.{relationFrom}
-use Rattle.image.proofs.OperationLaws.{relation-high}
+use Rattle.word.specs.Operation.{relationFrom}
+use Rattle.word.proofs.OperationLaws.{relation-high}
 use native.Mathlib.Omega.{arith}
-use Rattle.image.proofs.operation.relation_from.Statement.{statement}
-use Rattle.image.proofs.operation.relation_from.Tie as tie
+use Rattle.word.proofs.operation.relation_from.Statement.{statement}
+use Rattle.word.proofs.operation.relation_from.Tie as tie
 
 returns : tie.Need-returns
 unfolding relationFrom

@@ -2,7 +2,7 @@
 ghost use mathlib.Core.Path.{_≡_};
 ghost use mir.Syntax.{w32};
 ghost use mir.Val.{toZ};
-ghost use Rattle.image.specs.Operation.{relationFrom, constantComparison, readingComparison};
+ghost use Rattle.word.specs.Operation.{relationFrom, constantComparison, readingComparison};
 use crate::word::first;
 use crate::word::relation;
 use crate::word::second;

@@ -5,7 +5,7 @@ use mathlib.Core.Path.{_≡_, refl, sym, ap, ap₂, _∙_}
 use native.Mathlib.Omega.{arith}
 use lib.ListN.{length, getD}
 use lib.Pow.{shr-shr, split}
-use Rattle.image.specs.Word.{wordLimit, join, wordsOf, bytesOf, byteList, pack, opcodeOf, firstOf, secondOf, relationOf, skipOf, packHeader, formOf, ruleCountOf, constraintCountOf}
+use Rattle.word.specs.Word.{wordLimit, join, wordsOf, bytesOf, byteList, pack, opcodeOf, firstOf, secondOf, relationOf, skipOf, packHeader, formOf, ruleCountOf, constraintCountOf}
 
 -- each element is below n
 abbrev pub Below : ℕ → List ℕ → Type 0

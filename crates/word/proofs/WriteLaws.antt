@@ -8,9 +8,9 @@ use native.Mathlib.Omega.{arith}
 use borrow.Author.Tests.{le-leb, lt-leb, leb-true}
 use lib.ListN.{length, take, drop, set, length-append, length-drop, take-append-drop}
 use lib.Seq.{sets-eq, take-at, drop-drop, length-take-le, drop-append-add}
-use Rattle.image.proofs.WordLaws.{bytes-append, bytes-length}
-use Rattle.image.specs.Word.{bytesOf}
-use Rattle.image.specs.Write.{putBytes, fits, putWords}
+use Rattle.word.proofs.WordLaws.{bytes-append, bytes-length}
+use Rattle.word.specs.Word.{bytesOf}
+use Rattle.word.specs.Write.{putBytes, fits, putWords}
 
 pub fits-in : (buffer : List ℕ) (index count : ℕ) → index + count ≤ length buffer / 4 → fits buffer index count ≡ true
 unfolding fits

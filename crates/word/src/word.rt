@@ -2,8 +2,8 @@
 ghost use mathlib.Core.Path.{_≡_};
 ghost use mathlib.Core.List.{[], _∷_};
 ghost use Prim.Native.Nat.{min};
-ghost use Rattle.image.specs.Word.{join, wordAt, opcodeOf, firstOf, secondOf, relationOf, skipOf};
-ghost use Rattle.image.specs.Write.{fits, putWords};
+ghost use Rattle.word.specs.Word.{join, wordAt, opcodeOf, firstOf, secondOf, relationOf, skipOf};
+ghost use Rattle.word.specs.Write.{fits, putWords};
 
 pub struct Fields {
     pub opcode: u32,

@@ -1,6 +1,6 @@
 use borrow.Author.Needs.{needs}
-use Rattle.image.proofs.word.fields_of.Statement.{statement}
-use Rattle.image.proofs.word.fields_of.Tie as tie
+use Rattle.word.proofs.word.fields_of.Statement.{statement}
+use Rattle.word.proofs.word.fields_of.Tie as tie
 
 opcode-requires : tie.Need-opcode-requires
 opcode-requires c κs = search needs

@@ -1,7 +1,7 @@
-use Rattle.image.specs.Operation.{readingComparison}
+use Rattle.word.specs.Operation.{readingComparison}
 use borrow.Author.Needs.{needs}
-use Rattle.image.proofs.operation.reading_comparison.Statement.{statement}
-use Rattle.image.proofs.operation.reading_comparison.Tie as tie
+use Rattle.word.proofs.operation.reading_comparison.Statement.{statement}
+use Rattle.word.proofs.operation.reading_comparison.Tie as tie
 
 first-requires : tie.Need-first-requires
 first-requires c κs = search needs

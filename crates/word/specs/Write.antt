@@ -4,7 +4,7 @@ use mathlib.Core.Bool.{Bool, cond}
 use mathlib.Core.List.{List, _++_}
 use lib.Dec.{leb}
 use lib.ListN.{length, take, drop}
-use Rattle.image.specs.Word.{bytesOf}
+use Rattle.word.specs.Word.{bytesOf}
 
 -- the bytes in place of those that stood there
 unfoldable pub putBytes : List ℕ → ℕ → List ℕ → List ℕ
