@@ -19,9 +19,10 @@ use Rattle.policy.specs.declared.fault.Fault.{Fault}
 use Rattle.policy.specs.declared.line.Test.{Test}
 use Rattle.policy.specs.declared.number.Action.{Action}
 use Rattle.syntax.proofs.JudgeLaws.{Judged, yes-line, no-line, judged-cases}
-use Rattle.syntax.specs.Grammar.{Token, Joined, last, before, both, joined, literalOf, actionOf, conditionOf, causes, never, ruleAfter, constraintAfter, after, lineFrom}
-use Rattle.syntax.specs.Byte.{is}
-use Rattle.syntax.specs.Lines.{linesOf, tokensOf}
+use Rattle.lexer.specs.Token.{Token, both, literalOf, actionOf}
+use Rattle.syntax.specs.Grammar.{Joined, last, before, joined, conditionOf, causes, never, ruleAfter, constraintAfter, after, lineFrom}
+use Rattle.lexer.specs.Byte.{is}
+use Rattle.lexer.specs.Lines.{linesOf, tokensOf}
 use Rattle.syntax.specs.Text.{LineAnswer, skipped, refused, accepted, judge, isComment, tokensAnswer, lineAnswer, Progress, reading, stopped, withRule, withConstraint, advance, readLine, emptyPolicy, textLimit, readText, policyOf}
 
 -- ---- a line of either shape has a literal or an action

@@ -20,16 +20,16 @@ use Rattle.policy.specs.Set.{insertEvent, hasReading, insertReading, noEvents, 
 use Rattle.policy.specs.declared.fault.Fault.{Fault}
 use Rattle.policy.specs.declared.number.Event.{Event}
 use Rattle.policy.specs.declared.number.Reading.{Reading}
-use Rattle.syntax.proofs.RunLaws.{skip-ge}
-use Rattle.syntax.proofs.TokenLaws.{tokens-after-spaces, tokens-first, tokens-ended}
-use Rattle.syntax.proofs.WordLaws.{empty-end, token-inside, skip-grows}
-use Rattle.syntax.specs.Byte.{isSpace}
+use Rattle.lexer.proofs.RunLaws.{skip-ge}
+use Rattle.lexer.proofs.TokenLaws.{tokens-after-spaces, tokens-first, tokens-ended}
+use Rattle.lexer.proofs.WordLaws.{empty-end, token-inside, skip-grows}
+use Rattle.lexer.specs.Byte.{isSpace}
 use Rattle.syntax.specs.Epoch.{Item, event, value, itemOf, itemsOf, itemInRange, givenBy, addItem, emptyEpoch, judge, refused, accepted, epochLimit, readEpoch, atEquals, valueOf}
 use Rattle.syntax.specs.EpochScan.{itemWithin, itemEnding, itemAt, refusedRead, acceptedRead, answerRead, epochRead, Scanned, scanned, addScanned, flagged, takeItem, finishRead, itemsRead, readFrom}
-use Rattle.syntax.specs.Grammar.{Token, named, orElse, both}
-use Rattle.syntax.specs.Lines.{tokensOf}
-use Rattle.syntax.specs.Number.{isEmpty}
-use Rattle.syntax.specs.Scan.{run, skip, inToken, inLine, tokenAt, lineAt, tokensAt}
+use Rattle.lexer.specs.Token.{Token, named, orElse, both}
+use Rattle.lexer.specs.Lines.{tokensOf}
+use Rattle.lexer.specs.Number.{isEmpty}
+use Rattle.lexer.specs.Scan.{run, skip, inToken, inLine, tokenAt, lineAt, tokensAt}
 use Rattle.syntax.specs.declared.epoch.EpochRead.{EpochRead}
 use Rattle.syntax.specs.declared.epoch.ItemAt.{ItemAt}
 

@@ -19,20 +19,20 @@ use Rattle.policy.specs.declared.number.Event.{Event}
 use Rattle.policy.specs.declared.number.EventCheck.{EventCheck}
 use Rattle.policy.specs.declared.number.Reading.{Reading}
 use Rattle.policy.specs.declared.number.ReadingCheck.{ReadingCheck}
-use Rattle.syntax.proofs.ClassLaws.{digit-apart, digit-bounds}
-use Rattle.syntax.proofs.PartLaws.{name-some, name-none, clip-below, clip-same}
-use Rattle.syntax.proofs.RunLaws.{at-byte, skip-past}
-use Rattle.syntax.proofs.WordLaws.{token-end, token-here, token-past}
-use Rattle.syntax.specs.Byte.{isDigit}
+use Rattle.lexer.proofs.ClassLaws.{digit-apart, digit-bounds}
+use Rattle.lexer.proofs.PartLaws.{name-some, name-none, clip-below, clip-same}
+use Rattle.lexer.proofs.RunLaws.{at-byte, skip-past}
+use Rattle.lexer.proofs.WordLaws.{token-end, token-here, token-past}
+use Rattle.lexer.specs.Byte.{isDigit}
 use Rattle.syntax.specs.Epoch.{Item, event, value, Halves, toLeft, atEquals, valueOf, itemOf, itemInRange}
 use Rattle.syntax.specs.EpochScan.{itemWithin, itemEnding, valueItem, valueAt, itemAt}
-use Rattle.syntax.specs.Grammar.{named, orElse, both}
-use Rattle.syntax.specs.Number.{numberOf, constantOf}
-use Rattle.syntax.specs.Parts.{constantEnding, constantAt}
-use Rattle.syntax.specs.Scan.{run, skip, inToken, tokenAt, clip, numberEnding, digitsAt, nameAt}
+use Rattle.lexer.specs.Token.{named, orElse, both}
+use Rattle.lexer.specs.Number.{numberOf, constantOf}
+use Rattle.lexer.specs.Parts.{constantEnding, constantAt}
+use Rattle.lexer.specs.Scan.{run, skip, inToken, tokenAt, clip, numberEnding, digitsAt, nameAt}
 use Rattle.syntax.specs.declared.epoch.ItemAt.{ItemAt}
-use Rattle.syntax.specs.declared.scan.NumberAt.{NumberAt}
-use Rattle.syntax.specs.declared.token.ConstantAt.{ConstantAt}
+use Rattle.lexer.specs.declared.scan.NumberAt.{NumberAt}
+use Rattle.lexer.specs.declared.token.ConstantAt.{ConstantAt}
 
 -- ---- checked numbers
 
