@@ -8,11 +8,10 @@ use native.Mathlib.Omega.{arith}
 use borrow.Author.Tests.{eq-eqb, ne-eqb, ltb-true, ltb-false}
 use lib.Dec.{eqb, ltb}
 use lib.ListN.{length, getD, drop}
-use lib.Seq.{drop-drop}
 use Rattle.policy.proofs.ListLaws.{true-false, and-in}
 use Rattle.policy.specs.List.{all}
 use Rattle.lexer.proofs.ClassLaws.{digit-apart}
-use Rattle.lexer.proofs.RunLaws.{run-end, run-here, run-past, skip-past}
+use Rattle.lexer.proofs.RunLaws.{run-end, run-here, run-past, skip-past, drop-skip}
 use Rattle.lexer.proofs.WordLaws.{token-end, token-here, token-past}
 use Rattle.lexer.specs.Byte.{isDigit}
 use Rattle.lexer.specs.Token.{named}
@@ -123,7 +122,7 @@ module _ (text : List ℕ) (at : ℕ) where
 
 -- ---- the digits at the start of a token against the token
 
-digit-inside : (b : ℕ) → isDigit b ≡ true → inToken b ≡ true
+pub digit-inside : (b : ℕ) → isDigit b ≡ true → inToken b ≡ true
 digit-inside b e = rw (digit-apart b 32 (omega arith) e, digit-apart b 10 (omega arith) e)
 
 split-token : (s : List ℕ) → run inToken s ≡ run isDigit s ++ run inToken (drop (length (run isDigit s)) s)
@@ -177,6 +176,11 @@ broken-number s h = ap numberOf (split-token s) ∙ go (run inToken (drop (lengt
 
 -- ---- the answers
 
+pub ending-none : (e : ℕ) (o : Option ℕ) → numberEnding e o ≡ NumberAt.Malformed → o ≡ none
+unfolding numberEnding
+ending-none e none k = refl
+ending-none e (some n) k = let w : _≡_ {A = ℕ} 0 1 = cc in absurd (omega arith)
+
 module _ (text : List ℕ) (at : ℕ) where
   pub digits-malformed : numberOf (run isDigit (drop at text)) ≡ none → NumberAt.Malformed ≡ digitsAt text at
   unfolding digitsAt numberEnding
@@ -187,8 +191,8 @@ module _ (text : List ℕ) (at : ℕ) where
   digits-number d q e = rw (e, q)
 
   behind : tokenAt text (skip isDigit text at) ≡ run inToken (drop (length (run isDigit (drop at text))) (drop at text))
-  unfolding tokenAt skip
-  behind = ap (run inToken) (sym (drop-drop (length (run isDigit (drop at text))) at text))
+  unfolding tokenAt
+  behind = ap (run inToken) (drop-skip isDigit text at)
 
   whole-token : isEmpty (tokenAt text (skip isDigit text at)) ≡ true → tokenAt text at ≡ run isDigit (drop at text)
   unfolding tokenAt
@@ -198,7 +202,7 @@ module _ (text : List ℕ) (at : ℕ) where
   unfolding tokenAt skip
   same-end e = ap (λ (l : List ℕ). at + length l) e
 
-  number-end : (v e : ℕ) → digitsAt text at ≡ NumberAt.Number v e → skip isDigit text at ≡ e
+  pub number-end : (v e : ℕ) → digitsAt text at ≡ NumberAt.Number v e → skip isDigit text at ≡ e
   unfolding digitsAt numberEnding
   number-end v e = go (numberOf (run isDigit (drop at text)))
     where
@@ -225,12 +229,8 @@ module _ (text : List ℕ) (at : ℕ) where
   unfolding digitsAt numberAt numberEnding
   token-malformed q = go (isEmpty (tokenAt text (skip isDigit text at))) refl
     where
-      no-digits : (o : Option ℕ) → numberEnding (skip isDigit text at) o ≡ NumberAt.Malformed → o ≡ none
-      no-digits none k = refl
-      no-digits (some n) k = let w : _≡_ {A = ℕ} 0 1 = cc in absurd (omega arith)
-
       go : (b : Bool) → isEmpty (tokenAt text (skip isDigit text at)) ≡ b → NumberAt.Malformed ≡ numberEnding (skip inToken text at) (numberOf (tokenAt text at))
-      go true h = rw (ap numberOf (whole-token h) ∙ no-digits (numberOf (run isDigit (drop at text))) q)
+      go true h = rw (ap numberOf (whole-token h) ∙ ending-none (skip isDigit text at) (numberOf (run isDigit (drop at text))) q)
       go false h = rw (broken h)
 
 -- ---- a letter and a number

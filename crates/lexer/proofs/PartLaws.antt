@@ -23,6 +23,7 @@ use Rattle.policy.specs.declared.number.Event.{Event}
 use Rattle.policy.specs.declared.number.EventCheck.{EventCheck}
 use Rattle.policy.specs.declared.number.Reading.{Reading}
 use Rattle.policy.specs.declared.number.ReadingCheck.{ReadingCheck}
+use Rattle.lexer.proofs.DigitLaws.{ending-none}
 use Rattle.lexer.proofs.WordLaws.{token-none, token-first, skip-first}
 use Rattle.lexer.specs.Byte.{isSpace}
 use Rattle.lexer.specs.Token.{Token, compare, named, literalAs, literalOf, actionOf, readingOf, relationOf, orElse, operandOf, both, comparisonOf}
@@ -75,12 +76,8 @@ module _ (letter : ℕ) (text : List ℕ) (at : ℕ) where
       go (some n) p q = record { number = n; is = p; clipped = cc; behind = cc }
 
   pub name-none : nameAt text at letter ≡ NumberAt.Malformed → named letter (tokenAt text at) ≡ none
-  unfolding nameAt numberEnding
-  name-none = go (named letter (tokenAt text at))
-    where
-      go : (o : Option ℕ) → numberEnding (skip inToken text at) o ≡ NumberAt.Malformed → o ≡ none
-      go none q = refl
-      go (some n) q = let w : _≡_ {A = ℕ} 0 1 = cc in absurd (omega arith)
+  unfolding nameAt
+  name-none q = ending-none (skip inToken text at) (named letter (tokenAt text at)) q
 
 -- ---- checked numbers
 
@@ -118,19 +115,19 @@ asAction : ActionCheck → Option Action
 asAction (ActionCheck.Valid a) = some a
 asAction ActionCheck.OutOfRange = none
 
-reading-valid : (n : ℕ) (r : Reading) → Number.readingOf n ≡ ReadingCheck.Valid r → (ltb n 16 ≡ true) × (r ≡ record { 0 = n })
+pub reading-valid : (n : ℕ) (r : Reading) → Number.readingOf n ≡ ReadingCheck.Valid r → (ltb n 16 ≡ true) × (r ≡ record { 0 = n })
 unfolding asReading
 reading-valid n r q = check-valid asReading (ltb n 16) (record { 0 = n }) (ReadingCheck.Valid (record { 0 = n })) ReadingCheck.OutOfRange refl refl r (ap asReading q)
 
-reading-outside : (n : ℕ) → Number.readingOf n ≡ ReadingCheck.OutOfRange → ltb n 16 ≡ false
+pub reading-outside : (n : ℕ) → Number.readingOf n ≡ ReadingCheck.OutOfRange → ltb n 16 ≡ false
 unfolding asReading
 reading-outside n q = check-outside asReading (ltb n 16) (record { 0 = n }) (ReadingCheck.Valid (record { 0 = n })) ReadingCheck.OutOfRange refl refl (ap asReading q)
 
-event-valid : (n : ℕ) (e : Event) → Number.eventOf n ≡ EventCheck.Valid e → (ltb n 64 ≡ true) × (e ≡ record { 0 = n })
+pub event-valid : (n : ℕ) (e : Event) → Number.eventOf n ≡ EventCheck.Valid e → (ltb n 64 ≡ true) × (e ≡ record { 0 = n })
 unfolding asEvent
 event-valid n e q = check-valid asEvent (ltb n 64) (record { 0 = n }) (EventCheck.Valid (record { 0 = n })) EventCheck.OutOfRange refl refl e (ap asEvent q)
 
-event-outside : (n : ℕ) → Number.eventOf n ≡ EventCheck.OutOfRange → ltb n 64 ≡ false
+pub event-outside : (n : ℕ) → Number.eventOf n ≡ EventCheck.OutOfRange → ltb n 64 ≡ false
 unfolding asEvent
 event-outside n q = check-outside asEvent (ltb n 64) (record { 0 = n }) (EventCheck.Valid (record { 0 = n })) EventCheck.OutOfRange refl refl (ap asEvent q)
 

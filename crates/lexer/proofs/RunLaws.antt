@@ -1,12 +1,13 @@
 -- Laws of runs: going on by one byte, and what is behind a run.
 use Prim.Native.Nat.{ℕ, _+_, _<_, _≤_}
-use mathlib.Core.Bool.{Bool, true, false}
+use mathlib.Core.Bool.{Bool, true, false, cond}
 use mathlib.Core.List.{List, [], _∷_}
-use mathlib.Core.Path.{_≡_, sym, ap, _∙_}
+use mathlib.Core.Path.{_≡_, refl, sym, ap, _∙_}
+use native.Mathlib.Nat.{add-assoc}
 use native.Mathlib.Numerals.{add-one}
 use native.Mathlib.Omega.{arith}
 use lib.ListN.{length, getD, drop, drop-of-length-le}
-use lib.Seq.{drop-cons}
+use lib.Seq.{drop-cons, drop-drop}
 use Rattle.lexer.specs.Scan.{run, skip}
 
 -- what is left of a text at a position before its end
@@ -48,3 +49,26 @@ module _ (p : ℕ → Bool) (text : List ℕ) (i : ℕ) where
 pub skip-ge : (p : ℕ → Bool) (text : List ℕ) (i : ℕ) → i ≤ skip p text i
 unfolding skip
 skip-ge p text i = omega arith
+
+-- what is left of a text behind a run
+pub drop-skip : (p : ℕ → Bool) (text : List ℕ) (at : ℕ) → drop (skip p text at) text ≡ drop (length (run p (drop at text))) (drop at text)
+unfolding skip
+drop-skip p text at = sym (drop-drop (length (run p (drop at text))) at text)
+
+-- all that passes q passes p: what passes q, and then what passes p
+module _ (p q : ℕ → Bool) (h : (b : ℕ) → q b ≡ true → p b ≡ true) where
+  run-on : (s : List ℕ) → length (run q s) + length (run p (drop (length (run q s)) s)) ≡ length (run p s)
+  unfolding run
+  run-on [] = refl
+  run-on (b ∷ s) = go (q b) refl (run-on s)
+    where
+      go : (x : Bool) → q b ≡ x → length (run q s) + length (run p (drop (length (run q s)) s)) ≡ length (run p s) → length (cond x (b ∷ run q s) []) + length (run p (drop (length (cond x (b ∷ run q s) [])) (b ∷ s))) ≡ length (run p (b ∷ s))
+      go true e k = rw (h b e) (omega arith)
+      go false e k = omega arith
+
+  pub skip-on : (text : List ℕ) (at : ℕ) → skip p text (skip q text at) ≡ skip p text at
+  unfolding skip
+  skip-on text at =
+      ap (λ (s : List ℕ). at + length (run q (drop at text)) + length (run p s)) (drop-skip q text at)
+      ∙ add-assoc at (length (run q (drop at text))) (length (run p (drop (length (run q (drop at text))) (drop at text))))
+      ∙ ap (λ (n : ℕ). at + n) (run-on (drop at text))

@@ -3,13 +3,13 @@ use Prim.Native.Nat.{ℕ, _+_}
 use mathlib.Core.Bool.{Bool, true, false, not, _||_, cond}
 use mathlib.Core.List.{List, [], _∷_}
 use mathlib.Core.Path.{_≡_, refl, sym, ap, _∙_}
-use native.Mathlib.Nat.{add-zero, add-assoc}
+use native.Mathlib.Nat.{add-zero}
 use native.Mathlib.Omega.{arith}
 use borrow.Author.Tests.{eqb-true, eq-eqb}
 use lib.Dec.{eqb}
 use lib.ListN.{length, drop}
-use lib.Seq.{drop-drop}
 use Rattle.policy.proofs.ListLaws.{true-false}
+use Rattle.lexer.proofs.RunLaws.{drop-skip, skip-on}
 use Rattle.lexer.specs.Byte.{isSpace}
 use Rattle.lexer.specs.Lines.{prepend, pieces, nonEmpty, tokensOf}
 use Rattle.lexer.specs.Number.{isEmpty}
@@ -133,22 +133,18 @@ tokens-some (b ∷ s) h = go (kind b)
 -- ---- the same at a position
 
 module _ (text : List ℕ) (at : ℕ) where
-  drop-skip : (p : ℕ → Bool) → drop (skip p text at) text ≡ drop (length (run p (drop at text))) (drop at text)
-  unfolding skip
-  drop-skip p = sym (drop-drop (length (run p (drop at text))) at text)
-
   pub tokens-after-spaces : tokensAt text at ≡ tokensAt text (skip isSpace text at)
   unfolding tokensAt lineAt first-tokens
-  tokens-after-spaces = tokens-skip (drop at text) ∙ ap first-tokens (sym (drop-skip isSpace))
+  tokens-after-spaces = tokens-skip (drop at text) ∙ ap first-tokens (sym (drop-skip isSpace text at))
 
   pub tokens-first : isEmpty (tokenAt text at) ≡ false → tokensAt text at ≡ tokenAt text at ∷ tokensAt text (skip inToken text at)
   unfolding tokensAt lineAt tokenAt first-tokens
-  tokens-first h = tokens-some (drop at text) h ∙ ap (λ (s : List ℕ). run inToken (drop at text) ∷ first-tokens s) (sym (drop-skip inToken))
+  tokens-first h = tokens-some (drop at text) h ∙ ap (λ (s : List ℕ). run inToken (drop at text) ∷ first-tokens s) (sym (drop-skip inToken text at))
 
 -- where spaces were passed over and no token starts, the line ends
 module _ (text : List ℕ) (at : ℕ) (h : isEmpty (tokenAt text (skip isSpace text at)) ≡ true) where
   no-space : run isSpace (drop (skip isSpace text at) text) ≡ []
-  no-space = ap (run isSpace) (drop-skip text at isSpace) ∙ run-behind isSpace (drop at text)
+  no-space = ap (run isSpace) (drop-skip isSpace text at) ∙ run-behind isSpace (drop at text)
 
   no-token : run inToken (drop (skip isSpace text at) text) ≡ []
   unfolding tokenAt isEmpty
@@ -164,28 +160,14 @@ module _ (text : List ℕ) (at : ℕ) (h : isEmpty (tokenAt text (skip isSpace t
 
 -- ---- the end of the line
 
-within-line : (q : ℕ → Bool) → ((b : ℕ) → q b ≡ true → inLine b ≡ true) → (s : List ℕ) → length (run q s) + length (run inLine (drop (length (run q s)) s)) ≡ length (run inLine s)
-unfolding run
-within-line q h [] = refl
-within-line q h (b ∷ s) = go (q b) refl (within-line q h s)
-  where
-    go : (x : Bool) → q b ≡ x → length (run q s) + length (run inLine (drop (length (run q s)) s)) ≡ length (run inLine s) → length (cond x (b ∷ run q s) []) + length (run inLine (drop (length (cond x (b ∷ run q s) [])) (b ∷ s))) ≡ length (run inLine (b ∷ s))
-    go true e k = rw (h b e) (omega arith)
-    go false e k = omega arith
-
 module _ (text : List ℕ) (at : ℕ) where
-  line-past : (q : ℕ → Bool) → ((b : ℕ) → q b ≡ true → inLine b ≡ true) → lineEnd text (skip q text at) ≡ lineEnd text at
-  unfolding lineEnd skip
-  line-past q h =
-      ap (λ (s : List ℕ). at + length (run q (drop at text)) + length (run inLine s)) (drop-skip text at q)
-      ∙ add-assoc at (length (run q (drop at text))) (length (run inLine (drop (length (run q (drop at text))) (drop at text))))
-      ∙ ap (λ (n : ℕ). at + n) (within-line q h (drop at text))
-
   pub line-past-spaces : lineEnd text (skip isSpace text at) ≡ lineEnd text at
-  line-past-spaces = line-past isSpace (λ b e. rw (eqb-true b 32 e))
+  unfolding lineEnd
+  line-past-spaces = skip-on inLine isSpace (λ b e. rw (eqb-true b 32 e)) text at
 
   pub line-past-token : lineEnd text (skip inToken text at) ≡ lineEnd text at
-  line-past-token = line-past inToken (λ b e. inside-line (eqb b 32) (eqb b 10) e)
+  unfolding lineEnd
+  line-past-token = skip-on inLine inToken (λ b e. inside-line (eqb b 32) (eqb b 10) e) text at
     where
       inside-line : (s e : Bool) → not (s || e) ≡ true → not e ≡ true
       inside-line true e h = absurd (true-false h refl)
