@@ -8,7 +8,7 @@ use borrow.Author.Tests.{ltb-true}
 use lib.ListN.{length, take, drop, getD, length-append, length-take, length-drop, take-append-drop, drop-of-length-le}
 use lib.Seq.{drop-cons, take-at, drop-at, take-take, getD-take}
 use Rattle.policy.proofs.ListLaws.{and-out}
-use Rattle.policy.specs.Limits.{valid, testNumber, comparisonInRange, endingInRange}
+use Rattle.policy.specs.Limits.{valid, testNumber, comparisonInRange, endingInRange, comparisonsSize}
 use Rattle.policy.specs.Line.{PolicyLine, headsOf, comparisonsOf, endingOf}
 use Rattle.policy.specs.List.{all}
 use Rattle.policy.specs.declared.comparison.Comparison.{Comparison}
@@ -45,7 +45,7 @@ comparison-below c k (withConstant w v q o s b h z) = rw q (below-cons wordLimit
 comparison-below c k (withReading w q o s b h z) = rw q (below-cons wordLimit w [] (h .limit) below-none)
 
 condition-below : (cs : List Comparison) (e : Ending) → all comparisonInRange cs ≡ true → endingInRange e ≡ true → conditionSize cs < 32 → Below wordLimit (conditionWords cs e)
-unfolding conditionWords conditionSize all
+unfolding conditionWords conditionSize comparisonsSize all
 condition-below [] e r h l = below-cons wordLimit (endingWord e) [] (ending-below e h) below-none
 condition-below (c ∷ cs) e r h l =
     let p = and-out (comparisonInRange c) (all comparisonInRange cs) r in

@@ -10,7 +10,7 @@ use lib.ListN.{length, take, drop, getD, length-map, length-drop, length-take, t
 use lib.Seq.{append-snoc, getD-drop, drop-drop, drop-append-le}
 use Rattle.policy.proofs.LineLaws.{push-head, push-comparison, end-line}
 use Rattle.policy.proofs.ListLaws.{and-out}
-use Rattle.policy.specs.Limits.{valid, testNumber, comparisonInRange, endingInRange}
+use Rattle.policy.specs.Limits.{valid, testNumber, comparisonInRange, endingInRange, comparisonsSize}
 use Rattle.policy.specs.Line.{PolicyLine, rule, constraint, headsOf, comparisonsOf, endingOf, lineOf, lineValue, pushHead, pushComparison, endLine}
 use Rattle.policy.specs.List.{all}
 use Rattle.policy.specs.declared.comparison.Comparison.{Comparison}
@@ -55,7 +55,7 @@ no-constant-behind = refl
 module _ (e : Ending) (rest : List ℕ) (ends : (l : Line) → readFrom l 1 false (endingWord e ∷ rest) ≡ endLine l e) where
   read-condition : (cs : List Comparison) (hs : List Test) (cs₀ : List Comparison) → all comparisonInRange cs ≡ true → conditionSize cs < 32
       → readFrom (lineOf hs cs₀ Ending.Never) (length (conditionWords cs e)) false (conditionWords cs e ++ rest) ≡ lineOf hs (cs₀ ++ cs) e
-  unfolding conditionWords conditionSize all
+  unfolding conditionWords conditionSize comparisonsSize all
   read-condition [] hs cs₀ r l = ends (lineOf hs cs₀ Ending.Never) ∙ end-line hs cs₀ Ending.Never e ∙ ap (λ (x : List Comparison). lineOf hs x e) (sym (append-nil cs₀))
   read-condition (c ∷ cs) hs cs₀ r l = go (written c (length tail) (p .0) (omega (arith, condition-length cs e))) (read-condition cs hs (cs₀ ++ c ∷ []) (p .1) (omega arith))
     where

@@ -1,7 +1,7 @@
 // What stands at a position of a text: spaces, words and numbers. A token ends at a space, a line end or the end of the
 // text.
 ghost use mathlib.Core.Path.{_≡_};
-ghost use mathlib.Core.Bool.{true, false};
+ghost use mathlib.Core.Bool.{true};
 ghost use Prim.Native.Nat.{_+_, _*_, _-_, _≤_};
 ghost use Rattle.policy.specs.List.{all};
 ghost use Rattle.lexer.specs.Byte.{bytes, isSpace, isDigit};

@@ -1,7 +1,6 @@
 // The parts of a line, each one token: constants, relations, operands, literals and actions. A part out of range is read
 // as a filler, and flagged.
 ghost use mathlib.Core.Path.{_≡_};
-ghost use Prim.Native.Nat.{_≤_};
 ghost use Rattle.lexer.specs.Parts.{positiveAt, negativeAt, constantAt, relationEnding, relationAt};
 ghost use Rattle.lexer.specs.Parts.{operandEnding, operandAt, literalHead, actionHead, headAt};
 ghost use Rattle.lexer.specs.Parts.{compared, comparisonAt};

@@ -11,7 +11,6 @@ use Rattle.policy.specs.Line as Line
 use Rattle.policy.specs.declared.line.Line.{Line}
 use Rattle.policy.specs.Line.{PolicyLine, headsOf, endingOf, lineOf, endLine}
 use Rattle.policy.specs.List.{all}
-use Rattle.policy.specs.Number as Number
 use Rattle.policy.specs.declared.comparison.Comparison.{Comparison}
 use Rattle.policy.specs.declared.comparison.Literal.{Literal}
 use Rattle.policy.specs.declared.line.Ending.{Ending}
