@@ -1,5 +1,5 @@
 -- The lines of an accepted text make up its policy, and how many words they take.
-use Prim.Native.Nat.{ℕ, suc, _+_, _≤_}
+use Prim.Native.Nat.{ℕ, suc, _≤_}
 use mathlib.Core.Bool.{Bool, true, false, cond}
 use mathlib.Core.List.{List, [], _∷_, _++_, map, foldl, append-assoc, append-nil}
 use mathlib.Core.Path.{_≡_, refl, sym, ap, _∙_}
@@ -7,19 +7,17 @@ use native.Mathlib.Omega.{arith}
 use borrow.Author.Tests.{ltb-false}
 use lib.Dec.{ltb}
 use lib.ListN.{length, length-append}
-use Rattle.policy.specs.Limits.{comparisonsSize, lineSize, ruleLimit, constraintLimit, Acceptable}
+use Rattle.policy.specs.Limits.{lineSize, ruleLimit, constraintLimit, Acceptable}
 use Rattle.policy.specs.Line.{PolicyLine, rule, constraint, headsOf, comparisonsOf, endingOf}
 use Rattle.policy.specs.Policy.{Policy}
-use Rattle.policy.specs.declared.comparison.Comparison.{Comparison}
-use Rattle.policy.specs.declared.comparison.Operand.{Operand}
 use Rattle.policy.specs.declared.fault.Fault.{Fault}
 use Rattle.image.proofs.Exact.{P-limit, N-limit}
 use Rattle.image.proofs.LayoutLaws.{part-length}
-use Rattle.image.specs.Layout.{lineWords, linesWords, ruleWords, constraintWords, operandSize, comparisonSize, conditionSize, knownForm}
+use Rattle.image.specs.Layout.{lineWords, linesWords, ruleWords, constraintWords, conditionSize, knownForm}
 use Rattle.image.specs.Load.{rulesIn, constraintsIn}
 use Rattle.syntax.proofs.Accepted.{accepted-acceptable}
 use Rattle.syntax.specs.Answers.{linesSize, countsOf, textReadOf, textRead}
-use Rattle.syntax.specs.Lines.{linesOf}
+use Rattle.lexer.specs.Lines.{linesOf}
 use Rattle.syntax.specs.Text.{LineAnswer, skipped, refused, accepted, lineAnswer, Progress, reading, stopped, withRule, withConstraint, advance, readLine, emptyPolicy, textLimit, readText}
 use Rattle.syntax.specs.declared.text.TextCounts.{TextCounts}
 use Rattle.syntax.specs.declared.text.TextRead.{TextRead}
@@ -65,18 +63,9 @@ extends (l ∷ ls) n m p q e = go (lineAnswer l) (extends ls) e
 
 -- ---- how many words a line takes
 
-condition-size : (cs : List Comparison) → conditionSize cs ≡ 1 + comparisonsSize cs
-unfolding conditionSize comparisonsSize comparisonSize operandSize
-condition-size [] = refl
-condition-size (c ∷ cs) = go (c .operand) (condition-size cs)
-  where
-    go : (o : Operand) → conditionSize cs ≡ 1 + comparisonsSize cs → operandSize o + conditionSize cs ≡ 1 + (Rattle.policy.specs.Limits.operandSize o + comparisonsSize cs)
-    go (Operand.Constant k) e = omega arith
-    go (Operand.Reading r) e = omega arith
-
 line-size : (l : PolicyLine) → lineSize l ≡ length (lineWords l)
-unfolding lineSize lineWords
-line-size l = omega (arith, part-length (headsOf l) (comparisonsOf l) (endingOf l), condition-size (comparisonsOf l))
+unfolding lineSize lineWords conditionSize
+line-size l = omega (arith, part-length (headsOf l) (comparisonsOf l) (endingOf l))
 
 lines-size : (ls : List PolicyLine) → linesSize ls ≡ length (linesWords ls)
 unfolding linesSize linesWords

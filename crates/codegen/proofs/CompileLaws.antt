@@ -11,14 +11,14 @@ use Rattle.policy.specs.Line.{PolicyLine, rule, constraint, endingOf}
 use Rattle.policy.specs.Policy.{Policy, Rule, Constraint}
 use Rattle.policy.specs.declared.fault.Fault.{Fault}
 use Rattle.image.proofs.Exact.{content-below, image-length}
-use Rattle.image.proofs.WordLaws.{words-append, bytes-length}
-use Rattle.image.proofs.WriteLaws.{put-in, put-length, put-append, put-none, put-swap}
+use Rattle.word.proofs.WordLaws.{words-append, bytes-length}
+use Rattle.word.proofs.WriteLaws.{put-in, put-length, put-append, put-none, put-swap}
 use Rattle.image.specs.Layout.{lineWords, linesWords, ruleWords, constraintWords, headerWord, contentWords, checkWords, imageWords, imageOf}
 use Rattle.image.specs.Load.{rulesIn, constraintsIn}
-use Rattle.image.specs.Word.{bytesOf, wordsOf, packHeader}
-use Rattle.image.specs.Write.{putBytes, putWords}
+use Rattle.word.specs.Word.{bytesOf, wordsOf, packHeader}
+use Rattle.word.specs.Write.{putBytes, putWords}
 use Rattle.syntax.specs.Answers.{textReadOf, textRead}
-use Rattle.syntax.specs.Lines.{linesOf}
+use Rattle.lexer.specs.Lines.{linesOf}
 use Rattle.syntax.specs.Text.{Progress, reading, stopped, readText}
 use Rattle.syntax.specs.declared.text.TextCounts.{TextCounts}
 use Rattle.syntax.specs.declared.text.TextRead.{TextRead}

@@ -14,15 +14,15 @@ use Rattle.policy.specs.declared.number.Action.{Action}
 use Rattle.image.proofs.LayoutLaws.{value-words}
 use Rattle.image.proofs.PartLines.{line-limit}
 use Rattle.image.proofs.ValidLaws.{valid-out}
-use Rattle.image.proofs.WriteLaws.{put-length}
+use Rattle.word.proofs.WriteLaws.{put-length}
 use Rattle.image.specs.Layout.{lineWords, valueWords, checkWords}
-use Rattle.image.specs.Word.{wordsOf, packHeader}
-use Rattle.image.specs.Write.{putWords}
+use Rattle.word.specs.Word.{wordsOf, packHeader}
+use Rattle.word.specs.Write.{putWords}
 use Rattle.syntax.proofs.Accepted.{accepted-valid}
 use Rattle.syntax.proofs.TextLaws.{lines-here, next-later}
 use Rattle.syntax.specs.Answers.{lineReadOf, lineRead, behindLine}
-use Rattle.syntax.specs.Lines.{pieces, linesOf}
-use Rattle.syntax.specs.Scan.{lineAt, lineEnd}
+use Rattle.lexer.specs.Lines.{pieces, linesOf}
+use Rattle.lexer.specs.Scan.{lineAt, lineEnd}
 use Rattle.syntax.specs.Text.{LineAnswer, skipped, refused, accepted, lineAnswer}
 use Rattle.syntax.specs.declared.line.LineRead.{LineRead}
 use Rattle.syntax.specs.declared.line.LineStatus.{LineStatus}

@@ -5,8 +5,8 @@ use lib.ListN.{length, take}
 use Rattle.policy.specs.Line.{PolicyLine, endingOf}
 use Rattle.policy.specs.declared.line.Ending.{Ending}
 use Rattle.image.specs.Layout.{lineWords, checkWords}
-use Rattle.image.specs.Word.{wordsOf, packHeader}
-use Rattle.image.specs.Write.{putWords}
+use Rattle.word.specs.Word.{wordsOf, packHeader}
+use Rattle.word.specs.Write.{putWords}
 use Rattle.syntax.specs.Text.{LineAnswer, skipped, refused, accepted, lineAnswer}
 use Rattle.codegen.specs.Compile.{newestForm}
 use Rattle.codegen.specs.declared.Places.{Places}

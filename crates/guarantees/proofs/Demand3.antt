@@ -1,7 +1,6 @@
 -- Demand 3: on the image of a text the decisions are those of the reference machine on the text, and an image with one word
 -- changed is refused.
 use Prim.Native.Nat.{ℕ, _%_, _<_}
-use mathlib.Core.Bool.{true, false}
 use mathlib.Core.List.{List, [], _∷_, map}
 use mathlib.Core.Option.{some, Option·map}
 use mathlib.Core.Path.{_≡_, refl, sym, ap, ap₂, _∙_, subst⁻¹}
@@ -13,9 +12,9 @@ use Rattle.policy.specs.Policy.{Policy}
 use Rattle.syntax.specs.Epoch.{EpochAnswer, refused, accepted, readEpoch}
 use Rattle.syntax.specs.Text.{policyOf}
 use Rattle.image.proofs.Exact.{changed, changed-words, changed-length}
-use Rattle.image.proofs.WordLaws.{bytes-length, bytes-below}
+use Rattle.word.proofs.WordLaws.{bytes-length, bytes-below}
 use Rattle.image.specs.Layout.{imageWords, imageOf}
-use Rattle.image.specs.Word.{wordLimit, bytesOf, wordsOf, wordAt}
+use Rattle.word.specs.Word.{wordLimit, bytesOf, wordsOf, wordAt}
 use Rattle.codegen.proofs.AcceptedLaws.{newest-known}
 use Rattle.codegen.proofs.Compilation.{image-written}
 use Rattle.codegen.specs.Compile.{newestForm}

@@ -1,14 +1,13 @@
 -- "The loader takes exactly the images that some accepted text compiles to", and ground 11.
-use Prim.Native.Nat.{ℕ, _<_, _≤_}
-use mathlib.Core.Bool.{Bool, true, false}
+use Prim.Native.Nat.{ℕ}
+use mathlib.Core.Bool.{true}
 use mathlib.Core.List.{List, [], _∷_}
 use mathlib.Core.Logic.{_↔_}
 use mathlib.Core.Option.{some}
-use mathlib.Core.Path.{_≡_, refl, sym, ap, _∙_, subst}
+use mathlib.Core.Path.{_≡_, sym, ap, _∙_, subst}
 use native.Mathlib.Omega.{arith}
 use borrow.Author.Tests.{ltb-true, eqb-true}
-use lib.ListN.{length, getD}
-use lib.Seq.{take-append-seam}
+use lib.ListN.{length}
 use Rattle.policy.proofs.ListLaws.{and-out}
 use Rattle.policy.specs.Fault.{faultNumber}
 use Rattle.policy.specs.Limits.{Acceptable}
@@ -18,7 +17,7 @@ use Rattle.policy.specs.declared.fault.Fault.{Fault}
 use Rattle.image.proofs.Exact.{exactly-images, image-taken, partsOf, Answered, early, late, answered}
 use Rattle.image.specs.Layout.{knownForm, imageOf}
 use Rattle.image.specs.Load.{Lines, whole, fault, formByte, ruleCount, constraintCount, ruleLines, constraintLines, bodyAnswer, loadWords, load, Checked}
-use Rattle.image.specs.Word.{wordsOf}
+use Rattle.word.specs.Word.{wordsOf}
 use Rattle.image.specs.declared.load.Loaded.{Loaded}
 use Rattle.image.specs.declared.load.Parts.{Parts}
 use Rattle.codegen.proofs.AcceptedLaws.{newest-known}
@@ -27,8 +26,8 @@ use Rattle.codegen.specs.Compile.{newestForm}
 use Rattle.printer.proofs.Printing.{text-read, text-policy, text-ascii}
 use Rattle.printer.proofs.SplitLaws.{ascii}
 use Rattle.printer.specs.Printed.{textOf}
-use Rattle.guarantees.proofs.Demand3.{ImageOfText, image-of-text}
-use Rattle.guarantees.specs.Claims.{CompilesTo, Bytes, SomeText}
+use Rattle.guarantees.proofs.Demand3.{image-of-text}
+use Rattle.guarantees.specs.Claims.{Bytes, SomeText}
 
 ascii-bytes : (s : List ℕ) → all ascii s ≡ true → Bytes s
 unfolding all

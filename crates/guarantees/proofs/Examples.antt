@@ -10,17 +10,18 @@ use Rattle.policy.specs.List.{all, any}
 use Rattle.policy.specs.Set.{has, insert}
 use Rattle.policy.specs.Yield as Yield
 use Rattle.policy.specs.Yield.{literalHolds, ruleHolds, propose, proposed, constraintHolds, conflict, resolve, cancelled}
-use Rattle.syntax.specs.Byte.{bytes, sameBytes, is}
+use Rattle.lexer.specs.Byte.{bytes, sameBytes, is}
 use Rattle.syntax.specs.Epoch as Epoch
 use Rattle.syntax.specs.Epoch.{toLeft, atEquals, itemOf, itemsOf, itemInRange, givenBy, addItem, readEpoch}
 use Rattle.syntax.specs.Grammar as Grammar
-use Rattle.syntax.specs.Grammar.{named, literalOf, actionOf, readingOf, relationOf, orElse, operandOf, both, comparisonOf, conditionOf, joined, ruleAfter, constraintAfter, after, lineFrom}
-use Rattle.syntax.specs.Lines.{prepend, pieces, linesOf, nonEmpty, tokensOf}
-use Rattle.syntax.specs.Number.{decimalFrom, isEmpty, numberOf, positive, negative, constantOf}
+use Rattle.lexer.specs.Token.{named, literalOf, actionOf, readingOf, relationOf, orElse, operandOf, both, comparisonOf}
+use Rattle.syntax.specs.Grammar.{conditionOf, joined, ruleAfter, constraintAfter, after, lineFrom}
+use Rattle.lexer.specs.Lines.{prepend, pieces, linesOf, nonEmpty, tokensOf}
+use Rattle.lexer.specs.Number.{decimalFrom, isEmpty, numberOf, positive, negative, constantOf}
 use Rattle.syntax.specs.Text.{judge, isComment, tokensAnswer, lineAnswer, advance, readLine, readText, policyOf}
 use Rattle.image.specs.Layout.{testOpcode, testWord, operandWords, comparisonWords, endingWord, conditionWords, partWords, lineWords, linesWords, sum, checkWord, checkWords, headerWord, ruleWords, constraintWords, contentWords, imageWords}
-use Rattle.image.specs.Operation.{relationCode}
-use Rattle.image.specs.Word.{pack, packHeader}
+use Rattle.word.specs.Operation.{relationCode}
+use Rattle.word.specs.Word.{pack, packHeader}
 use Rattle.guarantees.specs.Examples.{examples, computed}
 use Rattle.guarantees.specs.Machine.{answer, step, run, machine}
 

@@ -5,10 +5,9 @@ use Prim.Native.String.{String}
 use mathlib.Core.Bool.{true, false}
 use mathlib.Core.List.{List, [], _∷_, map, foldl}
 use mathlib.Core.Option.{Option, some, Option·map}
-use Rattle.policy.specs.Policy.{Policy}
 use Rattle.policy.specs.Set.{noActions, insertAction}
 use Rattle.policy.specs.declared.set.ActionSet.{ActionSet}
-use Rattle.syntax.specs.Byte.{bytes}
+use Rattle.lexer.specs.Byte.{bytes}
 use Rattle.syntax.specs.Text.{policyOf}
 use Rattle.image.specs.Layout.{imageWords}
 use Rattle.codegen.specs.Compile.{newestForm}

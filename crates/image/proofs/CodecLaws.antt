@@ -22,11 +22,11 @@ use Rattle.policy.specs.declared.line.Test.{Test}
 use Rattle.policy.specs.declared.number.Action.{Action}
 use Rattle.policy.specs.declared.number.Reading.{Reading}
 use Rattle.image.proofs.LayoutLaws.{relation-below}
-use Rattle.image.proofs.OperationLaws.{relation-back, relation-there}
-use Rattle.image.proofs.WordLaws.{InFields, pack-below, opcode-pack, first-pack, second-pack, relation-pack, skip-pack, low-pack, head-low, head-again, comparison-again}
+use Rattle.word.proofs.OperationLaws.{relation-back, relation-there}
+use Rattle.word.proofs.WordLaws.{InFields, pack-below, opcode-pack, first-pack, second-pack, relation-pack, skip-pack, low-pack, head-low, head-again, comparison-again}
 use Rattle.image.specs.Layout.{testOpcode, testWord, operandWords, comparisonWords, endingWord}
-use Rattle.image.specs.Operation.{Operation, present, absent, againstConstant, againstReading, proposes, member, never, operationFrom, operationOf, relationCode, relationFrom, eventFrom, actionFrom, constantComparison, readingComparison}
-use Rattle.image.specs.Word.{wordLimit, pack, opcodeOf, firstOf, secondOf, relationOf, skipOf}
+use Rattle.word.specs.Operation.{Operation, present, absent, againstConstant, againstReading, proposes, member, never, operationFrom, operationOf, relationCode, relationFrom, eventFrom, actionFrom, constantComparison, readingComparison}
+use Rattle.word.specs.Word.{wordLimit, pack, opcodeOf, firstOf, secondOf, relationOf, skipOf}
 
 -- ---- heads
 

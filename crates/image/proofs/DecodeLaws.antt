@@ -9,7 +9,7 @@ use borrow.Author.Tests.{ltb-true, eqb-true, eq-eqb}
 use lib.Dec.{eqb}
 use lib.ListN.{length, drop, getD, length-map}
 use Rattle.policy.proofs.ListLaws.{and-in, and-out, true-false}
-use Rattle.policy.specs.Limits.{valid, testNumber, comparisonInRange, endingInRange}
+use Rattle.policy.specs.Limits.{valid, testNumber, comparisonInRange, endingInRange, comparisonsSize}
 use Rattle.policy.specs.Line.{PolicyLine, rule, constraint, headsOf, comparisonsOf, endingOf}
 use Rattle.policy.specs.List.{all}
 use Rattle.policy.specs.declared.comparison.Comparison.{Comparison}
@@ -22,7 +22,7 @@ use Rattle.image.proofs.LayoutLaws.{condition-length, part-length, cond
 use Rattle.image.proofs.ValidLaws.{valid-out, testInRange}
 use Rattle.image.specs.Layout.{testWord, comparisonWords, endingWord, conditionWords, partWords, conditionSize, lineWords}
 use Rattle.image.specs.Load.{addLiteral, addMember, addComparison, decodeWord, decode, isPrefix, inPart, standsAt, keepIf, lineAt}
-use Rattle.image.specs.Operation.{Operation, againstConstant, againstReading, proposes, member, never, operationOf, eventFrom}
+use Rattle.word.specs.Operation.{Operation, againstConstant, againstReading, proposes, member, never, operationOf, eventFrom}
 use Rattle.image.specs.declared.line.Part.{Part}
 
 decode-cons : (w : ℕ) (ws : List ℕ) → decode (w ∷ ws) ≡ decodeWord (operationOf w) w (getD ws 0 0) (decode ws) (decode (drop 1 ws))
@@ -40,7 +40,7 @@ module _ {X : Type 0} (line : List X → List Comparison → PolicyLine) (wrap :
     (head : (x : X) (k : ℕ) (ws : List ℕ) (xs : List X) (cs : List Comparison) → testNumber (wrap x) < 64 → k < 32 → decode ws ≡ some (line xs cs) → decode (testWord (wrap x) k ∷ ws) ≡ some (line (x ∷ xs) cs))
     (ends : (ws : List ℕ) → decode (endingWord ending ∷ ws) ≡ some (line [] [])) where
   condition-decoded : (cs : List Comparison) (rest : List ℕ) → all comparisonInRange cs ≡ true → conditionSize cs < 32 → decode (conditionWords cs ending ++ rest) ≡ some (line [] cs)
-  unfolding conditionWords conditionSize all decodeWord
+  unfolding conditionWords conditionSize comparisonsSize all decodeWord
   condition-decoded [] rest r l = ends rest
   condition-decoded (c ∷ cs) rest r l = go (condition-decoded cs rest (p .1) (omega arith)) (written c (length tail) (p .0) (omega (arith, condition-length cs ending)))
     where

@@ -19,10 +19,10 @@ use Rattle.policy.specs.declared.fault.Fault.{Fault}
 use Rattle.image.proofs.ImageLaws.{below-append, below-cons, below-none, lines-below, rules-between, constraints-between, rules-size, constraints-size, parts-of}
 use Rattle.image.proofs.PartLines.{lines-limit, lines-found, AreLines, lines-written, lines-fault, rules-kind, constraints-kind, rules-back, constraints-back, rules-there, constraints-there}
 use Rattle.image.proofs.SumLaws.{check-word, check-sum, check-below, sum-append, sum-set}
-use Rattle.image.proofs.WordLaws.{Below, words-length, words-below, words-of-bytes, bytes-of-words, bytes-length, header-below, form-header, rules-header, constraints-header, header-fields}
+use Rattle.word.proofs.WordLaws.{Below, words-length, words-below, words-of-bytes, bytes-of-words, bytes-length, header-below, form-header, rules-header, constraints-header, header-fields}
 use Rattle.image.specs.Layout.{linesWords, knownForm, checkCount, sum, checkWord, checkWords, headerWord, ruleWords, constraintWords, contentWords, imageWords, imageOf}
 use Rattle.image.specs.Load.{Lines, whole, fault, linesFrom, partLines, ruleCount, constraintCount, formByte, ruleLines, constraintLines, wellSized, countsFit, sumsToZero, bodyAnswer, loadWords, load, linesIn, policyIn, Checked, RefusedEarly, NoLineAt, FirstFault, inRules, inConstraints}
-use Rattle.image.specs.Word.{wordLimit, wordsOf, wordAt, bytesOf, between, packHeader, formOf, ruleCountOf, constraintCountOf}
+use Rattle.word.specs.Word.{wordLimit, wordsOf, wordAt, bytesOf, between, packHeader, formOf, ruleCountOf, constraintCountOf}
 use Rattle.image.specs.declared.line.Part.{Part}
 use Rattle.image.specs.declared.load.Loaded.{Loaded}
 use Rattle.image.specs.declared.load.Parts.{Parts}

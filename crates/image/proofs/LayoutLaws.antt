@@ -9,6 +9,7 @@ use borrow.Author.Tests.{ltb-true, ltb-false}
 use lib.Dec.{ltb}
 use lib.ListN.{length, take, drop, getD, length-append, length-drop, drop-of-length-le, List·getD-map, replicate, length-map}
 use lib.Seq.{drop-cons, take-all, getD-take, length-take-le, take-append-seam}
+use Rattle.policy.specs.Limits.{operandSize, comparisonsSize}
 use Rattle.policy.specs.Line.{PolicyLine, headsOf, comparisonsOf, endingOf, held, counted, head, noHead, noComparison, lineOf, lineValue}
 use Rattle.policy.specs.declared.comparison.Comparison.{Comparison}
 use Rattle.policy.specs.declared.comparison.Operand.{Operand}
@@ -17,10 +18,10 @@ use Rattle.policy.specs.declared.line.Ending.{Ending}
 use Rattle.policy.specs.declared.line.Head.{Head}
 use Rattle.policy.specs.declared.line.Line.{Line}
 use Rattle.policy.specs.declared.line.Test.{Test}
-use Rattle.image.proofs.WriteLaws.{put-append, put-length, put-none}
-use Rattle.image.specs.Layout.{testWord, operandWords, comparisonWords, endingWord, conditionWords, partWords, headWords, operandSize, comparisonSize, conditionSize, testsOf, valueWords, lineWords}
-use Rattle.image.specs.Operation.{relationCode}
-use Rattle.image.specs.Write.{putWords}
+use Rattle.word.proofs.WriteLaws.{put-append, put-length, put-none}
+use Rattle.image.specs.Layout.{testWord, operandWords, comparisonWords, endingWord, conditionWords, partWords, headWords, conditionSize, testsOf, valueWords, lineWords}
+use Rattle.word.specs.Operation.{relationCode}
+use Rattle.word.specs.Write.{putWords}
 
 pub relation-below : (r : Relation) → relationCode r < 6
 unfolding relationCode
@@ -34,35 +35,30 @@ relation-below Relation.GreaterOrEqual = omega arith
 -- ---- how many words
 
 operand-length : (o : Operand) (reading relation skip : ℕ) → length (operandWords reading relation o skip) ≡ operandSize o
-unfolding operandWords operandSize
+unfolding operandWords
 operand-length (Operand.Constant k) reading relation skip = refl
 operand-length (Operand.Reading r) reading relation skip = refl
 
-pub comparison-length : (c : Comparison) (skip : ℕ) → length (comparisonWords c skip) ≡ comparisonSize c
-unfolding comparisonWords comparisonSize
+pub comparison-length : (c : Comparison) (skip : ℕ) → length (comparisonWords c skip) ≡ operandSize (c .operand)
+unfolding comparisonWords
 comparison-length c skip = operand-length (c .operand) (c .reading .0) (relationCode (c .relation)) skip
 
 operand-size-limit : (o : Operand) → (1 ≤ operandSize o) × (operandSize o ≤ 2)
-unfolding operandSize
 operand-size-limit (Operand.Constant k) = omega arith
 operand-size-limit (Operand.Reading r) = omega arith
 
-pub comparison-size-limit : (c : Comparison) → (1 ≤ comparisonSize c) × (comparisonSize c ≤ 2)
-unfolding comparisonSize
-comparison-size-limit c = operand-size-limit (c .operand)
-
 pub condition-length : (cs : List Comparison) (e : Ending) → length (conditionWords cs e) ≡ conditionSize cs
-unfolding conditionWords conditionSize
+unfolding conditionWords conditionSize comparisonsSize
 condition-length [] e = refl
 condition-length (c ∷ cs) e =
-    length-append (comparisonWords c (length (conditionWords cs e))) (conditionWords cs e)
-    ∙ ap₂ (λ (m n : ℕ). m + n) (comparison-length c (length (conditionWords cs e))) (condition-length cs e)
+    let n : ℕ = length (conditionWords cs e) in
+    omega (arith, length-append (comparisonWords c n) (conditionWords cs e), comparison-length c n, condition-length cs e)
 
 pub condition-size-limit : (cs : List Comparison) → (1 ≤ conditionSize cs) × (conditionSize cs ≤ 1 + 2 * length cs)
-unfolding conditionSize
+unfolding conditionSize comparisonsSize
 condition-size-limit [] = omega arith
 condition-size-limit (c ∷ cs) =
-    let h = comparison-size-limit c in
+    let h = operand-size-limit (c .operand) in
     let k = condition-size-limit cs in
     omega arith
 
@@ -120,9 +116,9 @@ condition-next cs e i d h =
     let s : i + 1 ≡ suc i = omega arith in
     rw (s, drop-cons cs i d h, condition-length (drop (suc i) cs) e)
 
-pub condition-size-next : (cs : List Comparison) (i : ℕ) (d : Comparison) → i < length cs → conditionSize (drop i cs) ≡ comparisonSize (getD cs i d) + conditionSize (drop (i + 1) cs)
-unfolding conditionSize
-condition-size-next cs i d h = let s : i + 1 ≡ suc i = omega arith in rw (s, drop-cons cs i d h)
+pub condition-size-next : (cs : List Comparison) (i : ℕ) (d : Comparison) → i < length cs → conditionSize (drop i cs) ≡ operandSize (getD cs i d .operand) + conditionSize (drop (i + 1) cs)
+unfolding conditionSize comparisonsSize
+condition-size-next cs i d h = let s : i + 1 ≡ suc i = omega arith in rw (s, drop-cons cs i d h) (omega arith)
 
 pub heads-next : (ts : List Test) (size i : ℕ) (d : Test) → i < length ts → headWords (drop i ts) (size - i) ≡ testWord (getD ts i d) (size - i - 1) ∷ headWords (drop (i + 1) ts) (size - (i + 1))
 unfolding headWords
@@ -186,14 +182,14 @@ module _ (comparisons : List Comparison) (count : ℕ) (long : length comparison
   abbrev part : List Comparison
   part = take count comparisons
 
-  size-next : (i : ℕ) → i < count → conditionSize (drop i part) ≡ comparisonSize (getD comparisons i noComparison) + conditionSize (drop (i + 1) part)
+  size-next : (i : ℕ) → i < count → conditionSize (drop i part) ≡ operandSize (getD comparisons i noComparison .operand) + conditionSize (drop (i + 1) part)
   size-next i h =
       let e : length part ≡ count = taken-length comparisons count 4 long limit in
       condition-size-next part i noComparison (omega arith)
-      ∙ ap (λ (c : Comparison). comparisonSize c + conditionSize (drop (i + 1) part)) (taken-at comparisons count i noComparison h)
+      ∙ ap (λ (c : Comparison). operandSize (c .operand) + conditionSize (drop (i + 1) part)) (taken-at comparisons count i noComparison h)
 
   size-end : conditionSize (drop count part) ≡ 1
-  unfolding conditionSize
+  unfolding conditionSize comparisonsSize
   size-end = let e : length part ≤ count = omega (arith, taken-length comparisons count 4 long limit) in rw (drop-of-length-le part e)
 
   size-limit : (i : ℕ) → conditionSize (drop i part) < 10
@@ -207,7 +203,7 @@ module _ (comparisons : List Comparison) (count : ℕ) (long : length comparison
   pub counting-limit : (size i : ℕ) → Counting comparisons count size i → size < 11
   counting-limit size i h = let k = size-limit 0 in omega (arith, condition-size-limit (drop i part), h .total)
 
-  pub counting-more : (size i words : ℕ) → Counting comparisons count size i → i < count → words ≡ comparisonSize (getD comparisons i noComparison) → Counting comparisons count (size + words) (i + 1)
+  pub counting-more : (size i words : ℕ) → Counting comparisons count size i → i < count → words ≡ operandSize (getD comparisons i noComparison .operand) → Counting comparisons count (size + words) (i + 1)
   counting-more size i words h l e = record { bound = omega arith; total = omega (arith, size-next i l, h .total) }
 
   pub counting-all : (size i : ℕ) → Counting comparisons count size i → count ≤ i → size ≡ conditionSize part
@@ -223,7 +219,7 @@ module _ (comparisons : List Comparison) (count : ℕ) (long : length comparison
     pub condition-none : (size : ℕ) → size ≡ conditionSize part → index + size ≤ length buffer₀ / 4 → ConditionLeft comparisons count ending buffer₀ index buffer₀ index size 0
     condition-none size e h = record { bound = omega arith; remains = e; writing = writing-none rest buffer₀ index (omega (arith, condition-length part ending)) }
 
-    pub condition-turn : (buffer : List ℕ) (at left i words : ℕ) → ConditionLeft comparisons count ending buffer₀ index buffer at left i → i < count → words ≡ comparisonSize (getD comparisons i noComparison) → ConditionTurn comparisons count ending buffer₀ index buffer at left i words
+    pub condition-turn : (buffer : List ℕ) (at left i words : ℕ) → ConditionLeft comparisons count ending buffer₀ index buffer at left i → i < count → words ≡ operandSize (getD comparisons i noComparison .operand) → ConditionTurn comparisons count ending buffer₀ index buffer at left i words
     condition-turn buffer at left i words h l e =
         let n = size-next i l in
         let r = h .remains in

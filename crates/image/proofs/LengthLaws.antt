@@ -12,10 +12,10 @@ use lib.Seq.{drop-drop, getD-drop, getD-take}
 use Rattle.image.proofs.ScanLaws.{scan-by}
 use Rattle.image.proofs.ScanLines.{scan-line}
 use Rattle.image.proofs.SumLaws.{before-at}
-use Rattle.image.proofs.WordLaws.{Below, words-below}
+use Rattle.word.proofs.WordLaws.{Below, words-below}
 use Rattle.image.specs.Load.{decode, keepIf, lineAt, lineLength}
 use Rattle.image.specs.Scan.{isEnding, scanStart, afterWord, scanWords}
-use Rattle.image.specs.Word.{wordLimit, wordsOf, wordAt, skipOf}
+use Rattle.word.specs.Word.{wordLimit, wordsOf, wordAt, skipOf}
 use Rattle.image.specs.declared.line.Part.{Part}
 use Rattle.image.specs.declared.line.Scan.{Scan}
 

@@ -1,5 +1,4 @@
 pub mod CodecLaws
-pub mod ConstantLaws
 pub mod DecodeLaws
 pub mod Exact
 pub mod Examples
@@ -8,7 +7,6 @@ pub mod ImageLaws
 pub mod LayoutLaws
 pub mod LengthLaws
 pub mod LoadLaws
-pub mod OperationLaws
 pub mod PartLaws
 pub mod PartLines
 pub mod ReadLaws
@@ -16,5 +14,3 @@ pub mod ScanLaws
 pub mod ScanLines
 pub mod SumLaws
 pub mod ValidLaws
-pub mod WordLaws
-pub mod WriteLaws

@@ -10,10 +10,10 @@ use lib.Dec.{eqb}
 use lib.ListN.{length, take}
 use lib.Seq.{take-all}
 use Rattle.policy.specs.declared.fault.Fault.{Fault}
-use Rattle.image.proofs.WordLaws.{words-length}
+use Rattle.word.proofs.WordLaws.{words-length}
 use Rattle.image.specs.Layout.{knownForm, checkCount, sum}
 use Rattle.image.specs.Load.{Lines, whole, fault, partAnswer, bodyAnswer, partLines, ruleCount, constraintCount, formByte, wellSized, countsFit, sumsToZero, loadWords, load}
-use Rattle.image.specs.Word.{wordLimit, wordsOf, wordAt, formOf, ruleCountOf, constraintCountOf}
+use Rattle.word.specs.Word.{wordLimit, wordsOf, wordAt, formOf, ruleCountOf, constraintCountOf}
 use Rattle.image.specs.declared.line.Part.{Part}
 use Rattle.image.specs.declared.line.PartCheck.{PartCheck}
 use Rattle.image.specs.declared.load.Loaded.{Loaded}

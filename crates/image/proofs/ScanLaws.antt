@@ -23,11 +23,11 @@ use Rattle.image.proofs.CodecLaws.{Compares, Written, withConstant, wit
 use Rattle.image.proofs.FreshLaws.{Fresh, fresh-out, fresh-all}
 use Rattle.image.proofs.LayoutLaws.{condition-length, part-length, condition-size-limit}
 use Rattle.image.proofs.ValidLaws.{ValidParts, valid-out, testInRange}
-use Rattle.image.proofs.WordLaws.{opcode-pack, head-low, head-again}
+use Rattle.word.proofs.WordLaws.{opcode-pack, head-low, head-again}
 use Rattle.image.specs.Layout.{testOpcode, testWord, comparisonWords, endingWord, conditionWords, partWords, lineWords}
 use Rattle.image.specs.Load.{inPart}
 use Rattle.image.specs.Scan.{isHead, isEnding, scanStart, broken, headSound, afterHead, constantSound, readingSound, afterComparison, afterTest, afterConstant, afterWord, scanWords, scanLine}
-use Rattle.image.specs.Word.{wordLimit, pack, opcodeOf, firstOf, secondOf, relationOf, skipOf}
+use Rattle.word.specs.Word.{wordLimit, pack, opcodeOf, firstOf, secondOf, relationOf, skipOf}
 use Rattle.image.specs.declared.line.Part.{Part}
 use Rattle.image.specs.declared.line.Scan.{Scan}
 

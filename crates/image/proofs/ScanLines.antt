@@ -22,12 +22,12 @@ use Rattle.image.proofs.DecodeLaws.{line-out, line-none}
 use Rattle.image.proofs.FreshLaws.{Fresh, fresh-in, fresh-none}
 use Rattle.image.proofs.ScanLaws.{HeadFacts, after-head, after-constant-test, after-reading-test, after-constant, line-found, scan-by, broken-ends, After, asHead, asConstant, asReading, asNone, after-view, add-head, add-comparison, comparison-on-words, end-line}
 use Rattle.image.proofs.ValidLaws.{ValidParts, valid-in, testInRange}
-use Rattle.image.proofs.WordLaws.{Below}
+use Rattle.word.proofs.WordLaws.{Below}
 use Rattle.image.specs.Layout.{testWord, comparisonWords, lineWords}
 use Rattle.image.specs.Load.{inPart, lineAt, lineLength}
-use Rattle.image.specs.Operation.{constantComparison, readingComparison}
+use Rattle.word.specs.Operation.{constantComparison, readingComparison}
 use Rattle.image.specs.Scan.{isEnding, scanStart, afterWord, scanWords, scanLine}
-use Rattle.image.specs.Word.{wordLimit, firstOf, secondOf, skipOf}
+use Rattle.word.specs.Word.{wordLimit, firstOf, secondOf, skipOf}
 use Rattle.image.specs.declared.line.Part.{Part}
 use Rattle.image.specs.declared.line.Scan.{Scan}
 

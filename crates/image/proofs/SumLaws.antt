@@ -6,9 +6,9 @@ use native.Mathlib.Nat.{mod-add-mod, add-assoc}
 use native.Mathlib.Omega.{arith}
 use lib.ListN.{length, take, drop, set, getD, length-take, drop-of-length-le}
 use lib.Seq.{drop-cons, getD-take}
-use Rattle.image.proofs.WordLaws.{words-length}
+use Rattle.word.proofs.WordLaws.{words-length}
 use Rattle.image.specs.Layout.{sum, checkWord}
-use Rattle.image.specs.Word.{wordLimit, wordsOf}
+use Rattle.word.specs.Word.{wordLimit, wordsOf}
 
 -- ---- one after the other
 

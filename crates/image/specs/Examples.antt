@@ -8,7 +8,7 @@ use Rattle.policy.specs.Policy.{Policy}
 use Rattle.policy.specs.declared.comparison.Literal.{Literal}
 use Rattle.policy.specs.declared.comparison.Operand.{Operand}
 use Rattle.policy.specs.declared.comparison.Relation.{Relation}
-use Rattle.image.specs.Word.{wordsOf}
+use Rattle.word.specs.Word.{wordsOf}
 use Rattle.image.specs.Layout.{imageOf}
 use Rattle.image.specs.Load.{load, policyIn}
 use Rattle.image.specs.declared.load.Loaded.{Loaded}

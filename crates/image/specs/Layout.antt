@@ -6,7 +6,7 @@ use lib.Dec.{eqb}
 use lib.ListN.{length, take}
 use mir.Syntax.{w32}
 use mir.Val.{ofZ}
-use Rattle.policy.specs.Limits.{testNumber}
+use Rattle.policy.specs.Limits.{testNumber, comparisonsSize}
 use Rattle.policy.specs.Line.{PolicyLine, rule, constraint, headsOf, comparisonsOf, endingOf}
 use Rattle.policy.specs.Policy.{Policy}
 use Rattle.policy.specs.declared.comparison.Comparison.{Comparison}
@@ -15,8 +15,8 @@ use Rattle.policy.specs.declared.line.Ending.{Ending}
 use Rattle.policy.specs.declared.line.Head.{Head}
 use Rattle.policy.specs.declared.line.Line.{Line}
 use Rattle.policy.specs.declared.line.Test.{Test}
-use Rattle.image.specs.Word.{wordLimit, bytesOf, pack, packHeader}
-use Rattle.image.specs.Operation.{relationCode}
+use Rattle.word.specs.Word.{wordLimit, bytesOf, pack, packHeader}
+use Rattle.word.specs.Operation.{relationCode}
 
 -- ---- the words of a line
 
@@ -123,15 +123,6 @@ unfoldable pub headWords : List Test → ℕ → List ℕ
 headWords [] size = []
 headWords (t ∷ ts) size = testWord t (size - 1) ∷ headWords ts (size - 1)
 
-unfoldable pub operandSize : Operand → ℕ
-operandSize (Operand.Constant k) = 2
-operandSize (Operand.Reading r) = 1
-
--- how many words a comparison takes
-unfoldable pub comparisonSize : Comparison → ℕ
-comparisonSize c = operandSize (c .operand)
-
 -- how many words the comparisons and the ending take
 unfoldable pub conditionSize : List Comparison → ℕ
-conditionSize [] = 1
-conditionSize (c ∷ cs) = comparisonSize c + conditionSize cs
+conditionSize cs = 1 + comparisonsSize cs

@@ -1,7 +1,7 @@
 -- Which bytes are an image: document 01's grounds 7 to 11 with their order and places, and the policy that an image holds.
 use Prim.Native.Nat.{ℕ, zero, suc, _+_, _%_, _≤_, _<_}
 use mathlib.Core.Bool.{Bool, true, false, not, cond, _&&_}
-use mathlib.Core.List.{List, [], _∷_, _++_, map}
+use mathlib.Core.List.{List, [], _∷_, _++_}
 use mathlib.Core.Logic.{_⊎_}
 use mathlib.Core.Option.{Option, none, some}
 use mathlib.Core.Path.{_≡_}
@@ -17,8 +17,8 @@ use Rattle.policy.specs.declared.comparison.Literal.{Literal}
 use Rattle.policy.specs.declared.fault.Fault.{Fault}
 use Rattle.policy.specs.declared.line.Ending.{Ending}
 use Rattle.policy.specs.declared.number.Action.{Action}
-use Rattle.image.specs.Word.{wordLimit, wordsOf, between, formOf, ruleCountOf, constraintCountOf}
-use Rattle.image.specs.Operation.{Operation, present, absent, againstConstant, againstReading, proposes, member, never, unknown, operationOf, eventFrom, actionFrom, constantComparison, readingComparison}
+use Rattle.word.specs.Word.{wordLimit, wordsOf, between, formOf, ruleCountOf, constraintCountOf}
+use Rattle.word.specs.Operation.{Operation, present, absent, againstConstant, againstReading, proposes, member, never, unknown, operationOf, eventFrom, actionFrom, constantComparison, readingComparison}
 use Rattle.image.specs.Layout.{lineWords, linesWords, knownForm, checkCount, ruleWordLimit, constraintWordLimit, sizeLimit, sum}
 use Rattle.image.specs.declared.line.LineAt.{LineAt}
 use Rattle.image.specs.declared.line.Part.{Part}

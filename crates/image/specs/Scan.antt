@@ -10,8 +10,8 @@ use Rattle.policy.specs.Set.{has, insert}
 use Rattle.policy.specs.declared.line.Ending.{Ending}
 use Rattle.policy.specs.declared.line.Line.{Line}
 use Rattle.policy.specs.declared.line.Test.{Test}
-use Rattle.image.specs.Word.{opcodeOf, firstOf, secondOf, relationOf, skipOf}
-use Rattle.image.specs.Operation.{Operation, present, absent, againstConstant, againstReading, proposes, member, never, unknown, operationOf, eventFrom, actionFrom, constantComparison, readingComparison}
+use Rattle.word.specs.Word.{opcodeOf, firstOf, secondOf, relationOf, skipOf}
+use Rattle.word.specs.Operation.{Operation, present, absent, againstConstant, againstReading, proposes, member, never, unknown, operationOf, eventFrom, actionFrom, constantComparison, readingComparison}
 use Rattle.image.specs.declared.line.Part.{Part}
 use Rattle.image.specs.declared.line.Scan.{Scan}
 

@@ -2,12 +2,12 @@
 ghost use mathlib.Core.Path.{_≡_};
 ghost use Prim.Native.Nat.{_%_};
 ghost use lib.ListN.{take};
-ghost use Rattle.image.specs.Word.{wordLimit, wordsOf};
+ghost use Rattle.word.specs.Word.{wordLimit, wordsOf};
 ghost use Rattle.image.specs.Layout.{sum, checkWords, checkCount};
-ghost use Rattle.image.specs.Write.{fits, putWords};
-use crate::word::at_most;
-use crate::word::put_word;
-use crate::word::word_at;
+ghost use Rattle.word.specs.Write.{fits, putWords};
+use word::at_most;
+use word::put_word;
+use word::word_at;
 
 // The sum of the words before the index `end`.
 pub fn sum_words(bytes: &[u8], end: usize) -> u32

@@ -1,17 +1,15 @@
 // Writing an image: the words of a line into a lent buffer, word 0, and the check words.
 ghost use mathlib.Core.Path.{_≡_};
-ghost use mathlib.Core.List.{[], _∷_};
 ghost use Prim.Native.Nat.{_+_, _/_, _%_, _<_, _≤_};
 ghost use lib.ListN.{length, take};
 ghost use mir.Syntax.{w32};
 ghost use mir.Val.{ofZ};
-ghost use Rattle.image.specs.Word.{pack, packHeader};
-ghost use Rattle.image.specs.Operation.{relationCode};
-ghost use Rattle.image.specs.Layout.{testWord, comparisonWords, comparisonSize, endingWord, conditionWords, conditionSize};
+ghost use Rattle.policy.specs.Limits.{operandSize};
+ghost use Rattle.word.specs.Word.{pack, packHeader};
+ghost use Rattle.word.specs.Operation.{relationCode};
+ghost use Rattle.image.specs.Layout.{testWord, comparisonWords, endingWord, conditionWords, conditionSize};
 ghost use Rattle.image.specs.Layout.{headWords, testsOf, valueWords};
-ghost use Rattle.image.specs.Write.{putWords};
-use crate::word::at_most;
-use crate::word::put_word;
+ghost use Rattle.word.specs.Write.{putWords};
 use policy::Comparison;
 use policy::Ending;
 use policy::Head;
@@ -19,6 +17,8 @@ use policy::Line;
 use policy::Operand;
 use policy::Relation;
 use policy::Test;
+use word::at_most;
+use word::put_word;
 
 fn pack_word(opcode: u32, first: u8, second: u8, relation: u32, skip: u32) -> u32
     requires { ⌜ (opcode < 8) × (relation < 8) × (skip < 32) ⌝ }
@@ -81,7 +81,7 @@ fn ending_word(ending: Ending) -> u32
 }
 
 fn comparison_size(comparison: Comparison) -> usize
-    ensures { λ r. ⌜ r ≡ comparisonSize comparison ⌝ }
+    ensures { λ r. ⌜ r ≡ operandSize (comparison .operand) ⌝ }
 {
     let operand = comparison.operand;
     match operand {
@@ -101,7 +101,7 @@ pub fn header(form: u8, rule_words: usize, constraint_words: usize) -> u32
 
 // The words of one comparison, for which there is room.
 fn put_comparison(buffer: &mut [u8], index: usize, comparison: Comparison, skip: u32)
-    requires { ⌜ (index + comparisonSize comparison ≤ length (now buffer) / 4) × (skip < 32) ⌝ }
+    requires { ⌜ (index + operandSize (comparison .operand) ≤ length (now buffer) / 4) × (skip < 32) ⌝ }
     ensures { λ _. ⌜ now (buffer .exit) ≡ putWords (now (buffer .entry)) index (comparisonWords comparison skip) ⌝ }
 {
     let operand = comparison.operand;

@@ -6,24 +6,24 @@ ghost use Prim.Native.Nat.{_-_, _/_, _<_, _≤_};
 ghost use lib.ListN.{length, drop};
 ghost use Rattle.policy.specs.Line.{lineOf};
 ghost use Rattle.policy.specs.Set.{has, insert};
-ghost use Rattle.image.specs.Word.{wordsOf, between};
+ghost use Rattle.word.specs.Word.{wordsOf, between};
 ghost use Rattle.image.specs.Load.{lineAt, lineLength, lineAnswer, linesFrom, partAnswer};
 ghost use Rattle.image.specs.Scan.{isHead, isEnding, headSound, afterHead, constantSound, readingSound, afterComparison, afterWord, broken, readFrom};
-use crate::operation::constant_comparison;
-use crate::operation::reading_comparison;
-use crate::word::at_most;
-use crate::word::first;
-use crate::word::opcode;
-use crate::word::relation;
-use crate::word::second;
-use crate::word::skip;
-use crate::word::word_at;
 use policy::Action;
 use policy::Ending;
 use policy::Event;
 use policy::Line;
 use policy::Literal;
 use policy::Test;
+use word::at_most;
+use word::constant_comparison;
+use word::first;
+use word::opcode;
+use word::reading_comparison;
+use word::relation;
+use word::second;
+use word::skip;
+use word::word_at;
 
 // The part of an image that a line stands in.
 pub enum Part {

@@ -2,14 +2,14 @@
 ghost use mathlib.Core.Path.{_≡_};
 ghost use Prim.Native.Nat.{_+_, _/_, _≤_};
 ghost use lib.ListN.{length};
-ghost use Rattle.image.specs.Word.{wordsOf, formOf, ruleCountOf, constraintCountOf};
+ghost use Rattle.word.specs.Word.{wordsOf, formOf, ruleCountOf, constraintCountOf};
 ghost use Rattle.image.specs.Load.{load, bodyAnswer, partLines, wellSized};
 use crate::checksum::sum_words;
 use crate::line::Part;
 use crate::line::PartCheck;
 use crate::line::part_lines;
-use crate::word::word_at;
 use policy::Fault;
+use word::word_at;
 
 const SIZE_LIMIT: usize = 13064;
 

@@ -16,7 +16,7 @@ use Rattle.syntax.specs.declared.epoch.EpochRead.{EpochRead}
 use Rattle.syntax.specs.declared.epoch.EpochStatus.{EpochStatus}
 use Rattle.image.specs.Load.{Lines, whole, fault, ruleCount, constraintCount, formByte, ruleLines, constraintLines, wellSized, countsFit, sumsToZero, bodyAnswer, require, loadWords, load, Checked}
 use Rattle.image.specs.Layout.{knownForm}
-use Rattle.image.specs.Word.{wordsOf, between}
+use Rattle.word.specs.Word.{wordsOf, between}
 use Rattle.image.specs.declared.load.Loaded.{Loaded}
 use Rattle.image.specs.declared.load.Parts.{Parts}
 use Rattle.run.specs.Run.{runRules}

@@ -27,10 +27,10 @@ use Rattle.policy.specs.declared.set.ActionSet.{ActionSet}
 use Rattle.syntax.specs.Epoch.{EpochAnswer, refused, accepted, readEpoch}
 use Rattle.image.proofs.Exact.{partsOf, image-taken, image-holds, held-acceptable, changed, one-word-changed}
 use Rattle.image.proofs.ValidLaws.{valid-out}
-use Rattle.image.proofs.WordLaws.{Below, bytes-below}
+use Rattle.word.proofs.WordLaws.{Below, bytes-below}
 use Rattle.image.specs.Layout.{knownForm, imageWords, imageOf}
 use Rattle.image.specs.Load.{load, policyIn, Checked, RefusedEarly}
-use Rattle.image.specs.Word.{wordLimit, wordsOf, wordAt, between}
+use Rattle.word.specs.Word.{wordLimit, wordsOf, wordAt, between}
 use Rattle.image.specs.declared.load.Loaded.{Loaded}
 use Rattle.image.specs.declared.load.Parts.{Parts}
 use Rattle.run.proofs.Taken.{taken-rules-run, taken-constraints-run}

@@ -8,17 +8,17 @@ use Rattle.policy.specs.Limits.{valid, inRange, crowded, repeated, repeats, tes
 use Rattle.policy.specs.Line.{headsOf, comparisonsOf, endingOf}
 use Rattle.policy.specs.List.{all, any}
 use Rattle.policy.specs.Set.{has, insert}
-use Rattle.syntax.specs.Byte.{bytes, sameBytes, is}
+use Rattle.lexer.specs.Byte.{bytes, sameBytes, is}
 use Rattle.syntax.specs.Epoch as Epoch
 use Rattle.syntax.specs.Epoch.{toLeft, atEquals, itemOf, itemsOf, itemInRange, givenBy, addItem, judge, readEpoch}
-use Rattle.syntax.specs.Grammar.{named, orElse, both}
-use Rattle.syntax.specs.Lines.{prepend, pieces, nonEmpty, tokensOf}
-use Rattle.syntax.specs.Number.{decimalFrom, isEmpty, numberOf, positive, negative, constantOf}
+use Rattle.lexer.specs.Token.{named, orElse, both}
+use Rattle.lexer.specs.Lines.{prepend, pieces, nonEmpty, tokensOf}
+use Rattle.lexer.specs.Number.{decimalFrom, isEmpty, numberOf, positive, negative, constantOf}
 use Rattle.image.specs.Examples.{worked}
 use Rattle.image.specs.Layout.{testOpcode, testWord, operandWords, comparisonWords, endingWord, conditionWords, partWords, lineWords, linesWords, knownForm, checkCount, sum, checkWord, checkWords, headerWord, ruleWords, constraintWords, contentWords, imageWords, imageOf}
 use Rattle.image.specs.Load.{addLiteral, addMember, addComparison, decodeWord, decode, isPrefix, inPart, standsAt, keepIf, lineAt, addLine, afterLine, linesFrom, partLines, wellSized, countsFit, sumsToZero, bodyAnswer, loadWords, load}
-use Rattle.image.specs.Operation.{operationFrom, relationCode, relationFrom, constantComparison, readingComparison}
-use Rattle.image.specs.Word.{wordsOf, bytesOf, between, pack, packHeader}
+use Rattle.word.specs.Operation.{operationFrom, relationCode, relationFrom, constantComparison, readingComparison}
+use Rattle.word.specs.Word.{wordsOf, bytesOf, between, pack, packHeader}
 use Rattle.run.specs.Run.{passed, rulePasses, ruleProposes, runRules, constraintPasses, isNever, runConstraints}
 use Rattle.monitor.specs.Decision.{keptBy, yieldedBy, issuedBy, onLine, onImage, decision}
 use Rattle.monitor.specs.Examples.{decisions, decided}

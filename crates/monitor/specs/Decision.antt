@@ -17,7 +17,7 @@ use Rattle.policy.specs.declared.number.Action.{Action}
 use Rattle.policy.specs.declared.set.ActionSet.{ActionSet}
 use Rattle.syntax.specs.Epoch.{EpochAnswer, refused, accepted, readEpoch}
 use Rattle.image.specs.Load.{load}
-use Rattle.image.specs.Word.{wordsOf, between}
+use Rattle.word.specs.Word.{wordsOf, between}
 use Rattle.image.specs.declared.load.Loaded.{Loaded}
 use Rattle.image.specs.declared.load.Parts.{Parts}
 use Rattle.run.specs.Run.{runRules, runConstraints}

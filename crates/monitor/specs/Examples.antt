@@ -6,10 +6,10 @@ use mathlib.Core.List.{List, [], _∷_, map, foldl}
 use lib.ListN.{set}
 use Rattle.policy.specs.Set.{noActions, insertAction}
 use Rattle.policy.specs.declared.set.ActionSet.{ActionSet}
-use Rattle.syntax.specs.Byte.{bytes}
+use Rattle.lexer.specs.Byte.{bytes}
 use Rattle.image.specs.Examples.{worked}
 use Rattle.image.specs.Layout.{imageOf}
-use Rattle.image.specs.Word.{bytesOf}
+use Rattle.word.specs.Word.{bytesOf}
 use Rattle.monitor.specs.Decision.{decision, isRefused, faultNumberOf, locationOf, acceptedOf, cancelledOf}
 use Rattle.monitor.specs.declared.decision.Decision.{Decision}
 

@@ -1,7 +1,7 @@
 // The decision on an epoch. The image is refused or run where it stands: nothing of it is copied.
 ghost use mathlib.Core.Path.{_≡_};
 ghost use Prim.Native.Nat.{_<_};
-ghost use Rattle.image.specs.Word.{wordsOf, between};
+ghost use Rattle.word.specs.Word.{wordsOf, between};
 ghost use Rattle.monitor.specs.Decision.{keptBy, issuedBy, decision};
 use image::Loaded;
 use image::Parts;

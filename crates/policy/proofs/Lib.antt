@@ -9,3 +9,4 @@ pub mod RelationLaws
 pub mod Resolution
 pub mod SeenLaws
 pub mod SetLaws
+pub mod SignLaws

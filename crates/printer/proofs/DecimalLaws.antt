@@ -11,9 +11,9 @@ use lib.IntN.{ℤ, pos, negsuc}
 use lib.ListN.{length, length-append}
 use Rattle.policy.proofs.ListLaws.{true-false, and-in, and-out, all-append}
 use Rattle.policy.specs.List.{all}
-use Rattle.syntax.specs.Byte.{isDigit}
-use Rattle.syntax.specs.Grammar.{named}
-use Rattle.syntax.specs.Number.{decimalFrom, isEmpty, numberOf, positive, negative, constantOf}
+use Rattle.lexer.specs.Byte.{isDigit}
+use Rattle.lexer.specs.Token.{named}
+use Rattle.lexer.specs.Number.{decimalFrom, isEmpty, numberOf, positive, negative, constantOf}
 use Rattle.printer.specs.Printed.{digit, digits, decimal, constantToken}
 
 -- what holds of a number with one digit, and of a number by what holds of its tenth, holds of every number

@@ -8,11 +8,12 @@ use Rattle.policy.specs.Line.{headsOf, comparisonsOf, endingOf}
 use Rattle.policy.specs.List.{all, any}
 use Rattle.printer.specs.Examples.{printedTexts, reprinted}
 use Rattle.printer.specs.Printed.{digits, decimal, constantToken, literalToken, actionToken, readingToken, relationToken, operandToken, comparisonTokens, joinedBy, headTokens, conditionTokens, lineTokens, lineBytes, linesText, textOf}
-use Rattle.syntax.specs.Byte.{bytes, sameBytes, is}
+use Rattle.lexer.specs.Byte.{bytes, sameBytes, is}
 use Rattle.syntax.specs.Grammar as Grammar
-use Rattle.syntax.specs.Grammar.{named, literalOf, actionOf, readingOf, relationOf, orElse, operandOf, both, comparisonOf, conditionOf, joined, ruleAfter, constraintAfter, after, lineFrom}
-use Rattle.syntax.specs.Lines.{prepend, pieces, linesOf, nonEmpty, tokensOf}
-use Rattle.syntax.specs.Number.{decimalFrom, isEmpty, numberOf, positive, negative, constantOf}
+use Rattle.lexer.specs.Token.{named, literalOf, actionOf, readingOf, relationOf, orElse, operandOf, both, comparisonOf}
+use Rattle.syntax.specs.Grammar.{conditionOf, joined, ruleAfter, constraintAfter, after, lineFrom}
+use Rattle.lexer.specs.Lines.{prepend, pieces, linesOf, nonEmpty, tokensOf}
+use Rattle.lexer.specs.Number.{decimalFrom, isEmpty, numberOf, positive, negative, constantOf}
 use Rattle.syntax.specs.Text.{judge, isComment, tokensAnswer, lineAnswer, advance, readLine, readText, policyOf}
 
 pub texts-printed : map reprinted printedTexts ≡ map (λ (s : String). some (bytes s)) printedTexts

@@ -19,8 +19,8 @@ use Rattle.policy.specs.declared.comparison.Relation.{Relation}
 use Rattle.policy.specs.declared.line.Test.{Test}
 use Rattle.policy.specs.declared.number.Action.{Action}
 use Rattle.policy.specs.declared.number.Reading.{Reading}
-use Rattle.syntax.specs.Byte.{bytes}
-use Rattle.syntax.specs.Grammar.{Token}
+use Rattle.lexer.specs.Byte.{bytes}
+use Rattle.lexer.specs.Token.{Token}
 use Rattle.printer.proofs.DecimalLaws.{decimal-few}
 use Rattle.printer.proofs.ValidLaws.{ValidLine, inLimit, valid-line}
 use Rattle.printer.specs.Printed.{decimal, constantToken, literalToken, actionToken, readingToken, relationToken, operandToken, comparisonTokens, joinedBy, headTokens, conditionTokens, lineTokens, lineBytes}

@@ -17,8 +17,9 @@ use Rattle.policy.specs.declared.comparison.Relation.{Relation}
 use Rattle.policy.specs.declared.line.Test.{Test}
 use Rattle.policy.specs.declared.number.Action.{Action}
 use Rattle.policy.specs.declared.number.Reading.{Reading}
-use Rattle.syntax.specs.Byte.{bytes, sameBytes, is}
-use Rattle.syntax.specs.Grammar.{Token, named, literalOf, actionOf, readingOf, relationOf, orElse, operandOf, both, comparisonOf, comparisonsOf, conditionOf, joined, causes, never, ruleAfter, constraintAfter, after, lineFrom}
+use Rattle.lexer.specs.Byte.{bytes, sameBytes, is}
+use Rattle.lexer.specs.Token.{Token, named, literalOf, actionOf, readingOf, relationOf, orElse, operandOf, both, comparisonOf}
+use Rattle.syntax.specs.Grammar.{comparisonsOf, conditionOf, joined, causes, never, ruleAfter, constraintAfter, after, lineFrom}
 use Rattle.syntax.specs.Text.{accepted, judge, isComment, tokensAnswer, lineAnswer}
 use Rattle.printer.proofs.DecimalLaws.{decimal-all, number-read, digits-unnamed, constant-read}
 use Rattle.printer.proofs.SplitLaws.{line-tokens}

@@ -16,11 +16,11 @@ use Rattle.policy.specs.declared.comparison.Operand.{Operand}
 use Rattle.policy.specs.declared.comparison.Relation.{Relation}
 use Rattle.policy.specs.declared.number.Action.{Action}
 use Rattle.policy.specs.declared.number.Reading.{Reading}
-use Rattle.syntax.specs.Byte.{bytes, isDigit}
-use Rattle.syntax.specs.Grammar.{Token}
-use Rattle.syntax.specs.Lines.{prepend, pieces, linesOf, nonEmpty, tokensOf}
-use Rattle.syntax.specs.Number.{isEmpty}
-use Rattle.syntax.specs.Scan.{inToken}
+use Rattle.lexer.specs.Byte.{bytes, isDigit}
+use Rattle.lexer.specs.Token.{Token}
+use Rattle.lexer.specs.Lines.{prepend, pieces, linesOf, nonEmpty, tokensOf}
+use Rattle.lexer.specs.Number.{isEmpty}
+use Rattle.lexer.specs.Scan.{inToken}
 use Rattle.printer.proofs.DecimalLaws.{decimal-all, decimal-some, digit-not}
 use Rattle.printer.specs.Printed.{decimal, constantToken, literalToken, actionToken, readingToken, relationToken, operandToken, comparisonTokens, joinedBy, headTokens, conditionTokens, lineTokens, lineBytes, linesText}
 

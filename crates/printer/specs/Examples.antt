@@ -3,7 +3,7 @@ use Prim.Native.Nat.{ℕ}
 use Prim.Native.String.{String}
 use mathlib.Core.List.{List, [], _∷_}
 use mathlib.Core.Option.{Option, Option·map}
-use Rattle.syntax.specs.Byte.{bytes}
+use Rattle.lexer.specs.Byte.{bytes}
 use Rattle.syntax.specs.Text.{policyOf}
 use Rattle.printer.specs.Printed.{textOf}
 

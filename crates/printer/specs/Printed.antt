@@ -14,8 +14,8 @@ use Rattle.policy.specs.declared.comparison.Operand.{Operand}
 use Rattle.policy.specs.declared.comparison.Relation.{Relation}
 use Rattle.policy.specs.declared.number.Action.{Action}
 use Rattle.policy.specs.declared.number.Reading.{Reading}
-use Rattle.syntax.specs.Byte.{bytes}
-use Rattle.syntax.specs.Grammar.{Token}
+use Rattle.lexer.specs.Byte.{bytes}
+use Rattle.lexer.specs.Token.{Token}
 
 -- ---- numbers
 

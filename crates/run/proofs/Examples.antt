@@ -6,8 +6,8 @@ use Rattle.policy.specs.Epoch.{valueOf}
 use Rattle.policy.specs.Limits.{testNumber}
 use Rattle.policy.specs.Line.{headsOf, comparisonsOf, endingOf}
 use Rattle.policy.specs.Set.{has, insert}
-use Rattle.image.specs.Word.{pack}
-use Rattle.image.specs.Operation.{operationFrom, relationCode, relationFrom, constantComparison, readingComparison}
+use Rattle.word.specs.Word.{pack}
+use Rattle.word.specs.Operation.{operationFrom, relationCode, relationFrom, constantComparison, readingComparison}
 use Rattle.image.specs.Layout.{testOpcode, testWord, operandWords, comparisonWords, endingWord, conditionWords, partWords, lineWords, linesWords, ruleWords, constraintWords}
 use Rattle.run.specs.Run.{passed, rulePasses, ruleProposes, runRules, constraintPasses, isNever, runConstraints}
 use Rattle.image.specs.Examples.{worked}

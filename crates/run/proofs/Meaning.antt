@@ -10,7 +10,7 @@ use lib.Seq.{drop-at}
 use Rattle.policy.proofs.ListLaws.{and-out}
 use Rattle.policy.specs.Comparison.{comparisonHolds}
 use Rattle.policy.specs.Epoch.{Epoch, Readings}
-use Rattle.policy.specs.Limits.{valid, testNumber, comparisonInRange, endingInRange}
+use Rattle.policy.specs.Limits.{valid, testNumber, comparisonInRange, endingInRange, comparisonsSize}
 use Rattle.policy.specs.Line.{rule, constraint, headsOf, comparisonsOf, endingOf}
 use Rattle.policy.specs.List.{all, any}
 use Rattle.policy.specs.Policy.{Policy, Rule, Constraint}
@@ -27,9 +27,9 @@ use Rattle.image.proofs.LayoutLaws.{condition-length, part-length, condition-si
 use Rattle.run.proofs.RunLaws.{rules-pass, constraints-pass}
 use Rattle.image.proofs.ValidLaws.{valid-out, testInRange}
 use Rattle.image.specs.Layout.{testWord, comparisonWords, endingWord, conditionWords, partWords, conditionSize, lineWords, linesWords, ruleWords, constraintWords}
-use Rattle.image.specs.Operation.{Operation, againstConstant, againstReading, operationOf, eventFrom, constantComparison, readingComparison}
+use Rattle.word.specs.Operation.{Operation, againstConstant, againstReading, operationOf, eventFrom, constantComparison, readingComparison}
 use Rattle.run.specs.Run.{passed, rulePasses, ruleProposes, runRules, constraintPasses, isNever, runConstraints}
-use Rattle.image.specs.Word.{skipOf}
+use Rattle.word.specs.Word.{skipOf}
 
 -- ---- a line, for any way of running that tests comparisons by operations 3 and 4
 
@@ -45,7 +45,7 @@ module _ {A : Type 0} (run : ℕ → List ℕ → A) (pass : (n : ℕ) (ws : Lis
   after-test false w tail rest others e h = pass (skipOf w) (tail ++ rest) ∙ ap (run 0) (drop-at tail rest (skipOf w) (sym e))
 
   condition-run : (cs : List Comparison) (rest : List ℕ) → all comparisonInRange cs ≡ true → conditionSize cs < 32 → run 0 (conditionWords cs ending ++ rest) ≡ cond (all holds cs) (final rest) (run 0 rest)
-  unfolding conditionWords conditionSize all
+  unfolding conditionWords conditionSize comparisonsSize all
   condition-run [] rest r l = ends rest
   condition-run (c ∷ cs) rest r l = go (condition-run cs rest (p .1) (omega arith)) (written c (length tail) (p .0) (omega (arith, condition-length cs ending)))
     where

@@ -14,10 +14,10 @@ use Rattle.policy.specs.Epoch.{Epoch, Readings}
 use Rattle.policy.specs.Set.{hasEvent, hasAction, insertAction}
 use Rattle.policy.specs.declared.comparison.Comparison.{Comparison}
 use Rattle.policy.specs.declared.set.ActionSet.{ActionSet}
-use Rattle.image.specs.Operation.{Operation, present, absent, againstConstant, againstReading, proposes, member, never, unknown, operationFrom, operationOf, actionFrom, constantComparison, readingComparison}
+use Rattle.word.specs.Operation.{Operation, present, absent, againstConstant, againstReading, proposes, member, never, unknown, operationFrom, operationOf, actionFrom, constantComparison, readingComparison}
 use Rattle.run.specs.Run.{passed, rulePasses, ruleProposes, runRules, constraintPasses, isNever, runConstraints}
 use Rattle.image.proofs.SumLaws.{before-at}
-use Rattle.image.specs.Word.{opcodeOf, firstOf, skipOf, wordsOf, wordAt}
+use Rattle.word.specs.Word.{opcodeOf, firstOf, skipOf, wordsOf, wordAt}
 
 -- ---- words that are passed over
 

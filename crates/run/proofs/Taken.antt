@@ -8,9 +8,9 @@ use Rattle.policy.specs.Set.{noActions}
 use Rattle.policy.specs.Yield.{proposed, conflict}
 use Rattle.policy.specs.declared.set.ActionSet.{ActionSet}
 use Rattle.image.proofs.Exact.{held-acceptable, taken-rules, taken-constraints}
-use Rattle.image.proofs.WordLaws.{Below}
+use Rattle.word.proofs.WordLaws.{Below}
 use Rattle.image.specs.Load.{load, policyIn}
-use Rattle.image.specs.Word.{wordsOf, between}
+use Rattle.word.specs.Word.{wordsOf, between}
 use Rattle.image.specs.declared.load.Loaded.{Loaded}
 use Rattle.image.specs.declared.load.Parts.{Parts}
 use Rattle.run.proofs.Meaning.{rules-run, constraints-run}

@@ -7,8 +7,8 @@ use Rattle.policy.specs.Comparison.{comparisonHolds}
 use Rattle.policy.specs.Epoch.{Epoch, Readings}
 use Rattle.policy.specs.Set.{hasEvent, hasAction, insertAction}
 use Rattle.policy.specs.declared.set.ActionSet.{ActionSet}
-use Rattle.image.specs.Word.{skipOf}
-use Rattle.image.specs.Operation.{Operation, present, absent, againstConstant, againstReading, proposes, member, never, unknown, operationOf, eventFrom, actionFrom, constantComparison, readingComparison}
+use Rattle.word.specs.Word.{skipOf}
+use Rattle.word.specs.Operation.{Operation, present, absent, againstConstant, againstReading, proposes, member, never, unknown, operationOf, eventFrom, actionFrom, constantComparison, readingComparison}
 
 -- a test that fails passes over `skip` further words
 unfoldable pub passed : Bool → ℕ → ℕ

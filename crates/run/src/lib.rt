@@ -2,20 +2,20 @@
 // constraint part on a set of actions. Start with specs/Run.antt.
 ghost use mathlib.Core.Path.{_≡_};
 ghost use Rattle.policy.specs.Set.{noActions};
-ghost use Rattle.image.specs.Word.{wordsOf, between};
+ghost use Rattle.word.specs.Word.{wordsOf, between};
 ghost use Rattle.run.specs.Run.{runRules, runConstraints};
-use image::at_most;
-use image::constant_comparison;
-use image::first;
-use image::opcode;
-use image::reading_comparison;
-use image::skip;
-use image::word_at;
 use policy::Action;
 use policy::ActionSet;
 use policy::Event;
 use policy::EventSet;
 use policy::ReadingSet;
+use word::at_most;
+use word::constant_comparison;
+use word::first;
+use word::opcode;
+use word::reading_comparison;
+use word::skip;
+use word::word_at;
 
 // What the words from index `start` up to `end` propose on an epoch.
 pub fn run_rules(

@@ -12,17 +12,18 @@ use Rattle.policy.proofs.ListLaws.{and-in, all-append}
 use Rattle.policy.specs.Limits.{valid, inRange, crowded, repeated, ruleLimit, constraintLimit, Acceptable}
 use Rattle.policy.specs.Line.{PolicyLine, rule, constraint, headsOf}
 use Rattle.policy.specs.List.{all}
-use Rattle.policy.specs.Policy.{Policy, Rule, Constraint}
+use Rattle.policy.specs.Policy.{Policy}
 use Rattle.policy.specs.declared.comparison.Comparison.{Comparison}
 use Rattle.policy.specs.declared.comparison.Literal.{Literal}
 use Rattle.policy.specs.declared.fault.Fault.{Fault}
 use Rattle.policy.specs.declared.line.Test.{Test}
 use Rattle.policy.specs.declared.number.Action.{Action}
 use Rattle.syntax.proofs.JudgeLaws.{Judged, yes-line, no-line, judged-cases}
-use Rattle.syntax.specs.Grammar.{Token, Joined, last, before, both, joined, literalOf, actionOf, conditionOf, causes, never, ruleAfter, constraintAfter, after, lineFrom}
-use Rattle.syntax.specs.Byte.{is}
-use Rattle.syntax.specs.Lines.{linesOf, tokensOf}
-use Rattle.syntax.specs.Text.{LineAnswer, skipped, refused, accepted, judge, isComment, tokensAnswer, lineAnswer, Progress, reading, stopped, withRule, withConstraint, advance, readLine, emptyPolicy, textLimit, readText, policyOf}
+use Rattle.lexer.specs.Token.{Token, both, literalOf, actionOf}
+use Rattle.syntax.specs.Grammar.{Joined, last, before, joined, conditionOf, causes, never, ruleAfter, constraintAfter, after, lineFrom}
+use Rattle.lexer.specs.Byte.{is}
+use Rattle.lexer.specs.Lines.{linesOf, tokensOf}
+use Rattle.syntax.specs.Text.{LineAnswer, skipped, refused, accepted, judge, isComment, tokensAnswer, lineAnswer, Progress, reading, stopped, withRule, withConstraint, advance, readLine, emptyPolicy, textLimit, readText}
 
 -- ---- a line of either shape has a literal or an action
 

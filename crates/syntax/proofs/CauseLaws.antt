@@ -13,17 +13,18 @@ use Rattle.policy.specs.declared.line.Ending.{Ending}
 use Rattle.policy.specs.declared.line.Line.{Line}
 use Rattle.policy.specs.declared.number.Action.{Action}
 use Rattle.policy.specs.declared.number.ActionCheck.{ActionCheck}
-use Rattle.syntax.proofs.PartLaws.{Named, name-some, name-none, action-valid, action-outside, clip-below, clip-same}
-use Rattle.syntax.proofs.TokenLaws.{tokens-after-spaces, tokens-first, tokens-ended, line-past-spaces, line-past-token}
-use Rattle.syntax.proofs.WordLaws.{word-token, word-absent}
-use Rattle.syntax.specs.Byte.{bytes, sameBytes, is, isSpace}
-use Rattle.syntax.specs.Grammar.{Token, named, actionOf, literalOf, conditionOf, joined, ruleAfter, constraintAfter, after, lineFrom}
-use Rattle.syntax.specs.Number.{isEmpty}
+use Rattle.lexer.proofs.PartLaws.{Named, name-some, name-none, action-valid, action-outside, clip-below, clip-same}
+use Rattle.lexer.proofs.TokenLaws.{tokens-after-spaces, tokens-first, tokens-ended, line-past-spaces, line-past-token}
+use Rattle.lexer.proofs.WordLaws.{word-token, word-absent}
+use Rattle.lexer.specs.Byte.{bytes, sameBytes, is, isSpace}
+use Rattle.lexer.specs.Token.{Token, named, actionOf, literalOf}
+use Rattle.syntax.specs.Grammar.{conditionOf, joined, ruleAfter, constraintAfter, after, lineFrom}
+use Rattle.lexer.specs.Number.{isEmpty}
 use Rattle.syntax.specs.Outcome.{failedParts, comparisonsParts, smallEnding, causedParts, causeParts, lineParts}
-use Rattle.syntax.specs.Scan.{skip, inToken, tokenAt, wordAt, nameAt, tokensAt, lineEnd}
+use Rattle.lexer.specs.Scan.{skip, inToken, tokenAt, wordAt, nameAt, tokensAt, lineEnd}
 use Rattle.syntax.specs.declared.line.Parts.{Parts}
-use Rattle.syntax.specs.declared.scan.NumberAt.{NumberAt}
-use Rattle.syntax.specs.declared.scan.WordAt.{WordAt}
+use Rattle.lexer.specs.declared.scan.NumberAt.{NumberAt}
+use Rattle.lexer.specs.declared.scan.WordAt.{WordAt}
 
 named-solid : (letter : ℕ) (t : Token) (n : ℕ) → named letter t ≡ some n → isEmpty t ≡ false
 unfolding named isEmpty

@@ -12,19 +12,20 @@ use Rattle.policy.specs.List.{all}
 use Rattle.policy.specs.declared.comparison.Comparison.{Comparison}
 use Rattle.policy.specs.declared.comparison.Operand.{Operand}
 use Rattle.policy.specs.declared.line.Line.{Line}
-use Rattle.syntax.proofs.PartLaws.{both-none}
-use Rattle.syntax.proofs.RunLaws.{skip-ge}
-use Rattle.syntax.proofs.TokenLaws.{tokens-after-spaces, tokens-first, tokens-ended, line-past-spaces, line-past-token, line-ended}
-use Rattle.syntax.proofs.WordLaws.{token-inside, skip-grows, word-token, word-absent}
-use Rattle.syntax.specs.Byte.{bytes, sameBytes, is, isSpace}
-use Rattle.syntax.specs.Grammar.{Token, both, compare, named, readingOf, relationOf, orElse, operandOf, comparisonOf, comparisonsOf, conditionOf}
-use Rattle.syntax.specs.Number.{isEmpty, constantOf}
+use Rattle.lexer.proofs.PartLaws.{both-none}
+use Rattle.lexer.proofs.RunLaws.{skip-ge}
+use Rattle.lexer.proofs.TokenLaws.{tokens-after-spaces, tokens-first, tokens-ended, line-past-spaces, line-past-token, line-ended}
+use Rattle.lexer.proofs.WordLaws.{token-inside, skip-grows, word-token, word-absent}
+use Rattle.lexer.specs.Byte.{bytes, sameBytes, is, isSpace}
+use Rattle.lexer.specs.Token.{Token, both, compare, named, readingOf, relationOf, orElse, operandOf, comparisonOf}
+use Rattle.syntax.specs.Grammar.{comparisonsOf, conditionOf}
+use Rattle.lexer.specs.Number.{isEmpty, constantOf}
 use Rattle.syntax.specs.Outcome.{failedParts, pushComparisons, comparisonsParts}
-use Rattle.syntax.specs.Parts.{smallComparison, comparisonEnding, nextAt, comparisonAt}
-use Rattle.syntax.specs.Scan.{skip, inToken, tokenAt, wordAt, tokensAt, lineEnd}
+use Rattle.lexer.specs.Parts.{smallComparison, comparisonEnding, nextAt, comparisonAt}
+use Rattle.lexer.specs.Scan.{skip, inToken, tokenAt, wordAt, tokensAt, lineEnd}
 use Rattle.syntax.specs.declared.line.Parts.{Parts}
-use Rattle.syntax.specs.declared.scan.WordAt.{WordAt}
-use Rattle.syntax.specs.declared.token.ComparisonAt.{ComparisonAt}
+use Rattle.lexer.specs.declared.scan.WordAt.{WordAt}
+use Rattle.lexer.specs.declared.token.ComparisonAt.{ComparisonAt}
 
 -- ---- a list of comparisons
 

@@ -9,7 +9,6 @@ use borrow.Author.Tests.{eqb-true, eq-eqb, ne-eqb, ltb-true, lt-ltb, le-ltb}
 use lib.Dec.{eqb, ltb}
 use lib.IntN.{ℤ, pos}
 use lib.ListN.{length, set, drop, drop-of-length-le, length-drop, replicate}
-use lib.Seq.{drop-drop}
 use Rattle.policy.proofs.ListLaws.{true-false, and-in, and-out}
 use Rattle.policy.proofs.SeenLaws.{seen-repeats}
 use Rattle.policy.specs.Epoch.{Epoch}
@@ -20,16 +19,16 @@ use Rattle.policy.specs.Set.{insertEvent, hasReading, insertReading, noEvents, 
 use Rattle.policy.specs.declared.fault.Fault.{Fault}
 use Rattle.policy.specs.declared.number.Event.{Event}
 use Rattle.policy.specs.declared.number.Reading.{Reading}
-use Rattle.syntax.proofs.RunLaws.{skip-ge}
-use Rattle.syntax.proofs.TokenLaws.{tokens-after-spaces, tokens-first, tokens-ended}
-use Rattle.syntax.proofs.WordLaws.{empty-end, token-inside, skip-grows}
-use Rattle.syntax.specs.Byte.{isSpace}
+use Rattle.lexer.proofs.RunLaws.{skip-ge, drop-skip}
+use Rattle.lexer.proofs.TokenLaws.{tokens-after-spaces, tokens-first, tokens-ended}
+use Rattle.lexer.proofs.WordLaws.{empty-end, token-inside, skip-grows}
+use Rattle.lexer.specs.Byte.{isSpace}
 use Rattle.syntax.specs.Epoch.{Item, event, value, itemOf, itemsOf, itemInRange, givenBy, addItem, emptyEpoch, judge, refused, accepted, epochLimit, readEpoch, atEquals, valueOf}
 use Rattle.syntax.specs.EpochScan.{itemWithin, itemEnding, itemAt, refusedRead, acceptedRead, answerRead, epochRead, Scanned, scanned, addScanned, flagged, takeItem, finishRead, itemsRead, readFrom}
-use Rattle.syntax.specs.Grammar.{Token, named, orElse, both}
-use Rattle.syntax.specs.Lines.{tokensOf}
-use Rattle.syntax.specs.Number.{isEmpty}
-use Rattle.syntax.specs.Scan.{run, skip, inToken, inLine, tokenAt, lineAt, tokensAt}
+use Rattle.lexer.specs.Token.{Token, named, orElse, both}
+use Rattle.lexer.specs.Lines.{tokensOf}
+use Rattle.lexer.specs.Number.{isEmpty}
+use Rattle.lexer.specs.Scan.{run, skip, inToken, inLine, tokenAt, lineAt, tokensAt}
 use Rattle.syntax.specs.declared.epoch.EpochRead.{EpochRead}
 use Rattle.syntax.specs.declared.epoch.ItemAt.{ItemAt}
 
@@ -77,12 +76,8 @@ no-end (b ∷ s) e = go (eqb b 10) refl e (no-end s)
     go false p q h = ap (λ (t : List ℕ). b ∷ t) (h (sym (ap (λ (y : Bool). y || any (eqb 10) s) (ne-eqb 10 b (λ z. true-false (eq-eqb b 10 (sym z)) p))) ∙ q))
 
 module _ (line : List ℕ) (at : ℕ) where
-  drop-skip : (p : ℕ → Bool) → drop (skip p line at) line ≡ drop (length (run p (drop at line))) (drop at line)
-  unfolding skip
-  drop-skip p = sym (drop-drop (length (run p (drop at line))) at line)
-
   end-skipped : (p : ℕ → Bool) → ((b : ℕ) → p b ≡ true → eqb 10 b ≡ false) → hasEnd (drop at line) ≡ hasEnd (drop (skip p line at) line)
-  end-skipped p h = end-past p h (drop at line) ∙ ap hasEnd (sym (drop-skip p))
+  end-skipped p h = end-past p h (drop at line) ∙ ap hasEnd (sym (drop-skip p line at))
 
 -- ---- the judgement of all items against collecting them one by one
 
@@ -250,7 +245,7 @@ module _ (line : List ℕ) (at : ℕ) (s : Scanned) where
       end-met : isEmpty (tokenAt line start) ≡ true → any (eqb 10) (drop start line) ≡ true
       end-met e =
           sym (end-skipped line at isSpace space-no-end)
-          ∙ end-here (drop at line) shorter (ap (λ (l : List ℕ). isEmpty (run inToken l)) (sym (drop-skip line at isSpace)) ∙ e)
+          ∙ end-here (drop at line) shorter (ap (λ (l : List ℕ). isEmpty (run inToken l)) (sym (drop-skip isSpace line at)) ∙ e)
 
       same : (b : Bool) → _≡_ {A = EpochRead} (cond b (refusedRead Fault.EpochSyntax) (refusedRead Fault.EpochSyntax)) (refusedRead Fault.EpochSyntax)
       same true = refl

@@ -5,14 +5,15 @@ use Rattle.policy.specs.Limits.{isReadingValue, testNumber, operandInRange, com
 use Rattle.policy.specs.Line.{headsOf, comparisonsOf, endingOf}
 use Rattle.policy.specs.List.{all, any}
 use Rattle.policy.specs.Set.{has, insert}
-use Rattle.syntax.specs.Byte.{bytes, sameBytes, is}
+use Rattle.lexer.specs.Byte.{bytes, sameBytes, is}
 use Rattle.syntax.specs.Epoch as Epoch
 use Rattle.syntax.specs.Epoch.{toLeft, atEquals, valueOf, itemOf, itemsOf, itemInRange, givenBy, addItem, readEpoch}
 use Rattle.syntax.specs.Examples.{TextExample, LineExample, texts, epochLines, textAnswer, epochAnswer}
 use Rattle.syntax.specs.Grammar as Grammar
-use Rattle.syntax.specs.Grammar.{named, literalOf, actionOf, readingOf, relationOf, orElse, operandOf, both, comparisonOf, conditionOf, joined, ruleAfter, constraintAfter, after, lineFrom}
-use Rattle.syntax.specs.Lines.{prepend, pieces, linesOf, nonEmpty, tokensOf}
-use Rattle.syntax.specs.Number.{decimalFrom, isEmpty, numberOf, positive, negative, constantOf}
+use Rattle.lexer.specs.Token.{named, literalOf, actionOf, readingOf, relationOf, orElse, operandOf, both, comparisonOf}
+use Rattle.syntax.specs.Grammar.{conditionOf, joined, ruleAfter, constraintAfter, after, lineFrom}
+use Rattle.lexer.specs.Lines.{prepend, pieces, linesOf, nonEmpty, tokensOf}
+use Rattle.lexer.specs.Number.{decimalFrom, isEmpty, numberOf, positive, negative, constantOf}
 use Rattle.syntax.specs.Text.{judge, isComment, tokensAnswer, lineAnswer, advance, readLine, readText}
 
 pub texts-read : map textAnswer texts ≡ map (λ (x : TextExample). x .answer) texts

@@ -10,17 +10,18 @@ use Rattle.policy.specs.Line.{pushHead}
 use Rattle.policy.specs.List.{all}
 use Rattle.policy.specs.declared.line.Line.{Line}
 use Rattle.policy.specs.declared.line.Test.{Test}
-use Rattle.syntax.proofs.TokenLaws.{tokens-after-spaces, tokens-first, tokens-ended, line-past-spaces, line-past-token}
-use Rattle.syntax.proofs.RunLaws.{skip-ge}
-use Rattle.syntax.proofs.WordLaws.{token-inside, skip-grows, word-token, word-absent}
-use Rattle.syntax.specs.Byte.{bytes, sameBytes, is, isSpace}
-use Rattle.syntax.specs.Grammar.{Token, Joined, last, before, both, joined, literalOf, actionOf, named}
-use Rattle.syntax.specs.Number.{isEmpty}
+use Rattle.lexer.proofs.TokenLaws.{tokens-after-spaces, tokens-first, tokens-ended, line-past-spaces, line-past-token}
+use Rattle.lexer.proofs.RunLaws.{skip-ge}
+use Rattle.lexer.proofs.WordLaws.{token-inside, skip-grows, word-token, word-absent}
+use Rattle.lexer.specs.Byte.{bytes, sameBytes, is, isSpace}
+use Rattle.lexer.specs.Token.{Token, both, literalOf, actionOf, named}
+use Rattle.syntax.specs.Grammar.{Joined, last, before, joined}
+use Rattle.lexer.specs.Number.{isEmpty}
 use Rattle.syntax.specs.Outcome.{Outcome, viewOf, failedParts, pushHeads, headsOutcome}
-use Rattle.syntax.specs.Parts.{testInRange, smallTest, testOf, headEnding, headAt}
-use Rattle.syntax.specs.Scan.{skip, inToken, tokenAt, wordAt, tokensAt, lineEnd}
-use Rattle.syntax.specs.declared.scan.WordAt.{WordAt}
-use Rattle.syntax.specs.declared.token.HeadAt.{HeadAt}
+use Rattle.lexer.specs.Parts.{testInRange, smallTest, testOf, headEnding, headAt}
+use Rattle.lexer.specs.Scan.{skip, inToken, tokenAt, wordAt, tokensAt, lineEnd}
+use Rattle.lexer.specs.declared.scan.WordAt.{WordAt}
+use Rattle.lexer.specs.declared.token.HeadAt.{HeadAt}
 
 -- ---- items joined by `&`
 

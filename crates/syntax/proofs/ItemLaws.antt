@@ -4,13 +4,11 @@ use mathlib.Core.Bool.{Bool, true, false, _&&_, cond}
 use mathlib.Core.List.{List, [], _∷_}
 use mathlib.Core.Option.{Option, none, some}
 use mathlib.Core.Path.{_≡_, refl, sym, ap, ap₂, _∙_}
-use native.Mathlib.Nat.{add-assoc}
 use native.Mathlib.Omega.{arith}
 use borrow.Author.Tests.{eqb-true, eq-eqb, ne-eqb}
 use lib.Dec.{eqb, ltb}
 use lib.IntN.{ℤ}
 use lib.ListN.{length, getD, drop, drop-of-length-le}
-use lib.Seq.{drop-drop}
 use Rattle.policy.proofs.ListLaws.{true-false}
 use Rattle.policy.specs.Limits.{isReadingValue}
 use Rattle.policy.specs.List.{all}
@@ -19,56 +17,42 @@ use Rattle.policy.specs.declared.number.Event.{Event}
 use Rattle.policy.specs.declared.number.EventCheck.{EventCheck}
 use Rattle.policy.specs.declared.number.Reading.{Reading}
 use Rattle.policy.specs.declared.number.ReadingCheck.{ReadingCheck}
-use Rattle.syntax.proofs.ClassLaws.{digit-apart, digit-bounds}
-use Rattle.syntax.proofs.PartLaws.{name-some, name-none, clip-below, clip-same}
-use Rattle.syntax.proofs.RunLaws.{at-byte, skip-past}
-use Rattle.syntax.proofs.WordLaws.{token-end, token-here, token-past}
-use Rattle.syntax.specs.Byte.{isDigit}
+use Rattle.lexer.proofs.ClassLaws.{digit-bounds}
+use Rattle.lexer.proofs.DigitLaws.{digit-inside, ending-none, number-end}
+use Rattle.lexer.proofs.PartLaws as PartLaws
+use Rattle.lexer.proofs.PartLaws.{reading-valid, reading-outside, name-some, name-none, clip-below, clip-same}
+use Rattle.lexer.proofs.RunLaws.{at-byte, skip-past, drop-skip, skip-on}
+use Rattle.lexer.proofs.WordLaws.{token-end, token-here, token-past}
+use Rattle.lexer.specs.Byte.{isDigit}
 use Rattle.syntax.specs.Epoch.{Item, event, value, Halves, toLeft, atEquals, valueOf, itemOf, itemInRange}
 use Rattle.syntax.specs.EpochScan.{itemWithin, itemEnding, valueItem, valueAt, itemAt}
-use Rattle.syntax.specs.Grammar.{named, orElse, both}
-use Rattle.syntax.specs.Number.{numberOf, constantOf}
-use Rattle.syntax.specs.Parts.{constantEnding, constantAt}
-use Rattle.syntax.specs.Scan.{run, skip, inToken, tokenAt, clip, numberEnding, digitsAt, nameAt}
+use Rattle.lexer.specs.Token.{named, orElse, both}
+use Rattle.lexer.specs.Number.{numberOf, constantOf}
+use Rattle.lexer.specs.Parts.{constantEnding, constantAt}
+use Rattle.lexer.specs.Scan.{run, skip, inToken, tokenAt, clip, numberEnding, digitsAt, nameAt}
 use Rattle.syntax.specs.declared.epoch.ItemAt.{ItemAt}
-use Rattle.syntax.specs.declared.scan.NumberAt.{NumberAt}
-use Rattle.syntax.specs.declared.token.ConstantAt.{ConstantAt}
+use Rattle.lexer.specs.declared.scan.NumberAt.{NumberAt}
+use Rattle.lexer.specs.declared.token.ConstantAt.{ConstantAt}
 
 -- ---- checked numbers
 
 module _ (n e : ℕ) where
   pub event-valid : (x : Event) → Number.eventOf n ≡ EventCheck.Valid x → ItemAt.Event x e ≡ itemEnding e (some (event n))
   unfolding itemEnding itemWithin itemInRange
-  event-valid x = go (ltb n 64)
-    where
-      go : (b : Bool) → cond b (EventCheck.Valid (record { 0 = n })) EventCheck.OutOfRange ≡ EventCheck.Valid x → ItemAt.Event x e ≡ cond b (ItemAt.Event (record { 0 = n }) e) (ItemAt.OutOfRange e)
-      go true q = cc
-      go false q = let w : _≡_ {A = ℕ} 0 1 = cc in absurd (omega arith)
+  event-valid x q = let p = PartLaws.event-valid n x q in rw (p .0, p .1)
 
   pub event-outside : Number.eventOf n ≡ EventCheck.OutOfRange → ItemAt.OutOfRange e ≡ itemEnding e (some (event n))
-  unfolding itemEnding itemWithin itemInRange
-  event-outside = go (ltb n 64)
-    where
-      go : (b : Bool) → cond b (EventCheck.Valid (record { 0 = n })) EventCheck.OutOfRange ≡ EventCheck.OutOfRange → ItemAt.OutOfRange e ≡ cond b (ItemAt.Event (record { 0 = n }) e) (ItemAt.OutOfRange e)
-      go true q = let w : _≡_ {A = ℕ} 0 1 = cc in absurd (omega arith)
-      go false q = refl
+  unfolding itemEnding itemInRange
+  event-outside q = rw (PartLaws.event-outside n q)
 
   module _ (k : ℤ) where
     pub value-valid : (r : Reading) → Number.readingOf n ≡ ReadingCheck.Valid r → ItemAt.Value r k e ≡ valueItem n (ConstantAt.Value k e)
     unfolding valueItem
-    value-valid r = go (ltb n 16)
-      where
-        go : (b : Bool) → cond b (ReadingCheck.Valid (record { 0 = n })) ReadingCheck.OutOfRange ≡ ReadingCheck.Valid r → ItemAt.Value r k e ≡ cond b (ItemAt.Value (record { 0 = n }) k e) (ItemAt.OutOfRange e)
-        go true q = cc
-        go false q = let w : _≡_ {A = ℕ} 0 1 = cc in absurd (omega arith)
+    value-valid r q = let p = reading-valid n r q in rw (p .0, p .1)
 
     pub value-outside : Number.readingOf n ≡ ReadingCheck.OutOfRange → ItemAt.OutOfRange e ≡ valueItem n (ConstantAt.Value k e)
     unfolding valueItem
-    value-outside = go (ltb n 16)
-      where
-        go : (b : Bool) → cond b (ReadingCheck.Valid (record { 0 = n })) ReadingCheck.OutOfRange ≡ ReadingCheck.OutOfRange → ItemAt.OutOfRange e ≡ cond b (ItemAt.Value (record { 0 = n }) k e) (ItemAt.OutOfRange e)
-        go true q = let w : _≡_ {A = ℕ} 0 1 = cc in absurd (omega arith)
-        go false q = refl
+    value-outside q = rw (reading-outside n q)
 
 -- a value is read from a clipped number and a constant as from the number and the constant
 value-clipped : (n e : ℕ) (o : Option ℤ) → valueItem (clip n) (constantEnding e o) ≡ itemEnding e (both value (some n) o)
@@ -83,9 +67,6 @@ value-clipped n e (some k) = go (ltb n 16) refl (isReadingValue k)
     go false p false = refl
 
 -- ---- the first `=` of a token that begins with digits
-
-digit-inside : (b : ℕ) → isDigit b ≡ true → inToken b ≡ true
-digit-inside b e = rw (digit-apart b 32 (omega arith) e, digit-apart b 10 (omega arith) e)
 
 digit-no-equals : (b : ℕ) → isDigit b ≡ true → eqb b 61 ≡ false
 digit-no-equals b e = ne-eqb b 61 (λ q. omega (arith, digit-bounds b e))
@@ -190,44 +171,6 @@ from-malformed s e = go (drop (length (run isDigit s)) s) refl
 
 -- ---- the token at a position
 
--- what passes one test and then another, which all that pass the first pass
-run-on : (p q : ℕ → Bool) → ((b : ℕ) → q b ≡ true → p b ≡ true) → (s : List ℕ) → length (run q s) + length (run p (drop (length (run q s)) s)) ≡ length (run p s)
-unfolding run
-run-on p q h [] = refl
-run-on p q h (b ∷ s) = go (q b) refl (run-on p q h s)
-  where
-    go : (x : Bool) → q b ≡ x → length (run q s) + length (run p (drop (length (run q s)) s)) ≡ length (run p s) → length (cond x (b ∷ run q s) []) + length (run p (drop (length (cond x (b ∷ run q s) [])) (b ∷ s))) ≡ length (run p (b ∷ s))
-    go true e k = rw (h b e) (omega arith)
-    go false e k = omega arith
-
-module _ (line : List ℕ) (at : ℕ) where
-  drop-digits : drop (skip isDigit line at) line ≡ drop (length (run isDigit (drop at line))) (drop at line)
-  unfolding skip
-  drop-digits = sym (drop-drop (length (run isDigit (drop at line))) at line)
-
-  skip-digits : skip inToken line (skip isDigit line at) ≡ skip inToken line at
-  unfolding skip
-  skip-digits =
-      ap (λ (s : List ℕ). at + length (run isDigit (drop at line)) + length (run inToken s)) drop-digits
-      ∙ add-assoc at (length (run isDigit (drop at line))) (length (run inToken (drop (length (run isDigit (drop at line))) (drop at line))))
-      ∙ ap (λ (n : ℕ). at + n) (run-on inToken isDigit digit-inside (drop at line))
-
-  digits-none : digitsAt line at ≡ NumberAt.Malformed → numberOf (run isDigit (drop at line)) ≡ none
-  unfolding digitsAt numberEnding
-  digits-none = go (numberOf (run isDigit (drop at line)))
-    where
-      go : (o : Option ℕ) → numberEnding (skip isDigit line at) o ≡ NumberAt.Malformed → o ≡ none
-      go none q = refl
-      go (some n) q = let w : _≡_ {A = ℕ} 0 1 = cc in absurd (omega arith)
-
-  digits-end : (v e : ℕ) → digitsAt line at ≡ NumberAt.Number v e → e ≡ skip isDigit line at
-  unfolding digitsAt numberEnding
-  digits-end v e = go (numberOf (run isDigit (drop at line)))
-    where
-      go : (o : Option ℕ) → numberEnding (skip isDigit line at) o ≡ NumberAt.Number v e → e ≡ skip isDigit line at
-      go none q = let w : _≡_ {A = ℕ} 0 1 = cc in absurd (omega arith)
-      go (some n) q = cc
-
 module _ (line : List ℕ) (at : ℕ) where
   pub value-end : length line ≤ at → ItemAt.Malformed ≡ valueAt line at
   unfolding valueAt valueOf atEquals itemEnding
@@ -257,11 +200,12 @@ module _ (line : List ℕ) (at : ℕ) where
     no-value e = sym (from-first ∙ ap (itemEnding (skip inToken line (at + 1))) e)
 
     pub value-no-number : digitsAt line (at + 1) ≡ NumberAt.Malformed → ItemAt.Malformed ≡ valueAt line at
-    value-no-number d = no-value (from-malformed (drop (at + 1) line) (digits-none line (at + 1) d))
+    unfolding digitsAt
+    value-no-number d = no-value (from-malformed (drop (at + 1) line) (ending-none (skip isDigit line (at + 1)) (numberOf (run isDigit (drop (at + 1) line))) d))
 
     module _ (v e : ℕ) (d : digitsAt line (at + 1) ≡ NumberAt.Number v e) where
       left : drop (length (run isDigit (drop (at + 1) line))) (drop (at + 1) line) ≡ drop e line
-      left = sym (ap (λ (k : ℕ). drop k line) (digits-end line (at + 1) v e d) ∙ drop-digits line (at + 1))
+      left = sym (drop-skip isDigit line (at + 1)) ∙ ap (λ (k : ℕ). drop k line) (number-end line (at + 1) v e d)
 
       pub value-ended : length line ≤ e → ItemAt.Malformed ≡ valueAt line at
       value-ended l = no-value (from-none (drop (at + 1) line) (λ r k. nothing (sym (drop-of-length-le line l) ∙ sym left ∙ k)))
@@ -281,7 +225,7 @@ module _ (line : List ℕ) (at : ℕ) where
         where
           ends : skip inToken line (at + 1) ≡ skip inToken line (e + 1)
           ends =
-              sym (skip-digits line (at + 1)) ∙ ap (skip inToken line) (sym (digits-end line (at + 1) v e d))
+              sym (skip-on inToken isDigit digit-inside line (at + 1)) ∙ ap (skip inToken line) (number-end line (at + 1) v e d)
               ∙ skip-past inToken line e l (ap inToken z)
 
           equals : drop (length (run isDigit (drop (at + 1) line))) (drop (at + 1) line) ≡ 61 ∷ drop (e + 1) line

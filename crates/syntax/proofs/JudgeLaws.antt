@@ -20,16 +20,16 @@ use Rattle.policy.specs.declared.line.Ending.{Ending}
 use Rattle.policy.specs.declared.line.Head.{Head}
 use Rattle.policy.specs.declared.line.Line.{Line}
 use Rattle.policy.specs.declared.line.Test.{Test}
-use Rattle.syntax.proofs.TokenLaws.{tokens-after-spaces, tokens-first, tokens-ended, line-past-spaces, line-ended}
-use Rattle.syntax.proofs.WordLaws.{token-first}
+use Rattle.lexer.proofs.TokenLaws.{tokens-after-spaces, tokens-first, tokens-ended, line-past-spaces, line-ended}
+use Rattle.lexer.proofs.WordLaws.{token-first}
 use Rattle.syntax.specs.Answers.{judgedLine, judgedParts, behindLine, lineReadOf, lineRead}
-use Rattle.syntax.specs.Byte.{isSpace}
+use Rattle.lexer.specs.Byte.{isSpace}
 use Rattle.syntax.specs.Grammar.{lineFrom}
-use Rattle.syntax.specs.Lines.{tokensOf}
-use Rattle.syntax.specs.Number.{isEmpty}
+use Rattle.lexer.specs.Lines.{tokensOf}
+use Rattle.lexer.specs.Number.{isEmpty}
 use Rattle.syntax.specs.Outcome.{newLine, smallEnding, smallLine, lineParts}
-use Rattle.syntax.specs.Parts.{testInRange, smallTest, smallComparison}
-use Rattle.syntax.specs.Scan.{skip, inToken, tokenAt, lineAt, tokensAt, lineEnd}
+use Rattle.lexer.specs.Parts.{testInRange, smallTest, smallComparison}
+use Rattle.lexer.specs.Scan.{skip, inToken, tokenAt, lineAt, tokensAt, lineEnd}
 use Rattle.syntax.specs.Text.{LineAnswer, skipped, refused, accepted, judge, isComment, tokensAnswer, lineAnswer}
 use Rattle.syntax.specs.declared.line.LineRead.{LineRead}
 use Rattle.syntax.specs.declared.line.LineStatus.{LineStatus}

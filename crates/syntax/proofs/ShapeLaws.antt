@@ -11,17 +11,17 @@ use Rattle.policy.specs.Line as Line
 use Rattle.policy.specs.declared.line.Line.{Line}
 use Rattle.policy.specs.Line.{PolicyLine, headsOf, endingOf, lineOf, endLine}
 use Rattle.policy.specs.List.{all}
-use Rattle.policy.specs.Number as Number
 use Rattle.policy.specs.declared.comparison.Comparison.{Comparison}
 use Rattle.policy.specs.declared.comparison.Literal.{Literal}
 use Rattle.policy.specs.declared.line.Ending.{Ending}
 use Rattle.policy.specs.declared.line.Test.{Test}
 use Rattle.policy.specs.declared.number.Action.{Action}
-use Rattle.syntax.specs.Byte.{is}
-use Rattle.syntax.specs.Grammar.{Token, Joined, last, before, both, joined, literalOf, actionOf, conditionOf, causes, never, ruleAfter, constraintAfter, after}
+use Rattle.lexer.specs.Byte.{is}
+use Rattle.lexer.specs.Token.{Token, both, literalOf, actionOf}
+use Rattle.syntax.specs.Grammar.{Joined, last, before, joined, conditionOf, causes, never, ruleAfter, constraintAfter, after}
 use Rattle.syntax.specs.Outcome.{Outcome, newLine, failedParts, viewOf, pushHeads, headsOutcome, pushComparisons, comparisonsParts, smallEnding, causedParts, causeParts, smallLine, lineParts}
-use Rattle.syntax.specs.Parts.{testInRange, smallTest, testOf, smallComparison}
-use Rattle.syntax.specs.Scan.{tokensAt, lineEnd}
+use Rattle.lexer.specs.Parts.{testInRange, smallTest, testOf, smallComparison}
+use Rattle.lexer.specs.Scan.{tokensAt, lineEnd}
 use Rattle.syntax.specs.declared.line.Parts.{Parts}
 
 -- ---- the value that was put together

@@ -18,10 +18,10 @@ use Rattle.policy.specs.declared.comparison.Operand.{Operand}
 use Rattle.policy.specs.declared.fault.Fault.{Fault}
 use Rattle.policy.specs.declared.line.Ending.{Ending}
 use Rattle.syntax.proofs.JudgeLaws.{held-whole, accepted-uncrowded}
-use Rattle.syntax.proofs.RunLaws.{at-byte, skip-ge}
+use Rattle.lexer.proofs.RunLaws.{at-byte, skip-ge}
 use Rattle.syntax.specs.Answers.{linesSize, countsOf, textReadOf, textRead, Small, withWords, talliedBy, stepOf, lineReadOf, lineRead, behindLine}
-use Rattle.syntax.specs.Lines.{prepend, pieces, linesOf}
-use Rattle.syntax.specs.Scan.{run, skip, inLine, lineAt, lineEnd}
+use Rattle.lexer.specs.Lines.{prepend, pieces, linesOf}
+use Rattle.lexer.specs.Scan.{run, skip, inLine, lineAt, lineEnd}
 use Rattle.syntax.specs.Text.{LineAnswer, skipped, refused, accepted, lineAnswer, Progress, reading, stopped, withRule, withConstraint, advance, readLine, emptyPolicy, textLimit, readText}
 use Rattle.syntax.specs.declared.line.LineRead.{LineRead}
 use Rattle.syntax.specs.declared.text.Tally.{Tally}

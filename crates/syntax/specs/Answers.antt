@@ -11,7 +11,7 @@ use Rattle.policy.specs.declared.fault.Fault.{Fault}
 use Rattle.policy.specs.declared.line.Ending.{Ending}
 use Rattle.policy.specs.declared.line.Line.{Line}
 use Rattle.syntax.specs.Outcome.{newLine}
-use Rattle.syntax.specs.Scan.{lineAt, lineEnd}
+use Rattle.lexer.specs.Scan.{lineAt, lineEnd}
 use Rattle.syntax.specs.Text.{LineAnswer, lineAnswer, Progress, reading, stopped, readText}
 use Rattle.syntax.specs.declared.line.LineRead.{LineRead}
 use Rattle.syntax.specs.declared.line.LineStatus.{LineStatus}

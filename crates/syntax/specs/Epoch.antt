@@ -14,9 +14,9 @@ use Rattle.policy.specs.List.{all, any}
 use Rattle.policy.specs.Number.{setLimit, readingLimit}
 use Rattle.policy.specs.Set.{noEvents, insertEvent, noReadings, insertReading}
 use Rattle.policy.specs.declared.fault.Fault.{Fault}
-use Rattle.syntax.specs.Grammar.{Token, named, orElse, both}
-use Rattle.syntax.specs.Lines.{tokensOf}
-use Rattle.syntax.specs.Number.{constantOf}
+use Rattle.lexer.specs.Token.{Token, named, orElse, both}
+use Rattle.lexer.specs.Lines.{tokensOf}
+use Rattle.lexer.specs.Number.{constantOf}
 
 pub data Item : Type 0 where
   event : ℕ → Item

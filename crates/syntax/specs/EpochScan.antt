@@ -15,11 +15,11 @@ use Rattle.policy.specs.declared.fault.Fault.{Fault}
 use Rattle.policy.specs.declared.set.EventSet.{EventSet}
 use Rattle.policy.specs.declared.set.ReadingSet.{ReadingSet}
 use Rattle.syntax.specs.Epoch.{Item, event, value, atEquals, valueOf, itemOf, itemsOf, itemInRange, addItem, EpochAnswer, refused, accepted, readEpoch}
-use Rattle.syntax.specs.Scan.{skip, inToken, tokenAt, tokensAt}
+use Rattle.lexer.specs.Scan.{skip, inToken, tokenAt, tokensAt}
 use Rattle.syntax.specs.declared.epoch.EpochRead.{EpochRead}
 use Rattle.syntax.specs.declared.epoch.EpochStatus.{EpochStatus}
 use Rattle.syntax.specs.declared.epoch.ItemAt.{ItemAt}
-use Rattle.syntax.specs.declared.token.ConstantAt.{ConstantAt}
+use Rattle.lexer.specs.declared.token.ConstantAt.{ConstantAt}
 
 -- ---- the answer
 

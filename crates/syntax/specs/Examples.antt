@@ -8,10 +8,10 @@ use Rattle.policy.specs.Policy.{Policy}
 use Rattle.policy.specs.declared.comparison.Operand.{Operand}
 use Rattle.policy.specs.declared.comparison.Relation.{Relation}
 use Rattle.policy.specs.declared.fault.Fault.{Fault}
-use Rattle.syntax.specs.Byte.{bytes}
+use Rattle.lexer.specs.Byte.{bytes}
 use Rattle.syntax.specs.Epoch as Epoch
 use Rattle.syntax.specs.Epoch.{EpochAnswer, readEpoch, emptyEpoch}
-use Rattle.syntax.specs.Grammar.{literalAs}
+use Rattle.lexer.specs.Token.{literalAs}
 use Rattle.syntax.specs.Text.{Progress, reading, stopped, readText, emptyPolicy}
 
 -- ---- rule texts

@@ -1,13 +1,8 @@
 -- What a reader must believe of this layer. Start with `Grammar`, then `Text` and `Epoch`.
-pub mod Byte
-pub mod Number
-pub mod Lines
 pub mod Grammar
 pub mod Text
 pub mod Epoch
 pub mod EpochScan
-pub mod Scan
-pub mod Parts
 pub mod Outcome
 pub mod Answers
 pub mod Examples

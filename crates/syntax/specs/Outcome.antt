@@ -14,10 +14,11 @@ use Rattle.policy.specs.declared.line.Ending.{Ending}
 use Rattle.policy.specs.declared.line.Line.{Line}
 use Rattle.policy.specs.declared.line.Test.{Test}
 use Rattle.policy.specs.declared.number.Action.{Action}
-use Rattle.syntax.specs.Byte.{is}
-use Rattle.syntax.specs.Grammar.{Token, Joined, actionOf, conditionOf}
-use Rattle.syntax.specs.Parts.{testInRange, smallTest, smallComparison}
-use Rattle.syntax.specs.Scan.{tokensAt, lineEnd}
+use Rattle.lexer.specs.Byte.{is}
+use Rattle.lexer.specs.Token.{Token, actionOf}
+use Rattle.syntax.specs.Grammar.{Joined, conditionOf}
+use Rattle.lexer.specs.Parts.{testInRange, smallTest, smallComparison}
+use Rattle.lexer.specs.Scan.{tokensAt, lineEnd}
 use Rattle.syntax.specs.declared.line.Parts.{Parts}
 
 abbrev pub newLine : Line

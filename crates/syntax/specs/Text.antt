@@ -12,7 +12,7 @@ use Rattle.policy.specs.Line.{PolicyLine, rule, constraint}
 use Rattle.policy.specs.Policy.{Policy, Rule, Constraint}
 use Rattle.policy.specs.declared.fault.Fault.{Fault}
 use Rattle.syntax.specs.Grammar.{lineFrom}
-use Rattle.syntax.specs.Lines.{linesOf, tokensOf}
+use Rattle.lexer.specs.Lines.{linesOf, tokensOf}
 
 pub data LineAnswer : Type 0 where
   skipped : LineAnswer

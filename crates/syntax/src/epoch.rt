@@ -9,12 +9,12 @@ ghost use lib.ListN.{replicate};
 ghost use Rattle.policy.specs.Set.{noEvents, noReadings};
 ghost use Rattle.syntax.specs.EpochScan.{itemEnding, valueItem, valueAt, itemAt};
 ghost use Rattle.syntax.specs.EpochScan.{refusedRead, epochRead, scanned, finishRead, readFrom};
-use crate::scan::NumberAt;
-use crate::scan::digits_at;
-use crate::scan::name_at;
-use crate::scan::skip_spaces;
-use crate::token::ConstantAt;
-use crate::token::constant_at;
+use lexer::ConstantAt;
+use lexer::NumberAt;
+use lexer::constant_at;
+use lexer::digits_at;
+use lexer::event_at;
+use lexer::skip_spaces;
 use policy::Event;
 use policy::EventCheck;
 use policy::EventSet;
@@ -98,7 +98,7 @@ fn value_at(line: &[u8], at: usize) -> ItemAt
 fn item_at(line: &[u8], at: usize) -> ItemAt
     ensures { λ r. ⌜ r ≡ itemAt (now (line .entry)) at ⌝ }
 {
-    let name = name_at(line, at, b'E');
+    let name = event_at(line, at);
     match name {
         NumberAt::Number(n, end) => event_item(n, end),
         NumberAt::Malformed => value_at(line, at),

@@ -2,7 +2,6 @@
 // first byte says what it is: `T` a rule text, any other an epoch line.
 use libc::STDIN_FILENO;
 use libc::STDOUT_FILENO;
-use syntax::EpochRead;
 use syntax::EpochStatus;
 use syntax::TextRead;
 

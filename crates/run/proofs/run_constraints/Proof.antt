@@ -4,7 +4,7 @@ use mathlib.Core.Path.{_≡_, refl, sym, _∙_}
 use borrow.Author.Tests.{not-true, not-false}
 use lib.ListN.{length, take, drop}
 use denote.Ref.{now}
-use Rattle.image.specs.Word.{wordsOf, between}
+use Rattle.word.specs.Word.{wordsOf, between}
 use Rattle.run.specs.Run.{runConstraints}
 use Rattle.image.proofs.SumLaws.{before-length}
 use Rattle.run.proofs.RunLaws.{Fetched, member-turn, held-constant-turn, held-reading-turn, never-turn, constraints-other-turn, constraints-end}

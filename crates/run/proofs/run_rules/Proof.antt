@@ -5,7 +5,7 @@ use borrow.Author.Tests.{not-true, not-false}
 use lib.ListN.{length, take, drop}
 use denote.Ref.{now}
 use Rattle.policy.specs.Set.{noActions}
-use Rattle.image.specs.Word.{wordsOf, between}
+use Rattle.word.specs.Word.{wordsOf, between}
 use Rattle.run.specs.Run.{runRules}
 use Rattle.image.proofs.SumLaws.{before-length}
 use Rattle.run.proofs.RunLaws.{Fetched, present-turn, absent-turn, constant-turn, reading-turn, proposes-turn, rules-other-turn, rules-end}

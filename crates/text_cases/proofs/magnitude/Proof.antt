@@ -1,5 +1,6 @@
 use native.Mathlib.Omega.{arith}
-use Rattle.text_cases.proofs.SignLaws.{below-zero, not-below-zero}
+use mir.Facts.{fits-ofZ}
+use Rattle.policy.proofs.SignLaws.{below-zero, not-below-zero}
 use Rattle.text_cases.proofs.magnitude.Statement.{statement}
 use Rattle.text_cases.proofs.magnitude.Tie as tie
 
@@ -13,7 +14,9 @@ sub-result-2 : tie.Need-sub-result-2
 sub-result-2 c = let r = below-zero _ (c .before .fits .value) (c .if1 .taken) in rw (r .value) (omega arith)
 
 cast-result-2 : tie.Need-cast-result-2
-cast-result-2 c = let r = not-below-zero _ (c .before .fits .value) (c .if1 .left) in rw (r .value) (tt, record { fits = omega arith })
+cast-result-2 c =
+    let e = not-below-zero _ (c .before .fits .value) (c .if1 .left) in
+    rw e (tt, record { fits = omega (arith, fits-ofZ (c .before .fits .value) .fits) })
 
 returns : tie.Need-returns
 returns c = tt

@@ -2,7 +2,7 @@ use Prim.Native.Nat.{_-_, _<_}
 use mathlib.Core.Path.{_≡_, _∙_}
 use lib.ListN.{length, take}
 use denote.Ref.{now}
-use Rattle.image.specs.Word.{wordsOf}
+use Rattle.word.specs.Word.{wordsOf}
 use Rattle.image.proofs.SumLaws.{Summing, summing-none, summing-more, summing-all, before-length, before-at}
 use borrow.Author.Needs.{needs}
 use native.Mathlib.Omega.{arith}

@@ -1,4 +1,3 @@
-use Rattle.image.specs.Layout.{comparisonSize, operandSize}
 use borrow.Author.Needs.{needs}
 use Rattle.image.proofs.layout.comparison_size.Statement.{statement}
 use Rattle.image.proofs.layout.comparison_size.Tie as tie
@@ -10,11 +9,9 @@ enum-told-2 : tie.Need-enum-told-2
 enum-told-2 c = search needs
 
 returns : tie.Need-returns
-unfolding comparisonSize operandSize
 returns c = rw (c .enum-told .given .1)
 
 returns-2 : tie.Need-returns-2
-unfolding comparisonSize operandSize
 returns-2 c = rw (c .enum-told2 .given .1)
 
 pub comparison-size-spec : {M : Type 1} → statement M

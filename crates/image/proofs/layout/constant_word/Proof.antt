@@ -1,5 +1,5 @@
 use mir.Facts.{fits-ofZ}
-use Rattle.image.proofs.ConstantLaws.{below-zero, not-below-zero}
+use Rattle.policy.proofs.SignLaws.{below-zero, not-below-zero}
 use native.Mathlib.Omega.{arith}
 use Rattle.image.proofs.layout.constant_word.Statement.{statement}
 use Rattle.image.proofs.layout.constant_word.Tie as tie

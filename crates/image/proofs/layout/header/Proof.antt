@@ -1,5 +1,5 @@
 use mathlib.Core.Path.{refl}
-use Rattle.image.specs.Word.{packHeader}
+use Rattle.word.specs.Word.{packHeader}
 use borrow.Author.Needs.{needs}
 use Rattle.image.proofs.layout.header.Statement.{statement}
 use Rattle.image.proofs.layout.header.Tie as tie

@@ -1,4 +1,4 @@
-use Rattle.image.specs.Word.{pack}
+use Rattle.word.specs.Word.{pack}
 use borrow.Author.Needs.{needs}
 use Rattle.image.proofs.layout.pack_word.Statement.{statement}
 use Rattle.image.proofs.layout.pack_word.Tie as tie

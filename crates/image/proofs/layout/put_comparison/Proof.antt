@@ -6,9 +6,9 @@ use denote.Ref.{now}
 use mir.Syntax.{w32}
 use mir.Facts.{toZ-ofZ}
 use mir.Val.{SFits, ofZ}
-use Rattle.image.specs.Word.{pack}
-use Rattle.image.specs.Layout.{comparisonWords, operandWords, comparisonSize, operandSize}
-use Rattle.image.specs.Write.{putWords}
+use Rattle.word.specs.Word.{pack}
+use Rattle.image.specs.Layout.{comparisonWords, operandWords}
+use Rattle.word.specs.Write.{putWords}
 use Rattle.image.proofs.LayoutLaws.{relation-below, put-constant}
 use native.Mathlib.Omega.{arith}
 use borrow.Author.Needs.{needs}
@@ -55,7 +55,7 @@ same-length : tie.Need-same-length
 same-length c = search needs
 
 returns : tie.Need-returns
-unfolding comparisonWords operandWords comparisonSize operandSize
+unfolding comparisonWords operandWords
 returns c =
     let s = c .before .before .before .before .before .before .before .before .before .before .before .before .before .before .before .before in
     let a = s .args in

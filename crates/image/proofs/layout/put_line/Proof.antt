@@ -4,9 +4,9 @@ use mathlib.Core.Path.{_≡_, sym, ap, _∙_}
 use lib.ListN.{length, take}
 use denote.Ref.{now}
 use Rattle.image.specs.Layout.{headWords, testsOf, valueWords}
-use Rattle.image.specs.Write.{putWords}
+use Rattle.word.specs.Write.{putWords}
 use Rattle.image.proofs.LayoutLaws.{value-limit, value-length, value-put}
-use Rattle.image.proofs.WriteLaws.{put-out}
+use Rattle.word.proofs.WriteLaws.{put-out}
 use native.Mathlib.Omega.{arith}
 use borrow.Author.Needs.{needs}
 use Rattle.image.proofs.layout.put_line.Statement.{statement}

@@ -1,4 +1,4 @@
-use Rattle.image.specs.Operation.{relationCode}
+use Rattle.word.specs.Operation.{relationCode}
 use borrow.Author.Needs.{needs}
 use Rattle.image.proofs.layout.relation_code.Statement.{statement}
 use Rattle.image.proofs.layout.relation_code.Tie as tie

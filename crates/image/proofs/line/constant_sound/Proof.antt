@@ -2,7 +2,7 @@ use Prim.Native.Nat.{_+_, _%_, _^_}
 use mathlib.Core.Path.{_∙_}
 use borrow.Author.Tests.{lt-ltb, le-ltb, eq-eqb, ne-eqb}
 use Rattle.image.specs.Scan.{constantSound}
-use Rattle.image.specs.Word.{firstOf, secondOf, relationOf}
+use Rattle.word.specs.Word.{firstOf, secondOf, relationOf}
 use native.Mathlib.Omega.{arith}
 use borrow.Author.Needs.{needs}
 use Rattle.image.proofs.line.constant_sound.Statement.{statement}

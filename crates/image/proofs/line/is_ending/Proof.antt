@@ -1,7 +1,7 @@
 use mathlib.Core.Path.{_∙_}
 use borrow.Author.Tests.{eq-eqb, ne-eqb}
 use Rattle.image.specs.Scan.{isEnding}
-use Rattle.image.specs.Word.{opcodeOf}
+use Rattle.word.specs.Word.{opcodeOf}
 use native.Mathlib.Omega.{arith}
 use borrow.Author.Needs.{needs}
 use Rattle.image.proofs.line.is_ending.Statement.{statement}

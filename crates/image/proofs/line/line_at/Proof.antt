@@ -1,5 +1,5 @@
 use denote.Ref.{now}
-use Rattle.image.specs.Word.{between}
+use Rattle.word.specs.Word.{between}
 use Rattle.image.proofs.ReadLaws.{answer-none, answer-fits, answer-line}
 use native.Mathlib.Omega.{arith}
 use borrow.Author.Needs.{needs}

@@ -1,10 +1,10 @@
-use Rattle.image.proofs.WordLaws.{Below}
+use Rattle.word.proofs.WordLaws.{Below}
 use Prim.Native.Nat.{_+_, _-_, _/_, _≤_, _<_}
 use mathlib.Core.Path.{_≡_, refl, ap, _∙_}
 use borrow.Author.Tests.{not-true, not-false}
 use lib.ListN.{length, take}
 use denote.Ref.{now}
-use Rattle.image.specs.Word.{wordsOf, between, skipOf}
+use Rattle.word.specs.Word.{wordsOf, between, skipOf}
 use Rattle.image.specs.Scan.{scanStart}
 use Rattle.image.proofs.SumLaws.{before-length}
 use Rattle.image.proofs.LengthLaws.{Scanning, scanning-none, scanning-more, length-none, length-long, length-unended, length-found, length-headless, length-unsound}

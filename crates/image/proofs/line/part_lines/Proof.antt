@@ -1,6 +1,6 @@
 use Prim.Native.Nat.{_-_}
 use denote.Ref.{now}
-use Rattle.image.specs.Word.{between}
+use Rattle.word.specs.Word.{between}
 use Rattle.image.proofs.PartLaws.{Counted, counted-none, counted-more, counted-full, counted-fault, counted-all}
 use borrow.Author.Needs.{needs}
 use native.Mathlib.Omega.{arith}

@@ -5,7 +5,7 @@ use denote.Ref.{now}
 use Rattle.policy.specs.Line.{pushHead, pushComparison, endLine}
 use Rattle.policy.specs.declared.line.Ending.{Ending}
 use Rattle.policy.specs.declared.line.Test.{Test}
-use Rattle.image.specs.Operation.{operationFrom}
+use Rattle.word.specs.Operation.{operationFrom}
 use Rattle.image.specs.Scan.{readWord, hasConstant}
 use Rattle.image.proofs.ReadLaws.{Remains, remains-none, remains-all, read-plain, read-constant, read-other}
 use borrow.Author.Needs.{needs}

@@ -1,6 +1,6 @@
 use borrow.Author.Tests.{lt-ltb, le-ltb}
 use Rattle.image.specs.Scan.{readingSound}
-use Rattle.image.specs.Word.{firstOf, secondOf, relationOf}
+use Rattle.word.specs.Word.{firstOf, secondOf, relationOf}
 use native.Mathlib.Omega.{arith}
 use borrow.Author.Needs.{needs}
 use Rattle.image.proofs.line.reading_sound.Statement.{statement}

@@ -1,5 +1,5 @@
 use denote.Ref.{now}
-use Rattle.image.specs.Word.{wordsOf}
+use Rattle.word.specs.Word.{wordsOf}
 use Rattle.monitor.proofs.DecideLaws.{issues}
 use borrow.Author.Needs.{needs}
 use Rattle.monitor.proofs.decision.issue.Statement.{statement}

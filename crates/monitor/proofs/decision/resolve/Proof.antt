@@ -4,7 +4,7 @@ use mathlib.Core.Logic.{⊎-elim}
 use borrow.Author.Tests.{not-true, not-false}
 use denote.Ref.{now}
 use Rattle.policy.specs.Epoch.{Readings}
-use Rattle.image.specs.Word.{wordsOf, between}
+use Rattle.word.specs.Word.{wordsOf, between}
 use Rattle.monitor.specs.Decision.{conflictBy}
 use Rattle.monitor.proofs.ResolveLaws.{Tried, tried-none, other-turn, trial-turn, all-tried}
 use borrow.Author.Needs.{needs}

@@ -5,8 +5,8 @@ use borrow.Author.Needs.{needs}
 use Rattle.syntax.proofs.epoch.item_at.Statement.{statement}
 use Rattle.syntax.proofs.epoch.item_at.Tie as tie
 
-name-at-requires : tie.Need-name-at-requires
-name-at-requires c κs = search needs
+event-at-requires : tie.Need-event-at-requires
+event-at-requires c κs = search needs
 
 enum-known-name : tie.Need-enum-known-name
 enum-known-name c = search needs
@@ -21,16 +21,16 @@ value-at-requires : tie.Need-value-at-requires
 value-at-requires c κs = search needs
 
 returns : tie.Need-returns
-returns c = c .event-item .ensures ∙ item-event (now (c .before .before .before .before .before .before .args .line)) (c .before .before .before .before .before .before .args .at) _ _ (sym (c .before .before .before .before .name-at .ensures) ∙ c .before .before .name .given .1)
+returns c = c .event-item .ensures ∙ item-event (now (c .before .before .before .before .before .before .args .line)) (c .before .before .before .before .before .before .args .at) _ _ (sym (c .before .before .before .before .event-at .ensures) ∙ c .before .before .name .given .1)
 
 returns-2 : tie.Need-returns-2
-returns-2 c = c .value-at .ensures ∙ item-value (now (c .before .before .before .before .before .args .line)) (c .before .before .before .before .before .args .at) (sym (c .before .before .before .name-at .ensures) ∙ c .before .enum-told .given .1)
+returns-2 c = c .value-at .ensures ∙ item-value (now (c .before .before .before .before .before .args .line)) (c .before .before .before .before .before .args .at) (sym (c .before .before .before .event-at .ensures) ∙ c .before .enum-told .given .1)
 
 pub item-at-spec : {M : Type 1} → statement M
 item-at-spec =
     tie.close
     (tie.spec
-    name-at-requires
+    event-at-requires
     enum-known-name
     event-item-requires
     enum-told

@@ -1,5 +1,5 @@
-use Rattle.syntax.specs.Byte.{isSpace}
-use Rattle.syntax.specs.Scan.{skip}
+use Rattle.lexer.specs.Byte.{isSpace}
+use Rattle.lexer.specs.Scan.{skip}
 use mir.Facts.{toZ-ofZ}
 use mir.Syntax.{w32}
 use mir.Val.{SFits}

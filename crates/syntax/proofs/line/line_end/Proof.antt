@@ -4,8 +4,8 @@ use mathlib.Core.Path.{_≡_, refl, sym, ap, _∙_}
 use borrow.Author.Tests.{eq-eqb, ne-eqb}
 use lib.ListN.{length}
 use denote.Ref.{now}
-use Rattle.syntax.proofs.RunLaws.{skip-here, skip-past, skip-end}
-use Rattle.syntax.specs.Scan.{skip, inLine, lineEnd}
+use Rattle.lexer.proofs.RunLaws.{skip-here, skip-past, skip-end}
+use Rattle.lexer.specs.Scan.{skip, inLine, lineEnd}
 use borrow.Author.Needs.{needs}
 use Rattle.syntax.proofs.line.line_end.Statement.{statement}
 use Rattle.syntax.proofs.line.line_end.Tie as tie

@@ -2,8 +2,8 @@ use Prim.Native.Nat.{ℕ}
 use mathlib.Core.Path.{sym, ap, _∙_}
 use denote.Ref.{now}
 use Rattle.syntax.proofs.CauseLaws.{cause-absent, cause-no-action, cause-valid, cause-outside}
-use Rattle.syntax.specs.Byte.{bytes}
-use Rattle.syntax.specs.Scan.{wordAt, nameAt}
+use Rattle.lexer.specs.Byte.{bytes}
+use Rattle.lexer.specs.Scan.{wordAt, nameAt}
 use borrow.Author.Needs.{needs}
 use Rattle.syntax.proofs.line.read_cause.Statement.{statement}
 use Rattle.syntax.proofs.line.read_cause.Tie as tie
@@ -33,8 +33,8 @@ returns c =
 skip-spaces-requires-2 : tie.Need-skip-spaces-requires-2
 skip-spaces-requires-2 c κs = search needs
 
-name-at-requires : tie.Need-name-at-requires
-name-at-requires c κs = search needs
+action-at-requires : tie.Need-action-at-requires
+action-at-requires c κs = search needs
 
 enum-known-n : tie.Need-enum-known-n
 enum-known-n c = search needs
@@ -50,7 +50,7 @@ returns-2 c =
     let t = now (c .before .before .before .before .before .before .before .before .before .before .before .args .text) in
     let p = c .before .before .before .before .before .before .before .before .before .before .before .args .heads in
     let w = ap (λ (k : ℕ). wordAt t k (bytes "causes")) (sym (c .before .before .before .before .before .before .before .before .before .skip-spaces .ensures)) ∙ sym (c .before .before .before .before .before .before .before .before .causes-at .ensures) ∙ c .before .before .before .before .before .before .behind .given .1 in
-    let q = ap (λ (k : ℕ). nameAt t k 65) (sym (c .before .before .before .before .skip-spaces2 .ensures)) ∙ sym (c .before .before .before .name-at .ensures) ∙ c .before .enum-told2 .given .1 in
+    let q = ap (λ (k : ℕ). nameAt t k 65) (sym (c .before .before .before .before .skip-spaces2 .ensures)) ∙ sym (c .before .before .before .action-at .ensures) ∙ c .before .enum-told2 .given .1 in
     c .failed2 .ensures ∙ cause-no-action t (p .at) (p .«in_range») (p .line) _ w q
 
 new-requires : tie.Need-new-requires
@@ -79,7 +79,7 @@ returns-3 c =
     let t = now (c .before .before .before .before .before .before .before .before .before .before .before .before .before .before .before .before .before .before .args .text) in
     let p = c .before .before .before .before .before .before .before .before .before .before .before .before .before .before .before .before .before .before .args .heads in
     let w = ap (λ (k : ℕ). wordAt t k (bytes "causes")) (sym (c .before .before .before .before .before .before .before .before .before .before .before .before .before .before .before .before .skip-spaces .ensures)) ∙ sym (c .before .before .before .before .before .before .before .before .before .before .before .before .before .before .before .causes-at .ensures) ∙ c .before .before .before .before .before .before .before .before .before .before .before .before .before .behind .given .1 in
-    let q = ap (λ (k : ℕ). nameAt t k 65) (sym (c .before .before .before .before .before .before .before .before .before .before .before .skip-spaces2 .ensures)) ∙ sym (c .before .before .before .before .before .before .before .before .before .before .name-at .ensures) ∙ c .before .before .before .before .before .before .before .before .n .given .1 in
+    let q = ap (λ (k : ℕ). nameAt t k 65) (sym (c .before .before .before .before .before .before .before .before .before .before .before .skip-spaces2 .ensures)) ∙ sym (c .before .before .before .before .before .before .before .before .before .before .action-at .ensures) ∙ c .before .before .before .before .before .before .before .before .n .given .1 in
     c .read-condition .ensures ∙ rw (c .before .ended .ensures) (cause-valid t (p .at) (p .«in_range») (p .line) _ w _ _ q _ (sym (c .before .before .before .before .before .new .ensures) ∙ c .before .before .before .check .given .1))
 
 returns-4 : tie.Need-returns-4
@@ -87,7 +87,7 @@ returns-4 c =
     let t = now (c .before .before .before .before .before .before .before .before .before .before .before .before .before .before .before .before .before .args .text) in
     let p = c .before .before .before .before .before .before .before .before .before .before .before .before .before .before .before .before .before .args .heads in
     let w = ap (λ (k : ℕ). wordAt t k (bytes "causes")) (sym (c .before .before .before .before .before .before .before .before .before .before .before .before .before .before .before .skip-spaces .ensures)) ∙ sym (c .before .before .before .before .before .before .before .before .before .before .before .before .before .before .causes-at .ensures) ∙ c .before .before .before .before .before .before .before .before .before .before .before .before .behind .given .1 in
-    let q = ap (λ (k : ℕ). nameAt t k 65) (sym (c .before .before .before .before .before .before .before .before .before .before .skip-spaces2 .ensures)) ∙ sym (c .before .before .before .before .before .before .before .before .before .name-at .ensures) ∙ c .before .before .before .before .before .before .before .n .given .1 in
+    let q = ap (λ (k : ℕ). nameAt t k 65) (sym (c .before .before .before .before .before .before .before .before .before .before .skip-spaces2 .ensures)) ∙ sym (c .before .before .before .before .before .before .before .before .before .action-at .ensures) ∙ c .before .before .before .before .before .before .before .n .given .1 in
     c .read-condition2 .ensures ∙ rw (c .before .ended2 .ensures) (cause-outside t (p .at) (p .«in_range») (p .line) _ w _ _ q (sym (c .before .before .before .before .new .ensures) ∙ c .before .before .enum-told3 .given .1))
 
 pub read-cause-spec : {M : Type 1} → statement M
@@ -101,7 +101,7 @@ read-cause-spec =
     failed-requires
     returns
     skip-spaces-requires-2
-    name-at-requires
+    action-at-requires
     enum-known-n
     enum-told-2
     failed-requires-2

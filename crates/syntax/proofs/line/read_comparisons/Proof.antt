@@ -3,12 +3,12 @@ use mathlib.Core.Path.{_≡_, refl, sym, ap, _∙_}
 use lib.ListN.{length}
 use denote.Ref.{now}
 use Rattle.syntax.proofs.ConditionLaws.{comparisons-failed, comparisons-done, comparisons-broken, comparisons-less, comparisons-again}
-use Rattle.syntax.specs.Byte.{bytes}
+use Rattle.lexer.specs.Byte.{bytes}
 use Rattle.syntax.specs.Grammar.{comparisonsOf}
-use Rattle.syntax.specs.Number.{isEmpty}
+use Rattle.lexer.specs.Number.{isEmpty}
 use Rattle.syntax.specs.Outcome.{comparisonsParts}
-use Rattle.syntax.specs.Parts.{comparisonAt}
-use Rattle.syntax.specs.Scan.{tokenAt, tokensAt, lineEnd, wordAt}
+use Rattle.lexer.specs.Parts.{comparisonAt}
+use Rattle.lexer.specs.Scan.{tokenAt, tokensAt, lineEnd, wordAt}
 use borrow.Author.Needs.{needs}
 use native.Mathlib.Omega.{arith}
 use Rattle.syntax.proofs.line.read_comparisons.Statement.{statement}

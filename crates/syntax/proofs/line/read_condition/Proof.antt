@@ -2,9 +2,9 @@ use Prim.Native.Nat.{ℕ}
 use mathlib.Core.Path.{sym, ap, _∙_}
 use denote.Ref.{now}
 use Rattle.syntax.proofs.ConditionLaws.{condition-none, condition-bad, condition-some}
-use Rattle.syntax.specs.Byte.{bytes}
-use Rattle.syntax.specs.Number.{isEmpty}
-use Rattle.syntax.specs.Scan.{tokenAt, wordAt}
+use Rattle.lexer.specs.Byte.{bytes}
+use Rattle.lexer.specs.Number.{isEmpty}
+use Rattle.lexer.specs.Scan.{tokenAt, wordAt}
 use borrow.Author.Needs.{needs}
 use Rattle.syntax.proofs.line.read_condition.Statement.{statement}
 use Rattle.syntax.proofs.line.read_condition.Tie as tie

@@ -4,11 +4,11 @@ use mathlib.Core.Path.{_≡_, sym, ap, _∙_}
 use lib.ListN.{length}
 use denote.Ref.{now}
 use Rattle.syntax.proofs.HeadLaws.{heads-failed, heads-done, heads-less, heads-again}
-use Rattle.syntax.specs.Byte.{bytes}
+use Rattle.lexer.specs.Byte.{bytes}
 use Rattle.syntax.specs.Grammar.{joined}
 use Rattle.syntax.specs.Outcome.{newLine, headsOutcome}
-use Rattle.syntax.specs.Parts.{testOf, headAt}
-use Rattle.syntax.specs.Scan.{tokensAt, lineEnd, wordAt}
+use Rattle.lexer.specs.Parts.{testOf, headAt}
+use Rattle.lexer.specs.Scan.{tokensAt, lineEnd, wordAt}
 use borrow.Author.Needs.{needs}
 use native.Mathlib.Omega.{arith}
 use Rattle.syntax.proofs.line.read_heads.Statement.{statement}

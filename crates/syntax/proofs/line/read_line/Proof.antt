@@ -3,11 +3,11 @@ use mathlib.Core.Path.{sym, ap, _∙_}
 use lib.ListN.{getD}
 use denote.Ref.{now}
 use Rattle.syntax.proofs.JudgeLaws.{line-blank, line-comment, line-accepted, line-refused, line-skipped}
-use Rattle.syntax.proofs.WordLaws.{token-inside}
+use Rattle.lexer.proofs.WordLaws.{token-inside}
 use Rattle.syntax.specs.Answers.{behindLine, lineReadOf}
-use Rattle.syntax.specs.Byte.{isSpace}
-use Rattle.syntax.specs.Number.{isEmpty}
-use Rattle.syntax.specs.Scan.{skip, tokenAt, lineEnd}
+use Rattle.lexer.specs.Byte.{isSpace}
+use Rattle.lexer.specs.Number.{isEmpty}
+use Rattle.lexer.specs.Scan.{skip, tokenAt, lineEnd}
 use Rattle.syntax.specs.Text.{LineAnswer}
 use borrow.Author.Needs.{needs}
 use Rattle.syntax.proofs.line.read_line.Statement.{statement}

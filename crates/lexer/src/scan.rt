@@ -1,0 +1,204 @@
+// What stands at a position of a text: spaces, words and numbers. A token ends at a space, a line end or the end of the
+// text.
+ghost use mathlib.Core.Path.{_≡_};
+ghost use mathlib.Core.Bool.{true};
+ghost use Prim.Native.Nat.{_+_, _*_, _-_, _≤_};
+ghost use Rattle.policy.specs.List.{all};
+ghost use Rattle.lexer.specs.Byte.{bytes, isSpace, isDigit};
+ghost use Rattle.lexer.specs.Number.{isEmpty};
+ghost use Rattle.lexer.specs.Scan.{skip, tokenAt, wordAt, inToken, clip, clipLimit, digitRun, digitsAt, numberAt, nameAt, eventAt, actionAt};
+use crate::class::ends_token;
+use crate::class::is_digit;
+use crate::class::is_space;
+
+pub enum WordAt {
+    // The position behind the word.
+    Found(usize),
+    Absent,
+}
+
+pub enum NumberAt {
+    // The number, at most 3,000,000,000, and the position behind it.
+    Number(u32, usize),
+    Malformed,
+}
+
+// The first position from `at` on that holds no space.
+pub fn skip_spaces(text: &[u8], at: usize) -> usize
+    ensures { λ r. ⌜ r ≡ skip isSpace (now (text .entry)) at ⌝ }
+{
+    let mut i = at;
+    while i < text.len() {
+        if is_space(text[i]) {
+            i += 1;
+        } else {
+            return i;
+        }
+    }
+    i
+}
+
+// Whether no byte of a token stands at the position.
+pub fn at_token_end(text: &[u8], at: usize) -> bool
+    ensures { λ r. ⌜ r ≡ isEmpty (tokenAt (now (text .entry)) at) ⌝ }
+{
+    if at < text.len() {
+        ends_token(text[at])
+    } else {
+        true
+    }
+}
+
+// Whether the token at the position is the word, in which no token ends.
+pub(crate) fn word_at(text: &[u8], at: usize, word: &[u8]) -> WordAt
+    requires { ⌜ all inToken (now word) ≡ true ⌝ }
+    ensures { λ r. ⌜ r ≡ wordAt (now (text .entry)) at (now (word .entry)) ⌝ }
+{
+    let mut i = at;
+    let mut k = 0;
+    while k < word.len() {
+        if text.len() <= i {
+            return WordAt::Absent;
+        }
+        if text[i] != word[k] {
+            return WordAt::Absent;
+        }
+        i += 1;
+        k += 1;
+    }
+    if at_token_end(text, i) {
+        WordAt::Found(i)
+    } else {
+        WordAt::Absent
+    }
+}
+
+pub fn ampersand_at(text: &[u8], at: usize) -> WordAt
+    ensures { λ r. ⌜ r ≡ wordAt (now (text .entry)) at (bytes "&") ⌝ }
+{
+    word_at(text, at, b"&")
+}
+
+pub fn comma_at(text: &[u8], at: usize) -> WordAt
+    ensures { λ r. ⌜ r ≡ wordAt (now (text .entry)) at (bytes ",") ⌝ }
+{
+    word_at(text, at, b",")
+}
+
+pub fn if_at(text: &[u8], at: usize) -> WordAt
+    ensures { λ r. ⌜ r ≡ wordAt (now (text .entry)) at (bytes "if") ⌝ }
+{
+    word_at(text, at, b"if")
+}
+
+pub fn causes_at(text: &[u8], at: usize) -> WordAt
+    ensures { λ r. ⌜ r ≡ wordAt (now (text .entry)) at (bytes "causes") ⌝ }
+{
+    word_at(text, at, b"causes")
+}
+
+pub fn never_at(text: &[u8], at: usize) -> WordAt
+    ensures { λ r. ⌜ r ≡ wordAt (now (text .entry)) at (bytes "never") ⌝ }
+{
+    word_at(text, at, b"never")
+}
+
+// One digit more.
+fn shifted(value: u32, digit: u8) -> u32
+    requires { ⌜ value ≤ clipLimit ⌝ }
+    requires { ⌜ isDigit digit ≡ true ⌝ }
+    ensures { λ r. ⌜ r ≡ clip (value * 10 + (digit - 48)) ⌝ }
+{
+    if value < 300_000_000 {
+        value * 10 + (digit - b'0') as u32
+    } else {
+        3_000_000_000
+    }
+}
+
+pub struct Digits {
+    pub value: u32,
+    pub end: usize,
+}
+
+fn digit_run(text: &[u8], at: usize) -> Digits
+    ensures { λ r. ⌜ r ≡ digitRun (now (text .entry)) at ⌝ }
+{
+    let mut i = at;
+    let mut value = 0;
+    while i < text.len() {
+        let b = text[i];
+        if is_digit(b) {
+            value = shifted(value, b);
+            i += 1;
+        } else {
+            return Digits { value, end: i };
+        }
+    }
+    Digits { value, end: i }
+}
+
+// The number that the digits at the position are: 0, or digits that do not start with 0.
+pub fn digits_at(text: &[u8], at: usize) -> NumberAt
+    ensures { λ r. ⌜ r ≡ digitsAt (now (text .entry)) at ⌝ }
+{
+    let digits = digit_run(text, at);
+    let end = digits.end;
+    if end <= at {
+        return NumberAt::Malformed;
+    }
+    if end - at == 1 {
+        return NumberAt::Number(digits.value, end);
+    }
+    if text[at] == b'0' {
+        NumberAt::Malformed
+    } else {
+        NumberAt::Number(digits.value, end)
+    }
+}
+
+// The number that the token at the position is.
+pub(crate) fn number_at(text: &[u8], at: usize) -> NumberAt
+    ensures { λ r. ⌜ r ≡ numberAt (now (text .entry)) at ⌝ }
+{
+    let digits = digits_at(text, at);
+    match digits {
+        NumberAt::Number(value, end) => {
+            if at_token_end(text, end) {
+                NumberAt::Number(value, end)
+            } else {
+                NumberAt::Malformed
+            }
+        }
+        NumberAt::Malformed => NumberAt::Malformed,
+    }
+}
+
+// The number of a token that is a letter and a number.
+pub(crate) fn name_at(text: &[u8], at: usize, letter: u8) -> NumberAt
+    requires { ⌜ inToken letter ≡ true ⌝ }
+    ensures { λ r. ⌜ r ≡ nameAt (now (text .entry)) at letter ⌝ }
+{
+    if text.len() <= at {
+        return NumberAt::Malformed;
+    }
+    if text[at] == letter {
+        number_at(text, at + 1)
+    } else {
+        NumberAt::Malformed
+    }
+}
+
+// The number of a token that names an event.
+pub fn event_at(text: &[u8], at: usize) -> NumberAt
+    ensures { λ r. ⌜ r ≡ eventAt (now (text .entry)) at ⌝ }
+{
+    name_at(text, at, b'E')
+}
+
+// The number of a token that names an action.
+pub fn action_at(text: &[u8], at: usize) -> NumberAt
+    ensures { λ r. ⌜ r ≡ actionAt (now (text .entry)) at ⌝ }
+{
+    name_at(text, at, b'A')
+}

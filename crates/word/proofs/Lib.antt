@@ -1,0 +1,4 @@
+pub mod ConstantLaws
+pub mod OperationLaws
+pub mod WordLaws
+pub mod WriteLaws

@@ -1,0 +1,214 @@
+-- Laws of bytes and words, both ways, and of packing a word and taking it apart.
+use Prim.Native.Nat.{ℕ, zero, suc, _+_, _*_, _/_, _%_, _^_, _<_}
+use mathlib.Core.List.{List, [], _∷_, _++_, append-nil}
+use mathlib.Core.Path.{_≡_, refl, sym, ap, ap₂, _∙_}
+use native.Mathlib.Omega.{arith}
+use lib.ListN.{length, getD}
+use lib.Pow.{shr-shr, split}
+use Rattle.word.specs.Word.{wordLimit, join, wordsOf, bytesOf, byteList, pack, opcodeOf, firstOf, secondOf, relationOf, skipOf, packHeader, formOf, ruleCountOf, constraintCountOf}
+
+-- each element is below n
+abbrev pub Below : ℕ → List ℕ → Type 0
+Below n xs = (i : ℕ) → getD xs i 0 < n
+
+-- ---- words of bytes
+
+length-four : (n : ℕ) → suc (n / 4) ≡ suc (suc (suc (suc n))) / 4
+length-four n = omega arith
+
+pub words-length : (bytes : List ℕ) → length (wordsOf bytes) ≡ length bytes / 4
+unfolding wordsOf
+words-length (a ∷ b ∷ c ∷ d ∷ rest) = ap suc (words-length rest) ∙ length-four (length rest)
+words-length (a ∷ b ∷ c ∷ []) = refl
+words-length (a ∷ b ∷ []) = refl
+words-length (a ∷ []) = refl
+words-length [] = refl
+
+four-more : (j k : ℕ) → suc j * 4 + k ≡ suc (suc (suc (suc (j * 4 + k))))
+four-more j k = omega arith
+
+pub word-at : (bytes : List ℕ) (i : ℕ) → i < length bytes / 4 → getD (wordsOf bytes) i 0 ≡ join (getD bytes (i * 4) 0) (getD bytes (i * 4 + 1) 0) (getD bytes (i * 4 + 2) 0) (getD bytes (i * 4 + 3) 0)
+unfolding wordsOf
+word-at (a ∷ b ∷ c ∷ d ∷ rest) zero h = refl
+word-at (a ∷ b ∷ c ∷ d ∷ rest) (suc j) h =
+    let l : j < length rest / 4 = omega arith in
+    let e : suc j * 4 ≡ suc (suc (suc (suc (j * 4)))) = omega arith in
+    rw (four-more j 1, four-more j 2, four-more j 3, e) (word-at rest j l)
+word-at (a ∷ b ∷ c ∷ []) i h = absurd (omega arith)
+word-at (a ∷ b ∷ []) i h = absurd (omega arith)
+word-at (a ∷ []) i h = absurd (omega arith)
+word-at [] i h = absurd (omega arith)
+
+join-below : (a b c d : ℕ) → a < 256 → b < 256 → c < 256 → d < 256 → join a b c d < wordLimit
+join-below a b c d ha hb hc hd = omega arith
+
+pub words-below : (bytes : List ℕ) → Below 256 bytes → Below wordLimit (wordsOf bytes)
+unfolding wordsOf
+words-below (a ∷ b ∷ c ∷ d ∷ rest) h zero = join-below a b c d (h 0) (h 1) (h 2) (h 3)
+words-below (a ∷ b ∷ c ∷ d ∷ rest) h (suc i) = words-below rest (λ j. h (suc (suc (suc (suc j))))) i
+words-below (a ∷ b ∷ c ∷ []) h i = omega arith
+words-below (a ∷ b ∷ []) h i = omega arith
+words-below (a ∷ []) h i = omega arith
+words-below [] h i = omega arith
+
+-- ---- there and back
+
+-- n is its part above the k lowest bits and its part below; the part above in turn
+parts : (n j k : ℕ) → n / 2 ^ j ≡ n / 2 ^ (j + k) * 2 ^ k + n / 2 ^ j % 2 ^ k
+parts n j k = sym (split (n / 2 ^ j) k) ∙ ap (λ (q : ℕ). q * 2 ^ k + n / 2 ^ j % 2 ^ k) (shr-shr n j k)
+
+lowest : (n k : ℕ) → n ≡ n / 2 ^ k * 2 ^ k + n % 2 ^ k
+lowest n k = sym (split n k)
+
+join-linear : (w a b c d q₈ q₁₆ q₂₄ : ℕ) → w ≡ q₈ * 256 + d → q₈ ≡ q₁₆ * 256 + c → q₁₆ ≡ q₂₄ * 256 + b → q₂₄ ≡ a → join a b c d ≡ w
+join-linear w a b c d q₈ q₁₆ q₂₄ e₁ e₂ e₃ e₄ = omega arith
+
+join-bytes : (w : ℕ) → w < wordLimit → join (w / 2 ^ 24 % 256) (w / 2 ^ 16 % 256) (w / 2 ^ 8 % 256) (w % 256) ≡ w
+join-bytes w h =
+    let top : w / 2 ^ 24 ≡ w / 2 ^ 24 % 256 = omega arith in
+    join-linear w (w / 2 ^ 24 % 256) (w / 2 ^ 16 % 256) (w / 2 ^ 8 % 256) (w % 256) (w / 2 ^ 8) (w / 2 ^ 16) (w / 2 ^ 24) (lowest w 8) (parts w 8 8) (parts w 16 8) top
+
+-- words to bytes to words, whatever stands behind them
+pub words-append : (words rest : List ℕ) → Below wordLimit words → wordsOf (bytesOf words ++ rest) ≡ words ++ wordsOf rest
+unfolding wordsOf bytesOf
+words-append [] rest h = refl
+words-append (w ∷ ws) rest h = ap₂ (λ (x : ℕ) (xs : List ℕ). x ∷ xs) (join-bytes w (h 0)) (words-append ws rest (λ i. h (suc i)))
+
+pub words-of-bytes : (words : List ℕ) → Below wordLimit words → wordsOf (bytesOf words) ≡ words
+unfolding wordsOf
+words-of-bytes words h = ap wordsOf (sym (append-nil (bytesOf words))) ∙ words-append words [] h ∙ append-nil words
+
+byte-1 : (a b c d : ℕ) → a < 256 → b < 256 → c < 256 → d < 256 → join a b c d / 2 ^ 24 % 256 ≡ a
+byte-1 a b c d ha hb hc hd = omega arith
+
+byte-2 : (a b c d : ℕ) → a < 256 → b < 256 → c < 256 → d < 256 → join a b c d / 2 ^ 16 % 256 ≡ b
+byte-2 a b c d ha hb hc hd = omega arith
+
+byte-3 : (a b c d : ℕ) → a < 256 → b < 256 → c < 256 → d < 256 → join a b c d / 2 ^ 8 % 256 ≡ c
+byte-3 a b c d ha hb hc hd = omega arith
+
+byte-4 : (a b c d : ℕ) → a < 256 → b < 256 → c < 256 → d < 256 → join a b c d % 256 ≡ d
+byte-4 a b c d ha hb hc hd = omega arith
+
+bytes-join : (a b c d : ℕ) → a < 256 → b < 256 → c < 256 → d < 256 → byteList (join a b c d) ≡ a ∷ b ∷ c ∷ d ∷ []
+bytes-join a b c d ha hb hc hd = rw (byte-1 a b c d ha hb hc hd, byte-2 a b c d ha hb hc hd, byte-3 a b c d ha hb hc hd, byte-4 a b c d ha hb hc hd)
+
+-- bytes to words to bytes
+pub bytes-of-words : (bytes : List ℕ) → Below 256 bytes → length bytes % 4 ≡ 0 → bytesOf (wordsOf bytes) ≡ bytes
+unfolding wordsOf bytesOf
+bytes-of-words (a ∷ b ∷ c ∷ d ∷ rest) h e =
+    let l : length rest % 4 ≡ 0 = omega arith in
+    ap₂ (λ (xs ys : List ℕ). xs ++ ys) (bytes-join a b c d (h 0) (h 1) (h 2) (h 3)) (bytes-of-words rest (λ j. h (suc (suc (suc (suc j))))) l)
+bytes-of-words (a ∷ b ∷ c ∷ []) h e = absurd (omega arith)
+bytes-of-words (a ∷ b ∷ []) h e = absurd (omega arith)
+bytes-of-words (a ∷ []) h e = absurd (omega arith)
+bytes-of-words [] h e = refl
+
+pub bytes-length : (words : List ℕ) → length (bytesOf words) ≡ length words * 4
+unfolding bytesOf
+bytes-length [] = refl
+bytes-length (w ∷ ws) = let e = bytes-length ws in omega arith
+
+pub bytes-below : (words : List ℕ) → Below 256 (bytesOf words)
+unfolding bytesOf
+bytes-below [] i = omega arith
+bytes-below (w ∷ ws) zero = omega arith
+bytes-below (w ∷ ws) (suc zero) = omega arith
+bytes-below (w ∷ ws) (suc (suc zero)) = omega arith
+bytes-below (w ∷ ws) (suc (suc (suc zero))) = omega arith
+bytes-below (w ∷ ws) (suc (suc (suc (suc i)))) = bytes-below ws i
+
+pub bytes-append : (a b : List ℕ) → bytesOf (a ++ b) ≡ bytesOf a ++ bytesOf b
+unfolding bytesOf
+bytes-append [] b = refl
+bytes-append (w ∷ ws) b = ap (λ (xs : List ℕ). byteList w ++ xs) (bytes-append ws b)
+
+-- ---- fields
+
+-- what each field can hold
+pub record InFields (opcode first second relation skip : ℕ) : Type 0 where
+  pub opcode-below : opcode < 16
+  pub first-below : first < 64
+  pub second-below : second < 64
+  pub relation-below : relation < 8
+  pub skip-below : skip < 32
+
+module _ (opcode first second relation skip : ℕ) (h : InFields opcode first second relation skip) where
+  pub pack-below : pack opcode first second relation skip < wordLimit
+  unfolding pack
+  pack-below = omega arith
+
+  pub opcode-pack : opcodeOf (pack opcode first second relation skip) ≡ opcode
+  unfolding pack
+  opcode-pack = omega arith
+
+  pub first-pack : firstOf (pack opcode first second relation skip) ≡ first
+  unfolding pack
+  first-pack = omega arith
+
+  pub second-pack : secondOf (pack opcode first second relation skip) ≡ second
+  unfolding pack
+  second-pack = omega arith
+
+  pub relation-pack : relationOf (pack opcode first second relation skip) ≡ relation
+  unfolding pack
+  relation-pack = omega arith
+
+  pub skip-pack : skipOf (pack opcode first second relation skip) ≡ skip
+  unfolding pack
+  skip-pack = omega arith
+
+  -- below the relation, and below the first number where the second and the relation are 0
+  pub low-pack : pack opcode first second relation skip % 2 ^ 13 ≡ skip
+  unfolding pack
+  low-pack = omega arith
+
+pub head-low : (opcode first skip : ℕ) → skip < 32 → pack opcode first 0 0 skip % 2 ^ 22 ≡ skip
+unfolding pack
+head-low opcode first skip h = omega arith
+
+-- a word whose eight zero bits are 0 is the packing of its own fields
+fields-linear : (w o f s r k q₅ q₁₃ q₁₆ q₂₂ q₂₈ : ℕ) → w ≡ q₅ * 32 + k → q₅ ≡ q₁₃ * 256 + 0 → q₁₃ ≡ q₁₆ * 8 + r → q₁₆ ≡ q₂₂ * 64 + s → q₂₂ ≡ q₂₈ * 64 + f → q₂₈ ≡ o → o * 2 ^ 28 + f * 2 ^ 22 + s * 2 ^ 16 + r * 2 ^ 13 + k ≡ w
+fields-linear w o f s r k q₅ q₁₃ q₁₆ q₂₂ q₂₈ e₁ e₂ e₃ e₄ e₅ e₆ = omega arith
+
+pub pack-fields : (w : ℕ) → w < wordLimit → w / 2 ^ 5 % 2 ^ 8 ≡ 0 → pack (opcodeOf w) (firstOf w) (secondOf w) (relationOf w) (skipOf w) ≡ w
+unfolding pack
+pack-fields w h z =
+    let top : w / 2 ^ 28 ≡ opcodeOf w = omega arith in
+    let none : w / 2 ^ 5 ≡ w / 2 ^ 13 * 256 + 0 = omega (arith, parts w 5 8) in
+    fields-linear w (opcodeOf w) (firstOf w) (secondOf w) (relationOf w) (skipOf w) (w / 2 ^ 5) (w / 2 ^ 13) (w / 2 ^ 16) (w / 2 ^ 22) (w / 2 ^ 28) (lowest w 5) none (parts w 13 3) (parts w 16 6) (parts w 22 6) top
+
+module _ (form ruleCount constraintCount : ℕ) (f : form < 256) (r : ruleCount < 4096) (c : constraintCount < 4096) where
+  pub header-below : packHeader form ruleCount constraintCount < wordLimit
+  unfolding packHeader
+  header-below = omega arith
+
+  pub form-header : formOf (packHeader form ruleCount constraintCount) ≡ form
+  unfolding packHeader
+  form-header = omega arith
+
+  pub rules-header : ruleCountOf (packHeader form ruleCount constraintCount) ≡ ruleCount
+  unfolding packHeader
+  rules-header = omega arith
+
+  pub constraints-header : constraintCountOf (packHeader form ruleCount constraintCount) ≡ constraintCount
+  unfolding packHeader
+  constraints-header = omega arith
+
+pub header-fields : (w : ℕ) → w < wordLimit → packHeader (formOf w) (ruleCountOf w) (constraintCountOf w) ≡ w
+unfolding packHeader
+header-fields w h = omega (arith, shr-shr w 12 12)
+
+-- ---- words put together again from what a scan tests
+
+pub head-again : (w left : ℕ) → w < wordLimit → w % 2 ^ 22 ≡ left → pack (opcodeOf w) (firstOf w) 0 0 left ≡ w
+unfolding pack
+head-again w left h e =
+    let top : w / 2 ^ 28 ≡ opcodeOf w = omega arith in
+    omega (arith, lowest w 22, parts w 22 6)
+
+pub comparison-again : (w low : ℕ) → w < wordLimit → w % 2 ^ 13 ≡ low → pack (opcodeOf w) (firstOf w) (secondOf w) (relationOf w) low ≡ w
+unfolding pack
+comparison-again w low h e =
+    let top : w / 2 ^ 28 ≡ opcodeOf w = omega arith in
+    omega (arith, lowest w 13, parts w 13 3, parts w 16 6, parts w 22 6)

@@ -1,0 +1,96 @@
+// Words of 32 bits in a slice of bytes, most significant byte first, and the fields of a word.
+ghost use mathlib.Core.Path.{_≡_};
+ghost use mathlib.Core.List.{[], _∷_};
+ghost use Prim.Native.Nat.{min};
+ghost use Rattle.word.specs.Word.{join, wordAt, opcodeOf, firstOf, secondOf, relationOf, skipOf};
+ghost use Rattle.word.specs.Write.{fits, putWords};
+
+pub struct Fields {
+    pub opcode: u32,
+    pub first: u32,
+    pub second: u32,
+    pub relation: u32,
+    pub skip: u32,
+}
+
+fn join4(a: u8, b: u8, c: u8, d: u8) -> u32
+    ensures { λ r. ⌜ r ≡ join a b c d ⌝ }
+{
+    (a as u32) * 0x0100_0000 + (b as u32) * 0x0001_0000 + (c as u32) * 0x0100 + (d as u32)
+}
+
+// 0 past the last whole word.
+pub fn word_at(bytes: &[u8], index: usize) -> u32
+    ensures { λ r. ⌜ r ≡ wordAt (now (bytes .entry)) index ⌝ }
+{
+    if index < bytes.len() / 4 {
+        let at = index * 4;
+        join4(bytes[at], bytes[at + 1], bytes[at + 2], bytes[at + 3])
+    } else {
+        0
+    }
+}
+
+pub fn opcode(word: u32) -> u32
+    ensures { λ r. ⌜ r ≡ opcodeOf word ⌝ }
+{
+    (word >> 28) % 16
+}
+
+pub fn first(word: u32) -> u32
+    ensures { λ r. ⌜ r ≡ firstOf word ⌝ }
+{
+    (word >> 22) % 64
+}
+
+pub fn second(word: u32) -> u32
+    ensures { λ r. ⌜ r ≡ secondOf word ⌝ }
+{
+    (word >> 16) % 64
+}
+
+pub fn relation(word: u32) -> u32
+    ensures { λ r. ⌜ r ≡ relationOf word ⌝ }
+{
+    (word >> 13) % 8
+}
+
+pub fn skip(word: u32) -> u32
+    ensures { λ r. ⌜ r ≡ skipOf word ⌝ }
+{
+    word % 32
+}
+
+pub fn fields_of(word: u32) -> Fields
+    ensures { λ r. ⌜ r ≡ record { opcode = opcodeOf word; first = firstOf word; second = secondOf word; relation = relationOf word; skip = skipOf word } ⌝ }
+{
+    Fields {
+        opcode: opcode(word),
+        first: first(word),
+        second: second(word),
+        relation: relation(word),
+        skip: skip(word),
+    }
+}
+
+// Whether the word fits at the index. Where it does not, the buffer stays as it is.
+pub fn put_word(buffer: &mut [u8], index: usize, word: u32) -> bool
+    ensures { λ r. ⌜ (r ≡ fits (now (buffer .entry)) index 1) × (now (buffer .exit) ≡ putWords (now (buffer .entry)) index (word ∷ [])) ⌝ }
+{
+    if index < buffer.len() / 4 {
+        let at = index * 4;
+        buffer[at] = ((word >> 24) % 256) as u8;
+        buffer[at + 1] = ((word >> 16) % 256) as u8;
+        buffer[at + 2] = ((word >> 8) % 256) as u8;
+        buffer[at + 3] = (word % 256) as u8;
+        true
+    } else {
+        false
+    }
+}
+
+pub fn at_most(n: usize, limit: usize) -> usize
+    ensures { λ r. ⌜ r ≡ min n limit ⌝ }
+{
+    if n < limit { n } else { limit }
+}
