@@ -10,7 +10,6 @@ ghost use Rattle.codegen.specs.Put.{placeFor, placesAfter, acceptedLines
 use image::header;
 use image::put_check_words;
 use image::put_line;
-use word::put_word;
 use policy::Ending;
 use policy::Fault;
 use policy::Line;
@@ -18,6 +17,7 @@ use syntax::LineStatus;
 use syntax::TextRead;
 use syntax::read_line;
 use syntax::read_text;
+use word::put_word;
 
 const FORM: u8 = 1;
 
