@@ -1,0 +1,22 @@
+use Rattle.report.specs.Report.{actionName}
+use Rattle.report.proofs.AppendLaws.{put-then}
+use native.Mathlib.Omega.{arith}
+use borrow.Author.Needs.{needs}
+use Rattle.report.proofs.action.put_name.Statement.{statement}
+use Rattle.report.proofs.action.put_name.Tie as tie
+
+put-byte-requires : tie.Need-put-byte-requires
+put-byte-requires c κs = search needs
+
+put-decimal-requires : tie.Need-put-decimal-requires
+put-decimal-requires c κs = search needs
+
+same-length : tie.Need-same-length
+same-length c = search needs
+
+returns : tie.Need-returns
+unfolding actionName
+returns c = put-then _ _ _ _ _ _ _ _ (c .before .before .before .before .before .before .put-byte .ensures) (c .before .before .put-decimal .ensures)
+
+pub put-name-spec : {M : Type 1} → statement M
+put-name-spec = tie.close (tie.spec put-byte-requires put-decimal-requires same-length returns)

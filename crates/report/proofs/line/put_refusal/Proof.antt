@@ -1,0 +1,66 @@
+use mathlib.Core.Path.{ap}
+use Rattle.report.specs.Report.{bytes, decimal, refusalLine}
+use Rattle.report.proofs.AppendLaws.{put-same, put-then}
+use native.Mathlib.Omega.{arith}
+use borrow.Author.Needs.{needs}
+use Rattle.report.proofs.line.put_refusal.Statement.{statement}
+use Rattle.report.proofs.line.put_refusal.Tie as tie
+
+slice-aggregate-put-bytes : tie.Need-slice-aggregate-put-bytes
+slice-aggregate-put-bytes c = search needs
+
+put-bytes-requires : tie.Need-put-bytes-requires
+put-bytes-requires c κs = search needs
+
+number-requires : tie.Need-number-requires
+number-requires c κs = search needs
+
+cast-put-decimal : tie.Need-cast-put-decimal
+cast-put-decimal c = search needs
+
+put-decimal-requires : tie.Need-put-decimal-requires
+put-decimal-requires c κs = search needs
+
+slice-aggregate-put-bytes-2 : tie.Need-slice-aggregate-put-bytes-2
+slice-aggregate-put-bytes-2 c = search needs
+
+put-bytes-requires-2 : tie.Need-put-bytes-requires-2
+put-bytes-requires-2 c κs = search needs
+
+put-decimal-requires-2 : tie.Need-put-decimal-requires-2
+put-decimal-requires-2 c κs = search needs
+
+put-byte-requires : tie.Need-put-byte-requires
+put-byte-requires c κs = search needs
+
+same-length : tie.Need-same-length
+same-length c = search needs
+
+returns : tie.Need-returns
+unfolding refusalLine bytes
+returns c =
+    let end = c .before .before in
+    let location = end .before .before .before .before in
+    let middle = location .before .before .before .before in
+    let number = middle .before .before .before .before .before in
+    let start = number .before .before .before .before .before in
+    let p₁ = put-then _ _ _ _ _ _ _ _ (start .put-bytes .ensures) (put-same _ _ _ _ _ _ (ap decimal (number .before .number .ensures)) (number .put-decimal .ensures)) in
+    let p₂ = put-then _ _ _ _ _ _ _ _ p₁ (middle .put-bytes2 .ensures) in
+    let p₃ = put-then _ _ _ _ _ _ _ _ p₂ (location .put-decimal2 .ensures) in
+    put-then _ _ _ _ _ _ _ _ p₃ (end .put-byte .ensures)
+
+pub put-refusal-spec : {M : Type 1} → statement M
+put-refusal-spec =
+    tie.close
+    (tie.spec
+    slice-aggregate-put-bytes
+    put-bytes-requires
+    number-requires
+    cast-put-decimal
+    put-decimal-requires
+    slice-aggregate-put-bytes-2
+    put-bytes-requires-2
+    put-decimal-requires-2
+    put-byte-requires
+    same-length
+    returns)
