@@ -48,11 +48,13 @@ unfoldable pub remaining : Bool → List ℕ → List ℕ
 remaining true ns = joined ns
 remaining false ns = further ns
 
-remaining-one : (first : Bool) (n : ℕ) (ns : List ℕ) → remaining first (n ∷ ns) ≡ (cond first [] (44 ∷ []) ++ actionName n) ++ remaining false ns
+remaining-one : (first : Bool) (n : ℕ) (ns : List ℕ)
+    → remaining first (n ∷ ns) ≡ (cond first [] (44 ∷ []) ++ actionName n) ++ remaining false ns
 unfolding remaining joined further
 remaining-one true n ns = refl
 remaining-one false n ns = refl
 
+-- the members of `s` from n on are those of `rest`, counted from 0
 pub record Listing (buffer : List ℕ) (at s : ℕ) (out : List ℕ) (end : ℕ) (first : Bool) (n rest : ℕ) : Type 0 where
   pub left : Left buffer at (joined (membersFrom 64 0 s)) out end (remaining first (members s n))
   pub inside : n ≤ 64
@@ -60,38 +62,44 @@ pub record Listing (buffer : List ℕ) (at s : ℕ) (out : List ℕ) (end : ℕ)
 
 pub listing-start : (buffer : List ℕ) (at s : ℕ) → Listing buffer at s buffer at true 0 s
 unfolding remaining members
-listing-start buffer at s = record { left = left-start buffer at (joined (membersFrom 64 0 s)); inside = omega arith; halved = omega arith }
+listing-start buffer at s =
+    record { left = left-start buffer at (joined (membersFrom 64 0 s)); inside = omega arith; halved = omega arith }
 
-module _ (buffer : List ℕ) (at s : ℕ) (out : List ℕ) (end : ℕ) (first : Bool) (n rest : ℕ) (l : Listing buffer at s out end first n rest) where
+module _ {buffer : List ℕ} {at s : ℕ} {out : List ℕ} {end : ℕ} {first : Bool} {n rest : ℕ} (l : Listing buffer at s out end first n rest) where
   pub listing-inside : s < 2 ^ 64 → 0 < rest → n < 64
-  listing-inside small h = lt-of-le-ne (l .inside) (λ e. let z : rest ≡ 0 = l .halved ∙ ap (λ (k : ℕ). s / 2 ^ k) e ∙ div-eq-of-lt small in omega arith)
+  listing-inside small h =
+      lt-of-le-ne (l .inside) (λ e. let z : rest ≡ 0 = l .halved ∙ ap (λ (k : ℕ). s / 2 ^ k) e ∙ div-eq-of-lt small in omega arith)
 
-  pub listing-member : s < 2 ^ 64 → 0 < rest → rest % 2 ≡ 1 → (after : List ℕ) (next : ℕ) → Put out end (cond first [] (44 ∷ []) ++ actionName n) after next → Listing buffer at s after next false (n + 1) (rest / 2)
+  here : s < 2 ^ 64 → 0 < rest → members s n ≡ cond (has s n) (n ∷ []) [] ++ members s (n + 1)
+  here small h = members-here s n (listing-inside small h)
+
+  pub listing-member : s < 2 ^ 64 → 0 < rest → rest % 2 ≡ 1 → (after : List ℕ) (next : ℕ)
+      → Put out end (cond first [] (44 ∷ []) ++ actionName n) after next → Listing buffer at s after next false (n + 1) (rest / 2)
   listing-member small h q after next p =
-      let i : n < 64 = listing-inside small h in
-      let e : members s n ≡ n ∷ members s (n + 1) = members-here s n i ∙ rw (has-in s n rest (l .halved) q) in
+      let e : members s n ≡ n ∷ members s (n + 1) = here small h ∙ rw (has-in s n rest (l .halved) q) in
       record {
         left =
-            left-turn buffer at (joined (membersFrom 64 0 s)) out end (cond first [] (44 ∷ []) ++ actionName n) (remaining false (members s (n + 1))) after next
+            left-turn (cond first [] (44 ∷ []) ++ actionName n) (remaining false (members s (n + 1))) after next
             (rw (e, remaining-one) at (l .left)) p;
-        inside = omega arith;
+        inside = omega (arith, listing-inside small h);
         halved = half s n rest (l .halved);
       }
 
   pub listing-other : s < 2 ^ 64 → 0 < rest → (rest % 2 ≡ 1 → ⊥) → Listing buffer at s out end first (n + 1) (rest / 2)
   listing-other small h q =
-      let i : n < 64 = listing-inside small h in
-      let e : members s n ≡ members s (n + 1) = members-here s n i ∙ rw (has-out s n rest (l .halved) q) in
-      record { left = rw e at (l .left); inside = omega arith; halved = half s n rest (l .halved) }
+      let e : members s n ≡ members s (n + 1) = here small h ∙ rw (has-out s n rest (l .halved) q) in
+      record { left = rw e at (l .left); inside = omega (arith, listing-inside small h); halved = half s n rest (l .halved) }
 
   none : rest ≤ 0 → members s n ≡ []
   unfolding members
-  none h = members-none (64 - n) n s (let z : rest ≡ 0 = omega arith in sym z ∙ l .halved)
+  none h = let z : rest ≡ 0 = omega arith in members-none (64 - n) n s (sym z ∙ l .halved)
 
-  pub listing-none : rest ≤ 0 → first ≡ true → (after : List ℕ) (next : ℕ) → Put out end (45 ∷ []) after next → Put buffer at (joined (membersFrom 64 0 s)) after next
+  pub listing-none : rest ≤ 0 → first ≡ true → (after : List ℕ) (next : ℕ) → Put out end (45 ∷ []) after next
+      → Put buffer at (joined (membersFrom 64 0 s)) after next
   unfolding remaining joined
-  listing-none h t after next p = left-end buffer at (joined (membersFrom 64 0 s)) out end (45 ∷ []) after next (rw (t, none h) at (l .left)) p
+  listing-none h t after next p = left-end after next (rw (t, none h) at (l .left)) p
 
-  pub listing-some : rest ≤ 0 → first ≡ false → (next : ℕ) → next ≡ min end (length out) → Put buffer at (joined (membersFrom 64 0 s)) out next
+  pub listing-some : rest ≤ 0 → first ≡ false → (next : ℕ) → next ≡ min end (length out)
+      → Put buffer at (joined (membersFrom 64 0 s)) out next
   unfolding remaining further
-  listing-some h t next e = left-none buffer at (joined (membersFrom 64 0 s)) out end (remaining first (members s n)) next (rw (t, none h)) (l .left) e
+  listing-some h t next e = left-none next (rw (t, none h)) (l .left) e

@@ -23,7 +23,8 @@ append-out buffer at [] h = refl
 append-out buffer at (b ∷ bs) h = rw (set-out buffer at b h) (append-out buffer (suc at) bs (omega arith))
 
 -- bytes and then others behind them
-append-both : (buffer : List ℕ) (at : ℕ) (x y : List ℕ) → appended (appended buffer at x) (at + length x) y ≡ appended buffer at (x ++ y)
+append-both : (buffer : List ℕ) (at : ℕ) (x y : List ℕ)
+    → appended (appended buffer at x) (at + length x) y ≡ appended buffer at (x ++ y)
 unfolding appended
 append-both buffer at [] y = let e : at + 0 ≡ at = omega arith in rw e
 append-both buffer at (b ∷ bs) y =
@@ -31,7 +32,8 @@ append-both buffer at (b ∷ bs) y =
     rw e (append-both (set buffer at b) (suc at) bs y)
 
 -- a position past the end may as well be the end
-append-clipped : (buffer : List ℕ) (at : ℕ) (bytes : List ℕ) → appended buffer (min at (length buffer)) bytes ≡ appended buffer at bytes
+append-clipped : (buffer : List ℕ) (at : ℕ) (bytes : List ℕ)
+    → appended buffer (min at (length buffer)) bytes ≡ appended buffer at bytes
 append-clipped buffer at bytes = go (leb at (length buffer)) refl
   where
     go : (b : Bool) → leb at (length buffer) ≡ b → appended buffer (min at (length buffer)) bytes ≡ appended buffer at bytes
@@ -61,17 +63,20 @@ pub put-none : (buffer : List ℕ) (at : ℕ) → Put buffer at [] buffer (min a
 unfolding appended behind
 put-none buffer at = (omega arith, refl)
 
-append-behind : (buffer : List ℕ) (at : ℕ) (x y : List ℕ) → appended (appended buffer at x) (behind buffer at x) y ≡ appended buffer at (x ++ y)
+append-behind : (buffer : List ℕ) (at : ℕ) (x y : List ℕ)
+    → appended (appended buffer at x) (behind buffer at x) y ≡ appended buffer at (x ++ y)
 unfolding behind
 append-behind buffer at x y =
     ap (λ (n : ℕ). appended (appended buffer at x) (min (at + length x) n) y) (sym (append-length buffer at x))
     ∙ append-clipped (appended buffer at x) (at + length x) y ∙ append-both buffer at x y
 
-behind-both : (buffer between : List ℕ) (at : ℕ) (x y : List ℕ) → length between ≡ length buffer → behind between (behind buffer at x) y ≡ behind buffer at (x ++ y)
+behind-both : (buffer between : List ℕ) (at : ℕ) (x y : List ℕ) → length between ≡ length buffer
+    → behind between (behind buffer at x) y ≡ behind buffer at (x ++ y)
 unfolding behind
 behind-both buffer between at x y l = let k : length (x ++ y) ≡ length x + length y = length-append x y in omega arith
 
-pub put-same : (buffer : List ℕ) (at : ℕ) (x y after : List ℕ) (end : ℕ) → x ≡ y → Put buffer at x after end → Put buffer at y after end
+pub put-same : (buffer : List ℕ) (at : ℕ) (x y after : List ℕ) (end : ℕ) → x ≡ y
+    → Put buffer at x after end → Put buffer at y after end
 put-same buffer at x y after end e p = rw e at p
 
 pub put-length : (buffer : List ℕ) (at : ℕ) (x after : List ℕ) (end : ℕ) → Put buffer at x after end → length after ≡ length buffer
@@ -94,25 +99,25 @@ pub record Left (buffer : List ℕ) (at : ℕ) (all out : List ℕ) (end : ℕ) 
 pub left-start : (buffer : List ℕ) (at : ℕ) (all : List ℕ) → Left buffer at all buffer at all
 left-start buffer at all = record { long = refl; position = refl; holds = refl }
 
-pub left-turn : (buffer : List ℕ) (at : ℕ) (all out : List ℕ) (end : ℕ) (x rest after : List ℕ) (next : ℕ)
-    → Left buffer at all out end (x ++ rest) → Put out end x after next → Left buffer at all after next rest
-left-turn buffer at all out end x rest after next l p =
-    let k : length after ≡ length out = put-length out end x after next p in
-    let q = put-then out end x after next rest (appended after next rest) (behind after next rest) p (refl, refl) in
-    record { long = k ∙ l .long; position = q .0 ∙ l .position; holds = q .1 ∙ l .holds }
+module _ {buffer : List ℕ} {at : ℕ} {all out : List ℕ} {end : ℕ} where
+  pub left-turn : (x rest after : List ℕ) (next : ℕ) → Left buffer at all out end (x ++ rest)
+      → Put out end x after next → Left buffer at all after next rest
+  left-turn x rest after next l p =
+      let q = put-then out end x after next rest (appended after next rest) (behind after next rest) p (refl, refl) in
+      record { long = put-length out end x after next p ∙ l .long; position = q .0 ∙ l .position; holds = q .1 ∙ l .holds }
 
-pub left-end : (buffer : List ℕ) (at : ℕ) (all out : List ℕ) (end : ℕ) (rest after : List ℕ) (next : ℕ)
-    → Left buffer at all out end rest → Put out end rest after next → Put buffer at all after next
-left-end buffer at all out end rest after next l (p, q) = (p ∙ l .position, q ∙ l .holds)
+  pub left-end : {rest : List ℕ} (after : List ℕ) (next : ℕ) → Left buffer at all out end rest
+      → Put out end rest after next → Put buffer at all after next
+  left-end after next l (p, q) = (p ∙ l .position, q ∙ l .holds)
 
--- the bytes of a list, one after another
-pub left-byte : (buffer : List ℕ) (at : ℕ) (all out : List ℕ) (end : ℕ) (bytes : List ℕ) (i : ℕ) (after : List ℕ) (next : ℕ)
-    → i < length bytes → Left buffer at all out end (drop i bytes) → Put out end (getD bytes i 0 ∷ []) after next → Left buffer at all after next (drop (i + 1) bytes)
-left-byte buffer at all out end bytes i after next h l p =
-    let e : drop i bytes ≡ getD bytes i 0 ∷ drop (i + 1) bytes = rw add-one (drop-cons bytes i 0 h) in
-    left-turn buffer at all out end (getD bytes i 0 ∷ []) (drop (i + 1) bytes) after next (rw e at l) p
+  -- nothing is left
+  pub left-none : {rest : List ℕ} (next : ℕ) → rest ≡ [] → Left buffer at all out end rest
+      → next ≡ min end (length out) → Put buffer at all out next
+  left-none next e l n = left-end out next (rw e at l) (rw n (put-none out end))
 
--- nothing is left
-pub left-none : (buffer : List ℕ) (at : ℕ) (all out : List ℕ) (end : ℕ) (rest : List ℕ) (next : ℕ)
-    → rest ≡ [] → Left buffer at all out end rest → next ≡ min end (length out) → Put buffer at all out next
-left-none buffer at all out end rest next e l n = left-end buffer at all out end [] out next (rw e at l) (rw n (put-none out end))
+  -- the bytes of a list, one after another
+  pub left-byte : (bytes : List ℕ) (i : ℕ) (after : List ℕ) (next : ℕ) → i < length bytes → Left buffer at all out end (drop i bytes)
+      → Put out end (getD bytes i 0 ∷ []) after next → Left buffer at all after next (drop (i + 1) bytes)
+  left-byte bytes i after next h l p =
+      let e : drop i bytes ≡ getD bytes i 0 ∷ drop (i + 1) bytes = rw add-one (drop-cons bytes i 0 h) in
+      left-turn (getD bytes i 0 ∷ []) (drop (i + 1) bytes) after next (rw e at l) p

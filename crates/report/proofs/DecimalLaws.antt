@@ -1,15 +1,15 @@
 -- Laws of decimal digits: those of a number are those of its tenth and one more; and the loop that fills a text with them
 -- from its end.
-use Prim.Native.Nat.{ℕ, zero, suc, _+_, _-_, _/_, _%_, _^_, _≤_, _<_}
+use Prim.Native.Nat.{ℕ, zero, suc, _-_, _/_, _%_, _^_, _≤_, _<_}
 use mathlib.Core.Bool.{Bool, true, false}
 use mathlib.Core.List.{List, [], _∷_, _++_, append-assoc}
 use mathlib.Core.Path.{_≡_, refl, sym, ap, ap₂, _∙_}
 use native.Mathlib.Omega.{arith}
 use borrow.Author.Tests.{lt-ltb, le-ltb, ltb-true, ltb-false}
 use lib.Dec.{ltb}
-use lib.ListN.{length, getD, set, drop, length-set, drop-of-length-le}
+use lib.ListN.{length, set, drop, length-set, drop-of-length-le}
 use lib.Seq.{drop-cons, getD-set-same, drop-set-lt}
-use Rattle.report.specs.Report.{digit, digits, decimal}
+use Rattle.printer.specs.Printed.{digit, digits, decimal}
 
 digits-one : (k n : ℕ) → n < 10 → digits k (ltb n 10) n ≡ digit n ∷ []
 unfolding digits
@@ -26,7 +26,8 @@ digits-enough zero j n h l = digits-one zero n (omega arith) ∙ sym (digits-one
 digits-enough (suc k) zero n h l = digits-one (suc k) n (omega arith) ∙ sym (digits-one zero n (omega arith))
 digits-enough (suc k) (suc j) n h l = go (ltb n 10) refl (digits-enough k j (n / 10))
   where
-    go : (b : Bool) → ltb n 10 ≡ b → (n / 10 ≤ k → n / 10 ≤ j → digits k (ltb (n / 10) 10) (n / 10) ≡ digits j (ltb (n / 10) 10) (n / 10)) → digits (suc k) (ltb n 10) n ≡ digits (suc j) (ltb n 10) n
+    go : (b : Bool) → ltb n 10 ≡ b → (n / 10 ≤ k → n / 10 ≤ j → digits k (ltb (n / 10) 10) (n / 10) ≡ digits j (ltb (n / 10) 10) (n / 10))
+        → digits (suc k) (ltb n 10) n ≡ digits (suc j) (ltb n 10) n
     go true e f = digits-one (suc k) n (ltb-true n 10 e) ∙ sym (digits-one (suc j) n (ltb-true n 10 e))
     go false e f =
         let m : 10 ≤ n = ltb-false n 10 e in
@@ -40,7 +41,8 @@ pub decimal-more : (n : ℕ) → 10 ≤ n → decimal n ≡ decimal (n / 10) ++ 
 unfolding decimal
 decimal-more zero h = absurd (omega arith)
 decimal-more (suc m) h =
-    digits-more m (suc m) h ∙ ap (λ (ds : List ℕ). ds ++ digit (suc m % 10) ∷ []) (digits-enough m (suc m / 10) (suc m / 10) (omega arith) (omega arith))
+    digits-more m (suc m) h
+    ∙ ap (λ (ds : List ℕ). ds ++ digit (suc m % 10) ∷ []) (digits-enough m (suc m / 10) (suc m / 10) (omega arith) (omega arith))
 
 -- ---- a text of twenty bytes, filled from its end: the digits behind index i are there, those of `rest` are not
 
@@ -60,29 +62,33 @@ append-nil-is [] es e = sym e
 append-nil-is (d ∷ ds) es e = ap (λ (xs : List ℕ). d ∷ xs) (append-nil-is ds es e)
 
 pub filled-start : (n : ℕ) (text : List ℕ) → length text ≡ 20 → n < 2 ^ 64 → Filled n text 19 n
-filled-start n text l h = record { long = l; inside = omega arith; few = omega arith; same = append-nil-is (decimal n) (drop 20 text) (drop-of-length-le text {i = 20} (omega arith)) }
+filled-start n text l h =
+    let e : drop 20 text ≡ [] = drop-of-length-le text {i = 20} (omega arith) in
+    record { long = l; inside = omega arith; few = omega arith; same = append-nil-is (decimal n) (drop 20 text) e }
 
-pub filled-more : (n : ℕ) (text : List ℕ) (i rest : ℕ) → Filled n text i rest → 10 ≤ rest → 0 < i
-filled-more n text zero rest f h = absurd (omega (arith, f .few))
-filled-more n text (suc i) rest f h = omega arith
+module _ {n : ℕ} {text : List ℕ} where
+  pub filled-more : (i : ℕ) {rest : ℕ} → Filled n text i rest → 10 ≤ rest → 0 < i
+  filled-more zero f h = absurd (omega (arith, f .few))
+  filled-more (suc i) f h = omega arith
 
-filled-step : (n : ℕ) (text : List ℕ) (i rest : ℕ) → Filled n text (suc i) rest → 10 ≤ rest → Filled n (set text (suc i) (digit (rest % 10))) i (rest / 10)
-filled-step n text i rest f h =
-    let l : suc i < length text = omega (arith, f .inside, f .long) in
-    record {
-      long = length-set text (suc i) (digit (rest % 10)) ∙ f .long;
-      inside = omega (arith, f .inside);
-      few = omega (arith, f .few);
-      same =
-          f .same ∙ ap (λ (ds : List ℕ). ds ++ drop (suc (suc i)) text) (decimal-more rest h)
-          ∙ append-assoc (decimal (rest / 10)) (digit (rest % 10) ∷ []) (drop (suc (suc i)) text)
-          ∙ ap (λ (ds : List ℕ). decimal (rest / 10) ++ ds) (sym (drop-stored text (suc i) (digit (rest % 10)) l));
-    }
+  filled-step : {i rest : ℕ} → Filled n text (suc i) rest → 10 ≤ rest → Filled n (set text (suc i) (digit (rest % 10))) i (rest / 10)
+  filled-step {i} {rest} f h =
+      let l : suc i < length text = omega (arith, f .inside, f .long) in
+      record {
+        long = length-set text (suc i) (digit (rest % 10)) ∙ f .long;
+        inside = omega (arith, f .inside);
+        few = omega (arith, f .few);
+        same =
+            f .same ∙ ap (λ (ds : List ℕ). ds ++ drop (suc (suc i)) text) (decimal-more rest h)
+            ∙ append-assoc (decimal (rest / 10)) (digit (rest % 10) ∷ []) (drop (suc (suc i)) text)
+            ∙ ap (λ (ds : List ℕ). decimal (rest / 10) ++ ds) (sym (drop-stored text (suc i) (digit (rest % 10)) l));
+      }
 
-pub filled-turn : (n : ℕ) (text : List ℕ) (i rest : ℕ) → Filled n text i rest → 10 ≤ rest → Filled n (set text i (digit (rest % 10))) (i - 1) (rest / 10)
-filled-turn n text zero rest f h = absurd (omega (arith, f .few))
-filled-turn n text (suc i) rest f h = let e : suc i - 1 ≡ i = omega arith in rw e (filled-step n text i rest f h)
+  pub filled-turn : (i : ℕ) {rest : ℕ} → Filled n text i rest → 10 ≤ rest → Filled n (set text i (digit (rest % 10))) (i - 1) (rest / 10)
+  filled-turn zero f h = absurd (omega (arith, f .few))
+  filled-turn (suc i) f h = let e : suc i - 1 ≡ i = omega arith in rw e (filled-step f h)
 
-pub filled-end : (n : ℕ) (text : List ℕ) (i rest : ℕ) → Filled n text i rest → rest < 10 → drop i (set text i (digit rest)) ≡ decimal n
-filled-end n text i rest f h =
-    drop-stored text i (digit rest) (omega (arith, f .inside, f .long)) ∙ sym (f .same ∙ ap (λ (ds : List ℕ). ds ++ drop (suc i) text) (decimal-one rest h))
+  pub filled-end : {i rest : ℕ} → Filled n text i rest → rest < 10 → drop i (set text i (digit rest)) ≡ decimal n
+  filled-end {i} {rest} f h =
+      drop-stored text i (digit rest) (omega (arith, f .inside, f .long))
+      ∙ sym (f .same ∙ ap (λ (ds : List ℕ). ds ++ drop (suc i) text) (decimal-one rest h))

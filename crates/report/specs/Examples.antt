@@ -6,7 +6,8 @@ use Rattle.policy.specs.Set.{noActions, insertAction}
 use Rattle.policy.specs.declared.fault.Fault.{Fault}
 use Rattle.policy.specs.declared.number.Action.{Action}
 use Rattle.policy.specs.declared.set.ActionSet.{ActionSet}
-use Rattle.report.specs.Report.{bytes, wordLine, refusalLine, acceptLine, refusedLine}
+use Rattle.lexer.specs.Byte.{bytes}
+use Rattle.report.specs.Report.{wordLine, refusalLine, acceptLine, refusedLine}
 
 pub record Example : Type 0 where
   pub line : List ℕ

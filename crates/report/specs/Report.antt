@@ -1,35 +1,18 @@
 -- The lines that the two programs print: document 01, "The two programs".
 use Prim.Native.Char.{code}
 use Prim.Native.Nat.{ℕ, zero, suc, _+_, _*_, _-_, _/_, _%_, _^_}
-use Prim.Native.String as String
-use Prim.Native.String.{String}
-use mathlib.Core.Bool.{Bool, true, false, cond}
+use mathlib.Core.Bool.{cond}
 use mathlib.Core.List.{List, [], _∷_, _++_}
 use lib.Dec.{ltb}
+use Rattle.lexer.specs.Byte.{bytes}
+use Rattle.printer.specs.Printed.{decimal}
 use Rattle.policy.specs.Fault.{faultNumber}
 use Rattle.policy.specs.Number.{setLimit}
 use Rattle.policy.specs.Set.{has}
 use Rattle.policy.specs.declared.fault.Fault.{Fault}
 use Rattle.policy.specs.declared.set.ActionSet.{ActionSet}
 
--- the bytes of a text of ASCII characters
-unfoldable pub bytes : String → List ℕ
-bytes String.[] = []
-bytes (String._∷_ c s) = code c ∷ bytes s
-
 -- ---- numbers
-
-abbrev pub digit : ℕ → ℕ
-digit d = code "0" + d
-
--- the digits of n, the most significant first, if they are at most k + 1; `only` tells whether n has just one
-unfoldable pub digits : ℕ → Bool → ℕ → List ℕ
-digits zero only n = digit n ∷ []
-digits (suc k) true n = digit n ∷ []
-digits (suc k) false n = digits k (ltb (n / 10) 10) (n / 10) ++ digit (n % 10) ∷ []
-
-unfoldable pub decimal : ℕ → List ℕ
-decimal n = digits n (ltb n 10) n
 
 unfoldable pub hexDigit : ℕ → ℕ
 hexDigit d = cond (ltb d 10) (code "0" + d) (code "A" + (d - 10))
@@ -76,11 +59,13 @@ wordLine w = hexWord w ++ lineEnd
 
 -- a refused text, with the location (document 01: the place)
 unfoldable pub refusalLine : Fault → ℕ → List ℕ
-refusalLine fault location = bytes "refused " ++ decimal (faultNumber fault) ++ bytes " line " ++ decimal location ++ lineEnd
+refusalLine fault location =
+    bytes "refused " ++ decimal (faultNumber fault) ++ bytes " line " ++ decimal location ++ lineEnd
 
 -- the epoch of that number, decided
 unfoldable pub acceptLine : ℕ → ActionSet → ActionSet → List ℕ
-acceptLine n accepted cancelled = decimal n ++ bytes " accept " ++ actionList accepted ++ bytes " cancel " ++ actionList cancelled ++ lineEnd
+acceptLine n accepted cancelled =
+    decimal n ++ bytes " accept " ++ actionList accepted ++ bytes " cancel " ++ actionList cancelled ++ lineEnd
 
 -- the epoch of that number, refused
 unfoldable pub refusedLine : ℕ → Fault → List ℕ

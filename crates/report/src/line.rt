@@ -37,10 +37,11 @@ pub fn put_word_line(out: &mut [u8], at: usize, word: u32) -> usize
 pub fn put_refusal(out: &mut [u8], at: usize, fault: Fault, line: usize) -> usize
     ensures { λ r. ⌜ (r ≡ behind (now (out .entry)) at (refusalLine fault line)) × (now (out .exit) ≡ appended (now (out .entry)) at (refusalLine fault line)) ⌝ }
 {
-    let word = put_bytes(out, at, b"refused ");
-    let number = put_decimal(out, word, fault.number() as u64);
-    let middle = put_bytes(out, number, b" line ");
-    let end = put_decimal(out, middle, line as u64);
+    let number = fault.number() as u64;
+    let start = put_bytes(out, at, b"refused ");
+    let middle = put_decimal(out, start, number);
+    let location = put_bytes(out, middle, b" line ");
+    let end = put_decimal(out, location, line as u64);
     put_byte(out, end, b'\n')
 }
 

@@ -3,7 +3,7 @@ ghost use mathlib.Core.Path.{_≡_};
 ghost use Prim.Native.Nat.{_≤_};
 ghost use lib.ListN.{length, drop};
 ghost use Rattle.report.specs.Buffer.{appended, behind};
-ghost use Rattle.report.specs.Report.{decimal};
+ghost use Rattle.printer.specs.Printed.{decimal};
 use crate::buffer::put_bytes;
 
 // The digits at the end of the text, and where they start. Twenty digits hold a number of 64 bits.

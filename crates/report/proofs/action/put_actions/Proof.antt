@@ -21,22 +21,18 @@ put-member-requires : tie.Need-put-member-requires Inv-loop μ-loop
 put-member-requires c κs = search needs
 
 add-number : tie.Need-add-number Inv-loop μ-loop
-add-number c =
-    let a = c .before .before .before .before .args in
-    let l = c .before .before .loop in
-    omega (arith, listing-inside (now (a .out)) (a .at) (a .set .0) (l .out) (l .end) (l .first) (l .number) (l .rest) (l .inv) (search needs) (c .before .loop-test .taken))
+add-number c = omega (arith, listing-inside (c .before .before .loop .inv) (search needs) (c .before .loop-test .taken))
 
 loop-less : tie.Need-loop-less Inv-loop μ-loop
 loop-less c = search needs
 
 loop-again : tie.Need-loop-again Inv-loop μ-loop
 loop-again c =
-    let a = c .before .before .before .before .args in
-    let l = c .before .before .loop in
+    let l = c .before .before .loop .inv in
     let more = c .before .loop-test .taken in
     ⊎-elim
-    (λ w. rw (w .5, w .6, w .7) (listing-member (now (a .out)) (a .at) (a .set .0) (l .out) (l .end) (l .first) (l .number) (l .rest) (l .inv) (search needs) more (w .0 .taken) _ _ (w .2 .ensures)))
-    (λ w. rw (w .1, w .2, w .3) (listing-other (now (a .out)) (a .at) (a .set .0) (l .out) (l .end) (l .first) (l .number) (l .rest) (l .inv) (search needs) more (w .0 .left)))
+    (λ w. rw (w .5, w .6, w .7) (listing-member l (search needs) more (w .0 .taken) _ _ (w .2 .ensures)))
+    (λ w. rw (w .1, w .2, w .3) (listing-other l (search needs) more (w .0 .left)))
     (c .if1 .came)
 
 put-byte-requires : tie.Need-put-byte-requires Inv-loop μ-loop
@@ -51,9 +47,9 @@ same-length c = c .before .before .put-byte .kept .0 ∙ c .before .before .befo
 returns : tie.Need-returns Inv-loop μ-loop
 unfolding actionList
 returns c =
-    let a = c .before .before .before .before .before .before .before .before .args in
-    let l = c .before .before .before .before .before .before .loop in
-    listing-none (now (a .out)) (a .at) (a .set .0) (l .out) (l .end) (l .first) (l .number) (l .rest) (l .inv) (c .before .before .before .before .before .loop-test .left) (c .before .before .before .before .if2 .taken) _ _ (c .before .before .put-byte .ensures)
+    let ended = c .before .before .before .before .before in
+    listing-none (ended .before .loop .inv) (ended .loop-test .left) (c .before .before .before .before .if2 .taken) _ _
+    (c .before .before .put-byte .ensures)
 
 same-length-2 : tie.Need-same-length-2 Inv-loop μ-loop
 same-length-2 c = c .before .before .before .loop .inv .left .long
@@ -61,9 +57,7 @@ same-length-2 c = c .before .before .before .loop .inv .left .long
 returns-2 : tie.Need-returns-2 Inv-loop μ-loop
 unfolding actionList
 returns-2 c =
-    let a = c .before .before .before .before .before .args in
-    let l = c .before .before .before .loop in
-    listing-some (now (a .out)) (a .at) (a .set .0) (l .out) (l .end) (l .first) (l .number) (l .rest) (l .inv) (c .before .before .loop-test .left) (c .before .if2 .left) _ (c .at-most .ensures)
+    listing-some (c .before .before .before .loop .inv) (c .before .before .loop-test .left) (c .before .if2 .left) _ (c .at-most .ensures)
 
 pub put-actions-spec : {M : Type 1} → statement M
 put-actions-spec =

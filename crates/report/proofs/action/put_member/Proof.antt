@@ -1,5 +1,4 @@
 use Rattle.report.proofs.AppendLaws.{put-then}
-use native.Mathlib.Omega.{arith}
 use borrow.Author.Needs.{needs}
 use Rattle.report.proofs.action.put_member.Statement.{statement}
 use Rattle.report.proofs.action.put_member.Tie as tie
@@ -24,8 +23,9 @@ same-length-2 c = search needs
 
 returns-2 : tie.Need-returns-2
 returns-2 c =
-    rw (c .before .before .before .before .before .before .before .before .if1 .left)
-    (put-then _ _ _ _ _ _ _ _ (c .before .before .before .before .before .before .put-byte .ensures) (c .before .before .put-name2 .ensures))
+    let name = c .before .before in
+    let comma = name .before .before .before .before in
+    rw (comma .before .before .if1 .left) (put-then _ _ _ _ _ _ _ _ (comma .put-byte .ensures) (name .put-name2 .ensures))
 
 pub put-member-spec : {M : Type 1} → statement M
 put-member-spec =

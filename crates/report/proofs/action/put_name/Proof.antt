@@ -1,6 +1,5 @@
 use Rattle.report.specs.Report.{actionName}
 use Rattle.report.proofs.AppendLaws.{put-then}
-use native.Mathlib.Omega.{arith}
 use borrow.Author.Needs.{needs}
 use Rattle.report.proofs.action.put_name.Statement.{statement}
 use Rattle.report.proofs.action.put_name.Tie as tie
@@ -16,7 +15,9 @@ same-length c = search needs
 
 returns : tie.Need-returns
 unfolding actionName
-returns c = put-then _ _ _ _ _ _ _ _ (c .before .before .before .before .before .before .put-byte .ensures) (c .before .before .put-decimal .ensures)
+returns c =
+    let name = c .before .before in
+    put-then _ _ _ _ _ _ _ _ (name .before .before .before .before .put-byte .ensures) (name .put-decimal .ensures)
 
 pub put-name-spec : {M : Type 1} → statement M
 put-name-spec = tie.close (tie.spec put-byte-requires put-decimal-requires same-length returns)

@@ -1,6 +1,5 @@
 use denote.Ref.{now}
 use Rattle.report.proofs.AppendLaws.{put-one, put-out}
-use native.Mathlib.Omega.{arith}
 use borrow.Author.Needs.{needs}
 use Rattle.report.proofs.buffer.put_byte.Statement.{statement}
 use Rattle.report.proofs.buffer.put_byte.Tie as tie

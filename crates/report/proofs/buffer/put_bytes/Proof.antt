@@ -3,7 +3,6 @@ use lib.ListN.{length, drop, drop-of-length-le}
 use denote.Ref.{now}
 use Rattle.report.proofs.AppendLaws.{Left, left-start, left-byte, left-none}
 use borrow.Author.Needs.{needs}
-use native.Mathlib.Omega.{arith}
 use Rattle.report.proofs.buffer.put_bytes.Statement.{statement}
 use Rattle.report.proofs.buffer.put_bytes.Tie as tie
 
@@ -30,10 +29,8 @@ loop-less c = search needs
 
 loop-again : tie.Need-loop-again Inv-loop μ-loop
 loop-again c =
-    let a = c .before .before .before .before .before .before .before .before .before .args in
-    let l = c .before .before .before .before .before .before .loop in
-    left-byte (now (a .out)) (a .at) (now (a .bytes)) (l .out) (l .end) (now (a .bytes)) (l .i) _ _
-    (c .before .before .before .before .before .loop-test .taken) (l .inv) (c .before .before .put-byte .ensures)
+    let turn = c .before .before .before .before .before in
+    left-byte _ _ _ _ (turn .loop-test .taken) (turn .before .loop .inv) (c .before .before .put-byte .ensures)
 
 at-most-requires : tie.Need-at-most-requires Inv-loop μ-loop
 at-most-requires c κs = search needs
@@ -44,8 +41,7 @@ same-length c = c .before .before .loop .inv .long
 returns : tie.Need-returns Inv-loop μ-loop
 returns c =
     let a = c .before .before .before .before .before .args in
-    let l = c .before .before .loop in
-    left-none (now (a .out)) (a .at) (now (a .bytes)) (l .out) (l .end) _ _ (drop-of-length-le (now (a .bytes)) (c .before .loop-test .left)) (l .inv) (c .at-most .ensures)
+    left-none _ (drop-of-length-le (now (a .bytes)) (c .before .loop-test .left)) (c .before .before .loop .inv) (c .at-most .ensures)
 
 pub put-bytes-spec : {M : Type 1} → statement M
 put-bytes-spec =

@@ -1,6 +1,5 @@
 use borrow.Author.Tests.{lt-ltb, le-ltb}
 use Rattle.report.specs.Report.{hexDigit}
-use native.Mathlib.Omega.{arith}
 use borrow.Author.Needs.{needs}
 use Rattle.report.proofs.line.hex_digit.Statement.{statement}
 use Rattle.report.proofs.line.hex_digit.Tie as tie

@@ -1,22 +1,23 @@
 use mathlib.Core.Path.{ap}
-use Rattle.report.specs.Report.{bytes, decimal, refusalLine}
+use Rattle.lexer.specs.Byte.{bytes}
+use Rattle.printer.specs.Printed.{decimal}
+use Rattle.report.specs.Report.{refusalLine}
 use Rattle.report.proofs.AppendLaws.{put-same, put-then}
-use native.Mathlib.Omega.{arith}
 use borrow.Author.Needs.{needs}
 use Rattle.report.proofs.line.put_refusal.Statement.{statement}
 use Rattle.report.proofs.line.put_refusal.Tie as tie
+
+number-requires : tie.Need-number-requires
+number-requires c κs = search needs
+
+cast-number : tie.Need-cast-number
+cast-number c = search needs
 
 slice-aggregate-put-bytes : tie.Need-slice-aggregate-put-bytes
 slice-aggregate-put-bytes c = search needs
 
 put-bytes-requires : tie.Need-put-bytes-requires
 put-bytes-requires c κs = search needs
-
-number-requires : tie.Need-number-requires
-number-requires c κs = search needs
-
-cast-put-decimal : tie.Need-cast-put-decimal
-cast-put-decimal c = search needs
 
 put-decimal-requires : tie.Need-put-decimal-requires
 put-decimal-requires c κs = search needs
@@ -43,8 +44,9 @@ returns c =
     let location = end .before .before .before .before in
     let middle = location .before .before .before .before in
     let number = middle .before .before .before .before .before in
-    let start = number .before .before .before .before .before in
-    let p₁ = put-then _ _ _ _ _ _ _ _ (start .put-bytes .ensures) (put-same _ _ _ _ _ _ (ap decimal (number .before .number .ensures)) (number .put-decimal .ensures)) in
+    let start = number .before .before .before .before in
+    let n = ap decimal (start .before .before .before .number .ensures) in
+    let p₁ = put-then _ _ _ _ _ _ _ _ (start .put-bytes .ensures) (put-same _ _ _ _ _ _ n (number .put-decimal .ensures)) in
     let p₂ = put-then _ _ _ _ _ _ _ _ p₁ (middle .put-bytes2 .ensures) in
     let p₃ = put-then _ _ _ _ _ _ _ _ p₂ (location .put-decimal2 .ensures) in
     put-then _ _ _ _ _ _ _ _ p₃ (end .put-byte .ensures)
@@ -53,10 +55,10 @@ pub put-refusal-spec : {M : Type 1} → statement M
 put-refusal-spec =
     tie.close
     (tie.spec
+    number-requires
+    cast-number
     slice-aggregate-put-bytes
     put-bytes-requires
-    number-requires
-    cast-put-decimal
     put-decimal-requires
     slice-aggregate-put-bytes-2
     put-bytes-requires-2

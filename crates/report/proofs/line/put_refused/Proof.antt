@@ -1,7 +1,8 @@
 use mathlib.Core.Path.{ap}
-use Rattle.report.specs.Report.{bytes, decimal, refusedLine}
+use Rattle.lexer.specs.Byte.{bytes}
+use Rattle.printer.specs.Printed.{decimal}
+use Rattle.report.specs.Report.{refusedLine}
 use Rattle.report.proofs.AppendLaws.{put-same, put-then}
-use native.Mathlib.Omega.{arith}
 use borrow.Author.Needs.{needs}
 use Rattle.report.proofs.line.put_refused.Statement.{statement}
 use Rattle.report.proofs.line.put_refused.Tie as tie
@@ -37,8 +38,9 @@ returns c =
     let fault = end .before .before .before .before in
     let middle = fault .before .before .before .before .before in
     let start = middle .before .before .before .before .before in
+    let n = ap decimal (fault .before .number .ensures) in
     let p₁ = put-then _ _ _ _ _ _ _ _ (start .put-decimal .ensures) (middle .put-bytes .ensures) in
-    let p₂ = put-then _ _ _ _ _ _ _ _ p₁ (put-same _ _ _ _ _ _ (ap decimal (fault .before .number .ensures)) (fault .put-decimal2 .ensures)) in
+    let p₂ = put-then _ _ _ _ _ _ _ _ p₁ (put-same _ _ _ _ _ _ n (fault .put-decimal2 .ensures)) in
     put-then _ _ _ _ _ _ _ _ p₂ (end .put-byte .ensures)
 
 pub put-refused-spec : {M : Type 1} → statement M

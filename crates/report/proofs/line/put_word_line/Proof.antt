@@ -11,13 +11,15 @@ use Rattle.report.proofs.line.put_word_line.Statement.{statement}
 use Rattle.report.proofs.line.put_word_line.Tie as tie
 
 abbrev Inv-loop : tie.InvT-loop
-Inv-loop out₀ at word end₀ digits₀ out end digits = Left out₀ at (hexDigits 8 word ++ 10 ∷ []) out end (hexDigits digits word ++ 10 ∷ []) × (digits ≤ 8)
+Inv-loop out₀ at word end₀ digits₀ out end digits =
+    Left out₀ at (wordLine word) out end (hexDigits digits word ++ 10 ∷ []) × (digits ≤ 8)
 
 abbrev μ-loop : tie.MeasureT-loop
 μ-loop out₀ at word end₀ digits₀ out end digits = digits
 
 loop-holds : tie.Need-loop-holds Inv-loop μ-loop
-loop-holds c = let a = c .before .args in (left-start (now (a .out)) (a .at) (hexDigits 8 (a .word) ++ 10 ∷ []), omega arith)
+unfolding wordLine
+loop-holds c = let a = c .before .args in (left-start (now (a .out)) (a .at) (wordLine (a .word)), omega arith)
 
 sub-digits : tie.Need-sub-digits Inv-loop μ-loop
 sub-digits c = search needs
@@ -39,9 +41,12 @@ loop-less c = search needs
 
 loop-again : tie.Need-loop-again Inv-loop μ-loop
 loop-again c =
-    let a = c .before .before .before .before .before .before .before .before .args in
-    let l = c .before .before .before .before .before .before .loop in
-    (left-digit (now (a .out)) (a .at) _ (a .word) (10 ∷ []) (l .out) (l .end) (l .digits) (c .before .before .before .before .before .loop-test .taken) (l .inv .0) _ (c .before .before .before .hex-digit .ensures) _ _ (c .before .before .put-byte .ensures), omega arith)
+    let turn = c .before .before .before .before .before in
+    let l = turn .before .loop in (
+      left-digit _ (10 ∷ []) (l .digits) (turn .loop-test .taken) (l .inv .0) _ (c .before .before .before .hex-digit .ensures) _ _
+          (c .before .before .put-byte .ensures),
+      omega arith,
+    )
 
 put-byte-requires-2 : tie.Need-put-byte-requires-2 Inv-loop μ-loop
 put-byte-requires-2 c κs = search needs
@@ -50,12 +55,9 @@ same-length : tie.Need-same-length Inv-loop μ-loop
 same-length c = c .before .before .put-byte2 .kept .0 ∙ c .before .before .before .before .before .loop .inv .0 .long
 
 returns : tie.Need-returns Inv-loop μ-loop
-unfolding wordLine
 returns c =
-    let a = c .before .before .before .before .before .before .before .args in
     let l = c .before .before .before .before .before .loop in
-    left-end (now (a .out)) (a .at) _ (l .out) (l .end) _ _ _
-    (left-digits (now (a .out)) (a .at) _ (a .word) (10 ∷ []) (l .out) (l .end) (l .digits) (omega (arith, c .before .before .before .before .loop-test .left)) (l .inv .0)) (c .before .before .put-byte2 .ensures)
+    left-end _ _ (left-digits _ (10 ∷ []) (l .digits) (omega arith) (l .inv .0)) (c .before .before .put-byte2 .ensures)
 
 pub put-word-line-spec : {M : Type 1} → statement M
 put-word-line-spec =

@@ -26,13 +26,13 @@ slice-write-text : tie.Need-slice-write-text Inv-loop μ-loop
 slice-write-text c = search needs
 
 sub-i : tie.Need-sub-i Inv-loop μ-loop
-sub-i c = let l = c .before .loop in omega (arith, filled-more (c .before .before .args .n) (l .text) (l .i) (l .rest) (l .inv) (c .loop-test .taken))
+sub-i c = omega (arith, filled-more _ (c .before .loop .inv) (c .loop-test .taken))
 
 loop-less : tie.Need-loop-less Inv-loop μ-loop
 loop-less c = search needs
 
 loop-again : tie.Need-loop-again Inv-loop μ-loop
-loop-again c = let l = c .before .loop in filled-turn (c .before .before .args .n) (l .text) (l .i) (l .rest) (l .inv) (c .loop-test .taken)
+loop-again c = filled-turn _ (c .before .loop .inv) (c .loop-test .taken)
 
 cast-text-2 : tie.Need-cast-text-2 Inv-loop μ-loop
 cast-text-2 c = search needs
@@ -47,9 +47,7 @@ same-length : tie.Need-same-length Inv-loop μ-loop
 same-length c = simp length-set (c .before .loop .inv .long ∙ sym (c .before .before .pre))
 
 returns : tie.Need-returns Inv-loop μ-loop
-returns c =
-    let l = c .before .loop in
-    (omega (arith, l .inv .inside), filled-end (c .before .before .args .n) (l .text) (l .i) (l .rest) (l .inv) (c .loop-test .left))
+returns c = let f = c .before .loop .inv in (omega (arith, f .inside), filled-end f (c .loop-test .left))
 
 pub fill-digits-spec : {M : Type 1} → statement M
 fill-digits-spec =

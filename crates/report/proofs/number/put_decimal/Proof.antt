@@ -33,7 +33,8 @@ returns : tie.Need-returns
 returns c =
     let f = c .before .before .before .before .before .before .before .fill-digits in
     let l : length (f .last .0) ≡ 20 = search needs in
-    put-same _ _ _ _ _ _ (take-all (20 - f .result) (drop (f .result) (f .last .0)) (simp length-drop (omega arith)) ∙ f .ensures .1) (c .before .before .put-bytes .ensures)
+    let e = take-all (20 - f .result) (drop (f .result) (f .last .0)) (simp length-drop (omega arith)) in
+    put-same _ _ _ _ _ _ (e ∙ f .ensures .1) (c .before .before .put-bytes .ensures)
 
 pub put-decimal-spec : {M : Type 1} → statement M
 put-decimal-spec =
