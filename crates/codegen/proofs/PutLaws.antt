@@ -13,7 +13,7 @@ use Rattle.policy.specs.declared.line.Line.{Line}
 use Rattle.policy.specs.declared.number.Action.{Action}
 use Rattle.image.proofs.LayoutLaws.{value-words}
 use Rattle.image.proofs.PartLines.{line-limit}
-use Rattle.image.proofs.ValidLaws.{valid-out}
+use Rattle.policy.proofs.ValidLaws.{valid-out}
 use Rattle.word.proofs.WriteLaws.{put-length}
 use Rattle.image.specs.Layout.{lineWords, valueWords, checkWords}
 use Rattle.word.specs.Word.{wordsOf, packHeader}

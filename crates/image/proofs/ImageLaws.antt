@@ -16,7 +16,7 @@ use Rattle.policy.specs.declared.line.Ending.{Ending}
 use Rattle.policy.specs.declared.line.Test.{Test}
 use Rattle.image.proofs.CodecLaws.{Written, withConstant, withReading, written, test-below, causes-below, never-below}
 use Rattle.image.proofs.LayoutLaws.{condition-length, part-length, condition-size-limit}
-use Rattle.image.proofs.ValidLaws.{valid-out, testInRange}
+use Rattle.policy.proofs.ValidLaws.{valid-out, testInRange}
 use Rattle.word.proofs.WordLaws.{Below}
 use Rattle.image.specs.Layout.{testWord, comparisonWords, endingWord, conditionWords, partWords, conditionSize, lineWords, linesWords}
 use Rattle.word.specs.Word.{wordLimit, between}

@@ -13,4 +13,3 @@ pub mod ReadLaws
 pub mod ScanLaws
 pub mod ScanLines
 pub mod SumLaws
-pub mod ValidLaws

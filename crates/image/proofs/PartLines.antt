@@ -17,7 +17,7 @@ use Rattle.policy.specs.Policy.{Rule, Constraint}
 use Rattle.image.proofs.DecodeLaws.{Stands, line-in, line-out, line-none}
 use Rattle.image.proofs.LayoutLaws.{part-length, condition-size-limit}
 use Rattle.image.proofs.PartLaws.{line-some}
-use Rattle.image.proofs.ValidLaws.{valid-out}
+use Rattle.policy.proofs.ValidLaws.{valid-out}
 use Rattle.image.specs.Layout.{lineWords, linesWords}
 use Rattle.image.specs.Load.{inPart, lineAt, Lines, whole, fault, addLine, afterLine, linesFrom, rulesIn, constraintsIn, NoLineAt}
 use Rattle.image.specs.declared.line.Part.{Part}

@@ -21,7 +21,7 @@ use Rattle.policy.specs.declared.line.Test.{Test}
 use Rattle.policy.specs.declared.number.Action.{Action}
 use Rattle.image.proofs.CodecLaws.{Written, withConstant, withReading, written, literalOperation, literal-operation, literal-event, member-operation, member-action, causes-operation, causes-action, never-operation}
 use Rattle.image.proofs.LayoutLaws.{condition-length, part-length, condition-size-limit}
-use Rattle.image.proofs.ValidLaws.{valid-out, testInRange}
+use Rattle.policy.proofs.ValidLaws.{valid-out, testInRange}
 use Rattle.image.specs.Layout.{testWord, comparisonWords, endingWord, conditionWords, partWords, conditionSize, lineWords}
 use Rattle.word.specs.Operation.{Operation, againstConstant, againstReading, member, operationFrom, operationOf, eventFrom, constantComparison, readingComparison}
 use Rattle.image.specs.Load.{lineAt, lineLength, lineAnswer}

@@ -22,7 +22,7 @@ use Rattle.policy.specs.declared.number.Action.{Action}
 use Rattle.image.proofs.CodecLaws.{Compares, Written, withConstant, withReading, written, test-skip, test-first, test-opcode, test-low}
 use Rattle.image.proofs.FreshLaws.{Fresh, fresh-out, fresh-all}
 use Rattle.image.proofs.LayoutLaws.{condition-length, part-length, condition-size-limit}
-use Rattle.image.proofs.ValidLaws.{ValidParts, valid-out, testInRange}
+use Rattle.policy.proofs.ValidLaws.{ValidParts, valid-out, testInRange}
 use Rattle.word.proofs.WordLaws.{opcode-pack, head-low, head-again}
 use Rattle.image.specs.Layout.{testOpcode, testWord, comparisonWords, endingWord, conditionWords, partWords, lineWords}
 use Rattle.image.specs.Load.{inPart}

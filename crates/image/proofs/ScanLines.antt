@@ -21,7 +21,7 @@ use Rattle.image.proofs.CodecLaws.{Compares, test-again, constant-in-ra
 use Rattle.image.proofs.DecodeLaws.{line-out, line-none}
 use Rattle.image.proofs.FreshLaws.{Fresh, fresh-in, fresh-none}
 use Rattle.image.proofs.ScanLaws.{HeadFacts, after-head, after-constant-test, after-reading-test, after-constant, line-found, scan-by, broken-ends, After, asHead, asConstant, asReading, asNone, after-view, add-head, add-comparison, comparison-on-words, end-line}
-use Rattle.image.proofs.ValidLaws.{ValidParts, valid-in, testInRange}
+use Rattle.policy.proofs.ValidLaws.{ValidParts, valid-in, testInRange}
 use Rattle.word.proofs.WordLaws.{Below}
 use Rattle.image.specs.Layout.{testWord, comparisonWords, lineWords}
 use Rattle.image.specs.Load.{inPart, lineAt, lineLength}

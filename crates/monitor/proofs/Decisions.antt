@@ -26,7 +26,7 @@ use Rattle.policy.specs.declared.number.Action.{Action}
 use Rattle.policy.specs.declared.set.ActionSet.{ActionSet}
 use Rattle.syntax.specs.Epoch.{EpochAnswer, refused, accepted, readEpoch}
 use Rattle.image.proofs.Exact.{partsOf, image-taken, image-holds, held-acceptable, changed, one-word-changed}
-use Rattle.image.proofs.ValidLaws.{valid-out}
+use Rattle.policy.proofs.ValidLaws.{valid-out}
 use Rattle.word.proofs.WordLaws.{Below, bytes-below}
 use Rattle.image.specs.Layout.{knownForm, imageWords, imageOf}
 use Rattle.image.specs.Load.{load, policyIn, Checked, RefusedEarly}

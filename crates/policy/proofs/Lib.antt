@@ -10,3 +10,4 @@ pub mod Resolution
 pub mod SeenLaws
 pub mod SetLaws
 pub mod SignLaws
+pub mod ValidLaws

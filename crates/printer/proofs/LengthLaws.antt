@@ -22,7 +22,7 @@ use Rattle.policy.specs.declared.number.Reading.{Reading}
 use Rattle.lexer.specs.Byte.{bytes}
 use Rattle.lexer.specs.Token.{Token}
 use Rattle.printer.proofs.DecimalLaws.{decimal-few}
-use Rattle.printer.proofs.ValidLaws.{ValidLine, inLimit, valid-line}
+use Rattle.policy.proofs.ValidLaws.{ValidParts, testInRange, valid-out}
 use Rattle.printer.specs.Printed.{decimal, constantToken, literalToken, actionToken, readingToken, relationToken, operandToken, comparisonTokens, joinedBy, headTokens, conditionTokens, lineTokens, lineBytes}
 
 all-map : {A B : Type 0} (p : B → Bool) (f : A → B) (xs : List A) → all p (map f xs) ≡ all (λ x. p (f x)) xs
@@ -61,7 +61,7 @@ module _ {A : Type 0} (p : A → Bool) (f : A → List Token) (sep : Token) (w :
 name-short : (n : ℕ) → n < 100 → length (decimal n) ≤ 2
 name-short n h = decimal-few n 1 (omega arith)
 
-literal-short : (l : Literal) → inLimit (Test.Occurs l) ≡ true → length (literalToken l) ≤ 4
+literal-short : (l : Literal) → testInRange (Test.Occurs l) ≡ true → length (literalToken l) ≤ 4
 unfolding literalToken bytes testNumber
 literal-short l h = go (l .negated) (name-short (l .event .0) (omega (arith, ltb-true (l .event .0) 64 h)))
   where
@@ -69,7 +69,7 @@ literal-short l h = go (l .negated) (name-short (l .event .0) (omega (arith, ltb
     go true k = omega arith
     go false k = omega arith
 
-action-short : (a : Action) → inLimit (Test.Member a) ≡ true → length (actionToken a) ≤ 3
+action-short : (a : Action) → testInRange (Test.Member a) ≡ true → length (actionToken a) ≤ 3
 unfolding actionToken testNumber
 action-short a h = omega (arith, name-short (a .0) (omega (arith, ltb-true (a .0) 64 h)))
 
@@ -112,20 +112,20 @@ condition-room [] h k = omega arith
 condition-room (c ∷ cs) h k = omega (arith, joined-room comparisonInRange comparisonTokens (bytes ",") 19 comparison-room (c ∷ cs) h)
 
 -- eight literals or actions
-module _ {A : Type 0} (token : A → Token) (test : A → Test) (short : (x : A) → inLimit (test x) ≡ true → length (token x) ≤ 4) where
-  heads-room : (xs : List A) → all inLimit (map test xs) ≡ true → length (map test xs) ≤ 8 → room (headTokens token xs) ≤ 56
+module _ {A : Type 0} (token : A → Token) (test : A → Test) (short : (x : A) → testInRange (test x) ≡ true → length (token x) ≤ 4) where
+  heads-room : (xs : List A) → all testInRange (map test xs) ≡ true → length (map test xs) ≤ 8 → room (headTokens token xs) ≤ 56
   unfolding headTokens bytes room
   heads-room xs h k =
-      let one : (x : A) → inLimit (test x) ≡ true → room (token x ∷ []) ≤ 5 = λ x q. omega (arith, short x q) in
+      let one : (x : A) → testInRange (test x) ≡ true → room (token x ∷ []) ≤ 5 = λ x q. omega (arith, short x q) in
       omega
-      (arith, length-map xs test, joined-room (λ x. inLimit (test x)) (λ x. token x ∷ []) (bytes "&") 5 one xs (sym (all-map inLimit test xs) ∙ h))
+      (arith, length-map xs test, joined-room (λ x. testInRange (test x)) (λ x. token x ∷ []) (bytes "&") 5 one xs (sym (all-map testInRange test xs) ∙ h))
 
 -- ---- the line
 
-line-room : (l : PolicyLine) → ValidLine l → room (lineTokens l) ≤ 154
+line-room : (l : PolicyLine) → ValidParts (headsOf l) (comparisonsOf l) (endingOf l) → room (lineTokens l) ≤ 154
 unfolding lineTokens headsOf comparisonsOf endingOf endingInRange testNumber room bytes
 line-room (rule r) v =
-    let heads : room (headTokens literalToken (r .literals)) ≤ 56 = heads-room literalToken Test.Occurs literal-short (r .literals) (v .heads) (v .few-heads) in
+    let heads : room (headTokens literalToken (r .literals)) ≤ 56 = heads-room literalToken Test.Occurs literal-short (r .literals) (v .tests) (v .few-tests) in
     let condition : room (conditionTokens (r .comparisons)) ≤ 87 = condition-room (r .comparisons) (v .comparisons) (v .few-comparisons) in
     omega (
       arith,
@@ -133,11 +133,11 @@ line-room (rule r) v =
       room-append (headTokens literalToken (r .literals)) (bytes "causes" ∷ actionToken (r .action) ∷ conditionTokens (r .comparisons)),
     )
 line-room (constraint c) v =
-    let short : (a : Action) → inLimit (Test.Member a) ≡ true → length (actionToken a) ≤ 4 = λ a q. omega (arith, action-short a q) in
-    let heads : room (headTokens actionToken (c .actions)) ≤ 56 = heads-room actionToken Test.Member short (c .actions) (v .heads) (v .few-heads) in
+    let short : (a : Action) → testInRange (Test.Member a) ≡ true → length (actionToken a) ≤ 4 = λ a q. omega (arith, action-short a q) in
+    let heads : room (headTokens actionToken (c .actions)) ≤ 56 = heads-room actionToken Test.Member short (c .actions) (v .tests) (v .few-tests) in
     let condition : room (conditionTokens (c .comparisons)) ≤ 87 = condition-room (c .comparisons) (v .comparisons) (v .few-comparisons) in
     omega (arith, room-append (headTokens actionToken (c .actions)) (conditionTokens (c .comparisons)))
 
 pub line-length : (l : PolicyLine) → valid l ≡ true → length (lineBytes l) ≤ 154
 unfolding lineBytes
-line-length l v = omega (arith, joined-short (lineTokens l), line-room l (valid-line l v))
+line-length l v = omega (arith, joined-short (lineTokens l), line-room l (valid-out l v))

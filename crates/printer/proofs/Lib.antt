@@ -4,4 +4,3 @@ pub mod LengthLaws
 pub mod ParseLaws
 pub mod Printing
 pub mod SplitLaws
-pub mod ValidLaws

@@ -23,7 +23,7 @@ use Rattle.syntax.specs.Grammar.{comparisonsOf, conditionOf, joined, causes, ne
 use Rattle.syntax.specs.Text.{accepted, judge, isComment, tokensAnswer, lineAnswer}
 use Rattle.printer.proofs.DecimalLaws.{decimal-all, number-read, digits-unnamed, constant-read}
 use Rattle.printer.proofs.SplitLaws.{line-tokens}
-use Rattle.printer.proofs.ValidLaws.{valid-line}
+use Rattle.policy.proofs.ValidLaws.{valid-tests}
 use Rattle.printer.specs.Printed.{decimal, constantToken, literalToken, actionToken, readingToken, relationToken, operandToken, comparisonTokens, joinedBy, headTokens, conditionTokens, lineTokens, lineBytes}
 
 -- ---- the parts
@@ -173,5 +173,5 @@ judge-valid l h k m = rw (h, k, m)
 pub line-read : (l : PolicyLine) → valid l ≡ true → lineAnswer (lineBytes l) ≡ accepted l
 unfolding lineAnswer
 line-read l v =
-    let f = valid-line l v in
+    let f = valid-tests l v in
     ap tokensAnswer (line-tokens l) ∙ line-judged l (f .some-heads) ∙ judge-valid l (f .in-range) (f .uncrowded) (f .distinct)

@@ -25,7 +25,7 @@ use Rattle.policy.specs.declared.set.ActionSet.{ActionSet}
 use Rattle.image.proofs.CodecLaws.{Written, withConstant, withReading, written, literalOperation, literal-operation, literal-event, member-operation, member-action, test-skip, causes-operation, causes-action, never-operation}
 use Rattle.image.proofs.LayoutLaws.{condition-length, part-length, condition-size-limit}
 use Rattle.run.proofs.RunLaws.{rules-pass, constraints-pass}
-use Rattle.image.proofs.ValidLaws.{valid-out, testInRange}
+use Rattle.policy.proofs.ValidLaws.{valid-out, testInRange}
 use Rattle.image.specs.Layout.{testWord, comparisonWords, endingWord, conditionWords, partWords, conditionSize, lineWords, linesWords, ruleWords, constraintWords}
 use Rattle.word.specs.Operation.{Operation, againstConstant, againstReading, operationOf, eventFrom, constantComparison, readingComparison}
 use Rattle.run.specs.Run.{passed, rulePasses, ruleProposes, runRules, constraintPasses, isNever, runConstraints}
