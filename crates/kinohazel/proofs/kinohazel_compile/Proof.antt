@@ -1,0 +1,45 @@
+use Rattle.kinohazel.proofs.ExportLaws.{compile-refused, compile-image}
+use borrow.Author.Needs.{needs}
+use Rattle.kinohazel.proofs.kinohazel_compile.Statement.{statement}
+use Rattle.kinohazel.proofs.kinohazel_compile.Tie as tie
+
+compile-requires : tie.Need-compile-requires
+compile-requires c κs = search needs
+
+enum-known-answer : tie.Need-enum-known-answer
+enum-known-answer c = search needs
+
+number-requires : tie.Need-number-requires
+number-requires c κs = search needs
+
+cast-t11 : tie.Need-cast-t11
+cast-t11 c = search needs
+
+enum-known-answer-2 : tie.Need-enum-known-answer-2
+enum-known-answer-2 c = search needs
+
+same-length : tie.Need-same-length
+same-length c = search needs
+
+returns : tie.Need-returns
+returns c = (compile-refused _ _ (c .before .before .before .before .before .before .compile .ensures .0) _ _ _ (c .before .before .answer .given .1) (c .number .ensures), c .before .before .before .before .before .before .compile .ensures .1)
+
+same-length-2 : tie.Need-same-length-2
+same-length-2 c = search needs
+
+returns-2 : tie.Need-returns-2
+returns-2 c = (compile-image _ _ (c .before .before .before .before .before .compile .ensures .0) _ (c .before .answer2 .given .1), c .before .before .before .before .before .compile .ensures .1)
+
+pub kinohazel-compile-spec : {M : Type 1} → statement M
+kinohazel-compile-spec =
+    tie.close
+    (tie.spec
+    compile-requires
+    enum-known-answer
+    number-requires
+    cast-t11
+    enum-known-answer-2
+    same-length
+    returns
+    same-length-2
+    returns-2)

@@ -1,0 +1,20 @@
+-- The answers of the functions for C, as numbers: the ground's number and place of document 01, 0 where nothing is refused.
+use Rattle.policy.specs.Fault.{faultNumber}
+use Rattle.codegen.specs.declared.Compiled.{Compiled}
+use Rattle.image.specs.declared.load.Loaded.{Loaded}
+use Rattle.monitor.specs.declared.decision.Decision.{Decision}
+use Rattle.kinohazel.specs.declared.Compilation.{Compilation}
+use Rattle.kinohazel.specs.declared.ImageCheck.{ImageCheck}
+use Rattle.kinohazel.specs.declared.EpochDecision.{EpochDecision}
+
+unfoldable pub compilationOf : Compiled → Compilation
+compilationOf (Compiled.Refused f line) = record { fault = faultNumber f; line = line; size = 0 }
+compilationOf (Compiled.Image size) = record { fault = 0; line = 0; size = size }
+
+unfoldable pub checkOf : Loaded → ImageCheck
+checkOf (Loaded.Refused f word) = record { fault = faultNumber f; word = word; rules = 0; constraints = 0 }
+checkOf (Loaded.Image parts) = record { fault = 0; word = 0; rules = parts .rules; constraints = parts .constraints }
+
+unfoldable pub decisionOf : Decision → EpochDecision
+decisionOf (Decision.Refused f word) = record { fault = faultNumber f; word = word; accepted = 0; cancelled = 0 }
+decisionOf (Decision.Issued actions) = record { fault = 0; word = 0; accepted = actions .accepted .0; cancelled = actions .cancelled .0 }

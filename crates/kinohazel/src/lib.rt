@@ -1,0 +1,97 @@
+// The functions for C: compile a text, check an image, decide an epoch. Each answers a struct of numbers. Start with
+// specs/Export.antt; include/kinohazel.h is the C side.
+ghost use mathlib.Core.Path.{_≡_};
+ghost use Rattle.codegen.specs.Compile.{compiled};
+ghost use Rattle.image.specs.Load.{load};
+ghost use Rattle.monitor.specs.Decision.{decision};
+ghost use Rattle.kinohazel.specs.Export.{compilationOf, checkOf, decisionOf};
+use codegen::Compiled;
+use image::Loaded;
+use monitor::Decision;
+
+// The fault's number, or 0; its line; how many bytes were written.
+#[repr(C)]
+pub struct Compilation {
+    pub fault: u64,
+    pub line: u64,
+    pub size: u64,
+}
+
+// The fault's number, or 0; the word at fault; how many rules and never lines the image has.
+#[repr(C)]
+pub struct ImageCheck {
+    pub fault: u64,
+    pub word: u64,
+    pub rules: u64,
+    pub constraints: u64,
+}
+
+// The fault's number, or 0; the word of the image at fault; the accepted and the cancelled actions, action n as bit n.
+#[repr(C)]
+pub struct EpochDecision {
+    pub fault: u64,
+    pub word: u64,
+    pub accepted: u64,
+    pub cancelled: u64,
+}
+
+#[no_mangle]
+pub extern "C" fn kinohazel_compile(text: &[u8], out: &mut [u8]) -> Compilation
+    ensures { λ r. ⌜ (r ≡ compilationOf (compiled (now (text .entry)) (now (out .entry)) .answer)) × (now (out .exit) ≡ compiled (now (text .entry)) (now (out .entry)) .buffer) ⌝ }
+{
+    let answer = codegen::compile(text, out);
+    match answer {
+        Compiled::Refused(fault, line) => Compilation {
+            fault: fault.number() as u64,
+            line: line as u64,
+            size: 0,
+        },
+        Compiled::Image(size) => Compilation {
+            fault: 0,
+            line: 0,
+            size: size as u64,
+        },
+    }
+}
+
+#[no_mangle]
+pub extern "C" fn kinohazel_check(image: &[u8]) -> ImageCheck
+    ensures { λ r. ⌜ r ≡ checkOf (load (now (image .entry))) ⌝ }
+{
+    let answer = image::load_image(image);
+    match answer {
+        Loaded::Refused(fault, word) => ImageCheck {
+            fault: fault.number() as u64,
+            word: word as u64,
+            rules: 0,
+            constraints: 0,
+        },
+        Loaded::Image(parts) => ImageCheck {
+            fault: 0,
+            word: 0,
+            rules: parts.rules as u64,
+            constraints: parts.constraints as u64,
+        },
+    }
+}
+
+#[no_mangle]
+pub extern "C" fn kinohazel_decide(image: &[u8], line: &[u8]) -> EpochDecision
+    ensures { λ r. ⌜ r ≡ decisionOf (decision (now (image .entry)) (now (line .entry))) ⌝ }
+{
+    let answer = monitor::decide(image, line);
+    match answer {
+        Decision::Refused(fault, word) => EpochDecision {
+            fault: fault.number() as u64,
+            word: word as u64,
+            accepted: 0,
+            cancelled: 0,
+        },
+        Decision::Issued(actions) => EpochDecision {
+            fault: 0,
+            word: 0,
+            accepted: actions.accepted.0,
+            cancelled: actions.cancelled.0,
+        },
+    }
+}
