@@ -14,3 +14,4 @@ pub mod ScanLaws
 pub mod ScanLines
 pub mod SumLaws
 pub mod ValidLaws
+pub mod WalkerLaws
