@@ -2,12 +2,12 @@
 ghost use mathlib.Core.Path.{_≡_};
 ghost use Prim.Native.Nat.{_+_, _/_, _≤_};
 ghost use lib.ListN.{length};
-ghost use Rattle.word.specs.Word.{wordsOf, formOf, ruleCountOf, constraintCountOf};
-ghost use Rattle.image.specs.Load.{load, bodyAnswer, partLines, wellSized};
+ghost use Rattle.word.specs.Word.{wordsOf, between, formOf, ruleCountOf, constraintCountOf};
+ghost use Rattle.image.specs.Load.{load, linesFrom, partAnswer, bodyAnswer, partLines, wellSized};
 use crate::checksum::sum_words;
 use crate::line::Part;
 use crate::line::PartCheck;
-use crate::line::part_lines;
+use crate::walker::line_from;
 use policy::Fault;
 use word::word_at;
 
@@ -63,6 +63,33 @@ fn constraint_words_of(header: u32) -> u32
     ensures { λ r. ⌜ r ≡ constraintCountOf header ⌝ }
 {
     header % 4096
+}
+
+// The lines between two words of an image, at most `limit` of them.
+fn part_lines(
+    image: &[u8],
+    part: Part,
+    start: usize,
+    end: usize,
+    limit: usize,
+) -> PartCheck
+    requires { ⌜ (start ≤ end) × (end ≤ length (now image) / 4) ⌝ }
+    ensures { λ r. ⌜ r ≡ partAnswer 0 (linesFrom part limit start (between start end (wordsOf (now (image .entry))))) ⌝ }
+{
+    let mut at = start;
+    let mut count: usize = 0;
+    while at < end {
+        if count == limit {
+            return PartCheck::Fault(at);
+        }
+        let words = line_from(image, part, at, end);
+        if words == 0 {
+            return PartCheck::Fault(at);
+        }
+        at += words;
+        count += 1;
+    }
+    PartCheck::Lines(count)
 }
 
 // The lines of both parts, which fit the image.
