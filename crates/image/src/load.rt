@@ -7,7 +7,7 @@ ghost use Rattle.image.specs.Load.{load, linesFrom, partAnswer, bodyAnsw
 use crate::checksum::sum_words;
 use crate::line::Part;
 use crate::line::PartCheck;
-use crate::walker::line_from;
+use crate::walker::Walker;
 use policy::Fault;
 use word::word_at;
 
@@ -76,17 +76,17 @@ fn part_lines(
     requires { ⌜ (start ≤ end) × (end ≤ length (now image) / 4) ⌝ }
     ensures { λ r. ⌜ r ≡ partAnswer 0 (linesFrom part limit start (between start end (wordsOf (now (image .entry))))) ⌝ }
 {
-    let mut at = start;
+    let mut walker = Walker::new(image, start);
     let mut count: usize = 0;
-    while at < end {
+    while walker.at < end {
         if count == limit {
-            return PartCheck::Fault(at);
+            return PartCheck::Fault(walker.at);
         }
-        let words = line_from(image, part, at, end);
+        let words = walker.line_length(part, end);
         if words == 0 {
-            return PartCheck::Fault(at);
+            return PartCheck::Fault(walker.at);
         }
-        at += words;
+        walker = walker.moved(words);
         count += 1;
     }
     PartCheck::Lines(count)
