@@ -37,12 +37,6 @@ pub struct LineAt {
     pub next: usize,
 }
 
-// The lines of a part: how many there are, or the first word at which none fits.
-pub enum PartCheck {
-    Lines(usize),
-    Fault(usize),
-}
-
 // What is known of a line after some of its words: the events or actions in its heads, how many heads and comparisons
 // there are, whether a constant comes next, and whether all was as in a valid line.
 pub struct Scan {

@@ -6,7 +6,6 @@ ghost use Rattle.word.specs.Word.{wordsOf, between, formOf, ruleCountOf, constr
 ghost use Rattle.image.specs.Load.{load, linesFrom, partAnswer, bodyAnswer, partLines, wellSized};
 use crate::checksum::sum_words;
 use crate::line::Part;
-use crate::line::PartCheck;
 use crate::walker::Walker;
 use policy::Fault;
 use word::word_at;
@@ -20,6 +19,12 @@ const CONSTRAINT_WORD_LIMIT: usize = 1088;
 const RULE_LIMIT: usize = 128;
 
 const CONSTRAINT_LIMIT: usize = 64;
+
+// The lines of a part: how many there are, or the first word at which none fits.
+pub enum PartCheck {
+    Lines(usize),
+    Fault(usize),
+}
 
 // The counts of an image that the loader took.
 pub struct Parts {
@@ -65,7 +70,7 @@ fn constraint_words_of(header: u32) -> u32
     header % 4096
 }
 
-// The lines between two words of an image, at most `limit` of them.
+// The lines between two words of an image, at most `limit` of them: a walker goes from line to line.
 fn part_lines(
     image: &[u8],
     part: Part,

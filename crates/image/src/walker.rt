@@ -1,5 +1,5 @@
-// A walker over an image: it refers to the lent bytes and keeps a place, a word's index. What it answers is answered by the
-// functions on the bytes and the index.
+// A walker over an image: it refers to the lent bytes and keeps a place in them, the index of a word. What it answers is
+// answered by the functions on the bytes and the index.
 ghost use mathlib.Core.Path.{_≡_};
 ghost use Prim.Native.Nat.{_+_, _/_, min};
 ghost use lib.ListN.{length};
@@ -59,11 +59,4 @@ impl<'a> Walker<'a> {
             at,
         }
     }
-}
-
-// `line_length` by a walker at the word `at`.
-pub(crate) fn line_from(image: &[u8], part: Part, at: usize, end: usize) -> usize
-    ensures { λ r. ⌜ r ≡ lineLength (lineAt part (between at end (wordsOf (now (image .entry))))) ⌝ }
-{
-    Walker::new(image, at).line_length(part, end)
 }

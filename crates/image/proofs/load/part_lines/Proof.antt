@@ -1,7 +1,7 @@
 -- A walk of the code by hand: a loop over a local `Walker` that is moved on. All that is known of the walker's functions is that
 -- each meets its contract. What is counted, and what is left, is `Counted`'s to say; the walk carries the lifetime's token and what
 -- the slice owns, from which each call's walker is made anew.
-use mathlib.Core.Path.{_≡_, refl, sym, ap, subst, _∙_}
+use mathlib.Core.Path.{_≡_, refl, ap, subst, _∙_}
 use Prim.Native.Nat.{ℕ, _+_, _-_, _/_, _≤_, _<_, _^_, min}
 use native.Mathlib.Nat.{min-eq-left}
 use native.Mathlib.Omega.{arith}
@@ -23,7 +23,7 @@ use prog.Wp.{Heap, Out, Env, afterSeq, afterBlock, afterTurn, Calls, Loops, Wp, 
 use ghost.Atoms.{Atoms, sem}
 use contract.Monad.{Fun, fact}
 use contract.Running.{givenOf, tables, tablesOf}
-use types.Kit.{Given, Item, ‵, raw, runs, anyQ, atRet, prop, frees, Sq, _⊛_, ⋆, some, later, _$_, _∵_, !, qed, by, move, drop, keep, use1, use2, split, join, pick, fsplit, fjoin, suffices, frame, await, rewrite, done}
+use types.Kit.{Given, Item, ‵, raw, runs, anyQ, atRet, prop, frees, Sq, _⊛_, ⋆, some, later, _$_, _∵_, !, qed, by, move, drop, use1, use2, split, join, pick, fsplit, fjoin, suffices, frame, await, rewrite, done}
 use types.Part.{whole, sub, look-in, agg}
 use types.Run.{look, store, init, forget, stop, fld, from, load, lit, of-opd, bin, and-then, no-more, assigns, assigns-last, land, first, skips, jumps, blocks, branches, returns, returns-within, enter, alloc1, alloc0, params1, pass1, pass0, free1, free0, exec, Below, again, loops}
 use sound.WpLaws.{FmC, fmOf, WpFn-mono}
@@ -48,14 +48,14 @@ use denote.Triple.Clauses.{ensured, lasts}
 use Rattle.word.specs.Word.{between, wordsOf}
 use Rattle.image.specs.Load.{lineAt, lineLength, linesFrom, partAnswer}
 use Rattle.image.specs.declared.line.Part.{Part}
-use Rattle.image.specs.declared.line.PartCheck.{PartCheck}
+use Rattle.image.specs.declared.load.PartCheck.{PartCheck}
 use Rattle.image.specs.declared.walker.Walker.{Walker}
 use Rattle.image.proofs.PartLaws.{Counted, counted-none, counted-more, counted-full, counted-fault, counted-all}
 use Rattle.image.proofs.WalkerLaws.{Row, Type′, Laws′, slice, Own, SliceOwn, placed, made}
 use Rattle.image.proofs.line.Part as P
 use Rattle.image.proofs.line.Part.Laws as P′
-use Rattle.image.proofs.line.PartCheck as K
-use Rattle.image.proofs.line.PartCheck.Laws as K′
+use Rattle.image.proofs.load.PartCheck as K
+use Rattle.image.proofs.load.PartCheck.Laws as K′
 use Rattle.image.proofs.walker.Walker as T
 use Rattle.image.proofs.walker.Walker.Laws as T′
 use Rattle.image.proofs.walker.Walker.new as new
@@ -371,6 +371,7 @@ module _ {M : Type 1} (𝓤 : URA M) (H : Heap 𝓤) (A : Atoms 𝓤) (W : Given
           returns ! (look ! 30 refl) $ forget ! 10 refl $ forget ! 12 refl $ forget ! 16 refl $ forget ! 18 refl $ forget ! 20 refl $ forget ! 22 refl $ forget ! 24 refl $ forget ! 26 refl $ forget ! 28 refl $ forget ! 30 refl $
           ends (PartCheck.Lines (i .1 .0)) _ (is-lines (i .1 .0) (count-fits i)) (all s part start end limit fits (i .0) (i .1 .0) (i .1 .1) (nltb→le (i .0) end over)))
 
+      -- stated apart: its goal is written as the code's, so that the walk up to it need not compute the loop
       loop-walk : (i : State) → Sq W (In i) (runs C Λ En body.t-3 (atRet En Post))
       loop-walk i = first ! $ blocks ! $ loops ! 𝓣 Nearer Nearer-wf In turns i
 
