@@ -13,3 +13,4 @@ pub mod ReadLaws
 pub mod ScanLaws
 pub mod ScanLines
 pub mod SumLaws
+pub mod WalkerLaws

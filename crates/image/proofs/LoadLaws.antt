@@ -15,7 +15,7 @@ use Rattle.image.specs.Layout.{knownForm, checkCount, sum}
 use Rattle.image.specs.Load.{Lines, whole, fault, partAnswer, bodyAnswer, partLines, ruleCount, constraintCount, formByte, wellSized, countsFit, sumsToZero, loadWords, load}
 use Rattle.word.specs.Word.{wordLimit, wordsOf, wordAt, formOf, ruleCountOf, constraintCountOf}
 use Rattle.image.specs.declared.line.Part.{Part}
-use Rattle.image.specs.declared.line.PartCheck.{PartCheck}
+use Rattle.image.specs.declared.load.PartCheck.{PartCheck}
 use Rattle.image.specs.declared.load.Loaded.{Loaded}
 
 -- ---- the answers for the parts

@@ -15,7 +15,7 @@ use Rattle.image.specs.Layout.{lineWords}
 use Rattle.image.specs.Load.{lineAt, lineLength, Lines, whole, fault, addLine, afterLine, linesFrom, partAnswer}
 use Rattle.word.specs.Word.{wordsOf}
 use Rattle.image.specs.declared.line.Part.{Part}
-use Rattle.image.specs.declared.line.PartCheck.{PartCheck}
+use Rattle.image.specs.declared.load.PartCheck.{PartCheck}
 
 pub line-some : (l : PolicyLine) → 0 < length (lineWords l)
 unfolding lineWords

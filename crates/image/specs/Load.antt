@@ -22,7 +22,7 @@ use Rattle.word.specs.Operation.{Operation, present, absent, againstConstant, a
 use Rattle.image.specs.Layout.{lineWords, linesWords, knownForm, checkCount, ruleWordLimit, constraintWordLimit, sizeLimit, sum}
 use Rattle.image.specs.declared.line.LineAt.{LineAt}
 use Rattle.image.specs.declared.line.Part.{Part}
-use Rattle.image.specs.declared.line.PartCheck.{PartCheck}
+use Rattle.image.specs.declared.load.PartCheck.{PartCheck}
 use Rattle.image.specs.declared.load.Loaded.{Loaded}
 
 -- ---- the line that words begin with

@@ -4,6 +4,7 @@ mod checksum;
 mod layout;
 mod line;
 mod load;
+mod walker;
 
 pub use checksum::put_check_words;
 pub use checksum::sum_words;
@@ -16,3 +17,4 @@ pub use line::line_length;
 pub use load::Loaded;
 pub use load::Parts;
 pub use load::load_image;
+pub use walker::Walker;

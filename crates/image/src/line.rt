@@ -7,7 +7,7 @@ ghost use lib.ListN.{length, drop};
 ghost use Rattle.policy.specs.Line.{lineOf};
 ghost use Rattle.policy.specs.Set.{has, insert};
 ghost use Rattle.word.specs.Word.{wordsOf, between};
-ghost use Rattle.image.specs.Load.{lineAt, lineLength, lineAnswer, linesFrom, partAnswer};
+ghost use Rattle.image.specs.Load.{lineAt, lineLength, lineAnswer};
 ghost use Rattle.image.specs.Scan.{isHead, isEnding, headSound, afterHead, constantSound, readingSound, afterComparison, afterWord, broken, readFrom};
 use policy::Action;
 use policy::Ending;
@@ -35,12 +35,6 @@ pub enum Part {
 pub struct LineAt {
     pub line: Line,
     pub next: usize,
-}
-
-// The lines of a part: how many there are, or the first word at which none fits.
-pub enum PartCheck {
-    Lines(usize),
-    Fault(usize),
 }
 
 // What is known of a line after some of its words: the events or actions in its heads, how many heads and comparisons
@@ -257,33 +251,6 @@ pub fn line_length(image: &[u8], part: Part, at: usize, end: usize) -> usize
         }
     }
     0
-}
-
-// The lines between two words of an image, at most `limit` of them.
-pub(crate) fn part_lines(
-    image: &[u8],
-    part: Part,
-    start: usize,
-    end: usize,
-    limit: usize,
-) -> PartCheck
-    requires { ⌜ (start ≤ end) × (end ≤ length (now image) / 4) ⌝ }
-    ensures { λ r. ⌜ r ≡ partAnswer 0 (linesFrom part limit start (between start end (wordsOf (now (image .entry))))) ⌝ }
-{
-    let mut at = start;
-    let mut count: usize = 0;
-    while at < end {
-        if count == limit {
-            return PartCheck::Fault(at);
-        }
-        let words = line_length(image, part, at, end);
-        if words == 0 {
-            return PartCheck::Fault(at);
-        }
-        at += words;
-        count += 1;
-    }
-    PartCheck::Lines(count)
 }
 
 // The value of the line whose words stand from `start` up to `end`.

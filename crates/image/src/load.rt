@@ -2,12 +2,11 @@
 ghost use mathlib.Core.Path.{_≡_};
 ghost use Prim.Native.Nat.{_+_, _/_, _≤_};
 ghost use lib.ListN.{length};
-ghost use Rattle.word.specs.Word.{wordsOf, formOf, ruleCountOf, constraintCountOf};
-ghost use Rattle.image.specs.Load.{load, bodyAnswer, partLines, wellSized};
+ghost use Rattle.word.specs.Word.{wordsOf, between, formOf, ruleCountOf, constraintCountOf};
+ghost use Rattle.image.specs.Load.{load, linesFrom, partAnswer, bodyAnswer, partLines, wellSized};
 use crate::checksum::sum_words;
 use crate::line::Part;
-use crate::line::PartCheck;
-use crate::line::part_lines;
+use crate::walker::Walker;
 use policy::Fault;
 use word::word_at;
 
@@ -20,6 +19,12 @@ const CONSTRAINT_WORD_LIMIT: usize = 1088;
 const RULE_LIMIT: usize = 128;
 
 const CONSTRAINT_LIMIT: usize = 64;
+
+// The lines of a part: how many there are, or the first word at which none fits.
+pub enum PartCheck {
+    Lines(usize),
+    Fault(usize),
+}
 
 // The counts of an image that the loader took.
 pub struct Parts {
@@ -63,6 +68,33 @@ fn constraint_words_of(header: u32) -> u32
     ensures { λ r. ⌜ r ≡ constraintCountOf header ⌝ }
 {
     header % 4096
+}
+
+// The lines between two words of an image, at most `limit` of them: a walker goes from line to line.
+fn part_lines(
+    image: &[u8],
+    part: Part,
+    start: usize,
+    end: usize,
+    limit: usize,
+) -> PartCheck
+    requires { ⌜ (start ≤ end) × (end ≤ length (now image) / 4) ⌝ }
+    ensures { λ r. ⌜ r ≡ partAnswer 0 (linesFrom part limit start (between start end (wordsOf (now (image .entry))))) ⌝ }
+{
+    let mut walker = Walker::new(image, start);
+    let mut count: usize = 0;
+    while walker.at < end {
+        if count == limit {
+            return PartCheck::Fault(walker.at);
+        }
+        let words = walker.line_length(part, end);
+        if words == 0 {
+            return PartCheck::Fault(walker.at);
+        }
+        walker = walker.moved(words);
+        count += 1;
+    }
+    PartCheck::Lines(count)
 }
 
 // The lines of both parts, which fit the image.
