@@ -71,13 +71,7 @@ fn constraint_words_of(header: u32) -> u32
 }
 
 // The lines between two words of an image, at most `limit` of them: a walker goes from line to line.
-fn part_lines(
-    image: &[u8],
-    part: Part,
-    start: usize,
-    end: usize,
-    limit: usize,
-) -> PartCheck
+fn part_lines(image: &[u8], part: Part, start: usize, end: usize, limit: usize) -> PartCheck
     requires { ⌜ (start ≤ end) × (end ≤ length (now image) / 4) ⌝ }
     ensures { λ r. ⌜ r ≡ partAnswer 0 (linesFrom part limit start (between start end (wordsOf (now (image .entry))))) ⌝ }
 {
