@@ -5,7 +5,7 @@ use mathlib.Core.Path.{_≡_, refl, sym, ap, ap₂, _∙_}
 use native.Mathlib.Omega.{arith}
 use lib.ListN.{length, getD}
 use lib.Pow.{shr-shr, split}
-use Rattle.word.specs.Word.{wordLimit, join, wordsOf, bytesOf, byteList, pack, opcodeOf, firstOf, secondOf, relationOf, skipOf, packHeader, formOf, ruleCountOf, constraintCountOf}
+use Rattle.word.specs.Word.{wordLimit, join, wordsOf, bytesOf, byteList, pack, opcodeOf, firstOf, secondOf, relationOf, skipOf, packHeader, formOf, ruleCountOf, constraintCountOf, swap}
 
 -- each element is below n
 abbrev pub Below : ℕ → List ℕ → Type 0
@@ -92,6 +92,10 @@ byte-4 a b c d ha hb hc hd = omega arith
 
 bytes-join : (a b c d : ℕ) → a < 256 → b < 256 → c < 256 → d < 256 → byteList (join a b c d) ≡ a ∷ b ∷ c ∷ d ∷ []
 bytes-join a b c d ha hb hc hd = rw (byte-1 a b c d ha hb hc hd, byte-2 a b c d ha hb hc hd, byte-3 a b c d ha hb hc hd, byte-4 a b c d ha hb hc hd)
+
+pub swap-join : (a b c d : ℕ) → a < 256 → b < 256 → c < 256 → d < 256 → swap (join d c b a) ≡ join a b c d
+unfolding swap
+swap-join a b c d ha hb hc hd = rw (byte-1 d c b a hd hc hb ha, byte-2 d c b a hd hc hb ha, byte-3 d c b a hd hc hb ha, byte-4 d c b a hd hc hb ha)
 
 -- bytes to words to bytes
 pub bytes-of-words : (bytes : List ℕ) → Below 256 bytes → length bytes % 4 ≡ 0 → bytesOf (wordsOf bytes) ≡ bytes

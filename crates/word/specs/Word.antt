@@ -11,6 +11,10 @@ wordLimit = 2 ^ 32
 abbrev pub join : ℕ → ℕ → ℕ → ℕ → ℕ
 join a b c d = a * 2 ^ 24 + b * 2 ^ 16 + c * 2 ^ 8 + d
 
+-- the bytes of a word in the other order
+unfoldable pub swap : ℕ → ℕ
+swap w = join (w % 256) (w / 2 ^ 8 % 256) (w / 2 ^ 16 % 256) (w / 2 ^ 24 % 256)
+
 -- four bytes at a time; what is left over is no word
 unfoldable pub wordsOf : List ℕ → List ℕ
 wordsOf (a ∷ b ∷ c ∷ d ∷ rest) = join a b c d ∷ wordsOf rest

@@ -2,7 +2,7 @@
 ghost use mathlib.Core.Path.{_≡_};
 ghost use mathlib.Core.List.{[], _∷_};
 ghost use Prim.Native.Nat.{min};
-ghost use Rattle.word.specs.Word.{join, wordAt, opcodeOf, firstOf, secondOf, relationOf, skipOf};
+ghost use Rattle.word.specs.Word.{join, swap, wordAt, opcodeOf, firstOf, secondOf, relationOf, skipOf};
 ghost use Rattle.word.specs.Write.{fits, putWords};
 
 pub struct Fields {
@@ -13,22 +13,39 @@ pub struct Fields {
     pub skip: u32,
 }
 
-fn join4(a: u8, b: u8, c: u8, d: u8) -> u32
-    ensures { λ r. ⌜ r ≡ join a b c d ⌝ }
+// Four bytes as a word whose least significant byte is the first: what one load reads.
+fn reversed4(a: u8, b: u8, c: u8, d: u8) -> u32
+    ensures { λ r. ⌜ swap r ≡ join a b c d ⌝ }
 {
-    (a as u32) * 0x0100_0000 + (b as u32) * 0x0001_0000 + (c as u32) * 0x0100 + (d as u32)
+    (d as u32) * 0x0100_0000 + (c as u32) * 0x0001_0000 + (b as u32) * 0x0100 + (a as u32)
 }
 
-// 0 past the last whole word.
-pub fn word_at(bytes: &[u8], index: usize) -> u32
-    ensures { λ r. ⌜ r ≡ wordAt (now (bytes .entry)) index ⌝ }
+fn reversed_at(bytes: &[u8], index: usize) -> u32
+    ensures { λ r. ⌜ swap r ≡ wordAt (now (bytes .entry)) index ⌝ }
 {
     if index < bytes.len() / 4 {
         let at = index * 4;
-        join4(bytes[at], bytes[at + 1], bytes[at + 2], bytes[at + 3])
+        reversed4(bytes[at], bytes[at + 1], bytes[at + 2], bytes[at + 3])
     } else {
         0
     }
+}
+
+// The bytes of a word in the other order.
+fn swapped(word: u32) -> u32
+    ensures { λ r. ⌜ r ≡ swap word ⌝ }
+{
+    (word % 256) * 0x0100_0000
+        + ((word >> 8) % 256) * 0x0001_0000
+        + ((word >> 16) % 256) * 0x0100
+        + (word >> 24) % 256
+}
+
+// 0 past the last whole word. The load and the swap are apart, so that each is one instruction where it is inlined.
+pub fn word_at(bytes: &[u8], index: usize) -> u32
+    ensures { λ r. ⌜ r ≡ wordAt (now (bytes .entry)) index ⌝ }
+{
+    swapped(reversed_at(bytes, index))
 }
 
 pub fn opcode(word: u32) -> u32
