@@ -356,8 +356,10 @@ static void damage(struct buffer *in, size_t from, struct dice *dice)
         ">=", "0", "-1", "-0", "2147483648", "#", "!", "-", "run", "E1&E2", "E1 & E1", "A1 & A1", "R0=1", "\n", "\n\n",
         "\r\n", "\nrun\n", "# \n", "&\n", "\t"};
     static const uint8_t signs[] = "&!,=<>-#EARear019 \n\r\t\0";
-    static const char *const events[] = {"E0", "E1", "!E0", "!E1", "E63", "!E64", "E64", "E4294967296", "E1 & E1", "E01"};
-    static const char *const actions[] = {"A0", "A1", "A63", "A64", "A18446744073709551616", "A1 & A1", "A1 & A2", "A00"};
+    static const char *const events[] = {"E0", "E1", "!E0", "!E1", "E63", "!E64", "E64", "E4294967296",
+        "E1 & E1", "E01"};
+    static const char *const actions[] = {"A0", "A1", "A63", "A64", "A18446744073709551616", "A1 & A1",
+        "A1 & A2", "A00"};
     static const char *const readings[] = {"R0", "R1", "R15", "R16", "R4294967296", "0", "R01", "E1"};
     static const char *const constants[] = {"0", "-1", "R0", "R16", "2147483647", "2147483648", "-2147483648",
         "-2147483649", "-0", "0 , R0 = 0", "0 , R0 = 0 , R1 != 1 , R2 < 2 , R3 >= -3"};
@@ -444,6 +446,7 @@ static void add_text(struct buffer *to, struct dice *dice, unsigned kind, bool c
         "E1 causes A1", "never A1", "E64 causes A1", "never A64", "E1 & E1 causes A1", "never A1 & A1", "E1 causes",
         "never", "never A1 & A2 & A3 & A4 & A5 & A6 & A7 & A8 & A1", "E1 & E1 & E64 causes A1",
         "never A1 & A1 if R0 = 0 , R0 = 0 , R0 = 0 , R0 = 0 , R0 = 0", "# E1 causes A1", ""};
+    static const uint8_t usual[] = "E A R & , ! causes never if 019 \n=<>-#";
     struct taste taste = make_taste(dice);
     size_t from = to->length;
     unsigned i;
@@ -489,8 +492,7 @@ static void add_text(struct buffer *to, struct dice *dice, unsigned kind, bool c
         break;
     default: /* bytes */
         for (i = 1 + below(dice, 60); i > 0; i--)
-            add_byte(to, chance(dice, 700) ? (unsigned)(uint8_t)"E A R & , ! causes never if 019 \n=<>-#"[below(dice, 38)]
-                                           : below(dice, 256));
+            add_byte(to, chance(dice, 700) ? usual[below(dice, sizeof usual - 1)] : below(dice, 256));
         if (closed)
             add(to, "\n");
         break;
@@ -552,10 +554,11 @@ static void add_epoch(struct buffer *to, struct dice *dice, const struct taste *
     }
 }
 
-/* A whole session of the engine. */
-static void add_session(struct buffer *to, struct dice *dice, unsigned kind)
+/* A whole input of the engine: text, run line, epoch lines. */
+static void add_engine_input(struct buffer *to, struct dice *dice, unsigned kind)
 {
-    static const char *const near[] = {"run ", " run", "run\r", "RUN", "runs", "run run", "r", "ru", "\nrun", "#run", "# run"};
+    static const char *const near[] = {
+        "run ", " run", "run\r", "RUN", "runs", "run run", "r", "ru", "\nrun", "#run", "# run"};
     struct taste taste;
     unsigned count;
     if (kind < 10) { /* a text that is accepted, and any epochs */
@@ -600,7 +603,7 @@ static void add_session(struct buffer *to, struct dice *dice, unsigned kind)
 
 struct tally {
     unsigned long text[FAULT_ROOM + 1], epoch[FAULT_ROOM + 1];
-    unsigned long decisions, cancelling, cases;
+    unsigned long decisions, cancelling, loaded, bodies;
 };
 
 static FILE *open_file(const char *folder, const char *program, const char *name, const char *end)
@@ -618,6 +621,37 @@ static void close_file(FILE *file, const char *name)
 {
     if (fclose(file) != 0)
         fail("cannot be written", name);
+}
+
+/* Changes one word of an image's body and mends the sum: what still loads is written again as it was. */
+static void check_loader(const uint8_t *image, size_t length, struct dice *dice, const char *name, struct tally *tally)
+{
+    static uint8_t changed[IMAGE_BYTES];
+    static uint32_t words[IMAGE_WORDS];
+    static struct policy loaded;
+    struct verdict verdict;
+    size_t i, count = length / 4, at = 1 + below(dice, (unsigned)(count - 1));
+    uint32_t sum = 0;
+    memcpy(changed, image, length);
+    if (chance(dice, 500)) /* a word of another place, or one bit */
+        memcpy(changed + 4 * at, image + 4 * (1 + below(dice, (unsigned)(count - 1))), 4);
+    else
+        changed[4 * at + below(dice, 4)] ^= (uint8_t)(1u << below(dice, 8));
+    for (i = 0; i < length - 4; i++)
+        sum += (uint32_t)changed[i] << (24 - 8 * (i % 4));
+    for (i = 0; i < 4; i++)
+        changed[length - 4 + i] = (uint8_t)((0 - sum) >> (24 - 8 * i));
+    verdict = load_image(changed, length, &loaded);
+    tally->loaded += verdict.fault == FAULT_NONE;
+    tally->bodies += verdict.fault == FAULT_BODY;
+    if (verdict.fault == FAULT_BODY ? verdict.location == 0 || verdict.location > at
+                                    : verdict.fault != FAULT_NONE || verdict.location != 0)
+        fail("a changed body is refused for another reason or at another place", name);
+    if (verdict.fault == FAULT_NONE && image_words(&loaded, words) != count)
+        fail("a changed image loads as one of another size", name);
+    for (i = 0; verdict.fault == FAULT_NONE && i < length; i++)
+        if (changed[i] != (uint8_t)(words[i / 4] >> (24 - 8 * (i % 4))))
+            fail("a changed image is not written again as it was", name);
 }
 
 /* The image of a text loads as the policy of the text; running it and the plain machine agree on each epoch line. A
@@ -651,6 +685,8 @@ static void check_reference(const struct buffer *input, const char *name, bool e
     verdict = load_image(changed, written, &loaded);
     if (verdict.fault < FAULT_SIZE || verdict.fault > FAULT_SUM)
         fail("a changed word was not refused under 7 to 10", name);
+    for (byte = 0; byte < 4; byte++)
+        check_loader(image, written, &dice, name, tally);
     while (next_line(input->bytes, input->length, &at, &line, &line_length)) {
         struct decision one = decide(image, written, line, line_length);
         struct decision other = decide_by_policy(&policy, line, line_length);
@@ -663,7 +699,8 @@ static void check_reference(const struct buffer *input, const char *name, bool e
     }
 }
 
-static void write_case(const char *folder, bool engine, const char *name, const struct buffer *input, struct tally *tally)
+static void write_case(
+    const char *folder, bool engine, const char *name, const struct buffer *input, struct tally *tally)
 {
     const char *program = engine ? "engine" : "compiler";
     FILE *file = open_file(folder, program, name, "in");
@@ -676,7 +713,6 @@ static void write_case(const char *folder, bool engine, const char *name, const 
         print_compiler(input->bytes, input->length, file);
     close_file(file, name);
     check_reference(input, name, engine, tally);
-    tally->cases++;
 }
 
 /* Cases at the limits, by name */
@@ -863,7 +899,8 @@ static bool report(const struct tally *tally)
         all = all && tally->epoch[epoch[i]] > 0;
     }
     printf("\n");
-    return all && tally->text[FAULT_NONE] > 0 && tally->decisions > 0 && tally->cancelling > 0;
+    return all && tally->text[FAULT_NONE] > 0 && tally->decisions > 0 && tally->cancelling > 0 && tally->loaded > 0
+        && tally->bodies > 0;
 }
 
 int main(int argc, char **argv)
@@ -889,7 +926,7 @@ int main(int argc, char **argv)
     for (i = 0; i < ENGINE_CASES; i++) {
         struct dice dice = {UINT64_C(0xE0) << 32 | i};
         input.length = 0;
-        add_session(&input, &dice, i % 16);
+        add_engine_input(&input, &dice, i % 16);
         sprintf(name, "seed_%04u", i);
         write_case(argv[1], true, name, &input, &tally);
     }

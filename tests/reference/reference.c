@@ -720,8 +720,8 @@ struct decision decide_by_policy(const struct policy *policy, const uint8_t *lin
 
 /* What an epoch yields, by the words of an image */
 
-/* Runs the words from `at` to `end` on the events and readings of an epoch and on a set of actions. Proposed actions are
-   collected in `proposals`. True if a constraint holds; the run ends there. */
+/* Runs the words from `at` to `end` on an epoch and a set of actions, and collects what they propose. True if a
+   constraint holds; the run ends there. */
 static bool run_words(const uint32_t *words, size_t at, size_t end, const struct epoch *epoch, action_set set,
     action_set *proposals)
 {
