@@ -1026,7 +1026,61 @@ static void compare_bytes(struct buffer *input)
     }
 }
 
-static void compare_numbers(void)
+/* The form with the number for each `$`. */
+static void fill_in(struct buffer *to, const char *form, unsigned number)
+{
+    to->length = 0;
+    for (; *form != 0; form++) {
+        if (*form == '$')
+            add_number(to, (long)number);
+        else
+            add_byte(to, (unsigned)(uint8_t)*form);
+    }
+}
+
+/* Every number of an event, an action and a reading, and some beyond. */
+static void compare_each_number(struct buffer *input, struct buffer *work, struct dice *dice)
+{
+    static const char *const texts[] = {"E$ & E$ causes A0", "E$ & !E$ causes A0", "!E$ & E0 & !E$ causes A0",
+        "never A$ & A$", "never A$ & A0 & A$", "E0 causes A0 if R$ = R$", "E0 causes A0 if R0 >= R$", "E$ causes A$",
+        "E70 & !E$ causes A$ if R$ < $", "E1 causes A2\nE1 causes A$\nE$ causes A3\nnever A$ & A2 if R0 = 0\n"};
+    static const char *const lines[] = {
+        "E$", "E1", "E1 R0=1", "E1 E$", "R$=0", "R$=1 E1", "R$=1 R$=1", "R$=1 R0=$", "E$ E$"};
+    static uint8_t image[IMAGE_BYTES], bytes[4 * (LINE_WORDS + 2)];
+    static struct policy policy;
+    static struct draft draft;
+    unsigned number, i, k;
+    size_t size;
+    step = "every number";
+    for (number = 0; number < 70; number++) {
+        for (i = 0; i < sizeof texts / sizeof *texts; i++) {
+            fill_in(input, texts[i], number);
+            if (compare_rooms(input->bytes, input->length, dice).fault != FAULT_NONE)
+                continue;
+            compile(input->bytes, input->length, image, sizeof image, &size);
+            read_text(input->bytes, input->length, &policy);
+            compare_check(image, size);
+            for (k = 0; k < sizeof lines / sizeof *lines; k++) {
+                fill_in(work, lines[k], number);
+                compare_decide(image, size, work->bytes, work->length, &policy);
+            }
+        }
+        for (i = 0; i < 8 && number < 64; i++) { /* lines with the number twice */
+            struct line line = make_line(dice, i < 4, i % 4 == 0 ? 2 : 8, i % 4);
+            line.words[0] = (line.words[0] & ~fields(0, 63, 0, 0)) | fields(0, number, 0, 0);
+            k = i % 4 == 0 ? 1 : 1 + below(dice, 7);
+            line.words[k] = (line.words[k] & ~fields(0, 63, 0, 0)) | fields(0, number, 0, 0);
+            draft.count = 1;
+            append(&draft, line);
+            draft.rule_words = i < 4 ? draft.count - 1 : 0;
+            if (compare_check(bytes, finish(&draft, bytes)).fault != FAULT_BODY)
+                fail("reference", "a repeated number was taken");
+        }
+    }
+}
+
+/* The limits and faults of the header. */
+static void compare_header(void)
 {
     static const int pairs[][2] = {{KINOHAZEL_TEXT_LIMIT, TEXT_BYTES}, {KINOHAZEL_EPOCH_LIMIT, EPOCH_BYTES},
         {KINOHAZEL_IMAGE_LIMIT, IMAGE_BYTES}, {KINOHAZEL_RULE_LIMIT, RULES}, {KINOHAZEL_CONSTRAINT_LIMIT, CONSTRAINTS},
@@ -1049,11 +1103,12 @@ static void run_limits(struct buffer *input, struct buffer *work)
     size_t i;
     for (i = 0; i < OUT_BYTES; i++)
         pattern[i] = (uint8_t)roll(&dice);
-    compare_numbers();
+    compare_header();
     compare_limit_texts(input, &dice);
     compare_limit_images(input, work, &dice);
     compare_limit_epochs(input);
     compare_bytes(input);
+    compare_each_number(input, work, &dice);
     for (i = 0; i < 2; i++) { /* the largest image and the smallest, with all damages */
         input->length = 0;
         if (i == 0)
