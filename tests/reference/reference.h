@@ -1,5 +1,5 @@
 /* Rule texts, images and epochs as document 01 defines them, in plain C, written from the document alone. The programs
-   are compared with it. */
+   and the library are compared with it. */
 #ifndef REFERENCE_H
 #define REFERENCE_H
 

@@ -1,0 +1,640 @@
+#include "inputs.h"
+
+#include <stdlib.h>
+#include <string.h>
+
+static void no_room(void)
+{
+    fprintf(stderr, "inputs: no room\n");
+    exit(1);
+}
+
+struct buffer new_buffer(void)
+{
+    struct buffer buffer = {malloc(ROOM), 0};
+    if (buffer.bytes == NULL)
+        no_room();
+    return buffer;
+}
+
+void add_bytes(struct buffer *to, const void *bytes, size_t length)
+{
+    if (length > ROOM - to->length)
+        no_room();
+    memcpy(to->bytes + to->length, bytes, length);
+    to->length += length;
+}
+
+void add(struct buffer *to, const char *string)
+{
+    add_bytes(to, string, strlen(string));
+}
+
+void add_byte(struct buffer *to, unsigned byte)
+{
+    uint8_t one = (uint8_t)byte;
+    add_bytes(to, &one, 1);
+}
+
+void add_number(struct buffer *to, long number)
+{
+    char digits[24];
+    sprintf(digits, "%ld", number);
+    add(to, digits);
+}
+
+void add_times(struct buffer *to, const char *string, unsigned times)
+{
+    while (times-- > 0)
+        add(to, string);
+}
+
+void splice(struct buffer *in, size_t from, size_t until, const void *bytes, size_t length)
+{
+    if (in->length - (until - from) + length > ROOM)
+        no_room();
+    memmove(in->bytes + from + length, in->bytes + until, in->length - until);
+    memcpy(in->bytes + from, bytes, length);
+    in->length = in->length - (until - from) + length;
+}
+
+/* Chance */
+
+uint64_t roll(struct dice *dice)
+{
+    uint64_t z = dice->state += UINT64_C(0x9E3779B97F4A7C15);
+    z = (z ^ z >> 30) * UINT64_C(0xBF58476D1CE4E5B9);
+    z = (z ^ z >> 27) * UINT64_C(0x94D049BB133111EB);
+    return z ^ z >> 31;
+}
+
+unsigned below(struct dice *dice, unsigned limit)
+{
+    return (unsigned)(roll(dice) % limit);
+}
+
+bool chance(struct dice *dice, unsigned per_mille)
+{
+    return below(dice, 1000) < per_mille;
+}
+
+/* Lines */
+
+struct taste make_taste(struct dice *dice)
+{
+    static const unsigned universes[] = {2, 4, 6, 10, 64};
+    struct taste taste = {0, 0, 0, 0, 0, 0, 0, 0, 0};
+    taste.events = CHOOSE(dice, universes);
+    taste.actions = CHOOSE(dice, universes);
+    taste.readings = chance(dice, 300) ? READINGS : 1 + below(dice, 4);
+    taste.loose = chance(dice, 300) ? 300 : 0;
+    taste.limits = chance(dice, 300) ? 500 : 20;
+    return taste;
+}
+
+static void add_gap(struct buffer *to, struct dice *dice, const struct taste *taste)
+{
+    static const char *const odd[] = {"", "", "\t", "\r", "  \t", "\v", "\xC2\xA0"};
+    if (chance(dice, taste->shape)) {
+        add(to, CHOOSE(dice, odd));
+        return;
+    }
+    add(to, " ");
+    while (chance(dice, taste->loose))
+        add(to, " ");
+}
+
+static void add_edge(struct buffer *to, struct dice *dice, const struct taste *taste)
+{
+    while (chance(dice, taste->loose))
+        add(to, " ");
+}
+
+/* A number under `used`, or one out of the range, or none at all. */
+static void add_index(struct buffer *to, struct dice *dice, const struct taste *taste, unsigned used, unsigned limit)
+{
+    static const char *const wrapping[] = {
+        "100", "128", "255", "256", "257", "65536", "65539", "4294967295", "4294967296", "4294967299",
+        "1099511627776", "9223372036854775807", "9223372036854775808", "18446744073709551615",
+        "18446744073709551616", "18446744073709551619", "340282366920938463463374607431768211456",
+        "340282366920938463463374607431768211459", "999999999999999999999999999999999999999999999999999999999999"};
+    static const char *const odd[] = {
+        "", "00", "01", "063", "0000000000000000000000000", "-1", "-0", "+1", "1.", "0x1", "1e1", "!", "1!", "E1", "x",
+        " 1", "1#", "\xD9\xA1", "1,", "1&", "&", "1:", "1/", "4294967296x", "018446744073709551616"};
+    unsigned i;
+    if (chance(dice, taste->shape)) {
+        add(to, CHOOSE(dice, odd));
+    } else if (chance(dice, taste->range)) {
+        switch (below(dice, 4)) {
+        case 0: add_number(to, (long)limit); break;
+        case 1: add_number(to, (long)(limit + 1 + below(dice, 300))); break;
+        case 2: add(to, CHOOSE(dice, wrapping)); break;
+        default:
+            add_byte(to, '1' + below(dice, 9));
+            for (i = 1 + below(dice, 200); i > 0; i--)
+                add_byte(to, '0' + below(dice, 10));
+            break;
+        }
+    } else if (chance(dice, 30)) {
+        add_number(to, (long)limit - 1);
+    } else {
+        add_number(to, (long)below(dice, used));
+    }
+}
+
+static void add_name(struct buffer *to, struct dice *dice, const struct taste *taste, char letter, unsigned used,
+    unsigned limit)
+{
+    static const char *const odd[] = {"", "e", "a", "r", "E", "A", "R", "!E", "!A", "!", "!!E", "B", "#", "\xC5", "EE"};
+    if (chance(dice, taste->shape))
+        add(to, CHOOSE(dice, odd));
+    else
+        add_byte(to, (unsigned)letter);
+    add_index(to, dice, taste, used, limit);
+}
+
+static void add_constant(struct buffer *to, struct dice *dice, const struct taste *taste)
+{
+    static const char *const ends[] = {
+        "2147483647", "-2147483648", "2147483646", "-2147483647", "1000000000", "-1000000000", "-1", "1", "0"};
+    static const char *const outside[] = {
+        "2147483648", "-2147483649", "2147483649", "3000000000", "-3000000000", "4294967295", "4294967296",
+        "-4294967295", "-4294967296", "4294967297", "-4294967297", "10000000000", "9223372036854775807",
+        "9223372036854775808", "-9223372036854775808", "-9223372036854775809", "18446744073709551616",
+        "18446744073709551617", "-18446744073709551617", "99999999999999999999999999999999999999999999999999"};
+    static const char *const odd[] = {
+        "-0", "00", "01", "-01", "-", "--1", "+1", "+0", "1-", "", "- 1", "-00", "0x10", "1.0", "R", "-R1", "r1", "A1",
+        "E1", "R01", "02147483648", "-02147483648", "1,", "'1'", "\xE2\x88\x92" "1"};
+    if (chance(dice, taste->shape))
+        add(to, CHOOSE(dice, odd));
+    else if (chance(dice, taste->range))
+        add(to, CHOOSE(dice, outside));
+    else if (chance(dice, taste->limits))
+        add(to, CHOOSE(dice, ends));
+    else
+        add_number(to, (long)below(dice, 9) - 4);
+}
+
+static void add_condition(struct buffer *to, struct dice *dice, const struct taste *taste)
+{
+    static const char *const relations[] = {"=", "!=", "<", "<=", ">", ">="};
+    static const char *const odd[] = {"==", "=>", "=<", "<>", "!", "", "is", "!==", "& ", "-", ">==", "<<"};
+    static const char *const commas[] = {"", ",,", "&", ", ,", ";", "and", "if"};
+    unsigned count = 1 + below(dice, chance(dice, 500) ? 4 : 2), i;
+    if (chance(dice, taste->crowd))
+        count = 5 + (chance(dice, 200) ? below(dice, 60) : 0);
+    for (i = 0; i < count; i++) {
+        if (i > 0) {
+            add_gap(to, dice, taste);
+            add(to, chance(dice, taste->shape) ? CHOOSE(dice, commas) : ",");
+            add_gap(to, dice, taste);
+        }
+        add_name(to, dice, taste, 'R', taste->readings, READINGS);
+        add_gap(to, dice, taste);
+        add(to, chance(dice, taste->shape) ? CHOOSE(dice, odd) : CHOOSE(dice, relations));
+        add_gap(to, dice, taste);
+        if (chance(dice, 350))
+            add_name(to, dice, taste, 'R', taste->readings, READINGS);
+        else
+            add_constant(to, dice, taste);
+    }
+    if (chance(dice, taste->shape)) {
+        add_gap(to, dice, taste);
+        add(to, ",");
+    }
+}
+
+/* A list of events or actions joined by `&`, distinct unless there is a fault. */
+static void add_list(struct buffer *to, struct dice *dice, const struct taste *taste, bool events)
+{
+    static const char *const joints[] = {"", "&&", ",", "& &", "and", "|", "& #", "causes"};
+    char letter = events ? 'E' : 'A';
+    unsigned limit = events ? EVENTS : ACTIONS, used = events ? taste->events : taste->actions;
+    unsigned count = 1 + below(dice, chance(dice, 250) ? 8 : 3), i, number, first = 0;
+    uint64_t seen = 0;
+    bool repeat = chance(dice, taste->repeat);
+    if (chance(dice, 40))
+        count = 8;
+    if (repeat && count == 1)
+        count = 2;
+    if (chance(dice, taste->crowd))
+        count = 9 + (chance(dice, 200) ? below(dice, 300) : 0);
+    if (used < count)
+        used = count < limit ? count : limit;
+    for (i = 0; i < count; i++) {
+        if (i > 0) {
+            add_gap(to, dice, taste);
+            add(to, chance(dice, taste->shape) ? CHOOSE(dice, joints) : "&");
+            add_gap(to, dice, taste);
+        }
+        if (events && chance(dice, 350))
+            add(to, "!");
+        if (chance(dice, taste->shape + taste->range)) {
+            add_name(to, dice, taste, letter, used, limit);
+            continue;
+        }
+        number = below(dice, used);
+        while (i < used && (seen >> number & 1) != 0)
+            number = (number + 1) % used;
+        if (i == 0)
+            first = number;
+        if (repeat && i == count - 1)
+            number = first;
+        seen |= UINT64_C(1) << number;
+        add_byte(to, (unsigned)letter);
+        add_number(to, (long)number);
+    }
+    if (chance(dice, taste->shape)) {
+        add_gap(to, dice, taste);
+        add(to, "&");
+    }
+}
+
+static void add_keyword(struct buffer *to, struct dice *dice, const struct taste *taste, const char *word)
+{
+    static const char *const odd[] = {"", "Causes", "cause", "causess", "NEVER", "nevers", "IF", "iff", "when", "if if",
+        "causes causes", "never never", "#", "# if", "run", "causes", "if", "never", "caus\x80s"};
+    add(to, chance(dice, taste->shape) ? CHOOSE(dice, odd) : word);
+}
+
+static void add_rule(struct buffer *to, struct dice *dice, const struct taste *taste)
+{
+    add_edge(to, dice, taste);
+    add_list(to, dice, taste, true);
+    add_gap(to, dice, taste);
+    add_keyword(to, dice, taste, "causes");
+    add_gap(to, dice, taste);
+    add_name(to, dice, taste, 'A', taste->actions, ACTIONS);
+    if (chance(dice, 400)) {
+        add_gap(to, dice, taste);
+        add_keyword(to, dice, taste, "if");
+        add_gap(to, dice, taste);
+        add_condition(to, dice, taste);
+    }
+    add_edge(to, dice, taste);
+}
+
+static void add_constraint(struct buffer *to, struct dice *dice, const struct taste *taste)
+{
+    add_edge(to, dice, taste);
+    add_keyword(to, dice, taste, "never");
+    add_gap(to, dice, taste);
+    add_list(to, dice, taste, false);
+    if (chance(dice, 400)) {
+        add_gap(to, dice, taste);
+        add_keyword(to, dice, taste, "if");
+        add_gap(to, dice, taste);
+        add_condition(to, dice, taste);
+    }
+    add_edge(to, dice, taste);
+}
+
+static void add_skipped(struct buffer *to, struct dice *dice, const struct taste *taste)
+{
+    unsigned i, byte;
+    add_edge(to, dice, taste);
+    if (chance(dice, 400))
+        return;
+    add(to, "#");
+    for (i = below(dice, 30); i > 0; i--) {
+        byte = below(dice, 256);
+        add_byte(to, byte == '\n' ? 0 : byte);
+    }
+}
+
+void add_lines(struct buffer *to, struct dice *dice, const struct taste *taste, unsigned rules, unsigned more_rules,
+    unsigned constraints, unsigned more_constraints, bool closed)
+{
+    rules += below(dice, more_rules + 1);
+    constraints += below(dice, more_constraints + 1);
+    while (rules + constraints > 0) {
+        if (chance(dice, 80)) {
+            add_skipped(to, dice, taste);
+        } else if (below(dice, rules + constraints) < rules) {
+            add_rule(to, dice, taste);
+            rules--;
+        } else {
+            add_constraint(to, dice, taste);
+            constraints--;
+        }
+        if (rules + constraints > 0 || closed || chance(dice, 600))
+            add(to, "\n");
+    }
+}
+
+void spoil(struct taste *taste, struct dice *dice)
+{
+    unsigned rate = chance(dice, 500) ? 20 : 120;
+    unsigned kinds = 1 + below(dice, 15);
+    if (kinds & 1)
+        taste->range = rate;
+    if (kinds & 2)
+        taste->crowd = rate * 2;
+    if (kinds & 4)
+        taste->repeat = rate * 2;
+    if ((kinds & 8) && chance(dice, 600))
+        taste->shape = rate / 8;
+}
+
+void damage(struct buffer *in, size_t from, struct dice *dice)
+{
+    static const char *const tokens[] = {
+        "E1", "!E1", "A1", "R1", "E64", "A64", "R16", "&", ",", "causes", "never", "if", "=", "!=", "<", "<=", ">",
+        ">=", "0", "-1", "-0", "2147483648", "#", "!", "-", "run", "E1&E2", "E1 & E1", "A1 & A1", "R0=1", "\n", "\n\n",
+        "\r\n", "\nrun\n", "# \n", "&\n", "\t"};
+    static const uint8_t signs[] = "&!,=<>-#EARear019 \n\r\t\0";
+    static const char *const events[] = {"E0", "E1", "!E0", "!E1", "E63", "!E64", "E64", "E4294967296", "E1 & E1", "E01"};
+    static const char *const actions[] = {"A0", "A1", "A63", "A64", "A18446744073709551616", "A1 & A1", "A1 & A2", "A00"};
+    static const char *const readings[] = {"R0", "R1", "R15", "R16", "R4294967296", "0", "R01", "E1"};
+    static const char *const constants[] = {"0", "-1", "R0", "R16", "2147483647", "2147483648", "-2147483648",
+        "-2147483649", "-0", "0 , R0 = 0", "0 , R0 = 0 , R1 != 1 , R2 < 2 , R3 >= -3"};
+    unsigned times = 1 + (chance(dice, 300) ? below(dice, 6) : 0);
+    while (times-- > 0 && in->length > from) {
+        size_t at = from + below(dice, (unsigned)(in->length - from)), end = at;
+        uint8_t byte = chance(dice, 600) ? signs[below(dice, sizeof signs)] : (uint8_t)below(dice, 256);
+        const char *token = CHOOSE(dice, tokens);
+        uint8_t copy[200];
+        size_t length;
+        switch (below(dice, 12)) {
+        case 0: in->bytes[at] = byte; break;
+        case 1: splice(in, at, at, &byte, 1); break;
+        case 2: splice(in, at, at + 1, "", 0); break;
+        case 3:
+            length = 1 + below(dice, 40);
+            splice(in, at, at + length < in->length ? at + length : in->length, "", 0);
+            break;
+        default:
+            while (at > from && in->bytes[at - 1] != ' ' && in->bytes[at - 1] != '\n')
+                at--;
+            while (end < in->length && in->bytes[end] != ' ' && in->bytes[end] != '\n')
+                end++;
+            length = end - at < sizeof copy ? end - at : sizeof copy;
+            memcpy(copy, in->bytes + at, length);
+            switch (below(dice, 6)) {
+            case 0: splice(in, at, end, token, strlen(token)); break;
+            case 1:
+            case 2:
+            case 3: /* another token of the same kind */
+                if (length == 0)
+                    break;
+                if (copy[0] == 'E' || copy[0] == '!')
+                    token = CHOOSE(dice, events);
+                else if (copy[0] == 'A')
+                    token = CHOOSE(dice, actions);
+                else if (copy[0] == 'R')
+                    token = CHOOSE(dice, readings);
+                else if (copy[0] == '-' || (copy[0] >= '0' && copy[0] <= '9'))
+                    token = CHOOSE(dice, constants);
+                else if (!chance(dice, 100))
+                    break;
+                splice(in, at, end, token, strlen(token));
+                break;
+            case 4:
+                splice(in, at, at, " ", 1);
+                splice(in, at, at, copy, length);
+                break;
+            default: splice(in, at, end < in->length ? end + 1 : end, "", 0); break;
+            }
+            break;
+        }
+    }
+}
+
+/* Comments, blank lines and spaces, until the buffer has `length` bytes. */
+static void pad(struct buffer *to, size_t length, struct dice *dice)
+{
+    while (to->length < length) {
+        size_t rest = length - to->length;
+        switch (below(dice, 3)) {
+        case 0: add(to, "\n"); break;
+        case 1: add(to, rest > 2 ? " \n" : "\n"); break;
+        default:
+            rest = rest < 3 ? 0 : 1 + below(dice, (unsigned)(rest - 2 < 3000 ? rest - 2 : 3000));
+            if (rest > 0) {
+                add(to, "#");
+                while (--rest > 0)
+                    add(to, ".");
+            }
+            add(to, "\n");
+            break;
+        }
+    }
+    to->length = length;
+}
+
+void add_text(struct buffer *to, struct dice *dice, unsigned kind, bool closed)
+{
+    static const long lengths[] = {
+        32000, 32700, 32765, 32766, 32767, 32768, 32768, 32769, 32769, 32770, 33000, 65535, 65536, 65537, 100000};
+    static const char *const tails[] = {
+        "E1 causes A1", "never A1", "E64 causes A1", "never A64", "E1 & E1 causes A1", "never A1 & A1", "E1 causes",
+        "never", "never A1 & A2 & A3 & A4 & A5 & A6 & A7 & A8 & A1", "E1 & E1 & E64 causes A1",
+        "never A1 & A1 if R0 = 0 , R0 = 0 , R0 = 0 , R0 = 0 , R0 = 0", "# E1 causes A1", ""};
+    struct taste taste = make_taste(dice);
+    size_t from = to->length;
+    unsigned i;
+    switch (kind) {
+    case 0: add_lines(to, dice, &taste, 1, 5, 0, 4, closed); break;
+    case 1: add_lines(to, dice, &taste, 0, RULES, 0, CONSTRAINTS, closed); break;
+    case 2:
+    case 3:
+    case 4:
+        spoil(&taste, dice);
+        add_lines(to, dice, &taste, 1, 4, 0, 3, closed);
+        break;
+    case 5:
+    case 6:
+        add_lines(to, dice, &taste, 1, 3, 0, 2, closed);
+        damage(to, from, dice);
+        if (closed && to->length > from && to->bytes[to->length - 1] != '\n')
+            add(to, "\n");
+        break;
+    case 7: /* about as many lines as there may be, then one more */
+        add_lines(to, dice, &taste, RULES - 2, 2, CONSTRAINTS - 2, 2, true);
+        for (i = below(dice, 4); i > 0; i--) {
+            add(to, chance(dice, 600) ? tails[below(dice, 2)] : CHOOSE(dice, tails));
+            add(to, "\n");
+        }
+        add(to, CHOOSE(dice, tails));
+        if (closed || chance(dice, 500))
+            add(to, "\n");
+        break;
+    case 8: /* about as many bytes as there may be */
+        if (chance(dice, 300))
+            spoil(&taste, dice);
+        add_lines(to, dice, &taste, 1, 40, 0, 20, true);
+        if (chance(dice, 150)) { /* one long list: crowd, repeat or neither */
+            add(to, "E0");
+            while (to->length - from < 32000)
+                add(to, " & E1");
+            add(to, chance(dice, 700) ? " causes A0\n" : " causes\n");
+        }
+        pad(to, from + (size_t)CHOOSE(dice, lengths), dice);
+        if (!closed && chance(dice, 500))
+            to->bytes[to->length - 1] = ' ';
+        break;
+    default: /* bytes */
+        for (i = 1 + below(dice, 60); i > 0; i--)
+            add_byte(to, chance(dice, 700) ? (unsigned)(uint8_t)"E A R & , ! causes never if 019 \n=<>-#"[below(dice, 38)]
+                                           : below(dice, 256));
+        if (closed)
+            add(to, "\n");
+        break;
+    }
+}
+
+void add_epoch(struct buffer *to, struct dice *dice, const struct taste *taste)
+{
+    static const char *const odd[] = {
+        "#", "# E1", "run", "!E1", "A1", "E", "R1", "R1=", "=1", "E1=1", "R0 = 1", "R0= 1", "R0 =1", "E1,E2", "e1",
+        "r0=1", "R0==1", "R0=1=1", "R0>1", "R0=R1", "R=1", "E01", "R00=1", "R0=01", "R0=-0", "R0=+1", "R0=--1", "E1\r",
+        "\r", "\t", "E1\tE2", "\x80", "\xFF", "R0=1\x0B", "E-1", "R-1=1", "R01=1", "&", ",", "-", "E1&E2", "never A1"};
+    static const size_t lengths[] = {1022, 1023, 1024, 1024, 1025, 1025, 1026, 1100, 2048, 5000, 70000};
+    uint64_t given = 0;
+    size_t from = to->length, i;
+    unsigned kind = below(dice, 100), count, number;
+    if (kind < 4)
+        return;
+    add_edge(to, dice, taste);
+    if (kind < 6) { /* bytes */
+        for (i = 1 + below(dice, 20); i > 0; i--) {
+            number = below(dice, 256);
+            add_byte(to, number == '\n' ? 0 : number);
+        }
+        return;
+    }
+    for (count = below(dice, 3 + taste->events / 2 + taste->readings); count > 0; count--) {
+        if (to->length > from)
+            add_gap(to, dice, taste);
+        if (chance(dice, taste->shape)) {
+            add(to, CHOOSE(dice, odd));
+        } else if (chance(dice, 550)) {
+            add_byte(to, 'E');
+            add_index(to, dice, taste, taste->events, EVENTS);
+        } else {
+            number = below(dice, taste->readings);
+            if ((given >> number & 1) != 0 && !chance(dice, taste->repeat))
+                continue;
+            given |= UINT64_C(1) << number;
+            add_byte(to, 'R');
+            if (chance(dice, taste->range))
+                add_index(to, dice, taste, READINGS, READINGS);
+            else
+                add_number(to, (long)number);
+            add(to, "=");
+            add_constant(to, dice, taste);
+        }
+    }
+    add_edge(to, dice, taste);
+    if (chance(dice, 20)) { /* about as long as it may be */
+        size_t length = from + CHOOSE(dice, lengths);
+        bool events = chance(dice, 500);
+        while (to->length < length)
+            add(to, events ? " E1" : " ");
+        to->length = length;
+        if (to->bytes[length - 1] == 'E')
+            to->bytes[length - 1] = ' ';
+    }
+}
+
+void add_engine_input(struct buffer *to, struct dice *dice, unsigned kind)
+{
+    static const char *const near[] = {"run ", " run", "run\r", "RUN", "runs", "run run", "r", "ru", "\nrun", "#run", "# run"};
+    struct taste taste;
+    unsigned count;
+    if (kind < 10) { /* a text that is accepted, and any epochs */
+        taste = make_taste(dice);
+        taste.shape = taste.range = taste.crowd = taste.repeat = 0;
+        taste.limits = chance(dice, 300) ? 500 : 20;
+        if (kind < 8)
+            add_lines(to, dice, &taste, 2, 14, 0, 8, true);
+        else
+            add_lines(to, dice, &taste, 60, RULES - 60, 0, CONSTRAINTS, true);
+    } else { /* any text */
+        taste = make_taste(dice);
+        add_text(to, dice, below(dice, 10), true);
+    }
+    if (chance(dice, 30)) {
+        add(to, CHOOSE(dice, near));
+        add(to, "\n");
+    }
+    if (chance(dice, 40)) {
+        if (chance(dice, 500))
+            add(to, "run");
+        return;
+    }
+    add(to, "run\n");
+    if (chance(dice, 400)) {
+        taste.range = chance(dice, 500) ? 40 : 0;
+        taste.repeat = chance(dice, 500) ? 150 : 0;
+        taste.shape = chance(dice, 500) ? 25 : 0;
+    }
+    count = chance(dice, 20) ? 300 + below(dice, 900) : below(dice, 20);
+    while (count-- > 0) {
+        if (chance(dice, 8))
+            add(to, "run");
+        else
+            add_epoch(to, dice, &taste);
+        if (count > 0 || chance(dice, 600))
+            add(to, "\n");
+    }
+}
+
+/* Texts at the limits */
+
+void add_largest(struct buffer *to)
+{
+    static const char condition[] = "if R0 = 7 , R1 != -2147483648 , R2 < 2147483647 , R3 >= -1";
+    unsigned i, k;
+    for (i = 0; i < RULES; i++) {
+        for (k = 0; k < LITERALS; k++) {
+            add(to, k % 2 == 0 ? "E" : "!E");
+            add_number(to, (long)((i + k) % 32 + 32 * (k % 2)));
+            add(to, k < LITERALS - 1 ? " & " : " causes A");
+        }
+        add_number(to, (long)(i * 5 % ACTIONS));
+        add(to, " ");
+        add(to, condition);
+        add(to, "\n");
+        if (i % 2 == 1) {
+            add(to, "never ");
+            for (k = 0; k < MEMBERS; k++) {
+                add(to, "A");
+                add_number(to, (long)((i / 2 + 3 * k) % ACTIONS));
+                add(to, k < MEMBERS - 1 ? " & " : " ");
+            }
+            add(to, condition);
+            add(to, "\n");
+        }
+    }
+}
+
+void add_epochs_of_largest(struct buffer *to)
+{
+    unsigned i;
+    for (i = 0; i < 32; i++) {
+        add(to, "E");
+        add_number(to, (long)i);
+        add(to, " ");
+    }
+    add(to, "R0=7\n\nE1 E3 R0=7\n");
+    for (i = 0; i < 32; i++) {
+        add(to, "E");
+        add_number(to, (long)i);
+        add(to, i < 31 ? " " : "\n");
+    }
+    for (i = 0; i < 31; i++) {
+        add(to, "E");
+        add_number(to, (long)(i + 1));
+        add(to, i < 30 ? " " : " R0=7 R3=-1 R2=-5\n");
+    }
+}
+
+void add_length(struct buffer *to, size_t length, bool closed)
+{
+    size_t from = to->length;
+    add(to, "E1 causes A3\n#");
+    while (to->length - from < length - 1)
+        add(to, ".");
+    add(to, closed ? "\n" : ".");
+}

@@ -1,0 +1,74 @@
+/* Rule texts, epoch lines and inputs of the engine made by chance, the same for the same dice, and some at the limits. */
+#ifndef INPUTS_H
+#define INPUTS_H
+
+#include "reference.h"
+
+enum { ROOM = 1 << 20 };
+
+/* Lent bytes with room for ROOM of them. What is added is put behind `length`. */
+struct buffer {
+    uint8_t *bytes;
+    size_t length;
+};
+
+struct buffer new_buffer(void);
+void add_bytes(struct buffer *to, const void *bytes, size_t length);
+void add(struct buffer *to, const char *string);
+void add_byte(struct buffer *to, unsigned byte);
+void add_number(struct buffer *to, long number);
+void add_times(struct buffer *to, const char *string, unsigned times);
+
+/* Puts other bytes in the place of those from `from` to `until`. */
+void splice(struct buffer *in, size_t from, size_t until, const void *bytes, size_t length);
+
+struct dice {
+    uint64_t state;
+};
+
+uint64_t roll(struct dice *dice);
+unsigned below(struct dice *dice, unsigned limit);
+
+/* True in `per_mille` of 1000 cases. */
+bool chance(struct dice *dice, unsigned per_mille);
+
+#define CHOOSE(dice, list) ((list)[below((dice), sizeof(list) / sizeof *(list))])
+
+/* What the lines of one case are like: how many numbers are in use, and how many of 1000 places have a fault. */
+struct taste {
+    unsigned events, actions, readings;
+    unsigned shape, range, crowd, repeat;
+    unsigned loose; /* further spaces */
+    unsigned limits; /* constants at the ends of the range */
+};
+
+struct taste make_taste(struct dice *dice);
+
+/* Lines of a text: the least rules and constraints, and up to how many more. The last line may lack its line end. */
+void add_lines(struct buffer *to, struct dice *dice, const struct taste *taste, unsigned rules, unsigned more_rules,
+    unsigned constraints, unsigned more_constraints, bool closed);
+
+/* Faults in the making of lines: few of one kind, or many of all. */
+void spoil(struct taste *taste, struct dice *dice);
+
+/* Faults in lines already made: bytes and tokens put in, taken out, doubled or replaced. */
+void damage(struct buffer *in, size_t from, struct dice *dice);
+
+/* One rule text, of a kind from 0 to 9. */
+void add_text(struct buffer *to, struct dice *dice, unsigned kind, bool closed);
+
+/* One epoch line, without its line end. */
+void add_epoch(struct buffer *to, struct dice *dice, const struct taste *taste);
+
+/* A whole input of the engine, of a kind from 0 to 15. */
+void add_engine_input(struct buffer *to, struct dice *dice, unsigned kind);
+
+/* 128 rules and 64 constraints of 17 words each. With E0 to E31 and R0=7 every rule proposes its action, and all 64
+   actions are proposed. */
+void add_largest(struct buffer *to);
+void add_epochs_of_largest(struct buffer *to);
+
+/* A text of so many bytes with one rule, padded by a comment. */
+void add_length(struct buffer *to, size_t length, bool closed);
+
+#endif
