@@ -121,3 +121,8 @@ module _ {buffer : List ℕ} {at : ℕ} {all out : List ℕ} {end : ℕ} where
   left-byte bytes i after next h l p =
       let e : drop i bytes ≡ getD bytes i 0 ∷ drop (i + 1) bytes = rw add-one (drop-cons bytes i 0 h) in
       left-turn (getD bytes i 0 ∷ []) (drop (i + 1) bytes) after next (rw e at l) p
+
+-- the position is within the buffer
+pub put-within : (buffer : List ℕ) (at : ℕ) (x after : List ℕ) (end : ℕ) → Put buffer at x after end → end ≤ length after
+unfolding behind
+put-within buffer at x after end (e, a) = rw a (rw (append-length buffer at x) (omega (arith, e)))

@@ -5,10 +5,10 @@ use Rattle.engine.proofs.read_all.Statement.{statement}
 use Rattle.engine.proofs.read_all.Tie as tie
 
 abbrev Inv-loop : tie.InvT-loop
-Inv-loop text₀ line₀ image₀ out₀ chunk₀ state₀ turns₀ text line image out chunk state turns = length chunk ≡ 65536
+Inv-loop held₀ image₀ out₀ chunk₀ state₀ turns₀ held image out chunk state turns = length chunk ≡ 65536
 
 abbrev μ-loop : tie.MeasureT-loop
-μ-loop text₀ line₀ image₀ out₀ chunk₀ state₀ turns₀ text line image out chunk state turns = turns
+μ-loop held₀ image₀ out₀ chunk₀ state₀ turns₀ held image out chunk state turns = turns
 
 large-buffer-requires : tie.Need-large-buffer-requires Inv-loop μ-loop
 large-buffer-requires c κs = search needs
@@ -22,23 +22,23 @@ slice-aggregate-read c = search needs
 read-requires : tie.Need-read-requires Inv-loop μ-loop
 read-requires c κs = search needs
 
-slice-aggregate-count : tie.Need-slice-aggregate-count Inv-loop μ-loop
-slice-aggregate-count c = search needs
+input-failed-requires : tie.Need-input-failed-requires Inv-loop μ-loop
+input-failed-requires c κs = search needs
 
-count-requires : tie.Need-count-requires Inv-loop μ-loop
-count-requires c κs = search needs
+returns : tie.Need-returns Inv-loop μ-loop
+returns c = search needs
 
 array-share-prefix-chunk : tie.Need-array-share-prefix-chunk Inv-loop μ-loop
 array-share-prefix-chunk c = search needs
 
-slice-aggregate-feed : tie.Need-slice-aggregate-feed Inv-loop μ-loop
-slice-aggregate-feed c = search needs
+slice-aggregate-take-chunk : tie.Need-slice-aggregate-take-chunk Inv-loop μ-loop
+slice-aggregate-take-chunk c = search needs
 
-feed-requires : tie.Need-feed-requires Inv-loop μ-loop
-feed-requires c κs = search needs
+take-chunk-requires : tie.Need-take-chunk-requires Inv-loop μ-loop
+take-chunk-requires c κs = search needs
 
-flushed-requires : tie.Need-flushed-requires Inv-loop μ-loop
-flushed-requires c κs = search needs
+returns-2 : tie.Need-returns-2 Inv-loop μ-loop
+returns-2 c = search needs
 
 sub-turns : tie.Need-sub-turns Inv-loop μ-loop
 sub-turns c = search needs
@@ -52,11 +52,11 @@ loop-again c = search needs
 finish-requires : tie.Need-finish-requires Inv-loop μ-loop
 finish-requires c κs = search needs
 
-flushed-requires-2 : tie.Need-flushed-requires-2 Inv-loop μ-loop
-flushed-requires-2 c κs = search needs
+flush-requires : tie.Need-flush-requires Inv-loop μ-loop
+flush-requires c κs = search needs
 
-returns : tie.Need-returns Inv-loop μ-loop
-returns c = search needs
+returns-3 : tie.Need-returns-3 Inv-loop μ-loop
+returns-3 c = search needs
 
 pub read-all-spec : {M : Type 1} → statement M
 read-all-spec =
@@ -68,15 +68,15 @@ read-all-spec =
     loop-holds
     slice-aggregate-read
     read-requires
-    slice-aggregate-count
-    count-requires
+    input-failed-requires
+    returns
     array-share-prefix-chunk
-    slice-aggregate-feed
-    feed-requires
-    flushed-requires
+    slice-aggregate-take-chunk
+    take-chunk-requires
+    returns-2
     sub-turns
     loop-less
     loop-again
     finish-requires
-    flushed-requires-2
-    returns)
+    flush-requires
+    returns-3)
