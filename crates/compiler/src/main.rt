@@ -55,7 +55,10 @@ fn put_answer(text: &[u8], out: &mut [u8; 29394]) -> usize
 
 fn main() {
     if 1 < os::arg_count() {
-        io::write_all(STDERR_FILENO, b"usage: compiler, with a rule text on standard input\n");
+        io::write_all(
+            STDERR_FILENO,
+            b"usage: compiler, with a rule text on standard input\n",
+        );
         return;
     }
     let mut text = [0u8; 32769];

@@ -1,5 +1,9 @@
 // Standard input and standard output of a program. A read or a write that a signal interrupts is tried again. Any other failure
 // is told apart from the end of the input, and errno then says what it was.
+ghost use Prim.Native.Nat.{_<_};
+ghost use mathlib.Core.Bool.{true, false};
+ghost use mathlib.Core.Path.{_≡_};
+ghost use lib.ListN.{length};
 ghost use Rattle.io.specs.Counts.{Counts};
 use libc::STDIN_FILENO;
 use libc::STDOUT_FILENO;
@@ -21,6 +25,7 @@ fn was_interrupted(answer: isize) -> bool {
 // One read. The bytes that came are at the start of the buffer; there are none at the end of the input.
 pub fn read(buffer: &mut [u8]) -> Input
     ensures { λ r. ⌜ Counts (r .size) (now (buffer .exit)) ⌝ }
+    ensures { λ r. ⌜ (r .failed ≡ true → r .size ≡ 0) ⌝ }
 {
     let mut turns = u64::MAX;
     while 0 < turns {
@@ -40,8 +45,10 @@ pub fn read(buffer: &mut [u8]) -> Input
 }
 
 // Writes all of the bytes and answers true, or stops at the first write that fails or takes nothing and answers false; some of
-// the bytes may then have been written.
-pub fn write(bytes: &[u8]) -> bool {
+// the bytes may then have been written. Where there are none, it makes no call.
+pub fn write(bytes: &[u8]) -> bool
+    ensures { λ r. ⌜ (r ≡ false → 0 < length (now (bytes .entry))) ⌝ }
+{
     let mut done = 0;
     let mut turns = u64::MAX;
     while 0 < turns {

@@ -1,8 +1,22 @@
+use native.Mathlib.Omega.{arith}
+use Prim.Native.Nat.{ℕ, _<_}
+use mathlib.Core.Bool.{true}
 use mathlib.Core.Path.{_≡_}
+use lib.IntN.{ℤ, pos, negsuc}
 use lib.ListN.{length}
+use lib.Signed.{ltZ}
+use mir.Val.{toZ, ofZ}
+use mir.Syntax.{w64}
+use borrow.Author.Tests.{ltb-true}
+use Rattle.io.specs.Counts.{clamped}
 use borrow.Author.Needs.{needs}
 use Rattle.stream.proofs.read.Statement.{statement}
 use Rattle.stream.proofs.read.Tie as tie
+
+-- a call that failed moved nothing
+none-failed : (got : ℤ) (n most : ℕ) → n ≡ clamped got most → ltZ got (pos 0) ≡ true → n ≡ 0
+none-failed (pos k) n most e h = let l : k < 0 = ltb-true k 0 h in absurd (omega arith)
+none-failed (negsuc k) n most e h = e
 
 abbrev Inv-loop : tie.InvT-loop
 Inv-loop buffer₀ turns₀ buffer turns = length buffer ≡ length buffer₀
@@ -26,7 +40,7 @@ same-length : tie.Need-same-length Inv-loop μ-loop
 same-length c = search needs
 
 returns : tie.Need-returns Inv-loop μ-loop
-returns c = search needs
+returns c = (c .count .ensures .0, none-failed (toZ w64 (ofZ w64 (c .before .before .before .before .before .before .read .result))) (c .count .result) (length (c .before .before .before .before .before .before .read .last .1 .0)) (c .count .ensures .1))
 
 sub-turns : tie.Need-sub-turns Inv-loop μ-loop
 sub-turns c = search needs
