@@ -1,7 +1,6 @@
-// Reads a rule text from standard input and prints its image, one word a line, or why it is refused. Where the text could not
-// be read to its end, it prints neither.
+// Reads a rule text from standard input and prints its image, one word a line, or why it is refused. What is printed for which
+// text is `session`'s: this program reads and writes, and prints nothing where the text could not be read to its end.
 ghost use Rattle.io.specs.Counts.{Counts};
-use codegen::Compiled;
 use libc::STDERR_FILENO;
 use stream::Input;
 
@@ -28,31 +27,6 @@ fn read_text(text: &mut [u8; 32769]) -> Input
     Input { size, failed: true }
 }
 
-// The words of an image, each a line.
-fn put_image(image: &[u8], size: usize, out: &mut [u8; 29394]) -> usize
-    ensures { λ r. ⌜ Counts r (now (out .exit)) ⌝ }
-{
-    let mut end = 0;
-    let mut i = 0;
-    while i < size / 4 {
-        end = report::put_word_line(out, end, word::word_at(image, i));
-        i += 1;
-    }
-    end
-}
-
-// What is printed for a text: an image of at most 3,266 words, a line of nine bytes each, or a refusal.
-fn put_answer(text: &[u8], out: &mut [u8; 29394]) -> usize
-    ensures { λ r. ⌜ Counts r (now (out .exit)) ⌝ }
-{
-    let mut image = [0u8; 13064];
-    let compiled = codegen::compile(text, &mut image);
-    match compiled {
-        Compiled::Refused(fault, line) => report::put_refusal(out, 0, fault, line),
-        Compiled::Image(size) => put_image(&image, size, out),
-    }
-}
-
 fn main() {
     if 1 < os::arg_count() {
         io::write_all(
@@ -69,7 +43,7 @@ fn main() {
     }
     let size = input.size;
     let mut out = [0u8; 29394];
-    let end = put_answer(&text[..size], &mut out);
+    let end = session::put_listing(&text[..size], &mut out);
     if !stream::write(&out[..end]) {
         os::fail(b"compiler: standard output");
     }

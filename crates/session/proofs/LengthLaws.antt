@@ -1,0 +1,132 @@
+-- No printed line has more than 512 bytes.
+use Prim.Native.Nat.{ℕ, zero, suc, _+_, _*_, _/_, _%_, _≤_, _<_}
+use mathlib.Core.Bool.{Bool, true, false, cond, not, _&&_}
+use mathlib.Core.List.{List, [], _∷_, _++_}
+use mathlib.Core.Path.{_≡_, refl, sym, ap, _∙_}
+use native.Mathlib.Omega.{arith}
+use borrow.Author.Tests.{ltb-true, ltb-false}
+use lib.Dec.{ltb}
+use lib.ListN.{length, length-append}
+use Rattle.policy.specs.Epoch.{Epoch}
+use Rattle.policy.specs.Fault.{faultNumber}
+use Rattle.policy.specs.Set.{has, difference}
+use Rattle.policy.specs.declared.fault.Fault.{Fault}
+use Rattle.policy.proofs.SetLaws.{has-difference, has-empty}
+use Rattle.lexer.specs.Byte.{bytes}
+use Rattle.syntax.specs.Epoch.{EpochAnswer, refused, accepted, readEpoch}
+use Rattle.image.specs.Load.{load}
+use Rattle.image.specs.declared.load.Loaded.{Loaded}
+use Rattle.word.specs.Word.{wordsOf, between}
+use Rattle.monitor.specs.Decision.{decision, onImage, onLine, issuedBy, yieldedBy, proposedBy, keptBy, acceptedOf, cancelledOf}
+use Rattle.monitor.specs.declared.decision.Decision.{Decision}
+use Rattle.printer.specs.Printed.{digit, decimal}
+use Rattle.report.proofs.DecimalLaws.{decimal-one, decimal-more}
+use Rattle.report.specs.Report.{membersFrom, actionName, further, joined, actionList, refusalLine, acceptLine, refusedLine}
+use Rattle.session.specs.Printed.{decisionLine}
+
+-- ---- numbers
+
+abbrev limit : ℕ → ℕ
+limit zero = 10
+limit (suc k) = 10 * limit k
+
+digits-few : (k n : ℕ) → n < limit k → length (decimal n) ≤ suc k
+digits-few k n h = go k n h (ltb n 10) refl
+  where
+    go : (k n : ℕ) → n < limit k → (b : Bool) → ltb n 10 ≡ b → length (decimal n) ≤ suc k
+    go zero n h b e = rw (decimal-one n h) (omega arith)
+    go (suc k) n h true e = rw (decimal-one n (ltb-true n 10 e)) (omega arith)
+    go (suc k) n h false e =
+        let m : length (decimal (n / 10)) ≤ suc k = go k (n / 10) (omega arith) (ltb (n / 10) 10) refl in
+        rw (decimal-more n (ltb-false n 10 e), length-append (decimal (n / 10)) (digit (n % 10) ∷ [])) (omega arith)
+
+decimal-short : (n : ℕ) → n < 18446744073709551616 → length (decimal n) ≤ 20
+decimal-short n h = digits-few 19 n (omega arith)
+
+-- ---- actions: no number is in both lists
+
+abbrev Apart : ℕ → ℕ → Type 0
+Apart s t = (n : ℕ) → (has s n && has t n) ≡ false
+
+members-short : (k n s t : ℕ) → n + k ≤ 64 → Apart s t
+    → length (further (membersFrom k n s)) + length (further (membersFrom k n t)) ≤ 4 * k
+unfolding membersFrom further actionName
+members-short zero n s t h a = omega arith
+members-short (suc k) n s t h a = go (has s n) (has t n) (a n) (members-short k (suc n) s t (omega arith) a) (digits-few 1 n (omega arith))
+  where
+    go : (b c : Bool) → (b && c) ≡ false → length (further (membersFrom k (suc n) s)) + length (further (membersFrom k (suc n) t)) ≤ 4 * k
+        → length (decimal n) ≤ 2
+        → length (further (cond b (n ∷ []) [] ++ membersFrom k (suc n) s)) + length (further (cond c (n ∷ []) [] ++ membersFrom k (suc n) t)) ≤ 4 * suc k
+    go true true e more few = let z : _≡_ {A = ℕ} 0 1 = cc in absurd (omega arith)
+    go true false e more few = simp length-append (omega arith)
+    go false true e more few = simp length-append (omega arith)
+    go false false e more few = omega arith
+
+joined-short : (ns : List ℕ) → length (joined ns) ≤ 1 + length (further ns)
+unfolding joined further
+joined-short [] = omega arith
+joined-short (n ∷ ns) = simp length-append (omega arith)
+
+difference-apart : (s t : ℕ) → Apart t (difference s t)
+difference-apart s t n = rw (has-difference s t n) (go (has t n) (has s n))
+  where
+    go : (b c : Bool) → (b && (c && not b)) ≡ false
+    go true true = refl
+    go true false = refl
+    go false c = refl
+
+yielded-apart : (rules constraints : List ℕ) (e : Epoch)
+    → Apart (yieldedBy rules constraints e .accepted .0) (yieldedBy rules constraints e .cancelled .0)
+unfolding yieldedBy
+yielded-apart rules constraints e = difference-apart (proposedBy rules e .0) (keptBy constraints (e .readings) (proposedBy rules e) .0)
+
+none-apart : Apart 0 0
+none-apart n = rw (has-empty n)
+
+decision-apart : (image line : List ℕ) → Apart (acceptedOf (decision image line) .0) (cancelledOf (decision image line) .0)
+unfolding decision onImage onLine issuedBy
+decision-apart image line = go (load image) (readEpoch line)
+  where
+    go : (l : Loaded) (a : EpochAnswer) → Apart (acceptedOf (onImage l (wordsOf image) a) .0) (cancelledOf (onImage l (wordsOf image) a) .0)
+    go (Loaded.Refused f at) a = none-apart
+    go (Loaded.Image parts) (refused f) = none-apart
+    go (Loaded.Image parts) (accepted e) = yielded-apart (between 1 (1 + parts .«rule_words») (wordsOf image)) (between (1 + parts .«rule_words») (1 + parts .«rule_words» + parts .«constraint_words») (wordsOf image)) e
+
+-- ---- lines
+
+fault-small : (f : Fault) → faultNumber f < 18446744073709551616
+fault-small Fault.TooLong = omega arith
+fault-small Fault.Syntax = omega arith
+fault-small Fault.OutOfRange = omega arith
+fault-small Fault.TooManyParts = omega arith
+fault-small Fault.TooManyLines = omega arith
+fault-small Fault.Duplicate = omega arith
+fault-small Fault.ImageSize = omega arith
+fault-small Fault.ImageForm = omega arith
+fault-small Fault.ImageCount = omega arith
+fault-small Fault.ImageSum = omega arith
+fault-small Fault.ImageBody = omega arith
+fault-small Fault.EpochSyntax = omega arith
+fault-small Fault.EpochRange = omega arith
+fault-small Fault.DuplicateReading = omega arith
+fault-small Fault.BufferTooSmall = omega arith
+
+pub refusal-short : (f : Fault) (place : ℕ) → place < 18446744073709551616 → length (refusalLine f place) ≤ 512
+unfolding refusalLine bytes
+refusal-short f place h = simp length-append (omega (arith, decimal-short (faultNumber f) (fault-small f), decimal-short place h))
+
+line-short : (n : ℕ) (d : Decision) → n < 18446744073709551616 → Apart (acceptedOf d .0) (cancelledOf d .0) → length (decisionLine n d) ≤ 512
+unfolding decisionLine acceptLine refusedLine actionList bytes
+line-short n (Decision.Refused f at) h a = simp length-append (omega (arith, decimal-short n h, decimal-short (faultNumber f) (fault-small f)))
+line-short n (Decision.Issued actions) h a =
+    simp length-append
+    (omega (
+      arith,
+      decimal-short n h,
+      joined-short (membersFrom 64 0 (actions .accepted .0)),
+      joined-short (membersFrom 64 0 (actions .cancelled .0)),
+      members-short 64 0 (actions .accepted .0) (actions .cancelled .0) (omega arith) a,
+    ))
+
+pub decision-short : (n : ℕ) (image line : List ℕ) → n < 18446744073709551616 → length (decisionLine n (decision image line)) ≤ 512
+decision-short n image line h = line-short n (decision image line) h (decision-apart image line)

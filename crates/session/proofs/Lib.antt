@@ -1,0 +1,17 @@
+pub mod RunLaws
+pub mod LineLaws
+pub mod SplitLaws
+pub mod EpochLaws
+pub mod BufferLaws
+pub mod CompileLaws
+pub mod LengthLaws
+pub mod EndLaws
+pub mod HeldLaws
+pub mod TextByteLaws
+pub mod EpochByteLaws
+pub mod TookLaws
+pub mod FinishLaws
+pub mod PlaceLaws
+pub mod ListingLaws
+pub mod Whole
+pub mod Examples

@@ -1,0 +1,88 @@
+-- Laws of the compiler's listing.
+use Prim.Native.Nat.{ℕ, zero, suc, _+_, _*_, _/_, min, _≤_, _<_}
+use mathlib.Core.List.{List, [], _∷_, _++_}
+use mathlib.Core.Path.{_≡_, refl, sym, ap, _∙_}
+use native.Mathlib.Numerals.{add-one}
+use native.Mathlib.Omega.{arith}
+use borrow.Author.Tests.{lt-ltb}
+use lib.ListN.{length, getD, take, drop, length-append, drop-of-length-le}
+use lib.Seq.{drop-cons}
+use Rattle.policy.specs.declared.fault.Fault.{Fault}
+use Rattle.word.specs.Word.{wordsOf, wordAt}
+use Rattle.word.proofs.WordLaws.{words-length}
+use Rattle.syntax.specs.Text.{Progress, reading, stopped, readText}
+use Rattle.image.specs.Layout.{imageOf}
+use Rattle.codegen.specs.Compile.{newestForm, compiled}
+use Rattle.codegen.specs.declared.Compiled.{Compiled}
+use Rattle.report.specs.Buffer.{appended, behind}
+use Rattle.report.specs.Report.{hexDigits, wordLine, refusalLine}
+use Rattle.report.proofs.AppendLaws.{Put, Left, left-turn, left-none}
+use Rattle.session.specs.Listed.{wordLines, listingOf, listed}
+use Rattle.session.proofs.CompileLaws.{Read, image-small, compiled-stopped, compiled-read}
+use Rattle.session.proofs.PlaceLaws.{place-small}
+use Rattle.session.proofs.LengthLaws.{refusal-short}
+
+-- ---- the loop over the words of an image
+
+module _ (image : List ℕ) (buffer out : List ℕ) (end i : ℕ) where
+  pub listed-word : (after : List ℕ) (next : ℕ) → i < length image / 4 → Left buffer 0 (wordLines (wordsOf image)) out end (wordLines (drop i (wordsOf image)))
+      → Put out end (wordLine (wordAt image i)) after next
+      → Left buffer 0 (wordLines (wordsOf image)) after next (wordLines (drop (i + 1) (wordsOf image)))
+  unfolding wordLines
+  listed-word after next h l p =
+      let k : i < length (wordsOf image) = rw (words-length image) h in
+      let e : drop i (wordsOf image) ≡ wordAt image i ∷ drop (i + 1) (wordsOf image) = rw add-one (drop-cons (wordsOf image) i 0 k) in
+      left-turn (wordLine (wordAt image i)) (wordLines (drop (i + 1) (wordsOf image))) after next (rw e at l) p
+
+  pub listed-all : length image / 4 ≤ i → end ≤ length out → Left buffer 0 (wordLines (wordsOf image)) out end (wordLines (drop i (wordsOf image)))
+      → Put buffer 0 (wordLines (wordsOf image)) out end
+  unfolding wordLines
+  listed-all h w l =
+      let k : length (wordsOf image) ≤ i = rw (words-length image) h in
+      left-none end (ap wordLines (drop-of-length-le (wordsOf image) k)) l (omega arith)
+
+-- ---- the length of the listing
+
+hex-length : (k w : ℕ) → length (hexDigits k w) ≡ k
+unfolding hexDigits
+hex-length zero w = refl
+hex-length (suc k) w = ap suc (hex-length k w)
+
+lines-length : (ws : List ℕ) → length (wordLines ws) ≡ 9 * length ws
+unfolding wordLines wordLine
+lines-length [] = refl
+lines-length (w ∷ ws) = simp (length-append, hex-length 8 w, lines-length ws) (omega arith)
+
+-- ---- what a compilation lists
+
+module _ (text image : List ℕ) (answer : Compiled) (image' : List ℕ) (made : answer ≡ compiled text image .answer)
+    (wrote : image' ≡ compiled text image .buffer) (long : length image ≡ 13064) where
+  pub lists-refusal : (f : Fault) (place : ℕ) → answer ≡ Compiled.Refused f place → refusalLine f place ≡ listed text
+  unfolding listed listingOf
+  lists-refusal f place e = sym (ap listingOf (compiled-stopped text image long f place (sym made ∙ e)))
+
+  pub lists-image : (size : ℕ) → answer ≡ Compiled.Image size → wordLines (wordsOf (take size image')) ≡ listed text
+  unfolding listed listingOf
+  lists-image size e =
+      let r : Read text (compiled text image .buffer) size = compiled-read text image long size (sym made ∙ e) in
+      ap (λ (b : List ℕ). wordLines (wordsOf b)) (ap (take size) wrote ∙ r .image) ∙ sym (ap listingOf (r .read))
+
+  pub image-within : (size : ℕ) → answer ≡ Compiled.Image size → size ≤ 13064
+  image-within size e = compiled-read text image long size (sym made ∙ e) .small
+
+-- ---- how long a listing is
+
+pub listed-long : (text : List ℕ) → 32768 < length text → listed text ≡ refusalLine Fault.TooLong 0
+unfolding listed listingOf readText
+listed-long text h = rw (lt-ltb 32768 (length text) h)
+
+image-lines : (image : List ℕ) → length image ≤ 13064 → length (wordLines (wordsOf image)) ≤ 29394
+image-lines image h = omega (arith, lines-length (wordsOf image), words-length image)
+
+pub listed-short : (text : List ℕ) → length (listed text) ≤ 29394
+unfolding listed listingOf
+listed-short text = go (readText text) refl
+  where
+    go : (p : Progress) → readText text ≡ p → length (listingOf p) ≤ 29394
+    go (stopped f place) e = omega (arith, refusal-short f place (omega (arith, place-small text f place e)))
+    go (reading n p) e = image-lines (imageOf newestForm p) (image-small text n p e)

@@ -1,0 +1,154 @@
+-- Laws of a byte of the text.
+use Prim.Native.Nat.{ℕ, _+_, min, _≤_, _<_}
+use mathlib.Core.Bool.{true, false}
+use mathlib.Core.List.{List, [], _∷_, _++_}
+use mathlib.Core.Path.{_≡_, refl, sym, ap, ap₂, _∙_}
+use native.Mathlib.Omega.{arith}
+use lib.ListN.{length, take, set, length-take, length-drop, length-set, length-append}
+use lib.Seq.{length-take-le}
+use Rattle.policy.specs.declared.fault.Fault.{Fault}
+use Rattle.lexer.specs.Byte.{is}
+use Rattle.report.specs.Report.{refusalLine}
+use Rattle.session.specs.Owed.{printedBehind, current, Good, Took, startingAt, lineBehind, counted, Pushed, room, full, TextEnded}
+use Rattle.session.specs.declared.state.Phase.{Phase}
+use Rattle.session.specs.declared.state.State.{State}
+use Rattle.session.proofs.HeldLaws.{owed-text, fitting-text, as-text, held-more, done-same, done-line, none-left, snoc}
+use Rattle.session.proofs.LineLaws.{empty-line, line-more}
+use Rattle.session.proofs.SplitLaws.{behind-run, behind-line, over-text, full-text}
+
+line-long : (done line : List ℕ) → 32768 < length done + length line → 32768 < length (done ++ line ++ 10 ∷ [])
+line-long done line h = simp length-append (omega arith)
+
+module _ (s : State) (held image out : List ℕ) (g : Good s held image out) (t : s .phase ≡ Phase.Text) where
+  at-most : s .count ≤ 32773
+  at-most = fitting-text (s .phase) s t (g .fitting)
+
+  pub text-count : s .count ≤ length held
+  text-count = rw (g .heldLong) at-most
+
+  held-length : length (take (s .start) held) + length (current s held) ≡ s .count
+  held-length =
+      let c : s .count ≤ 32773 = at-most in
+      let l : length held ≡ 32773 = g .heldLong in
+      let o : s .start ≤ s .count = g .ordered in
+      simp (length-drop, length-take) (omega arith)
+
+  -- ---- the line `run`
+
+  pub text-run : (r : State) (image' out' : List ℕ) → is "run" (current s held) ≡ true → TextEnded (take (s .start) held) s out r image' out'
+      → Took s held image out (10 ∷ []) r held image' out'
+  text-run r image' out' e ended' =
+      record {
+        owes = λ rest.
+            ended' .owes held rest
+            ∙ sym (owed-text s held image out (10 ∷ rest) t
+            ∙ ap (λ (x : List ℕ). take (s .used) out ++ x) (behind-run (take (s .start) held) (current s held) (g .oneLine) rest e));
+        good = ended' .good held (g .heldLong);
+      }
+
+  -- ---- a byte that is held
+
+  text-counted : (b : ℕ) → s .count < 32773 → (b ≡ 10 → ⊥) → Took s held image out (b ∷ []) (counted s) (set held (s .count) b) image out
+  text-counted b h n =
+      let k : s .count < length held = rw (g .heldLong) h in
+      let more = held-more held (s .start) (s .count) b (g .ordered) k in
+      record {
+        owes = λ rest.
+            owed-text (counted s) (set held (s .count) b) image out rest t
+            ∙ ap₂ (λ (d : List ℕ) (x : List ℕ). take (s .used) out ++ printedBehind d x) (done-same held (s .start) (s .count) b (g .ordered) k)
+            (ap (λ (x : List ℕ). x ++ rest) more ∙ snoc (current s held) rest b)
+            ∙ sym (owed-text s held image out (b ∷ rest) t);
+        good =
+            record {
+              heldLong = length-set held (s .count) b ∙ g .heldLong;
+              imageLong = g .imageLong;
+              outLong = g .outLong;
+              ordered = omega (arith, g .ordered);
+              fitting = as-text (s .phase) (counted s) t (omega arith);
+              oneLine = rw more (line-more (current s held) b (g .oneLine) n);
+              sized = g .sized;
+              used = g .used;
+            };
+      }
+
+  line-good : (n : ℕ) (held' : List ℕ) → length held' ≡ 32773 → n ≤ 32773 → Good (startingAt n s) held' image out
+  line-good n held' l k =
+      record {
+        heldLong = l;
+        imageLong = g .imageLong;
+        outLong = g .outLong;
+        ordered = omega arith;
+        fitting = as-text (s .phase) (startingAt n s) t k;
+        oneLine = rw (none-left held' n) empty-line;
+        sized = g .sized;
+        used = g .used;
+      }
+
+  line-counted : is "run" (current s held) ≡ false → s .count < 32769
+      → Took s held image out (10 ∷ []) (startingAt (s .count + 1) s) (set held (s .count) 10) image out
+  line-counted e h =
+      let k : s .count < length held = rw (g .heldLong) (omega arith) in
+      record {
+        owes = λ rest.
+            owed-text (startingAt (s .count + 1) s) (set held (s .count) 10) image out rest t
+            ∙ ap₂ (λ (d : List ℕ) (x : List ℕ). take (s .used) out ++ printedBehind d (x ++ rest))
+            (done-line held (s .start) (s .count) 10 (g .ordered) k) (none-left (set held (s .count) 10) (s .count + 1))
+            ∙ ap (λ (x : List ℕ). take (s .used) out ++ x) (sym (behind-line (take (s .start) held) (current s held) (g .oneLine) rest e))
+            ∙ sym (owed-text s held image out (10 ∷ rest) t);
+        good = line-good (s .count + 1) (set held (s .count) 10) (length-set held (s .count) 10 ∙ g .heldLong) (omega arith);
+      }
+
+  -- ---- a text that is too long: the same is owed before the byte and behind it
+
+  text-over : (b : ℕ) (r : State) → r .phase ≡ Phase.Text → r .used ≡ s .used
+      → ((rest : List ℕ) → printedBehind (take (s .start) held) (current s held ++ b ∷ rest) ≡ refusalLine Fault.TooLong 0)
+      → ((rest : List ℕ) → printedBehind (take (r .start) held) (current r held ++ rest) ≡ refusalLine Fault.TooLong 0)
+      → Good r held image out → Took s held image out (b ∷ []) r held image out
+  text-over b r p u before after g' =
+      record {
+        owes = λ rest.
+            owed-text r held image out rest p
+            ∙ ap₂ (λ (n : ℕ) (x : List ℕ). take n out ++ x) u (after rest ∙ sym (before rest))
+            ∙ sym (owed-text s held image out (b ∷ rest) t);
+        good = g';
+      }
+
+  all-full : 32773 ≤ s .count → (rest : List ℕ) → printedBehind (take (s .start) held) (current s held ++ rest) ≡ refusalLine Fault.TooLong 0
+  all-full h rest =
+      let c : s .count ≤ 32773 = at-most in
+      full-text (take (s .start) held) (current s held) rest (g .oneLine) (held-length ∙ omega arith)
+
+  line-over : is "run" (current s held) ≡ false → 32769 ≤ s .count
+      → (rest : List ℕ) → printedBehind (take (s .start) held) (current s held ++ 10 ∷ rest) ≡ refusalLine Fault.TooLong 0
+  line-over e h rest =
+      behind-line (take (s .start) held) (current s held) (g .oneLine) rest e
+      ∙ over-text (take (s .start) held ++ current s held ++ 10 ∷ []) rest (line-long (take (s .start) held) (current s held) (omega (arith, held-length)))
+
+  next-over : (rest : List ℕ) → printedBehind (take 32769 held) (current (startingAt 32769 s) held ++ rest) ≡ refusalLine Fault.TooLong 0
+  next-over rest =
+      let l : length (take 32769 held) ≡ 32769 = length-take-le 32769 held (rw (g .heldLong) (omega arith)) in
+      over-text (take 32769 held) (current (startingAt 32769 s) held ++ rest) (omega arith)
+
+  -- ---- what the functions do
+
+  pub text-pushed : (b : ℕ) (r : State) (held' : List ℕ) → (b ≡ 10 → ⊥) → Pushed 32773 s b held r held' → Took s held image out (b ∷ []) r held' image out
+  text-pushed b r held' n (room h e k) = rw (e, k) (text-counted b h n)
+  text-pushed b r held' n (full h e k) = rw (e, k) (text-over b s t refl (λ rest. all-full h (b ∷ rest)) (all-full h) g)
+
+  -- the end of a line that is not `run`
+  pub text-line : (r : State) (held' : List ℕ) → is "run" (current s held) ≡ false → Pushed 32769 s 10 held r held'
+      → Took s held image out (10 ∷ []) (lineBehind r) held' image out
+  text-line r held' e (room h q k) =
+      let m : min (s .count + 1) 32769 ≡ s .count + 1 = omega arith in
+      rw (q, k, m) (line-counted e h)
+  text-line r held' e (full h q k) =
+      let m : min (s .count) 32769 ≡ 32769 = omega arith in
+      rw (q, k, m) (text-over 10 (startingAt 32769 s) t refl (line-over e h) next-over (line-good 32769 held (g .heldLong) (omega arith)))
+
+-- ---- where the next line starts
+
+pub starts-full : (s : State) → 32769 < s .count → startingAt 32769 s ≡ lineBehind s
+starts-full s h = let m : min (s .count) 32769 ≡ 32769 = omega arith in rw m
+
+pub starts-behind : (s : State) → s .count ≤ 32769 → startingAt (s .count) s ≡ lineBehind s
+starts-behind s h = let m : min (s .count) 32769 ≡ s .count = omega arith in rw m

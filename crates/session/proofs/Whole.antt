@@ -1,0 +1,67 @@
+-- However the input is cut into chunks and whenever the output is handed out, what all calls of a session hand out together is
+-- what the definition prints for the input. And what the compiler lists is what its definition says.
+use Prim.Native.Nat.{ℕ, _+_, _≤_}
+use mathlib.Core.Bool.{Bool, true, false}
+use mathlib.Core.List.{List, [], _++_}
+use mathlib.Core.Path.{_≡_, refl, sym, ap, _∙_}
+use native.Mathlib.Omega.{arith}
+use borrow.Author.Tests.{leb-true, leb-false}
+use lib.Dec.{leb}
+use lib.ListN.{length, take, length-take}
+use lib.Seq.{take-all}
+use Rattle.report.specs.Buffer.{appended, behind}
+use Rattle.session.specs.Listed.{listed}
+use Rattle.session.specs.Printed.{printed}
+use Rattle.session.specs.Owed.{Good, Fed, Finished, Represents, Called, begun, fed, handedOut, Reached, startState, emptied}
+use Rattle.session.specs.declared.state.State.{State}
+use Rattle.session.proofs.BufferLaws.{put-take}
+use Rattle.session.proofs.ListingLaws.{listed-short, listed-long}
+use Rattle.session.proofs.TookLaws.{represents-start, represents-took, represents-emptied, represents-all}
+
+-- ---- the engine
+
+represented : {consumed handed held image out : List ℕ} {s : State} → Called consumed handed s held image out → Represents consumed handed s held image out
+represented (begun h i o) = represents-start _ _ _ h i o
+represented (fed chunk taken c f) = represents-took _ _ _ _ _ _ (represented c) (take taken chunk) _ _ _ _ (f .took)
+represented (handedOut c) = represents-emptied _ _ _ _ _ _ (represented c)
+
+-- after the calls, and with what `finish` leaves to be handed out
+pub all-printed : {consumed handed held image out : List ℕ} {s : State} → Called consumed handed s held image out
+    → (r : State) (out' : List ℕ) → Finished s held image out r out' → handed ++ take (r .used) out' ≡ printed consumed
+all-printed c r out' f = represents-all _ _ _ _ _ _ (represented c) (take (r .used) out') (f .all)
+
+-- `feed` and `finish` may be called
+pub callable : (s : State) (held image out : List ℕ) → Reached s held image out → Good s held image out
+callable s held image out c = represented (c .calls) .good
+
+-- ---- the calls of a loop that feeds chunks and hands out what waits
+
+pub reached-start : (held image out : List ℕ) → length held ≡ 32773 → length image ≡ 13064 → length out ≡ 65536 → Reached startState held image out
+reached-start held image out h i o = record { consumed = []; handed = []; calls = begun h i o }
+
+pub reached-fed : (s : State) (held image out chunk : List ℕ) (taken : ℕ) (r : State) (held' image' out' : List ℕ)
+    → Reached s held image out → Fed s held image out chunk taken r held' image' out' → Reached (emptied r) held' image' out'
+reached-fed s held image out chunk taken r held' image' out' c f =
+    record { consumed = c .consumed ++ take taken chunk; handed = c .handed ++ take (r .used) out'; calls = handedOut (fed chunk taken (c .calls) f) }
+
+pub fed-room : (s : State) (held image out chunk : List ℕ) (taken : ℕ) (r : State) (held' image' out' : List ℕ)
+    → Fed s held image out chunk taken r held' image' out' → r .used ≤ length out'
+fed-room s held image out chunk taken r held' image' out' f = let g = f .took .good in rw (g .outLong) (g .used)
+
+-- ---- the compiler
+
+-- a buffer of 29,394 bytes has room for every listing, which then stands at its start
+pub listing-whole : (text out after : List ℕ) (end : ℕ) → 29394 ≤ length out
+    → (end ≡ behind out 0 (listed text)) × (after ≡ appended out 0 (listed text)) → take end after ≡ listed text
+listing-whole text out after end room p = put-take out 0 (listed text) after end (omega (arith, listed-short text)) p
+
+-- of an input over the length of a text 32,769 bytes are enough
+pub listing-cut : (input : List ℕ) → listed (take 32769 input) ≡ listed input
+listing-cut input = go (leb (length input) 32769) refl
+  where
+    go : (b : Bool) → leb (length input) 32769 ≡ b → listed (take 32769 input) ≡ listed input
+    go true e = ap listed (take-all 32769 input (leb-true (length input) 32769 e))
+    go false e =
+        let h : 32769 ≤ length input = let k = leb-false (length input) 32769 e in omega arith in
+        let l : length (take 32769 input) ≡ 32769 = length-take 32769 input ∙ omega arith in
+        listed-long (take 32769 input) (omega arith) ∙ sym (listed-long input (omega arith))

@@ -1,0 +1,51 @@
+-- Document 01's examples of the two programs, and some more, one row each.
+use Prim.Native.Nat.{ℕ}
+use Prim.Native.String.{String}
+use mathlib.Core.List.{List, [], _∷_, map}
+use Rattle.lexer.specs.Byte.{bytes}
+use Rattle.session.specs.Listed.{listed}
+use Rattle.session.specs.Printed.{printed}
+
+pub record Example : Type 0 where
+  pub input : String
+  pub output : String
+
+abbrev row : String → String → Example
+row i o = record { input = i; output = o }
+
+unfoldable pub sessions : List Example
+sessions =
+    row "E1 & !E2 causes A3 if R0 > 40\nE3 causes A4\nnever A3 & A4\nrun\nE1 E3 R0=41\nE1 E3 R0=40\nE1 E2 E3 R0=41\n\nE64\n"
+    "1 accept A3 cancel A4\n2 accept A4 cancel -\n3 accept A4 cancel -\n4 accept - cancel -\n5 refused 13\n"
+    -- the last line may lack its end
+    ∷ row "run\nE1" "1 accept - cancel -\n"
+    -- input that ends straight after a line end adds no epoch, a blank line is one
+    ∷ row "run\n" ""
+    ∷ row "run\n\n" "1 accept - cancel -\n"
+    -- only the first line `run` ends the text
+    ∷ row "run\nrun\n" "1 refused 12\n"
+    ∷ row "run" ""
+    -- without one all is text
+    ∷ row "" ""
+    ∷ row "E1 causes A1\n" ""
+    ∷ row "E1 causes A1\nE1" "refused 2 line 2\n"
+    ∷ row " run\n" "refused 2 line 1\n"
+    ∷ row "E1 causes A1\nE1 causes\nrun\nE1\n" "refused 2 line 2\n"
+    ∷ []
+
+unfoldable pub listings : List Example
+listings =
+    row "E1 & !E2 causes A3 if R0 > 40\nE3 causes A4\nnever A3 & A4\n"
+    "01007003\n10400004\n20800003\n30008001\n00000028\n50C00000\n10C00001\n51000000\n60C00002\n61000001\n70000000\nB9FF0FC9\n"
+    ∷ row "" "01000000\nFF000000\n"
+    ∷ row "# none\nE64 causes A1" "refused 3 line 2\n"
+    ∷ []
+
+unfoldable pub expected : Example → List ℕ
+expected x = bytes (x .output)
+
+unfoldable pub sessionPrinted : Example → List ℕ
+sessionPrinted x = printed (bytes (x .input))
+
+unfoldable pub textListed : Example → List ℕ
+textListed x = listed (bytes (x .input))

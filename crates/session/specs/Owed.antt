@@ -1,0 +1,130 @@
+-- What the functions of this crate keep to: with the bytes that wait in `out`, a state owes what is printed for the input
+-- that is left.
+use Prim.Native.Nat.{ℕ, _+_, min, _≤_, _<_}
+use mathlib.Core.Bool.{Bool, false}
+use mathlib.Core.List.{List, [], _∷_, _++_}
+use mathlib.Core.Path.{_≡_}
+use lib.Dec.{eqb}
+use lib.ListN.{length, take, drop, set}
+use Rattle.policy.specs.List.{any}
+use Rattle.lexer.specs.Lines.{linesOf}
+use Rattle.session.specs.Printed.{Session, splitAtRun, textOf, epochsOf, printedFor, printed, next, decisionLine, epochLines}
+use Rattle.monitor.specs.Decision.{decision}
+use Rattle.session.specs.declared.state.Phase.{Phase}
+use Rattle.session.specs.declared.state.State.{State}
+
+-- what is printed where the lines of `done` are text, and the rest of the input starts a line
+unfoldable pub printedBehind : List ℕ → List ℕ → List ℕ
+printedBehind done rest = let s : Session = splitAtRun (linesOf rest) in printedFor (done ++ textOf rest s) (epochsOf s)
+
+-- the part of the current line that is held
+abbrev pub current : State → List ℕ → List ℕ
+current s held = drop (s .start) (take (s .count) held)
+
+unfoldable pub leftIn : Phase → State → List ℕ → List ℕ → List ℕ → List ℕ
+leftIn Phase.Text s held image rest = printedBehind (take (s .start) held) (current s held ++ rest)
+leftIn Phase.Epochs s held image rest = epochLines (take (s .size) image) (s .epochs) (linesOf (current s held ++ rest))
+leftIn Phase.Over s held image rest = []
+
+-- all that is still to be handed out, if the rest of the input is this
+unfoldable pub owed : State → List ℕ → List ℕ → List ℕ → List ℕ → List ℕ
+owed s held image out rest = take (s .used) out ++ leftIn (s .phase) s held image rest
+
+unfoldable pub Fitting : Phase → State → Type 0
+Fitting Phase.Text s = s .count ≤ 32773
+Fitting Phase.Epochs s = (s .start ≡ 0) × (s .count ≤ 1025)
+Fitting Phase.Over s = s .count ≤ 32773
+
+pub record Good (s : State) (held image out : List ℕ) : Type 0 where
+  pub heldLong : length held ≡ 32773
+  pub imageLong : length image ≡ 13064
+  pub outLong : length out ≡ 65536
+  pub ordered : s .start ≤ s .count
+  pub fitting : Fitting (s .phase) s
+  pub oneLine : any (eqb 10) (current s held) ≡ false
+  pub sized : s .size ≤ 13064
+  pub used : s .used ≤ 65536
+
+-- the output that waits leaves room for any line
+abbrev pub Room : State → Type 0
+Room s = s .used ≤ 65024
+
+-- a call that took these bytes of the input
+pub record Took (s : State) (held image out bytes : List ℕ) (r : State) (held' image' out' : List ℕ) : Type 0 where
+  pub owes : (rest : List ℕ) → owed r held' image' out' rest ≡ owed s held image out (bytes ++ rest)
+  pub good : Good r held' image' out'
+
+-- what of the input was consumed and what of the output was handed out, with what a session holds
+pub record Represents (consumed handed : List ℕ) (s : State) (held image out : List ℕ) : Type 0 where
+  pub whole : (rest : List ℕ) → printed (consumed ++ rest) ≡ handed ++ owed s held image out rest
+  pub good : Good s held image out
+
+abbrev pub startState : State
+startState = record { phase = Phase.Text; start = 0; count = 0; epochs = 0; size = 0; used = 0 }
+
+-- what waits was handed out
+abbrev pub emptied : State → State
+emptied s = record { phase = s .phase; start = s .start; count = s .count; epochs = s .epochs; size = s .size; used = 0 }
+
+-- of a chunk, as many bytes as there is room for what they print
+pub record Fed (s : State) (held image out chunk : List ℕ) (taken : ℕ) (r : State) (held' image' out' : List ℕ) : Type 0 where
+  pub within : taken ≤ length chunk
+  pub took : Took s held image out (take taken chunk) r held' image' out'
+  -- all of it, unless the output has to be handed out first
+  pub stops : taken < length chunk → 65024 < r .used
+  pub moves : Room s → 0 < length chunk → 0 < taken
+
+-- the input has ended, and all that is still to be handed out waits
+pub record Finished (s : State) (held image out : List ℕ) (r : State) (out' : List ℕ) : Type 0 where
+  pub within : r .used ≤ length out'
+  pub all : take (r .used) out' ≡ owed s held image out []
+
+-- the calls of a session, in chunks of any sizes: what was consumed and what was handed out by all of them together
+pub data Called : List ℕ → List ℕ → State → List ℕ → List ℕ → List ℕ → Type 0 where
+  begun : {held image out : List ℕ} → length held ≡ 32773 → length image ≡ 13064 → length out ≡ 65536 → Called [] [] startState held image out
+  fed : {consumed handed held image out held' image' out' : List ℕ} {s r : State} (chunk : List ℕ) (taken : ℕ)
+      → Called consumed handed s held image out → Fed s held image out chunk taken r held' image' out'
+      → Called (consumed ++ take taken chunk) handed r held' image' out'
+  handedOut : {consumed handed held image out : List ℕ} {s : State}
+      → Called consumed handed s held image out → Called consumed (handed ++ take (s .used) out) (emptied s) held image out
+
+-- what some calls led to
+pub record Reached (s : State) (held image out : List ℕ) : Type 0 where
+  pub consumed : List ℕ
+  pub handed : List ℕ
+  pub calls : Called consumed handed s held image out
+
+-- ---- the small functions
+
+-- the next line starts behind so many bytes, and nothing of it is held
+abbrev pub startingAt : ℕ → State → State
+startingAt n s = record { phase = s .phase; start = n; count = n; epochs = s .epochs; size = s .size; used = s .used }
+
+-- it starts behind what is held, of which 32,769 bytes count
+abbrev pub lineBehind : State → State
+lineBehind s = startingAt (min (s .count) 32769) s
+
+abbrev pub counted : State → State
+counted s = record { phase = s .phase; start = s .start; count = s .count + 1; epochs = s .epochs; size = s .size; used = s .used }
+
+-- a byte is held where there is room for it
+pub data Pushed (limit : ℕ) (s : State) (byte : ℕ) (held : List ℕ) (r : State) (held' : List ℕ) : Type 0 where
+  room : s .count < limit → r ≡ counted s → held' ≡ set held (s .count) byte → Pushed limit s byte held r held'
+  full : limit ≤ s .count → r ≡ s → held' ≡ held → Pushed limit s byte held r held'
+
+-- the text is complete; nothing is held
+pub record TextEnded (text : List ℕ) (s : State) (out : List ℕ) (r : State) (image' out' : List ℕ) : Type 0 where
+  pub owes : (held rest : List ℕ) → owed r held image' out' rest ≡ take (s .used) out ++ printedFor text (linesOf rest)
+  pub good : (held : List ℕ) → length held ≡ 32773 → Good r held image' out'
+  -- the end of the input adds nothing
+  pub quiet : (held : List ℕ) → leftIn (r .phase) r held image' [] ≡ []
+
+abbrev pub decidedBy : State → ℕ → State
+decidedBy s used = record { phase = s .phase; start = 0; count = 0; epochs = next (s .epochs); size = s .size; used = used }
+
+-- the epoch line is complete
+pub record LineEnded (s : State) (held image out : List ℕ) (r : State) (out' : List ℕ) : Type 0 where
+  pub state : r ≡ decidedBy s (r .used)
+  pub prints : take (r .used) out' ≡ take (s .used) out ++ decisionLine (next (s .epochs)) (decision (take (s .size) image) (current s held))
+  pub outLong : length out' ≡ 65536
+  pub used : r .used ≤ 65536

@@ -1,0 +1,56 @@
+// The epoch lines of a session.
+ghost use mathlib.Core.List.{[], _∷_};
+ghost use mathlib.Core.Path.{_≡_};
+ghost use Prim.Native.Nat.{_≤_};
+ghost use lib.ListN.{length};
+ghost use Rattle.session.specs.Owed.{Good, Room, Took, LineEnded};
+ghost use Rattle.session.specs.declared.state.Phase.{Phase};
+use crate::state::State;
+use crate::state::push;
+use monitor::Decision;
+
+// The epoch line is complete.
+pub(crate) fn end_line(state: State, held: &[u8], image: &[u8], out: &mut [u8; 65536]) -> State
+    requires { ⌜ (state .start ≡ 0) × (state .count ≤ length (now held)) × (state .size ≤ length (now image)) × (length (now out) ≡ 65536) × Room state ⌝ }
+    ensures { λ r. ⌜ LineEnded state (now (held .entry)) (now (image .entry)) (now (out .entry)) r (now (out .exit)) ⌝ }
+{
+    let size = state.size;
+    let count = state.count;
+    let mut next = state;
+    next.start = 0;
+    next.count = 0;
+    next.epochs = std::num::wrapping_add_u64(state.epochs, 1);
+    let decision = monitor::decide(&image[..size], &held[..count]);
+    match decision {
+        Decision::Refused(fault, _) => {
+            next.used = report::put_refused(out, state.used, next.epochs, fault);
+        }
+        Decision::Issued(actions) => {
+            next.used = report::put_accept(
+                out,
+                state.used,
+                next.epochs,
+                actions.accepted,
+                actions.cancelled,
+            );
+        }
+    }
+    next
+}
+
+// A byte of an epoch line. There is room for a line of the full length and one byte more, which tells that it is too long.
+pub(crate) fn line_byte(
+    state: State,
+    byte: u8,
+    held: &mut [u8; 32773],
+    image: &mut [u8; 13064],
+    out: &mut [u8; 65536],
+) -> State
+    requires { ⌜ Good state (now held) (now image) (now out) × Room state × (state .phase ≡ Phase.Epochs) ⌝ }
+    ensures { λ r. ⌜ Took state (now (held .entry)) (now (image .entry)) (now (out .entry)) (byte ∷ []) r (now (held .exit)) (now (image .exit)) (now (out .exit)) ⌝ }
+{
+    if byte == b'\n' {
+        return end_line(state, held, image, out);
+    }
+    push(state, byte, 1025, held)
+}

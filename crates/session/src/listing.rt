@@ -1,0 +1,33 @@
+// The compiler's output: the words of an image, or a refusal.
+ghost use mathlib.Core.Path.{_≡_};
+ghost use Rattle.io.specs.Counts.{Counts};
+ghost use Rattle.word.specs.Word.{wordsOf};
+ghost use Rattle.report.specs.Buffer.{appended, behind};
+ghost use Rattle.session.specs.Listed.{wordLines, listed};
+use codegen::Compiled;
+
+// The words of an image, each a line.
+fn put_image(image: &[u8], out: &mut [u8]) -> usize
+    ensures { λ r. ⌜ (r ≡ behind (now (out .entry)) 0 (wordLines (wordsOf (now (image .entry))))) × (now (out .exit) ≡ appended (now (out .entry)) 0 (wordLines (wordsOf (now (image .entry))))) ⌝ }
+{
+    let mut end = 0;
+    let mut i = 0;
+    while i < image.len() / 4 {
+        end = report::put_word_line(out, end, word::word_at(image, i));
+        i += 1;
+    }
+    end
+}
+
+// What the compiler prints for a text. The largest image has 3,266 words, a line of nine bytes each.
+pub fn put_listing(text: &[u8], out: &mut [u8]) -> usize
+    ensures { λ r. ⌜ Counts r (now (out .exit)) ⌝ }
+    ensures { λ r. ⌜ (r ≡ behind (now (out .entry)) 0 (listed (now (text .entry)))) × (now (out .exit) ≡ appended (now (out .entry)) 0 (listed (now (text .entry)))) ⌝ }
+{
+    let mut image = [0u8; 13064];
+    let compiled = codegen::compile(text, &mut image);
+    match compiled {
+        Compiled::Refused(fault, line) => report::put_refusal(out, 0, fault, line),
+        Compiled::Image(size) => put_image(&image[..size], out),
+    }
+}

@@ -1,0 +1,103 @@
+// The rule text of a session, up to its line `run`.
+ghost use mathlib.Core.List.{[], _∷_};
+ghost use mathlib.Core.Path.{_≡_};
+ghost use Prim.Native.Nat.{_≤_};
+ghost use lib.ListN.{length, take};
+ghost use Rattle.lexer.specs.Byte.{is};
+ghost use Rattle.session.specs.Owed.{current, Good, Room, Took, TextEnded, lineBehind};
+ghost use Rattle.session.specs.declared.state.Phase.{Phase};
+use crate::state::Phase;
+use crate::state::State;
+use crate::state::push;
+use codegen::Compiled;
+
+fn is_run(line: &[u8]) -> bool
+    ensures { λ r. ⌜ r ≡ is "run" (now (line .entry)) ⌝ }
+{
+    if line.len() != 3 {
+        return false;
+    }
+    if line[0] != b'r' {
+        return false;
+    }
+    if line[1] != b'u' {
+        return false;
+    }
+    line[2] == b'n'
+}
+
+// Whether the current line of the text is `run`.
+pub(crate) fn at_run(state: State, held: &[u8]) -> bool
+    requires { ⌜ (state .start ≤ state .count) × (state .count ≤ length (now held)) ⌝ }
+    ensures { λ r. ⌜ r ≡ is "run" (current state (now (held .entry))) ⌝ }
+{
+    let start = state.start;
+    let count = state.count;
+    is_run(&held[start..count])
+}
+
+// The text is complete: the first `end` bytes that are held.
+pub(crate) fn end_text(
+    state: State,
+    end: usize,
+    held: &[u8],
+    image: &mut [u8; 13064],
+    out: &mut [u8; 65536],
+) -> State
+    requires { ⌜ (end ≤ length (now held)) × (length (now image) ≡ 13064) × (length (now out) ≡ 65536) × Room state ⌝ }
+    ensures { λ r. ⌜ TextEnded (take end (now (held .entry))) state (now (out .entry)) r (now (image .exit)) (now (out .exit)) ⌝ }
+{
+    let compiled = codegen::compile(&held[..end], image);
+    match compiled {
+        Compiled::Refused(fault, line) => State {
+            phase: Phase::Over,
+            start: 0,
+            count: 0,
+            epochs: 0,
+            size: 0,
+            used: report::put_refusal(out, state.used, fault, line),
+        },
+        Compiled::Image(size) => State {
+            phase: Phase::Epochs,
+            start: 0,
+            count: 0,
+            epochs: 0,
+            size,
+            used: state.used,
+        },
+    }
+}
+
+// The next line starts behind what is held. 32,769 bytes tell that a text is too long: the lines behind them are held one over
+// the other.
+fn line_behind(state: State) -> State
+    ensures { λ r. ⌜ r ≡ lineBehind state ⌝ }
+{
+    let mut next = state;
+    if 32769 < next.count {
+        next.count = 32769;
+    }
+    next.start = next.count;
+    next
+}
+
+// A byte of the text. Of a line that starts behind a text of the full length or later, at least four bytes are held: they tell
+// whether it is `run`.
+pub(crate) fn text_byte(
+    state: State,
+    byte: u8,
+    held: &mut [u8; 32773],
+    image: &mut [u8; 13064],
+    out: &mut [u8; 65536],
+) -> State
+    requires { ⌜ Good state (now held) (now image) (now out) × Room state × (state .phase ≡ Phase.Text) ⌝ }
+    ensures { λ r. ⌜ Took state (now (held .entry)) (now (image .entry)) (now (out .entry)) (byte ∷ []) r (now (held .exit)) (now (image .exit)) (now (out .exit)) ⌝ }
+{
+    if byte == b'\n' {
+        if at_run(state, held) {
+            return end_text(state, state.start, held, image, out);
+        }
+        return line_behind(push(state, byte, 32769, held));
+    }
+    push(state, byte, 32773, held)
+}
