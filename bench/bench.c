@@ -187,12 +187,12 @@ static void growth(struct policy *p, struct epochs *e, int rules, int constraint
 struct side {
     const char *name;
     struct kinohazel_compilation (*compile)(const uint8_t *, size_t, uint8_t *, size_t);
-    struct kinohazel_check (*check)(const uint8_t *, size_t);
+    struct kinohazel_image_check (*check)(const uint8_t *, size_t);
     struct kinohazel_decision (*decide)(const uint8_t *, size_t, const uint8_t *, size_t);
 };
 
 static const struct side sides[2] = {
-    {"Rattle", kinohazel_compile, kinohazel_check, kinohazel_decide},
+    {"Rattle", kinohazel_compile_nonnull, kinohazel_check_nonnull, kinohazel_decide_nonnull},
     {"C", plain_compile, plain_check, plain_decide},
 };
 
@@ -325,10 +325,10 @@ static struct kinohazel_decision same_decision(const uint8_t *image, size_t size
     return a;
 }
 
-static struct kinohazel_check same_check(const uint8_t *image, size_t size)
+static struct kinohazel_image_check same_check(const uint8_t *image, size_t size)
 {
-    struct kinohazel_check a = kinohazel_check(image, size);
-    struct kinohazel_check b = plain_check(image, size);
+    struct kinohazel_image_check a = kinohazel_check(image, size);
+    struct kinohazel_image_check b = plain_check(image, size);
     same(memcmp(&a, &b, sizeof a) == 0, "an image");
     return a;
 }

@@ -124,9 +124,9 @@ static bool check_part(const uint8_t *image, enum part part, size_t start, size_
     return true;
 }
 
-static struct kinohazel_check load(const uint8_t *image, size_t image_length)
+static struct kinohazel_image_check load(const uint8_t *image, size_t image_length)
 {
-    struct kinohazel_check check = {0, 0, 0, 0};
+    struct kinohazel_image_check check = {0, 0, 0, 0};
     if (image_length < 8 || image_length > KINOHAZEL_IMAGE_LIMIT || image_length % 4 != 0) {
         check.fault = KINOHAZEL_IMAGE_SIZE;
         return check;
@@ -164,7 +164,7 @@ static struct kinohazel_check load(const uint8_t *image, size_t image_length)
     return check;
 }
 
-struct kinohazel_check plain_check(const uint8_t *image, size_t image_length)
+struct kinohazel_image_check plain_check(const uint8_t *image, size_t image_length)
 {
     return load(image, image_length);
 }
@@ -638,7 +638,7 @@ static bool is_violated(const uint8_t *image, size_t at, size_t end, uint64_t se
 struct kinohazel_decision plain_decide(const uint8_t *image, size_t image_length, const uint8_t *line, size_t line_length)
 {
     struct kinohazel_decision decision = {0, 0, 0, 0};
-    struct kinohazel_check check = load(image, image_length);
+    struct kinohazel_image_check check = load(image, image_length);
     if (check.fault != KINOHAZEL_OK) {
         decision.fault = check.fault;
         decision.word = check.word;

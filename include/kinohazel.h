@@ -1,8 +1,19 @@
-/* Kinohazel for C: compile a rule text to an image, check an image, decide an epoch on it.
+/* Kinohazel for C and C++: compile a rule text to an image, check an image, decide an epoch on it.
  *
- * No function keeps state, allocates memory or needs a start-up call, and each ends for every input. A function reads only the
- * bytes it is lent, and writes only to the buffer of kinohazel_compile. A pointer may be anything, but not null, where its length
- * is 0. Build the library with `rt staticlib kinohazel`; it is target/staticlib/libkinohazel.a.
+ * The header is for C99, C++11 and later. The library is for x86-64 with the System V calling convention, as Linux has it; it uses
+ * the red zone and the SSE2 registers of that convention. `rt staticlib kinohazel` builds it as target/staticlib/libkinohazel.a.
+ *
+ * No function keeps state, allocates memory or needs a start-up call, and each ends for every input.
+ *
+ * The caller lends areas of bytes for the time of a call, each as a pointer and a length: `text`, `image`, `line` and `out`. A
+ * function reads only the bytes it is lent, and writes only to `out`. The caller must see to this:
+ *
+ *   - `out` overlaps no other area of the call. `image` and `line` may overlap or be the same, since they are only read.
+ *   - Nobody else changes an area during the call, or reads `out`.
+ *   - No pointer is null where its length is over 0. That is the caller's fault, and no function looks for it. Where its length
+ *     is 0, a pointer may be null.
+ *
+ * Calls from several threads at once are safe as long as the `out` of none overlaps an area of another.
  */
 #ifndef KINOHAZEL_H
 #define KINOHAZEL_H
@@ -14,6 +25,11 @@
 extern "C" {
 #endif
 
+#define KINOHAZEL_VERSION_MAJOR 1
+#define KINOHAZEL_VERSION_MINOR 0
+#define KINOHAZEL_VERSION_PATCH 0
+#define KINOHAZEL_VERSION "1.0.0"
+
 /* Limits. A buffer of KINOHAZEL_IMAGE_LIMIT bytes has room for every image. */
 #define KINOHAZEL_TEXT_LIMIT 32768   /* bytes of a rule text */
 #define KINOHAZEL_EPOCH_LIMIT 1024   /* bytes of an epoch line, without its line end */
@@ -21,25 +37,56 @@ extern "C" {
 #define KINOHAZEL_RULE_LIMIT 128
 #define KINOHAZEL_CONSTRAINT_LIMIT 64 /* never lines */
 
-/* Why something is refused. */
+/* Bytes of stack that a call takes at most, rounded up. They are measured, not proved: tests/library/stack.c makes some thousand
+ * calls through this header, compiled without optimisation, on painted stacks, with the largest inputs and with others. They belong
+ * to the library as the kit builds it. */
+#define KINOHAZEL_COMPILE_STACK 1600
+#define KINOHAZEL_CHECK_STACK 640
+#define KINOHAZEL_DECIDE_STACK 896
+
+/* Why something is refused. The words for each stand in kinohazel_fault_words. */
 enum kinohazel_fault {
     KINOHAZEL_OK = 0,
-    KINOHAZEL_TOO_LONG = 1,          /* rule text or epoch line over its length */
-    KINOHAZEL_SYNTAX = 2,            /* text line of neither shape */
-    KINOHAZEL_OUT_OF_RANGE = 3,      /* number in a text line out of range */
-    KINOHAZEL_TOO_MANY_PARTS = 4,    /* over eight events or actions, or four comparisons */
-    KINOHAZEL_TOO_MANY_LINES = 5,    /* the 129th rule or the 65th never line */
-    KINOHAZEL_DUPLICATE = 6,         /* an event or an action twice in a line */
-    KINOHAZEL_IMAGE_SIZE = 7,        /* image too short, too long, or not whole words */
-    KINOHAZEL_IMAGE_FORM = 8,        /* form of the image not known */
-    KINOHAZEL_IMAGE_COUNT = 9,       /* counts of the image do not fit it */
-    KINOHAZEL_IMAGE_SUM = 10,        /* words of the image do not add up to 0 */
-    KINOHAZEL_IMAGE_BODY = 11,       /* no accepted text compiles to the image */
-    KINOHAZEL_EPOCH_SYNTAX = 12,     /* part of an epoch line of neither shape */
-    KINOHAZEL_EPOCH_RANGE = 13,      /* number in an epoch line out of range */
-    KINOHAZEL_DUPLICATE_READING = 14, /* a reading given twice */
-    KINOHAZEL_BUFFER_TOO_SMALL = 15  /* buffer lent for an image has too few bytes */
+    KINOHAZEL_TOO_LONG = 1,
+    KINOHAZEL_SYNTAX = 2,
+    KINOHAZEL_OUT_OF_RANGE = 3,
+    KINOHAZEL_TOO_MANY_PARTS = 4,
+    KINOHAZEL_TOO_MANY_LINES = 5,
+    KINOHAZEL_DUPLICATE = 6,
+    KINOHAZEL_IMAGE_SIZE = 7,
+    KINOHAZEL_IMAGE_FORM = 8,
+    KINOHAZEL_IMAGE_COUNT = 9,
+    KINOHAZEL_IMAGE_SUM = 10,
+    KINOHAZEL_IMAGE_BODY = 11,
+    KINOHAZEL_EPOCH_SYNTAX = 12,
+    KINOHAZEL_EPOCH_RANGE = 13,
+    KINOHAZEL_DUPLICATE_READING = 14,
+    KINOHAZEL_BUFFER_TOO_SMALL = 15
 };
+
+/* The words for a fault, or "unknown fault" for a number that no fault has. */
+static inline const char *kinohazel_fault_words(uint64_t fault)
+{
+    switch (fault) {
+    case KINOHAZEL_OK: return "no fault";
+    case KINOHAZEL_TOO_LONG: return "rule text or epoch line over its length";
+    case KINOHAZEL_SYNTAX: return "text line of neither shape";
+    case KINOHAZEL_OUT_OF_RANGE: return "number in a text line out of range";
+    case KINOHAZEL_TOO_MANY_PARTS: return "over eight events or actions, or over four comparisons";
+    case KINOHAZEL_TOO_MANY_LINES: return "the 129th rule or the 65th never line";
+    case KINOHAZEL_DUPLICATE: return "an event twice in a rule, or an action twice in a never line";
+    case KINOHAZEL_IMAGE_SIZE: return "image too short, too long, or not whole words";
+    case KINOHAZEL_IMAGE_FORM: return "form of the image not known";
+    case KINOHAZEL_IMAGE_COUNT: return "counts of the image do not fit it";
+    case KINOHAZEL_IMAGE_SUM: return "words of the image do not add up to 0";
+    case KINOHAZEL_IMAGE_BODY: return "no accepted text compiles to the image";
+    case KINOHAZEL_EPOCH_SYNTAX: return "part of an epoch line of neither shape";
+    case KINOHAZEL_EPOCH_RANGE: return "number in an epoch line out of range";
+    case KINOHAZEL_DUPLICATE_READING: return "a reading given twice";
+    case KINOHAZEL_BUFFER_TOO_SMALL: return "buffer lent for an image has too few bytes";
+    default: return "unknown fault";
+    }
+}
 
 struct kinohazel_compilation {
     uint64_t fault; /* enum kinohazel_fault */
@@ -47,19 +94,12 @@ struct kinohazel_compilation {
     uint64_t size;  /* bytes of the image; 0 on a refusal */
 };
 
-/* Compiles a rule text. On success the image stands at the start of `out` and what lies behind it is unchanged. On a refusal
- * `out` is unchanged. */
-struct kinohazel_compilation kinohazel_compile(const uint8_t *text, size_t text_length, uint8_t *out, size_t out_length);
-
-struct kinohazel_check {
+struct kinohazel_image_check {
     uint64_t fault;       /* enum kinohazel_fault */
     uint64_t word;        /* the index of the word at fault for 11; otherwise 0 */
     uint64_t rules;       /* 0 on a refusal */
     uint64_t constraints; /* never lines; 0 on a refusal */
 };
-
-/* Checks an image: every word of it. */
-struct kinohazel_check kinohazel_check(const uint8_t *image, size_t image_length);
 
 struct kinohazel_decision {
     uint64_t fault;     /* enum kinohazel_fault */
@@ -68,8 +108,50 @@ struct kinohazel_decision {
     uint64_t cancelled; /* likewise */
 };
 
+/* The functions as the library exports them, for callers from other languages. Here no pointer is null, even where its length
+ * is 0. */
+struct kinohazel_compilation kinohazel_compile_nonnull(
+    const uint8_t *text, size_t text_length, uint8_t *out, size_t out_length);
+struct kinohazel_image_check kinohazel_check_nonnull(const uint8_t *image, size_t image_length);
+struct kinohazel_decision kinohazel_decide_nonnull(
+    const uint8_t *image, size_t image_length, const uint8_t *line, size_t line_length);
+
+/* For the functions below: the area, or `none` in place of a null pointer with length 0. */
+static inline const uint8_t *kinohazel_lent(const uint8_t *area, size_t length, const uint8_t *none)
+{
+    return area == NULL && length == 0 ? none : area;
+}
+
+static inline uint8_t *kinohazel_lent_out(uint8_t *area, size_t length, uint8_t *none)
+{
+    return area == NULL && length == 0 ? none : area;
+}
+
+/* Compiles a rule text. On success the image stands at the start of `out` and what lies behind it is unchanged. On a refusal
+ * `out` is unchanged. */
+static inline struct kinohazel_compilation kinohazel_compile(
+    const uint8_t *text, size_t text_length, uint8_t *out, size_t out_length)
+{
+    uint8_t none = 0;
+    return kinohazel_compile_nonnull(kinohazel_lent(text, text_length, &none), text_length,
+        kinohazel_lent_out(out, out_length, &none), out_length);
+}
+
+/* Checks an image: every word of it. */
+static inline struct kinohazel_image_check kinohazel_check(const uint8_t *image, size_t image_length)
+{
+    uint8_t none = 0;
+    return kinohazel_check_nonnull(kinohazel_lent(image, image_length, &none), image_length);
+}
+
 /* Decides an epoch line, such as `E1 E3 R0=41` with no line end, on an image. The whole image is checked each time. */
-struct kinohazel_decision kinohazel_decide(const uint8_t *image, size_t image_length, const uint8_t *line, size_t line_length);
+static inline struct kinohazel_decision kinohazel_decide(
+    const uint8_t *image, size_t image_length, const uint8_t *line, size_t line_length)
+{
+    uint8_t none = 0;
+    return kinohazel_decide_nonnull(kinohazel_lent(image, image_length, &none), image_length,
+        kinohazel_lent(line, line_length, &none), line_length);
+}
 
 #ifdef __cplusplus
 }

@@ -17,6 +17,11 @@ static const char text[] =
 
 static const char *const scans[] = {"E1 E3 R0=41", "E1 E3 R0=40", "E1 E2 E3 R0=41", "", "E64"};
 
+static void print_refusal(uint64_t fault)
+{
+    printf(" refused %" PRIu64 ": %s", fault, kinohazel_fault_words(fault));
+}
+
 static void print_actions(const char *name, uint64_t actions)
 {
     const char *before = " ";
@@ -34,10 +39,13 @@ static void print_actions(const char *name, uint64_t actions)
 int main(void)
 {
     static uint8_t image[KINOHAZEL_IMAGE_LIMIT];
+    printf("Kinohazel %s\n", KINOHAZEL_VERSION);
     struct kinohazel_compilation compiled =
         kinohazel_compile((const uint8_t *)text, strlen(text), image, sizeof image);
     if (compiled.fault != KINOHAZEL_OK) {
-        printf("refused %" PRIu64 " line %" PRIu64 "\n", compiled.fault, compiled.line);
+        printf("line %" PRIu64, compiled.line);
+        print_refusal(compiled.fault);
+        printf("\n");
         return 1;
     }
     printf("%" PRIu64 " bytes\n", compiled.size);
@@ -46,17 +54,19 @@ int main(void)
         struct kinohazel_decision decision =
             kinohazel_decide(image, compiled.size, (const uint8_t *)scans[i], strlen(scans[i]));
         printf("%zu", i + 1);
-        if (decision.fault != KINOHAZEL_OK) {
-            printf(" refused %" PRIu64 "\n", decision.fault);
-            continue;
+        if (decision.fault == KINOHAZEL_OK) {
+            print_actions("accept", decision.accepted);
+            print_actions("cancel", decision.cancelled);
+        } else {
+            print_refusal(decision.fault);
         }
-        print_actions("accept", decision.accepted);
-        print_actions("cancel", decision.cancelled);
         printf("\n");
     }
 
     /* One changed constant, 40 to 41, and the image is refused. */
     image[19] = 41;
-    printf("changed: %" PRIu64 "\n", kinohazel_check(image, compiled.size).fault);
+    printf("changed:");
+    print_refusal(kinohazel_check(image, compiled.size).fault);
+    printf("\n");
     return 0;
 }

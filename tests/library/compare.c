@@ -1,7 +1,8 @@
 /* Compares the functions of include/kinohazel.h with the reference, on inputs that are the same on each run:
    `compare ROUNDS` runs round 0, which has the limits, and the rounds behind it, each made from its number;
-   `compare ROUNDS FIRST` begins with another round. It ends at the first difference, and fails if a ground was never
-   met. Lent bytes stand next to pages that cannot be touched. */
+   `compare ROUNDS FIRST` begins with another round. It ends at the first difference, and fails if a ground, or another thing
+   that is counted, was never met. Lent bytes stand next to pages that cannot be touched. The linker puts the functions
+   __wrap_.. between the header and the library. */
 #define _DEFAULT_SOURCE
 #include "../reference/inputs.h"
 #include "kinohazel.h"
@@ -42,14 +43,29 @@ enum flaw {
     NO_OPERATION,
     CUT_AT_PART_END,
     NO_CONSTANT_AT_PART_END,
+    END_AS_CONSTANT,
     TOO_MANY_LINES,
     FLAWS
 };
 
-/* What was met. Places of ground 11: the first line of the rules, a later one, and the same of the constraints. */
+/* What accepted epochs have at the most. */
+enum extreme {
+    ALL_ACCEPTED,
+    ALL_CANCELLED,
+    OVER_30_CANCELLED,
+    ALL_EVENTS,
+    ALL_READINGS, /* all different, some below 0 and some above */
+    FAR_EVENT,    /* E63 behind 1,000 bytes, the last of 1,024 */
+    FAR_READING,  /* R15 likewise */
+    EXTREMES
+};
+
+/* What was met. Places of ground 11: the first line of the rules, a later one, and the same of the constraints. Nulls: 1 if the
+   first area of a call is null, and 2 more if the second one is. */
 static struct {
     unsigned long comparisons, compile[GROUNDS], check[GROUNDS], decide[GROUNDS];
-    unsigned long places[4], flaws[2][FLAWS], accepting, cancelling;
+    unsigned long places[4], flaws[2][FLAWS], accepting, cancelling, extremes[EXTREMES];
+    unsigned long compile_nulls[4], check_nulls[4], decide_nulls[4], lines_in_images;
 } tally;
 
 static unsigned long current_round;
@@ -87,16 +103,17 @@ static void fail_on(const char *function, const char *what, const uint8_t *bytes
 static void stop(int number)
 {
     (void)number;
-    describe("a function", "touched bytes that were not lent\n");
+    describe("a function", "read bytes that were not lent, or wrote to others than those of the buffer\n");
     fflush(stdout);
     _exit(1);
 }
 
 /* Lending */
 
-/* Bytes between two pages that cannot be touched. */
+/* Bytes between two pages that cannot be touched. If `null`, no bytes are lent as a null pointer. */
 struct pen {
     uint8_t *from, *end;
+    bool null;
 };
 
 static struct pen text_pen, line_pen, out_pen;
@@ -111,6 +128,7 @@ static struct pen new_pen(size_t least)
         fail("mmap", "no memory");
     pen.from = all + page;
     pen.end = pen.from + size;
+    pen.null = false;
     return pen;
 }
 
@@ -119,9 +137,78 @@ static const uint8_t *lend(struct pen pen, const uint8_t *bytes, size_t length)
 {
     size_t turn = tally.comparisons % 6;
     uint8_t *at = turn < 4 ? pen.end - length : turn == 4 ? pen.from : pen.end - length - 1 - tally.comparisons / 6 % 3;
-    if (length > 0)
-        memcpy(at, bytes, length);
+    if (length == 0)
+        return pen.null ? NULL : at;
+    memcpy(at, bytes, length);
     return at;
+}
+
+static unsigned nulls(const uint8_t *first, const uint8_t *second)
+{
+    return (first == NULL ? 1 : 0) + (second == NULL ? 2 : 0);
+}
+
+static void let_write(struct pen pen, bool allowed)
+{
+    if (mprotect(pen.from, (size_t)(pen.end - pen.from), allowed ? PROT_READ | PROT_WRITE : PROT_READ) != 0)
+        fail("mprotect", "no rights");
+}
+
+/* Before and after a call: nothing but the buffer, and that by a compilation alone, can be written to during the call. One call
+   of 499 is made so, since it takes long. */
+static void start_call(bool compilation)
+{
+    if (tally.comparisons % 499 != 0)
+        return;
+    let_write(text_pen, false);
+    let_write(line_pen, false);
+    let_write(out_pen, compilation);
+}
+
+static void end_call(void)
+{
+    if (tally.comparisons % 499 != 0)
+        return;
+    let_write(text_pen, true);
+    let_write(line_pen, true);
+    let_write(out_pen, true);
+}
+
+/* What the header hands on to the library has no null pointer. */
+
+struct kinohazel_compilation __real_kinohazel_compile_nonnull(const uint8_t *, size_t, uint8_t *, size_t);
+struct kinohazel_image_check __real_kinohazel_check_nonnull(const uint8_t *, size_t);
+struct kinohazel_decision __real_kinohazel_decide_nonnull(const uint8_t *, size_t, const uint8_t *, size_t);
+struct kinohazel_compilation __wrap_kinohazel_compile_nonnull(const uint8_t *, size_t, uint8_t *, size_t);
+struct kinohazel_image_check __wrap_kinohazel_check_nonnull(const uint8_t *, size_t);
+struct kinohazel_decision __wrap_kinohazel_decide_nonnull(const uint8_t *, size_t, const uint8_t *, size_t);
+
+static void refuse_null(const uint8_t *pointer)
+{
+    if (pointer == NULL)
+        fail("kinohazel.h", "a null pointer is handed on to the library");
+}
+
+struct kinohazel_compilation __wrap_kinohazel_compile_nonnull(
+    const uint8_t *text, size_t text_length, uint8_t *out, size_t out_length)
+{
+    refuse_null(text);
+    refuse_null(out);
+    return __real_kinohazel_compile_nonnull(text, text_length, out, out_length);
+}
+
+struct kinohazel_image_check __wrap_kinohazel_check_nonnull(const uint8_t *image, size_t image_length)
+{
+    refuse_null(image);
+    return __real_kinohazel_check_nonnull(image, image_length);
+}
+
+struct kinohazel_decision __wrap_kinohazel_decide_nonnull(
+    const uint8_t *image, size_t image_length, const uint8_t *line, size_t line_length)
+{
+    refuse_null(image);
+    refuse_null(line);
+    return __real_kinohazel_decide_nonnull(image, image_length, line, line_length);
 }
 
 static bool same(const uint8_t *one, const uint8_t *other, size_t length)
@@ -143,10 +230,13 @@ static struct verdict compare_compile(const uint8_t *text, size_t length, size_t
     uint8_t *out = tally.comparisons % 3 == 0 ? out_pen.from + GUARD
         : tally.comparisons % 3 == 1          ? out_pen.end - GUARD - room
                                               : out_pen.end - room;
+    uint8_t *lent_out = room == 0 && out_pen.null ? NULL : out;
     memcpy(out_pen.from, pattern, OUT_BYTES);
     memcpy(wanted, pattern, OUT_BYTES);
     memcpy(wanted + (out - out_pen.from), image, size);
-    answer = kinohazel_compile(lent, length, out, room);
+    start_call(true);
+    answer = kinohazel_compile(lent, length, lent_out, room);
+    end_call();
     if (answer.fault != (uint64_t)verdict.fault || answer.line != verdict.location || answer.size != size) {
         sprintf(what, "room %lu, fault %" PRIu64 " line %" PRIu64 " size %" PRIu64 ", expected %d, %lu, %lu",
             (unsigned long)room, answer.fault, answer.line, answer.size, (int)verdict.fault,
@@ -158,6 +248,7 @@ static struct verdict compare_compile(const uint8_t *text, size_t length, size_t
     if (!same(lent, text, length))
         fail_on(name, "the text was changed", text, length);
     tally.compile[verdict.fault]++;
+    tally.compile_nulls[nulls(lent, lent_out)]++;
     tally.comparisons++;
     return verdict;
 }
@@ -168,14 +259,16 @@ static struct verdict compare_check(const uint8_t *image, size_t length)
     static const char name[] = "kinohazel_check";
     char what[200];
     struct verdict verdict = load_image(image, length, &policy);
-    struct kinohazel_check answer;
+    struct kinohazel_image_check answer;
     const uint8_t *lent = lend(text_pen, image, length);
     size_t rules = 0, constraints = 0;
     if (verdict.fault == FAULT_NONE) {
         rules = policy.rule_count;
         constraints = policy.constraint_count;
     }
+    start_call(false);
     answer = kinohazel_check(lent, length);
+    end_call();
     if (answer.fault != (uint64_t)verdict.fault || answer.word != verdict.location || answer.rules != rules
         || answer.constraints != constraints) {
         sprintf(what,
@@ -191,8 +284,59 @@ static struct verdict compare_check(const uint8_t *image, size_t length)
         tally.places[verdict.location < rules_end ? verdict.location > 1 : 2 + (verdict.location > rules_end)]++;
     }
     tally.check[verdict.fault]++;
+    tally.check_nulls[lent == NULL]++;
     tally.comparisons++;
     return verdict;
+}
+
+static bool agree(struct kinohazel_decision answer, struct decision wanted)
+{
+    return answer.fault == (uint64_t)wanted.verdict.fault && answer.word == wanted.verdict.location
+        && answer.accepted == wanted.accepted && answer.cancelled == wanted.cancelled;
+}
+
+static unsigned members(uint64_t set)
+{
+    unsigned count = 0;
+    for (; set != 0; set &= set - 1)
+        count++;
+    return count;
+}
+
+static bool all_readings(const int32_t readings[READINGS])
+{
+    bool below = false, above = false;
+    unsigned i, k;
+    for (i = 0; i < READINGS; i++) {
+        below = below || readings[i] < 0;
+        above = above || readings[i] > 0;
+        for (k = 0; k < i; k++)
+            if (readings[i] == 0 || readings[k] == 0 || readings[i] == readings[k])
+                return false;
+    }
+    return below && above;
+}
+
+/* The last token of a line of 1,024 bytes begins so, behind 1,000 bytes and more. */
+static bool far(const uint8_t *line, size_t length, const char *token)
+{
+    size_t from = length, size = strlen(token);
+    while (from > 0 && line[from - 1] != ' ')
+        from--;
+    return length == EPOCH_BYTES && from >= 1000 && length - from >= size && memcmp(line + from, token, size) == 0;
+}
+
+static void count_extremes(struct decision decision, const uint8_t *line, size_t length)
+{
+    struct epoch epoch;
+    read_epoch(line, length, &epoch);
+    tally.extremes[ALL_ACCEPTED] += decision.accepted == UINT64_MAX;
+    tally.extremes[ALL_CANCELLED] += decision.cancelled == UINT64_MAX;
+    tally.extremes[OVER_30_CANCELLED] += members(decision.cancelled) > 30;
+    tally.extremes[ALL_EVENTS] += epoch.events == UINT64_MAX;
+    tally.extremes[ALL_READINGS] += all_readings(epoch.readings);
+    tally.extremes[FAR_EVENT] += far(line, length, "E63");
+    tally.extremes[FAR_READING] += far(line, length, "R15=");
 }
 
 /* The policy, if there is one, is that of the text the image was compiled from. */
@@ -206,9 +350,10 @@ static struct decision compare_decide(const uint8_t *image, size_t length, const
     const uint8_t *lent = lend(text_pen, image, length), *lent_line = lend(line_pen, line, line_length);
     if (policy != NULL)
         plain = decide_by_policy(policy, line, line_length);
+    start_call(false);
     answer = kinohazel_decide(lent, length, lent_line, line_length);
-    if (answer.fault != (uint64_t)wanted.verdict.fault || answer.word != wanted.verdict.location
-        || answer.accepted != wanted.accepted || answer.cancelled != wanted.cancelled) {
+    end_call();
+    if (!agree(answer, wanted)) {
         sprintf(what,
             "fault %" PRIu64 " word %" PRIu64 " sets %" PRIX64 " %" PRIX64 ", expected %d, %lu, %" PRIX64 " %" PRIX64,
             answer.fault, answer.word, answer.accepted, answer.cancelled, (int)wanted.verdict.fault,
@@ -219,14 +364,16 @@ static struct decision compare_decide(const uint8_t *image, size_t length, const
         printf("\n");
         exit(1);
     }
-    if (answer.fault != (uint64_t)plain.verdict.fault || answer.word != plain.verdict.location
-        || answer.accepted != plain.accepted || answer.cancelled != plain.cancelled)
+    if (!agree(answer, plain))
         fail_on(name, "the plain machine answers differently", line, line_length);
     if (answer.fault != KINOHAZEL_OK && (answer.accepted | answer.cancelled) != 0)
         fail_on(name, "sets on a refusal", line, line_length);
     if (!same(lent, image, length) || !same(lent_line, line, line_length))
         fail_on(name, "the image or the line was changed", line, line_length);
+    if (wanted.verdict.fault == FAULT_NONE)
+        count_extremes(wanted, line, line_length);
     tally.decide[wanted.verdict.fault]++;
+    tally.decide_nulls[nulls(lent, lent_line)]++;
     tally.accepting += wanted.accepted != 0;
     tally.cancelling += wanted.cancelled != 0;
     tally.comparisons++;
@@ -570,14 +717,16 @@ static struct line flawed_line(struct dice *dice, bool rule, enum flaw flaw)
         [HEAD_BEHIND_COMPARISON] = WITH_CONSTANT | WITH_READING,
         [OPERATION_OF_OTHER_PART] = HEAD | END,
         [NO_OPERATION] = ANY,
-        [NO_CONSTANT_AT_PART_END] = WITH_CONSTANT};
+        [NO_CONSTANT_AT_PART_END] = WITH_CONSTANT,
+        [END_AS_CONSTANT] = WITH_CONSTANT};
     struct line line;
     uint32_t *word, moved;
     size_t at, other, width;
     do {
         line = good_line(dice, rule, false);
         at = kinds[flaw] == 0 ? 0 : find(&line, dice, kinds[flaw]);
-    } while (at == line.size || (flaw == REPEATED_HEAD && line.kinds[1] != HEAD));
+    } while (at == line.size || (flaw == REPEATED_HEAD && line.kinds[1] != HEAD)
+        || (flaw == END_AS_CONSTANT && line.kinds[line.size - 2] != CONSTANT));
     word = &line.words[at];
     switch (flaw) {
     case SKIP_MORE: *word = (*word & ~UINT32_C(31)) | ((*word + 1) & 31); break;
@@ -624,6 +773,12 @@ static struct line flawed_line(struct dice *dice, bool rule, enum flaw flaw)
         break;
     case CUT_AT_PART_END: line.size = 1 + below(dice, (unsigned)line.size - 1); break;
     case NO_CONSTANT_AT_PART_END: line.size = at + 1; break;
+    case END_AS_CONSTANT: /* the last comparison lacks its constant, and the skips are those of the shorter line */
+        line.size--;
+        line.words[line.size - 1] = line.words[line.size];
+        line.kinds[line.size - 1] = END;
+        set_skips(&line);
+        break;
     default: break;
     }
     return line;
@@ -761,6 +916,25 @@ static struct verdict compare_rooms(const uint8_t *text, size_t length, struct d
     return verdict;
 }
 
+/* An epoch line with every event and every reading, in an order by chance. */
+static void add_full_epoch(struct buffer *to, struct dice *dice)
+{
+    static const long limits[] = {2147483647, -2147483648, 0, -1, 40, 41};
+    unsigned first = below(dice, EVENTS), stride = 1 + 2 * below(dice, 32), i;
+    for (i = 0; i < EVENTS; i++) {
+        add(to, "E");
+        add_number(to, (long)((first + i * stride) % EVENTS));
+        add(to, " ");
+        if (i % 4 == 0) {
+            add(to, "R");
+            add_number(to, (long)((first + i / 4 * stride) % READINGS));
+            add(to, "=");
+            add_number(to, chance(dice, 300) ? CHOOSE(dice, limits) : (long)below(dice, 2000) - 1000);
+            add(to, " ");
+        }
+    }
+}
+
 /* A text, its image with and without damages, and epoch lines, from an input of the engine. */
 static void compare_input(const struct buffer *input, struct buffer *work, struct dice *dice, unsigned share)
 {
@@ -789,6 +963,12 @@ static void compare_input(const struct buffer *input, struct buffer *work, struc
     at = first; /* the first line once more: nothing is kept from the others */
     if (next_line(input->bytes, input->length, &at, &line, &length))
         compare_decide(image, size, line, length, &policy);
+    step = "full epochs";
+    for (i = 0; i < 2; i++) {
+        work->length = 0;
+        add_full_epoch(work, dice);
+        compare_decide(image, size, work->bytes, work->length, &policy);
+    }
     step = "damaged epochs";
     for (i = 0; i < 40; i++) {
         struct taste taste = make_taste(dice);
@@ -812,6 +992,9 @@ static void run_round(struct buffer *input, struct buffer *work)
     size_t i;
     for (i = 0; i < OUT_BYTES; i++)
         pattern[i] = (uint8_t)roll(&dice);
+    text_pen.null = current_round % 2 == 1;
+    line_pen.null = current_round / 2 % 2 == 1;
+    out_pen.null = current_round / 4 % 2 == 1;
 
     step = "texts";
     for (i = 0; i < 20; i++) {
@@ -986,6 +1169,202 @@ static void compare_limit_epochs(struct buffer *input)
     compare_decide(image, size, input->bytes, input->length, &policy);
 }
 
+/* Each area of length 0 as null and as another pointer, beside each other area. */
+static void compare_nulls(void)
+{
+    static const char *const texts[] = {"", "E1 causes A3\n", "E64 causes A3\n", "x"};
+    static uint8_t image[IMAGE_BYTES], changed[IMAGE_BYTES], blanks[TEXT_BYTES + 1];
+    size_t i, size;
+    unsigned which;
+    step = "null pointers";
+    memset(blanks, ' ', sizeof blanks);
+    for (which = 0; which < 8; which++) {
+        text_pen.null = which % 2 == 1;
+        line_pen.null = which / 2 % 2 == 1;
+        out_pen.null = which / 4 == 1;
+        for (i = 0; i < sizeof texts / sizeof *texts; i++) {
+            const uint8_t *text = (const uint8_t *)texts[i];
+            compare_compile(text, strlen(texts[i]), 0);
+            compare_compile(text, strlen(texts[i]), 7);
+            compare_compile(text, strlen(texts[i]), IMAGE_BYTES);
+            compile(text, strlen(texts[i]), image, sizeof image, &size);
+            compare_check(image, size);
+            compare_decide(image, size, NULL, 0, NULL);
+            compare_decide(image, size, (const uint8_t *)"E1", 2, NULL);
+            compare_decide(image, size, (const uint8_t *)"E64", 3, NULL);
+            compare_decide(image, size, blanks, EPOCH_BYTES + 1, NULL);
+            if (size == 0)
+                continue;
+            memcpy(changed, image, size);
+            changed[size - 1] ^= 1;
+            compare_decide(changed, size, NULL, 0, NULL);
+        }
+        compare_compile(blanks, sizeof blanks, 0);
+    }
+    text_pen.null = line_pen.null = out_pen.null = false;
+}
+
+/* Lines that stand in the image itself, as `E1  ` does in a constant: both areas are only read. */
+static void compare_lines_in_image(void)
+{
+    static const char text[] = "E1 causes A3 if R0 < 1160847392\nE1 causes A4\n!E1 causes A5\nnever A3 & A4";
+    uint8_t image[IMAGE_BYTES];
+    const uint8_t *lent;
+    size_t size, at, length;
+    step = "lines in the image";
+    compile((const uint8_t *)text, strlen(text), image, sizeof image, &size);
+    lent = lend(text_pen, image, size);
+    for (at = 0; at <= size; at++)
+        for (length = 0; length <= size - at; length++) {
+            struct decision wanted = decide(image, size, image + at, length);
+            if (!agree(kinohazel_decide(lent, size, lent + at, length), wanted) || !same(lent, image, size))
+                fail_on("kinohazel_decide", "a line in the image is decided otherwise", image + at, length);
+            tally.lines_in_images += wanted.accepted == UINT64_C(1) << 3 && wanted.cancelled == UINT64_C(1) << 4;
+            tally.comparisons++;
+        }
+}
+
+/* Decisions that take all there can be */
+
+/* The text that the lines are decided on. */
+static struct {
+    struct policy policy;
+    uint8_t image[IMAGE_BYTES];
+    size_t size;
+} current;
+
+static void begin(const struct buffer *text)
+{
+    compare_compile(text->bytes, text->length, IMAGE_BYTES);
+    if (compile(text->bytes, text->length, current.image, IMAGE_BYTES, &current.size).fault != FAULT_NONE)
+        fail_on("reference", "a text is refused", text->bytes, text->length);
+    read_text(text->bytes, text->length, &current.policy);
+}
+
+static void expect(const struct buffer *line, uint64_t accepted, uint64_t cancelled)
+{
+    struct decision decision =
+        compare_decide(current.image, current.size, line->bytes, line->length, &current.policy);
+    if (decision.accepted != accepted || decision.cancelled != cancelled)
+        fail_on("reference", "not the sets that the test names", line->bytes, line->length);
+}
+
+static void add_with(struct buffer *to, const char *before, long number, const char *behind)
+{
+    add(to, before);
+    add_number(to, number);
+    add(to, behind);
+}
+
+/* The actions from `from` to `until`. */
+static uint64_t actions(unsigned from, unsigned until)
+{
+    uint64_t set = 0;
+    while (from < until)
+        set |= UINT64_C(1) << from++;
+    return set;
+}
+
+/* Every event proposes the action of its number; all of them, and all but one. */
+static void compare_all_events(struct buffer *text, struct buffer *line)
+{
+    unsigned i, out;
+    step = "all events";
+    text->length = 0;
+    for (i = 0; i < EVENTS; i++) {
+        add_with(text, "E", (long)i, " causes A");
+        add_with(text, "", (long)i, "\n");
+    }
+    begin(text);
+    for (out = 0; out <= EVENTS; out++) {
+        line->length = 0;
+        for (i = 0; i < EVENTS; i++)
+            if (i != out)
+                add_with(line, "E", (long)(out % 2 == 0 ? i : EVENTS - 1 - i), " ");
+        i = out % 2 == 0 ? out : EVENTS - 1 - out;
+        expect(line, out == EVENTS ? UINT64_MAX : ~(UINT64_C(1) << i), 0);
+    }
+}
+
+/* All actions are proposed, and some of them cancelled: by lines that name one action, the first ones or the last ones, or by
+   lines that name A0 and another. */
+static void compare_all_actions(struct buffer *text, struct buffer *line)
+{
+    unsigned count, kind, i;
+    step = "all actions";
+    for (count = 0; count <= ACTIONS; count++)
+        for (kind = 0; kind < 3; kind++) {
+            unsigned from = kind == 0 ? 0 : kind == 1 ? ACTIONS - count : 1, until = from + count;
+            if (until > ACTIONS)
+                continue;
+            text->length = 0;
+            for (i = 0; i < ACTIONS; i++)
+                add_with(text, "E0 causes A", (long)i, "\n");
+            for (i = from; i < until; i++)
+                add_with(text, kind == 2 ? "never A0 & A" : "never A", (long)i, "\n");
+            begin(text);
+            line->length = 0;
+            add(line, "E0");
+            expect(line, ~actions(from, until), actions(from, until));
+        }
+}
+
+/* Each of 16 readings has a value of its own. All of them are given, and then all but one. */
+static void compare_all_readings(struct buffer *text, struct buffer *line)
+{
+    static const long values[READINGS] = {1, -1, 2147483647, -2147483648, 65536, -65536, 255, -256, 1000000007, -1000000007,
+        32767, -32768, 2147483646, -2147483647, 40, -40};
+    unsigned i, out;
+    step = "all readings";
+    text->length = 0;
+    for (i = 0; i < READINGS; i++) {
+        add_with(text, "!E0 causes A", (long)i, " if R");
+        add_with(text, "", (long)i, " = ");
+        add_with(text, "", values[i], "\n!E0 causes A");
+        add_with(text, "", (long)(READINGS + i), " if R");
+        add_with(text, "", (long)i, " != ");
+        add_with(text, "", values[i], "\n");
+    }
+    begin(text);
+    for (out = 0; out <= READINGS; out++) {
+        uint64_t missing = out == READINGS ? 0 : UINT64_C(1) << out;
+        line->length = 0;
+        for (i = 0; i < READINGS; i++) {
+            unsigned reading = out % 2 == 0 ? i : READINGS - 1 - i;
+            if (reading == out)
+                continue;
+            add_with(line, "R", (long)reading, "=");
+            add_with(line, "", values[reading], " ");
+        }
+        expect(line, (actions(0, READINGS) & ~missing) | missing << READINGS, 0);
+    }
+}
+
+/* E63 and R15 at the end of a line, behind spaces or behind other tokens. */
+static void compare_far(struct buffer *text, struct buffer *line)
+{
+    static const char *const tokens[] = {"E63", "R15=-7", "R15=2147483647"};
+    static const char *const fillings[] = {" ", "E5 ", "E62  ", "R14=-7 E7 E7 E7 "};
+    unsigned i, k;
+    size_t length;
+    step = "long lines";
+    text->length = 0;
+    add(text, "E63 causes A0\n!E63 causes A1\n!E0 causes A2 if R15 = -7\n!E0 causes A3 if R15 = 2147483647\n");
+    begin(text);
+    for (i = 0; i < sizeof tokens / sizeof *tokens; i++)
+        for (k = 0; k < sizeof fillings / sizeof *fillings; k++)
+            for (length = 1000; length <= EPOCH_BYTES; length++) {
+                line->length = 0;
+                add(line, fillings[k]);
+                while (k != 3 && line->length + strlen(fillings[k]) + strlen(tokens[i]) <= length)
+                    add(line, fillings[k]);
+                while (line->length + strlen(tokens[i]) < length)
+                    add(line, " ");
+                add(line, tokens[i]);
+                expect(line, i == 0 ? 1 : i == 1 ? 2 + 4 : 2 + 8, 0);
+            }
+}
+
 /* Every byte in the place of each byte of a text, an image and an epoch line, and between each two. */
 static void compare_bytes(struct buffer *input)
 {
@@ -1097,6 +1476,27 @@ static void compare_header(void)
             fail("kinohazel.h", "a limit or a fault has another number");
 }
 
+/* Each fault has words of its own; header.out has them all. */
+static void compare_words(void)
+{
+    static const uint64_t unknown[] = {GROUNDS, 255, 256, UINT64_C(1) << 32, UINT64_C(1) << 32 | 1, UINT64_MAX};
+    static char words[GROUNDS][100];
+    size_t i, k;
+    for (i = 0; i < GROUNDS; i++) {
+        strncpy(words[i], kinohazel_fault_words(i), sizeof words[i] - 1);
+        for (k = 0; k < i; k++)
+            if (strcmp(words[i], words[k]) == 0)
+                fail("kinohazel_fault_words", "two faults have the same words");
+        if (words[i][0] == 0 || strcmp(words[i], "unknown fault") == 0)
+            fail("kinohazel_fault_words", "a fault has no words");
+    }
+    for (i = 0; i < sizeof unknown / sizeof *unknown; i++)
+        if (strcmp(kinohazel_fault_words(unknown[i]), "unknown fault") != 0)
+            fail("kinohazel_fault_words", "a number that no fault has is not unknown");
+    if (strcmp(words[0], "no fault") != 0)
+        fail("kinohazel_fault_words", "0 is not no fault");
+}
+
 static void run_limits(struct buffer *input, struct buffer *work)
 {
     struct dice dice = {UINT64_C(0xF0) << 32};
@@ -1104,9 +1504,16 @@ static void run_limits(struct buffer *input, struct buffer *work)
     for (i = 0; i < OUT_BYTES; i++)
         pattern[i] = (uint8_t)roll(&dice);
     compare_header();
+    compare_words();
     compare_limit_texts(input, &dice);
     compare_limit_images(input, work, &dice);
     compare_limit_epochs(input);
+    compare_nulls();
+    compare_lines_in_image();
+    compare_all_events(input, work);
+    compare_all_actions(input, work);
+    compare_all_readings(input, work);
+    compare_far(input, work);
     compare_bytes(input);
     compare_each_number(input, work, &dice);
     for (i = 0; i < 2; i++) { /* the largest image and the smallest, with all damages */
@@ -1119,7 +1526,7 @@ static void run_limits(struct buffer *input, struct buffer *work)
     }
 }
 
-/* Prints the counts. False if a ground was never met. */
+/* Prints the counts. False if something was never met. */
 static bool report(void)
 {
     static const enum fault compile_grounds[] = {FAULT_NONE, FAULT_LONG, FAULT_SHAPE, FAULT_RANGE, FAULT_CROWD,
@@ -1136,7 +1543,14 @@ static bool report(void)
         {"compile", tally.compile, compile_grounds, sizeof compile_grounds / sizeof *compile_grounds},
         {"check", tally.check, check_grounds, sizeof check_grounds / sizeof *check_grounds},
         {"decide", tally.decide, decide_grounds, sizeof decide_grounds / sizeof *decide_grounds}};
-    bool all = tally.accepting > 0 && tally.cancelling > 0;
+    static const char *const extremes[EXTREMES] = {[ALL_ACCEPTED] = "all actions accepted",
+        [ALL_CANCELLED] = "all cancelled",
+        [OVER_30_CANCELLED] = "over 30 cancelled",
+        [ALL_EVENTS] = "all events",
+        [ALL_READINGS] = "all readings",
+        [FAR_EVENT] = "E63 at the end of 1,024 bytes",
+        [FAR_READING] = "R15 there"};
+    bool all = tally.accepting > 0 && tally.cancelling > 0 && tally.lines_in_images > 0;
     size_t i, k;
     printf("library: %lu comparisons agree", tally.comparisons);
     for (i = 0; i < sizeof functions / sizeof *functions; i++) {
@@ -1148,10 +1562,16 @@ static bool report(void)
         }
     }
     printf("; %lu accept an action, %lu cancel one; 11 at the first rule %lu, a later one %lu, the first constraint "
-           "%lu, a later one %lu\n",
+           "%lu, a later one %lu; decided with",
         tally.accepting, tally.cancelling, tally.places[0], tally.places[1], tally.places[2], tally.places[3]);
+    for (i = 0; i < EXTREMES; i++) {
+        printf("%s %s %lu", i == 0 ? "" : ",", extremes[i], tally.extremes[i]);
+        all = all && tally.extremes[i] > 0;
+    }
+    printf("\n");
     for (i = 0; i < 4; i++)
-        all = all && tally.places[i] > 0;
+        all = all && tally.places[i] > 0 && tally.compile_nulls[i] > 0 && tally.decide_nulls[i] > 0
+            && (tally.check_nulls[i] > 0 || i > 1);
     for (i = 0; i < FLAWS; i++)
         all = all && tally.flaws[0][i] > 0 && (tally.flaws[1][i] > 0 || i == FIRST_UNUSED);
     return all;
@@ -1179,7 +1599,7 @@ int main(int argc, char **argv)
     free(input.bytes);
     free(work.bytes);
     if (!report() && first == 0) {
-        printf("library: a ground was never met\n");
+        printf("library: something that is counted was never met\n");
         return 1;
     }
     return 0;

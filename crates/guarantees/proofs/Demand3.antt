@@ -36,7 +36,7 @@ image-of-text text image c =
     record { policy = w .policy; read = w .read; acceptable = w .acceptable; same = sym (c .written) ∙ w .image }
 
 module _ (p : Policy) (ok : Acceptable p) where
-  same-answer : (line : List ℕ) → answerOf (decision (imageOf newestForm p) line) ≡ step p line
+  pub same-answer : (line : List ℕ) → answerOf (decision (imageOf newestForm p) line) ≡ step p line
   unfolding step answer
   same-answer line = go (readEpoch line) refl
     where

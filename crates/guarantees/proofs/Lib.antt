@@ -1,3 +1,4 @@
 pub mod Demand3
 pub mod Exactness
+pub mod Output
 pub mod Examples

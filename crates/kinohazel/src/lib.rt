@@ -1,5 +1,6 @@
 // The functions for C: compile a text, check an image, decide an epoch. Each answers a struct of numbers. Start with
-// specs/Export.antt; include/kinohazel.h is the C side.
+// specs/Export.antt; include/kinohazel.h is the C side. A slice is never null, not even an empty one: the functions of the header
+// take null pointers and call these.
 ghost use mathlib.Core.Path.{_≡_};
 ghost use Rattle.codegen.specs.Compile.{compiled};
 ghost use Rattle.image.specs.Load.{load};
@@ -36,7 +37,7 @@ pub struct EpochDecision {
 }
 
 #[no_mangle]
-pub extern "C" fn kinohazel_compile(text: &[u8], out: &mut [u8]) -> Compilation
+pub extern "C" fn kinohazel_compile_nonnull(text: &[u8], out: &mut [u8]) -> Compilation
     ensures { λ r. ⌜ (r ≡ compilationOf (compiled (now (text .entry)) (now (out .entry)) .answer)) × (now (out .exit) ≡ compiled (now (text .entry)) (now (out .entry)) .buffer) ⌝ }
 {
     let answer = codegen::compile(text, out);
@@ -55,7 +56,7 @@ pub extern "C" fn kinohazel_compile(text: &[u8], out: &mut [u8]) -> Compilation
 }
 
 #[no_mangle]
-pub extern "C" fn kinohazel_check(image: &[u8]) -> ImageCheck
+pub extern "C" fn kinohazel_check_nonnull(image: &[u8]) -> ImageCheck
     ensures { λ r. ⌜ r ≡ checkOf (load (now (image .entry))) ⌝ }
 {
     let answer = image::load_image(image);
@@ -76,7 +77,7 @@ pub extern "C" fn kinohazel_check(image: &[u8]) -> ImageCheck
 }
 
 #[no_mangle]
-pub extern "C" fn kinohazel_decide(image: &[u8], line: &[u8]) -> EpochDecision
+pub extern "C" fn kinohazel_decide_nonnull(image: &[u8], line: &[u8]) -> EpochDecision
     ensures { λ r. ⌜ r ≡ decisionOf (decision (now (image .entry)) (now (line .entry))) ⌝ }
 {
     let answer = monitor::decide(image, line);

@@ -1,7 +1,7 @@
 use Rattle.kinohazel.proofs.ExportLaws.{check-refused, check-image}
 use borrow.Author.Needs.{needs}
-use Rattle.kinohazel.proofs.kinohazel_check.Statement.{statement}
-use Rattle.kinohazel.proofs.kinohazel_check.Tie as tie
+use Rattle.kinohazel.proofs.kinohazel_check_nonnull.Statement.{statement}
+use Rattle.kinohazel.proofs.kinohazel_check_nonnull.Tie as tie
 
 load-image-requires : tie.Need-load-image-requires
 load-image-requires c κs = search needs
@@ -24,8 +24,8 @@ returns c = check-refused _ _ (c .before .before .before .before .load-image .en
 returns-2 : tie.Need-returns-2
 returns-2 c = check-image _ _ (c .before .before .before .load-image .ensures) _ (c .before .answer2 .given .1)
 
-pub kinohazel-check-spec : {M : Type 1} → statement M
-kinohazel-check-spec =
+pub kinohazel-check-nonnull-spec : {M : Type 1} → statement M
+kinohazel-check-nonnull-spec =
     tie.close
     (tie.spec
     load-image-requires

@@ -1,7 +1,7 @@
 use Rattle.kinohazel.proofs.ExportLaws.{compile-refused, compile-image}
 use borrow.Author.Needs.{needs}
-use Rattle.kinohazel.proofs.kinohazel_compile.Statement.{statement}
-use Rattle.kinohazel.proofs.kinohazel_compile.Tie as tie
+use Rattle.kinohazel.proofs.kinohazel_compile_nonnull.Statement.{statement}
+use Rattle.kinohazel.proofs.kinohazel_compile_nonnull.Tie as tie
 
 compile-requires : tie.Need-compile-requires
 compile-requires c κs = search needs
@@ -30,8 +30,8 @@ same-length-2 c = search needs
 returns-2 : tie.Need-returns-2
 returns-2 c = (compile-image _ _ (c .before .before .before .before .before .compile .ensures .0) _ (c .before .answer2 .given .1), c .before .before .before .before .before .compile .ensures .1)
 
-pub kinohazel-compile-spec : {M : Type 1} → statement M
-kinohazel-compile-spec =
+pub kinohazel-compile-nonnull-spec : {M : Type 1} → statement M
+kinohazel-compile-nonnull-spec =
     tie.close
     (tie.spec
     compile-requires

@@ -1,7 +1,7 @@
 use Rattle.kinohazel.proofs.ExportLaws.{decide-refused, decide-issued}
 use borrow.Author.Needs.{needs}
-use Rattle.kinohazel.proofs.kinohazel_decide.Statement.{statement}
-use Rattle.kinohazel.proofs.kinohazel_decide.Tie as tie
+use Rattle.kinohazel.proofs.kinohazel_decide_nonnull.Statement.{statement}
+use Rattle.kinohazel.proofs.kinohazel_decide_nonnull.Tie as tie
 
 decide-requires : tie.Need-decide-requires
 decide-requires c κs = search needs
@@ -24,8 +24,8 @@ returns c = decide-refused _ _ (c .before .before .before .before .decide .ensur
 returns-2 : tie.Need-returns-2
 returns-2 c = decide-issued _ _ (c .before .before .before .decide .ensures) _ (c .before .answer2 .given .1)
 
-pub kinohazel-decide-spec : {M : Type 1} → statement M
-kinohazel-decide-spec =
+pub kinohazel-decide-nonnull-spec : {M : Type 1} → statement M
+kinohazel-decide-nonnull-spec =
     tie.close
     (tie.spec
     decide-requires

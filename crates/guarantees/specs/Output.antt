@@ -1,0 +1,30 @@
+-- What the engine's program would print if the reference machine answered: no image is spoken of.
+use Prim.Native.Nat.{ℕ}
+use mathlib.Core.Bool.{cond}
+use mathlib.Core.List.{List, [], _∷_, _++_}
+use Rattle.lexer.specs.Byte.{bytes}
+use Rattle.lexer.specs.Lines.{linesOf}
+use Rattle.syntax.specs.Text.{Progress, reading, stopped, readText}
+use Rattle.printer.specs.Printed.{decimal}
+use Rattle.report.specs.Report.{refusalLine, acceptLine}
+use Rattle.session.specs.Printed.{Session, splitAtRun, textOf, epochsOf, next}
+use Rattle.guarantees.specs.Machine.{Answer, run}
+
+-- "A refused epoch shows its number only."
+unfoldable pub answerLine : ℕ → Answer → List ℕ
+answerLine n a = cond (a .isRefused) (decimal n ++ bytes " refused " ++ decimal (a .number) ++ 10 ∷ []) (acceptLine n (a .accepts) (a .cancels))
+
+-- after n epochs
+unfoldable pub answerLines : ℕ → List Answer → List ℕ
+answerLines n [] = []
+answerLines n (a ∷ as′) = answerLine (next n) a ++ answerLines (next n) as′
+
+unfoldable pub machineLines : Progress → List (List ℕ) → List ℕ
+machineLines (stopped fault place) epochs = refusalLine fault place
+machineLines (reading n policy) epochs = answerLines 0 (run policy epochs)
+
+-- all bytes of the input to all bytes of the output
+unfoldable pub machinePrints : List ℕ → List ℕ
+machinePrints input =
+    let s : Session = splitAtRun (linesOf input) in
+    machineLines (readText (textOf input s)) (epochsOf s)

@@ -1,0 +1,61 @@
+// Uses all of include/kinohazel.h from C++: each struct and the enum by its name alone, each function and each macro. What it
+// prints is stored in header.out.
+#include "kinohazel.h"
+
+#include <cstring>
+#include <iostream>
+#include <vector>
+
+static const uint8_t *bytes_of(const char *string) { return reinterpret_cast<const uint8_t *>(string); }
+
+static void print(const char *name, uint64_t fault, uint64_t place, uint64_t one, uint64_t other)
+{
+    std::cout << name << ' ' << fault << ' ' << place << ' ' << one << ' ' << other << '\n';
+}
+
+static void print(const kinohazel_compilation &answer) { print("compile", answer.fault, answer.line, answer.size, 0); }
+
+static void print(const kinohazel_image_check &answer)
+{
+    print("check", answer.fault, answer.word, answer.rules, answer.constraints);
+}
+
+static void print(const kinohazel_decision &answer)
+{
+    print("decide", answer.fault, answer.word, answer.accepted, answer.cancelled);
+}
+
+int main()
+{
+    static const char text[] = "E1 causes A3\nE1 causes A4\nnever A3 & A4\n", line[] = "E1";
+    const size_t text_length = std::strlen(text), line_length = std::strlen(line);
+    const std::vector<uint8_t> nothing;
+    std::vector<uint8_t> no_room, image(KINOHAZEL_IMAGE_LIMIT);
+
+    std::cout << "version " << KINOHAZEL_VERSION << ", " << KINOHAZEL_VERSION_MAJOR << ' ' << KINOHAZEL_VERSION_MINOR << ' '
+              << KINOHAZEL_VERSION_PATCH << '\n';
+    std::cout << "limits " << KINOHAZEL_TEXT_LIMIT << ' ' << KINOHAZEL_EPOCH_LIMIT << ' ' << KINOHAZEL_IMAGE_LIMIT << ' '
+              << KINOHAZEL_RULE_LIMIT << ' ' << KINOHAZEL_CONSTRAINT_LIMIT << '\n';
+    std::cout << "stack " << KINOHAZEL_COMPILE_STACK << ' ' << KINOHAZEL_CHECK_STACK << ' ' << KINOHAZEL_DECIDE_STACK << '\n';
+
+    const kinohazel_compilation compilation = kinohazel_compile(bytes_of(text), text_length, &image[0], image.size());
+    const size_t size = static_cast<size_t>(compilation.size);
+    print(compilation);
+    print(kinohazel_compile_nonnull(bytes_of(text), text_length, &image[0], size - 1));
+    print(kinohazel_compile(bytes_of("x\n"), 2, no_room.data(), no_room.size()));
+    print(kinohazel_compile(nothing.data(), nothing.size(), no_room.data(), no_room.size()));
+    const kinohazel_image_check check = kinohazel_check(&image[0], size);
+    print(check);
+    print(kinohazel_check_nonnull(&image[0], size - 1));
+    print(kinohazel_check(nothing.data(), nothing.size()));
+    const kinohazel_decision decision = kinohazel_decide(&image[0], size, bytes_of(line), line_length);
+    print(decision);
+    print(kinohazel_decide_nonnull(&image[0], size, bytes_of("R0=1 R0=1"), 9));
+    print(kinohazel_decide(&image[0], size, nothing.data(), nothing.size()));
+    print(kinohazel_decide(nothing.data(), nothing.size(), nothing.data(), nothing.size()));
+
+    const kinohazel_fault last = KINOHAZEL_BUFFER_TOO_SMALL;
+    for (uint64_t fault = KINOHAZEL_OK; fault <= last + 1u; fault++)
+        std::cout << fault << ' ' << kinohazel_fault_words(fault) << '\n';
+    return 0;
+}

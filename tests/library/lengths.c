@@ -1,0 +1,173 @@
+/* Calls the functions of include/kinohazel.h with lengths past 16, 31 and 32 bits, and others between. Each is a power of 2 and
+   the length of valid bytes, which stand at the start, so that a length cut to fewer bits would be answered otherwise. The areas
+   have over 4 GiB, of which few pages are ever used. They can be read to their end, and written at their start alone. */
+#define _DEFAULT_SOURCE
+#include "../reference/reference.h"
+#include "kinohazel.h"
+
+#include <inttypes.h>
+#include <signal.h>
+#include <stdlib.h>
+#include <string.h>
+#include <sys/mman.h>
+#include <unistd.h>
+
+enum { START = 1 << 16, LAST_BIT = 32, PAINT = 0x5A };
+
+static unsigned long calls;
+
+static void fail(const char *what, size_t length)
+{
+    printf("library: lengths: %s, length %lu\n", what, (unsigned long)length);
+    exit(1);
+}
+
+static void stop(int number)
+{
+    static const char words[] = "library: lengths: a function wrote behind the start of what was lent\n";
+    ssize_t written = write(STDOUT_FILENO, words, sizeof words - 1);
+    (void)number;
+    _exit(written < 0 ? 2 : 1);
+}
+
+static uint8_t *new_area(void)
+{
+    size_t size = ((size_t)1 << LAST_BIT) + START;
+    uint8_t *area = mmap(NULL, size, PROT_READ, MAP_PRIVATE | MAP_ANONYMOUS | MAP_NORESERVE, -1, 0);
+    if (area == MAP_FAILED || mprotect(area, START, PROT_READ | PROT_WRITE) != 0)
+        fail("no memory can be mapped", size);
+    return area;
+}
+
+/* These bytes at the start of the area, and zeros behind them. */
+static void put(uint8_t *area, const void *bytes, size_t length)
+{
+    memset(area, 0, START);
+    memcpy(area, bytes, length);
+}
+
+static void paint(uint8_t *out)
+{
+    memset(out, PAINT, START);
+}
+
+static bool painted(const uint8_t *out, size_t from)
+{
+    while (from < START && out[from] == PAINT)
+        from++;
+    return from == START;
+}
+
+/* Texts too long by any power of 2 are refused under 1, into a short buffer and into a long one. */
+static void try_texts(uint8_t *area, uint8_t *out)
+{
+    static const char *const texts[] = {"", "E1 causes A2\n", "E64 causes A2\n", "x"};
+    size_t i, length;
+    unsigned bit, k;
+    for (i = 0; i < sizeof texts / sizeof *texts; i++)
+        for (bit = 16; bit <= LAST_BIT; bit++)
+            for (k = 0; k < 2; k++) {
+                struct kinohazel_compilation answer;
+                length = ((size_t)1 << bit) + strlen(texts[i]);
+                put(area, texts[i], strlen(texts[i]));
+                paint(out);
+                answer = kinohazel_compile(area, length, out, k == 0 ? KINOHAZEL_IMAGE_LIMIT : length);
+                if (answer.fault != KINOHAZEL_TOO_LONG || answer.line != 0 || answer.size != 0)
+                    fail("a text too long is not refused under 1", length);
+                if (!painted(out, 0))
+                    fail("a refused text changed the buffer", length);
+                calls++;
+            }
+}
+
+/* Rooms of any power of 2 and somewhat less than the image are enough for it. */
+static void try_rooms(uint8_t *area, uint8_t *out, const char *text)
+{
+    static uint8_t image[IMAGE_BYTES];
+    size_t size, room;
+    unsigned bit, k;
+    compile((const uint8_t *)text, strlen(text), image, sizeof image, &size);
+    put(area, text, strlen(text));
+    for (bit = 14; bit <= LAST_BIT; bit++) {
+        const size_t more[] = {0, 1, size - 4, size - 1, size, size + 1};
+        for (k = 0; k < sizeof more / sizeof *more; k++) {
+            struct kinohazel_compilation answer;
+            room = ((size_t)1 << bit) + more[k];
+            paint(out);
+            answer = kinohazel_compile(area, strlen(text), out, room);
+            if (answer.fault != KINOHAZEL_OK || answer.line != 0 || answer.size != size)
+                fail("a large room is not enough", room);
+            if (memcmp(out, image, size) != 0 || !painted(out, size))
+                fail("wrong bytes in a large room, or changed ones behind the image", room);
+            calls++;
+        }
+    }
+}
+
+/* Images too long by any power of 2 are refused under 7, whatever the line. */
+static void try_images(uint8_t *area, const uint8_t *image, size_t size)
+{
+    static const char *const lines[] = {"", "E1", "E64"};
+    size_t length, i;
+    unsigned bit;
+    put(area, image, size);
+    for (bit = 14; bit <= LAST_BIT; bit++) {
+        struct kinohazel_image_check check;
+        length = ((size_t)1 << bit) + size;
+        check = kinohazel_check(area, length);
+        if (check.fault != KINOHAZEL_IMAGE_SIZE || check.word != 0 || check.rules != 0 || check.constraints != 0)
+            fail("an image too long is not refused under 7", length);
+        calls++;
+        for (i = 0; i < sizeof lines / sizeof *lines; i++) {
+            struct kinohazel_decision decision =
+                kinohazel_decide(area, length, (const uint8_t *)lines[i], strlen(lines[i]));
+            if (decision.fault != KINOHAZEL_IMAGE_SIZE || decision.word != 0
+                || (decision.accepted | decision.cancelled) != 0)
+                fail("a decision on an image too long is not refused under 7", length);
+            calls++;
+        }
+    }
+}
+
+/* Lines too long by any power of 2 are refused under 1, unless the image is refused. */
+static void try_lines(uint8_t *area, const uint8_t *image, size_t size)
+{
+    static const char *const lines[] = {"E1", " ", "E64", "R0=1 R0=1"};
+    static uint8_t changed[IMAGE_BYTES];
+    size_t i, length;
+    unsigned bit, k;
+    memcpy(changed, image, size);
+    changed[size - 1] ^= 1;
+    for (i = 0; i < sizeof lines / sizeof *lines; i++)
+        for (bit = 10; bit <= LAST_BIT; bit++)
+            for (k = 0; k < 2; k++) {
+                struct kinohazel_decision answer;
+                length = ((size_t)1 << bit) + strlen(lines[i]);
+                put(area, lines[i], strlen(lines[i]));
+                answer = kinohazel_decide(k == 0 ? image : changed, size, area, length);
+                if (answer.fault != (k == 0 ? KINOHAZEL_TOO_LONG : KINOHAZEL_IMAGE_SUM) || answer.word != 0
+                    || (answer.accepted | answer.cancelled) != 0)
+                    fail("a line too long is not refused under 1, or before its image", length);
+                calls++;
+            }
+}
+
+int main(void)
+{
+    static const char text[] = "E1 & !E2 causes A3 if R0 > 40\nE3 causes A4\nnever A3 & A4\n";
+    static uint8_t image[IMAGE_BYTES], empty[8];
+    uint8_t *area = new_area(), *out = new_area();
+    size_t size, empty_size;
+    signal(SIGSEGV, stop);
+    signal(SIGBUS, stop);
+    compile((const uint8_t *)text, strlen(text), image, sizeof image, &size);
+    compile(NULL, 0, empty, sizeof empty, &empty_size);
+    try_texts(area, out);
+    try_rooms(area, out, text);
+    try_rooms(area, out, "");
+    try_images(area, image, size);
+    try_images(area, empty, empty_size);
+    try_lines(area, image, size);
+    printf("library: %lu calls with lengths up to 2 to the power of %d and more agree\n", calls, LAST_BIT);
+    return 0;
+}

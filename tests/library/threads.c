@@ -1,0 +1,107 @@
+/* Calls the functions of include/kinohazel.h from several threads at once, on the same texts, images and lines, each thread with
+   a buffer of its own. The answers must be those that one thread alone had before. */
+#define _POSIX_C_SOURCE 200112L
+#include "../reference/inputs.h"
+#include "kinohazel.h"
+
+#include <pthread.h>
+#include <stdlib.h>
+#include <string.h>
+
+enum { THREADS = 8, CASES = 24, LINES = 16, TURNS = 100 };
+
+struct answers {
+    struct kinohazel_compilation compilation;
+    struct kinohazel_image_check check;
+    struct kinohazel_decision decisions[LINES];
+    uint8_t out[IMAGE_BYTES];
+};
+
+/* An input of the engine, the image of its text, and what one thread answers. */
+struct sample {
+    struct buffer input;
+    const uint8_t *lines[LINES];
+    size_t text_length, lengths[LINES], count, size;
+    uint8_t image[IMAGE_BYTES];
+    struct answers answers;
+};
+
+static struct sample samples[CASES];
+static pthread_barrier_t start;
+
+static void answer(const struct sample *sample, struct answers *to)
+{
+    size_t i;
+    memset(to, 0, sizeof *to);
+    to->compilation = kinohazel_compile(sample->input.bytes, sample->text_length, to->out, sizeof to->out);
+    to->check = kinohazel_check(sample->image, sample->size);
+    for (i = 0; i < sample->count; i++)
+        to->decisions[i] = kinohazel_decide(sample->image, sample->size, sample->lines[i], sample->lengths[i]);
+}
+
+/* The first is the largest. */
+static void make(struct sample *sample, struct dice *dice)
+{
+    struct buffer *input = &sample->input;
+    size_t at;
+    *input = new_buffer();
+    if (sample == samples) {
+        add_largest(input);
+        add(input, "run\n");
+        add_epochs_of_largest(input);
+    } else {
+        add_engine_input(input, dice, (unsigned)(sample - samples) % 16);
+    }
+    find_run(input->bytes, input->length, &sample->text_length, &at);
+    while (sample->count < LINES
+        && next_line(input->bytes, input->length, &at, &sample->lines[sample->count], &sample->lengths[sample->count]))
+        sample->count++;
+    compile(input->bytes, sample->text_length, sample->image, sizeof sample->image, &sample->size);
+    answer(sample, &sample->answers);
+}
+
+/* All samples again and again, from the given one on. NULL if the answers are as before. */
+static void *run(void *from)
+{
+    struct answers *now = malloc(sizeof *now);
+    const struct sample *sample = from;
+    bool right = now != NULL;
+    unsigned turn;
+    pthread_barrier_wait(&start);
+    for (turn = 0; turn < TURNS * CASES && right; turn++) {
+        answer(sample, now);
+        right = memcmp(now, &sample->answers, sizeof *now) == 0;
+        sample = sample == &samples[CASES - 1] ? samples : sample + 1;
+    }
+    free(now);
+    return right ? NULL : from;
+}
+
+int main(void)
+{
+    struct dice dice = {UINT64_C(0x7E) << 32};
+    pthread_t threads[THREADS];
+    unsigned i, accepted = 0, right = 0;
+    for (i = 0; i < CASES; i++) {
+        make(&samples[i], &dice);
+        accepted += samples[i].answers.compilation.fault == KINOHAZEL_OK;
+    }
+    if (accepted < CASES / 2 || pthread_barrier_init(&start, NULL, THREADS) != 0)
+        return 2;
+    for (i = 0; i < THREADS; i++)
+        if (pthread_create(&threads[i], NULL, run, &samples[i * CASES / THREADS]) != 0)
+            return 2;
+    for (i = 0; i < THREADS; i++) {
+        void *wrong = samples;
+        pthread_join(threads[i], &wrong);
+        right += wrong == NULL;
+    }
+    for (i = 0; i < CASES; i++)
+        free(samples[i].input.bytes);
+    if (right < THREADS) {
+        printf("library: threads: %u of %d had other answers than one thread alone\n", THREADS - right, (int)THREADS);
+        return 1;
+    }
+    printf("library: %u threads at once have the answers of one\n", right);
+    return 0;
+}
