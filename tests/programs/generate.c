@@ -3,6 +3,7 @@
    met. It fails if one was never met. */
 #include "../reference/inputs.h"
 
+#include <stdarg.h>
 #include <stdlib.h>
 #include <string.h>
 
@@ -19,6 +20,7 @@ static void fail(const char *message, const char *name)
 struct tally {
     unsigned long text[FAULT_ROOM + 1], epoch[FAULT_ROOM + 1];
     unsigned long decisions, cancelling, loaded, bodies;
+    unsigned long most_accepted, most_cancelled, most_epochs; /* in one decision, in one input */
 };
 
 static FILE *open_file(const char *folder, const char *program, const char *name, const char *end)
@@ -69,6 +71,20 @@ static void check_loader(const uint8_t *image, size_t length, struct dice *dice,
             fail("a changed image is not written again as it was", name);
 }
 
+static unsigned long size_of(action_set set)
+{
+    unsigned long size = 0;
+    for (; set != 0; set &= set - 1)
+        size++;
+    return size;
+}
+
+static void raise_to(unsigned long *most, unsigned long number)
+{
+    if (*most < number)
+        *most = number;
+}
+
 /* The image of a text loads as the policy of the text; running it and the plain machine agree on each epoch line. A
    changed word is refused under 7 to 10. */
 static void check_reference(const struct buffer *input, const char *name, bool engine, struct tally *tally)
@@ -77,6 +93,7 @@ static void check_reference(const struct buffer *input, const char *name, bool e
     static uint32_t words[IMAGE_WORDS], loaded_words[IMAGE_WORDS];
     static struct policy policy, loaded;
     struct dice dice = {input->length};
+    unsigned long epochs = 0;
     const uint8_t *line;
     size_t text_length = input->length, at = input->length, written, count, line_length, byte;
     struct verdict verdict;
@@ -111,11 +128,13 @@ static void check_reference(const struct buffer *input, const char *name, bool e
         tally->epoch[one.verdict.fault]++;
         tally->decisions += one.accepted != 0;
         tally->cancelling += one.cancelled != 0;
+        raise_to(&tally->most_accepted, size_of(one.accepted));
+        raise_to(&tally->most_cancelled, size_of(one.cancelled));
+        raise_to(&tally->most_epochs, ++epochs);
     }
 }
 
-static void write_case(
-    const char *folder, bool engine, const char *name, const struct buffer *input, struct tally *tally)
+static void write_files(const char *folder, bool engine, const char *name, const struct buffer *input)
 {
     const char *program = engine ? "engine" : "compiler";
     FILE *file = open_file(folder, program, name, "in");
@@ -127,6 +146,12 @@ static void write_case(
     else
         print_compiler(input->bytes, input->length, file);
     close_file(file, name);
+}
+
+static void write_case(
+    const char *folder, bool engine, const char *name, const struct buffer *input, struct tally *tally)
+{
+    write_files(folder, engine, name, input);
     check_reference(input, name, engine, tally);
 }
 
@@ -229,7 +254,261 @@ static void write_limits(const char *folder, struct buffer *input, struct tally 
     }
 }
 
-/* Prints the counts. False if a fault was never met. */
+/* Further cases, by name: `limit_` those about the length of a text, `large_` those of many bytes, `shift_` those that
+   differ in where a buffer ends. */
+
+static void add_line(struct buffer *to, const char *format, ...)
+{
+    char line[256];
+    va_list list;
+    va_start(list, format);
+    vsnprintf(line, sizeof line, format, list);
+    va_end(list);
+    add(to, line);
+}
+
+/* `E3 E4 E5 `: so many events from one on. */
+static void add_events(struct buffer *to, unsigned first, unsigned count)
+{
+    for (; count > 0; count--)
+        add_line(to, "E%u ", first++);
+}
+
+/* Sets of every size. Of the proposed actions those under R0 are cancelled. */
+static void write_sets(const char *folder, struct buffer *input, struct tally *tally)
+{
+    unsigned i;
+    input->length = 0;
+    for (i = 0; i < ACTIONS; i++)
+        add_line(input, "E%u causes A%u\nnever A%u if R0 > %u\n", i, i, i, i);
+    add(input, "run\n");
+    for (i = 0; i <= ACTIONS; i++) {
+        add_events(input, 0, EVENTS); /* all proposed, i of them cancelled */
+        add_line(input, "R0=%u\n", i);
+        add_events(input, 0, i); /* i proposed, none cancelled, and all */
+        add(input, "\n");
+        add_events(input, EVENTS - i, i);
+        add(input, "R0=64\n");
+    }
+    for (i = 0; i < EVENTS; i++) { /* all but one */
+        add_events(input, 0, i);
+        add_events(input, i + 1, EVENTS - 1 - i);
+        add_line(input, "R0=%u\n", i % 3 * 32);
+    }
+    write_case(folder, true, "sets", input, tally);
+    input->length = 0; /* all but the first are cancelled because of it */
+    for (i = 0; i < ACTIONS; i++)
+        add_line(input, "E63 causes A%u\n", i);
+    for (i = 1; i < ACTIONS; i++)
+        add_line(input, "never A0 & A%u\n", i);
+    add(input, "run\nE63\n\nE63");
+    write_case(folder, true, "sets_first", input, tally);
+}
+
+/* All readings in one line, by rising and by falling number; each once another way, once left out. */
+static void write_readings(const char *folder, struct buffer *input, struct tally *tally)
+{
+    static const long values[READINGS] = {-2147483647 - 1, 2147483647, -1, 1, 40, -40, 65536, -65536, 32768, -32769,
+        255, -256, 1000000000, -1000000000, 7, -2147483647};
+    unsigned i, k;
+    input->length = 0;
+    for (i = 0; i < READINGS; i++) {
+        add_line(input, "E0 causes A%u if R%u = %ld\n", i, i, values[i]);
+        add_line(input, "E1 causes A%u if R%u < R%u\n", 16 + i, i, (i + 1) % READINGS);
+        add_line(input, "E2 causes A%u if R%u >= %ld\n", 32 + i, i, values[i]);
+        add_line(input, "E63 causes A%u if R%u != %ld\n", 48 + i, i, values[i]);
+    }
+    add(input, "run\n");
+    for (k = 0; k <= 3 * READINGS; k++) {
+        if (k % 2 == 0)
+            add_events(input, 0, EVENTS);
+        else
+            add(input, "E0 E2 ");
+        for (i = 0; i < READINGS; i++) {
+            unsigned reading = k % 3 == 0 ? i : k % 3 == 1 ? READINGS - 1 - i : (i * 7 + k) % READINGS;
+            if (k == READINGS + reading)
+                continue;
+            if (k == 2 * READINGS + reading)
+                add_line(input, "R%u=%ld ", reading, values[(reading + 1) % READINGS]);
+            else
+                add_line(input, "R%u=%ld ", reading, k == reading ? values[reading] / 2 : values[reading]);
+        }
+        add(input, k % 4 == 0 ? "E1\n" : "\n");
+    }
+    write_case(folder, true, "readings", input, tally);
+}
+
+/* The last token of lines about as long as they may be, and a token at every place of a line. */
+static void write_lines(const char *folder, struct buffer *input, struct tally *tally)
+{
+    static const char text[] = "E63 causes A63\nE0 & !E63 causes A1\nE0 causes A2 if R15 = -2147483648\n"
+                               "E0 causes A3 if R15 = 7\nE62 causes A62\nrun\n";
+    static const char *const fills[] = {" ", "E1 ", "E62 ", "E0 E1 E62 "};
+    static const char *const ends[] = {
+        "E63", "R15=-2147483648", "E63 R15=7", "R15=7 E63", "E63 ", "E64", "R15=7 R15=7"};
+    unsigned length, i, k;
+    size_t from;
+    for (i = 0; i < 4; i++) {
+        char name[] = "large_line_ends_0";
+        name[sizeof name - 2] = (char)('0' + i);
+        input->length = 0;
+        add(input, text);
+        for (length = 1000; length <= 1026; length++)
+            for (k = 0; k < 7; k++) {
+                from = input->length;
+                add(input, "E0 ");
+                while (input->length - from + strlen(fills[i]) + strlen(ends[k]) <= length)
+                    add(input, fills[i]);
+                while (input->length - from + strlen(ends[k]) < length)
+                    add(input, " ");
+                add(input, ends[k]);
+                add(input, "\n");
+            }
+        write_case(folder, true, name, input, tally);
+    }
+    for (k = 0; k < 2; k++) {
+        input->length = 0;
+        add(input, text);
+        for (i = 0; i < 1026; i++) {
+            add_times(input, " ", i);
+            add(input, k == 0 ? "E63\n" : "R15=7 E0\n");
+        }
+        write_case(folder, true, k == 0 ? "large_places_event" : "large_places_reading", input, tally);
+    }
+    input->length = 0; /* lines far longer, and good ones behind them */
+    add(input, text);
+    for (i = 0; i < 12; i++) {
+        static const unsigned lengths[] = {
+            65535, 65536, 65537, 65538, 65539, 66560, 66561, 131072, 131075, 1100, 4096, 4097};
+        from = input->length;
+        if (i % 3 == 1)
+            add_times(input, " ", lengths[i] - 3);
+        while (input->length - from + 3 < lengths[i] && i % 3 == 2)
+            add(input, "E0 ");
+        add(input, "E63");
+        while (input->length - from < lengths[i])
+            add(input, " ");
+        add(input, "\nE63\nE0 E63 R15=7\n\nE64\n");
+    }
+    write_case(folder, true, "large_lines", input, tally);
+    for (i = 0; i < 3; i++) {
+        static const char *const names[] = {"large_line_spaces", "large_line_events", "large_line_open"};
+        input->length = 0;
+        add(input, text);
+        add(input, "E0\nE63");
+        while (input->length < (i == 0 ? 300000 : i == 1 ? 700000 : 400000))
+            add(input, i == 0 ? " " : i == 1 ? " E62" : "x");
+        if (i < 2)
+            add(input, "\nE63\n\nE0 R15=-2147483648\nE0");
+        write_case(folder, true, names[i], input, tally);
+    }
+}
+
+/* Many answers to one read. */
+static void write_floods(const char *folder, struct buffer *input, struct tally *tally)
+{
+    static const char *const lines[] = {"", "E0", "E1", "E2", "E64", "E0 R0=1", "E3 R0=1", "x", "R0=1 R0=1", "E3"};
+    static const char all[] = "never A0 & A63 if R0 = 1\nE1 causes A5\nE2 causes A5\nE2 causes A10\nE2 causes A11\n"
+                              "E2 causes A12\nE2 causes A13\nE3 causes A10\n";
+    unsigned i, k;
+    input->length = 0; /* numbers of six digits */
+    add(input, "E1 causes A1\nE2 causes A63\nnever A63\nrun\n");
+    for (i = 1; i <= 100200; i++)
+        add(input, i % 1000 == 0 ? "E1\n" : i % 1000 == 536 ? "E2\n" : "\n");
+    write_case(folder, true, "large_epochs", input, tally);
+    for (k = 0; k < 4; k++) { /* answers of all lengths by chance, mostly long ones, only long ones, short ones */
+        char name[] = "large_flood_0";
+        struct dice dice = {UINT64_C(0xF0) << 32 | k};
+        name[sizeof name - 2] = (char)('0' + k);
+        input->length = 0;
+        for (i = 0; i < ACTIONS; i++)
+            add_line(input, "E0 causes A%u\n", i);
+        add(input, all);
+        for (i = 1; i < CONSTRAINTS; i++)
+            add_line(input, "never A%u if R0 = 1\n", i);
+        add(input, "run\n");
+        for (i = 0; i < 6000; i++) {
+            add(input, k == 2 || (k == 1 && chance(&dice, 800)) ? "E0" : k == 3 ? "E64" : CHOOSE(&dice, lines));
+            if (k == 0 && chance(&dice, 5))
+                add_times(input, " ", 1024);
+            add(input, "\n");
+        }
+        write_case(folder, true, name, input, tally);
+    }
+    for (k = 0; k < 272; k++) { /* some answers that take k bytes more, then long ones */
+        char name[32];
+        input->length = 0;
+        for (i = 0; i < ACTIONS; i++)
+            add_line(input, "E0 causes A%u\n", i);
+        add(input, all);
+        add(input, "run\n");
+        for (i = 0; i < 32; i++)
+            add(input, i < k / 16 ? "E2\n" : i < k / 16 + k % 16 ? "E3\n" : "E1\n");
+        add_times(input, "E0\n", 260);
+        sprintf(name, "shift_%03u", k);
+        write_files(folder, true, name, input);
+    }
+}
+
+/* Texts far over their length, by comments, rules, blank lines and one line without an end. */
+static void write_long_texts(const char *folder, struct buffer *input, struct tally *tally)
+{
+    static const unsigned lengths[] = {
+        32769, 65535, 65537, 65593, 98304, 98361, 131072, 131129, 200000, 500000, 1000000};
+    static const char *const fills[] = {"# E1 causes A3\n", "E1 causes A3\n", "\n", "E1"};
+    unsigned i, k;
+    for (i = 0; i < sizeof lengths / sizeof *lengths; i++)
+        for (k = 0; k < 4; k++) {
+            char name[40];
+            input->length = 0;
+            add(input, "E1 & !E2 causes A3 if R0 > 40\nE3 causes A4\nnever A3 & A4\n");
+            while (input->length < lengths[i])
+                add(input, fills[k]);
+            input->length = lengths[i];
+            sprintf(name, "large_text_%u_%u", lengths[i], k);
+            write_case(folder, false, name, input, tally);
+            if (k == 3)
+                write_case(folder, true, name, input, tally);
+            input->bytes[input->length - 1] = '\n';
+            add(input, "run\nE1\n\nE64\n");
+            sprintf(name, "large_run_%u_%u", lengths[i], k);
+            write_case(folder, true, name, input, tally);
+        }
+}
+
+/* A line `run`, or one like it before the line `run`, at the end of a text of about the full length. */
+static void write_runs(const char *folder, struct buffer *input, struct tally *tally)
+{
+    static const char *const lines[] = {
+        "", "ru\n", "runx\n", "xrun\n", " run\n", "run \n", "rrun\n", "#run\n", "\n", "r\n"};
+    static const char *const ends[] = {"run\nE1\n\nE64\n", "run\nE1", "run\n", "run", "ru", "runx", "run "};
+    unsigned i, k, n;
+    char name[40];
+    for (i = 0; i < sizeof lines / sizeof *lines; i++)
+        for (k = 0; k < sizeof ends / sizeof *ends; k++)
+            for (n = TEXT_BYTES - 6; n <= TEXT_BYTES + 6; n++) {
+                if (i > 0 && k > 0 && (n + i + k) % 4 != 0) /* not all of them */
+                    continue;
+                input->length = 0;
+                add_length(input, n - strlen(lines[i]), true);
+                add(input, lines[i]);
+                add(input, ends[k]);
+                sprintf(name, "limit_%u_%u_%u", n, i, k);
+                write_case(folder, true, name, input, tally);
+            }
+    for (i = 1; i < sizeof lines / sizeof *lines; i++) /* past the limit */
+        for (k = 0; k < 2; k++) {
+            input->length = 0;
+            add_length(input, k == 0 ? 40000 : 65530 + i, true);
+            for (n = 1; n <= i; n++)
+                add(input, lines[n]);
+            add(input, i % 3 == 0 ? "run" : "run\nE1\nrun\nE1\n");
+            sprintf(name, "limit_past_%u_%u", i, k);
+            write_case(folder, true, name, input, tally);
+        }
+}
+
+/* Prints the counts. False if a fault was never met, or a set of all actions, or an epoch over 100,000. */
 static bool report(const struct tally *tally)
 {
     static const enum fault text[] = {FAULT_LONG, FAULT_SHAPE, FAULT_RANGE, FAULT_CROWD, FAULT_FULL, FAULT_REPEAT};
@@ -249,7 +528,8 @@ static bool report(const struct tally *tally)
     }
     printf("\n");
     return all && tally->text[FAULT_NONE] > 0 && tally->decisions > 0 && tally->cancelling > 0 && tally->loaded > 0
-        && tally->bodies > 0;
+        && tally->bodies > 0 && tally->most_accepted == ACTIONS && tally->most_cancelled == ACTIONS
+        && tally->most_epochs > 100000;
 }
 
 int main(int argc, char **argv)
@@ -262,6 +542,12 @@ int main(int argc, char **argv)
         fail("generate DIR", "usage");
     memset(&tally, 0, sizeof tally);
     write_limits(argv[1], &input, &tally);
+    write_sets(argv[1], &input, &tally);
+    write_readings(argv[1], &input, &tally);
+    write_lines(argv[1], &input, &tally);
+    write_floods(argv[1], &input, &tally);
+    write_long_texts(argv[1], &input, &tally);
+    write_runs(argv[1], &input, &tally);
     for (i = 0; i < COMPILER_CASES; i++) {
         struct dice dice = {UINT64_C(0xC0) << 32 | i};
         input.length = 0;
@@ -278,7 +564,7 @@ int main(int argc, char **argv)
     }
     free(input.bytes);
     if (!report(&tally)) {
-        fprintf(stderr, "generate: a fault was never met\n");
+        fprintf(stderr, "generate: a fault, a set of all actions or an epoch over 100,000 was never met\n");
         return 1;
     }
     return 0;
