@@ -1,14 +1,16 @@
--- Going over a line word by word: the words of a valid line pass, and what each word that passes is.
-use Prim.Native.Nat.{ℕ, zero, suc, _+_, _*_, _%_, _^_, _≤_, _<_}
+-- Going over a line: the words of a valid line pass, and what passes is a valid line.
+use Prim.Native.Nat.{ℕ, zero, suc, _+_, _-_, _*_, _/_, _%_, _^_, _≤_, _<_}
 use mathlib.Core.Bool.{Bool, true, false, not, cond, _&&_, _||_}
 use mathlib.Core.List.{List, [], _∷_, _++_, map, append-assoc}
 use mathlib.Core.Logic.{_⊎_, inl, inr}
-use mathlib.Core.Path.{_≡_, refl, sym, ap, _∙_}
+use mathlib.Core.Path.{_≡_, refl, sym, ap, ap₂, _∙_, subst}
 use native.Mathlib.Omega.{arith}
-use borrow.Author.Tests.{ltb-true, lt-ltb, eqb-true, eq-eqb, ne-eqb, not-true}
-use lib.Dec.{ltb, eqb}
+use borrow.Author.Tests.{ltb-true, lt-ltb, eqb-true, eq-eqb, ne-eqb, not-true, le-leb, leb-true}
+use lib.Dec.{ltb, leb, eqb}
 use lib.ListN.{length, drop, getD, length-append}
 use lib.Seq.{getD-at}
+use lib.Pow.{pow-mono, shr-lt}
+use native.Mathlib.Nat.{lt-of-lt-of-le}
 use Rattle.policy.proofs.ListLaws.{true-false, and-in, and-out}
 use Rattle.policy.specs.Limits.{valid, testNumber, comparisonInRange, endingInRange}
 use Rattle.policy.specs.Line.{PolicyLine, rule, constraint, headsOf, comparisonsOf, endingOf}
@@ -26,24 +28,11 @@ use Rattle.policy.proofs.ValidLaws.{ValidParts, valid-out, testInRange}
 use Rattle.word.proofs.WordLaws.{opcode-pack, head-low, head-again}
 use Rattle.image.specs.Layout.{testOpcode, testWord, comparisonWords, endingWord, conditionWords, partWords, lineWords}
 use Rattle.image.specs.Load.{inPart}
-use Rattle.image.specs.Scan.{isHead, isEnding, scanStart, broken, headSound, afterHead, constantSound, readingSound, afterComparison, afterTest, afterConstant, afterWord, scanWords, scanLine}
+use Rattle.image.specs.Scan.{isHead, isEnding, headOpcodes, headSound, headCount, constantSound, readingSound, comparisonSize, compared, scanLine}
 use Rattle.word.specs.Word.{wordLimit, pack, opcodeOf, firstOf, secondOf, relationOf, skipOf}
 use Rattle.image.specs.declared.line.Part.{Part}
-use Rattle.image.specs.declared.line.Scan.{Scan}
 
--- ---- one word, from facts
-
-module _ (part : Part) (s : Scan) (w left : ℕ) (idle : s .constant ≡ false) where
-  pub record HeadFacts : Type 0 where
-    pub operation : isHead part (opcodeOf w) ≡ true
-    pub order : s .comparisons ≡ 0
-    pub few : s .heads < 8
-    pub unseen : has (s .seen) (firstOf w) ≡ false
-    pub low : w % 2 ^ 22 ≡ left
-
-  pub after-head : HeadFacts → afterWord part s w left ≡ record { seen = insert (s .seen) (firstOf w); heads = s .heads + 1; comparisons = s .comparisons; constant = false; sound = s .sound }
-  unfolding afterWord afterTest afterHead headSound
-  after-head h = rw (idle, h .operation, eq-eqb (s .comparisons) 0 (h .order), lt-ltb (s .heads) 8 (h .few), h .unseen, eq-eqb (w % 2 ^ 22) left (h .low))
+-- ---- one word, from facts and to facts
 
 not-head : (part : Part) (n : ℕ) → (n ≡ 3) ⊎ (n ≡ 4) → isHead part n ≡ false
 unfolding isHead
@@ -52,76 +41,122 @@ not-head Part.Rules n (inr e) = rw e
 not-head Part.Constraints n (inl e) = rw e
 not-head Part.Constraints n (inr e) = rw e
 
-module _ (part : Part) (s : Scan) (w : ℕ) (idle : s .constant ≡ false) (few : s .comparisons < 4) where
-  pub after-constant-test : (k : ℕ) → Compares 3 w k → secondOf w ≡ 0 → 0 < k
-      → afterWord part s w (k + 1) ≡ record { seen = s .seen; heads = s .heads; comparisons = s .comparisons + 1; constant = true; sound = s .sound }
-  unfolding afterWord afterTest afterComparison constantSound
-  after-constant-test k h z p =
-      let e : w % 2 ^ 13 + 1 ≡ k + 1 = ap (λ (n : ℕ). n + 1) (h .low) in
-      rw (idle, not-head part (opcodeOf w) (inl (h .operation)), eq-eqb (opcodeOf w) 3 (h .operation), lt-ltb (firstOf w) 16 (h .first), lt-ltb (relationOf w) 6 (h .relation), eq-eqb (secondOf w) 0 z, eq-eqb (w % 2 ^ 13 + 1) (k + 1) e, lt-ltb 1 (k + 1) (omega arith), lt-ltb (s .comparisons) 4 few)
+-- a number has no bit past its own
+past : (s k m : ℕ) → s < 2 ^ k → k ≤ m → s / 2 ^ m ≡ 0
+past s k m h l =
+    let z : k ≤ 0 + m = omega arith in
+    let r = shr-lt {n = s} 0 m (lt-of-lt-of-le h (pow-mono z)) in
+    omega (arith, r)
 
-  pub after-reading-test : (k : ℕ) → Compares 4 w k → secondOf w < 16
-      → afterWord part s w k ≡ record { seen = s .seen; heads = s .heads; comparisons = s .comparisons + 1; constant = false; sound = s .sound }
-  unfolding afterWord afterTest afterComparison readingSound
-  after-reading-test k h z =
-      let n : eqb (opcodeOf w) 3 ≡ false = ne-eqb (opcodeOf w) 3 (λ q. omega (arith, h .operation)) in
-      rw (idle, not-head part (opcodeOf w) (inr (h .operation)), n, eq-eqb (opcodeOf w) 4 (h .operation), lt-ltb (firstOf w) 16 (h .first), lt-ltb (relationOf w) 6 (h .relation), lt-ltb (secondOf w) 16 z, eq-eqb (w % 2 ^ 13) k (h .low), lt-ltb (s .comparisons) 4 few)
+-- the operations of heads as bits
+pub head-bit : (part : Part) (n : ℕ) → has (headOpcodes part) n ≡ isHead part n
+unfolding has headOpcodes isHead
+head-bit Part.Rules zero = refl
+head-bit Part.Rules (suc zero) = refl
+head-bit Part.Rules (suc (suc zero)) = refl
+head-bit Part.Rules (suc (suc (suc n))) = rw (ne-eqb (suc (suc (suc n))) 1 (λ q. omega arith), ne-eqb (suc (suc (suc n))) 2 (λ q. omega arith), past 6 3 (suc (suc (suc n))) (omega arith) (omega arith))
+head-bit Part.Constraints zero = refl
+head-bit Part.Constraints (suc zero) = refl
+head-bit Part.Constraints (suc (suc zero)) = refl
+head-bit Part.Constraints (suc (suc (suc zero))) = refl
+head-bit Part.Constraints (suc (suc (suc (suc zero)))) = refl
+head-bit Part.Constraints (suc (suc (suc (suc (suc zero))))) = refl
+head-bit Part.Constraints (suc (suc (suc (suc (suc (suc zero)))))) = refl
+head-bit Part.Constraints (suc (suc (suc (suc (suc (suc (suc n))))))) = rw (ne-eqb (suc (suc (suc (suc (suc (suc (suc n))))))) 6 (λ q. omega arith), past 64 7 (suc (suc (suc (suc (suc (suc (suc n))))))) (omega arith) (omega arith))
 
-pub after-constant : (part : Part) (s : Scan) (v left : ℕ) → s .constant ≡ true → afterWord part s v left ≡ record { seen = s .seen; heads = s .heads; comparisons = s .comparisons; constant = false; sound = s .sound }
-unfolding afterWord afterConstant
-after-constant part s v left e = rw e
+pub record HeadFacts (part : Part) (seen w left : ℕ) : Type 0 where
+  pub operation : isHead part (opcodeOf w) ≡ true
+  pub low : w % 2 ^ 22 ≡ left
+  pub unseen : has seen (firstOf w) ≡ false
 
--- a head that may stand is one of eight
-pub head-few : (s : Scan) (w left : ℕ) → headSound s w left ≡ true → s .heads < 8
+pub head-in : (part : Part) (seen w left : ℕ) → HeadFacts part seen w left → headSound part seen w left ≡ true
 unfolding headSound
-head-few s w left q =
-    let p = and-out (eqb (s .comparisons) 0 && ltb (s .heads) 8 && not (has (s .seen) (firstOf w))) (eqb (w % 2 ^ 22) left) q in
-    let r = and-out (eqb (s .comparisons) 0 && ltb (s .heads) 8) (not (has (s .seen) (firstOf w))) (p .0) in
-    ltb-true (s .heads) 8 (and-out (eqb (s .comparisons) 0) (ltb (s .heads) 8) (r .0) .1)
+head-in part seen w left h = rw (h .operation, eq-eqb (w % 2 ^ 22) left (h .low), h .unseen)
 
-no-constant : (part : Part) (s : Scan) (w left : ℕ) → s .constant ≡ false → afterWord part s w left ≡ afterTest part s w left
-unfolding afterWord
-no-constant part s w left idle = ap (λ (b : Bool). cond b (afterConstant s) (afterTest part s w left)) idle
+pub head-out : (part : Part) (seen w left : ℕ) → headSound part seen w left ≡ true → HeadFacts part seen w left
+unfolding headSound
+head-out part seen w left q =
+    let p = and-out (eqb (w % 2 ^ 22) left && isHead part (opcodeOf w)) (not (has seen (firstOf w))) q in
+    let r = and-out (eqb (w % 2 ^ 22) left) (isHead part (opcodeOf w)) (p .0) in
+    record { operation = r .1; low = eqb-true (w % 2 ^ 22) left (r .0); unseen = not-true (has seen (firstOf w)) (p .1) }
 
--- ---- one word as the code takes it: with its operation o, and whether that is a head's
+and-false : (b : Bool) → b && false ≡ false
+and-false true = refl
+and-false false = refl
 
-module _ (part : Part) (s t : Scan) (w left o : ℕ) (r : Bool) (idle : s .constant ≡ false) (operation : o ≡ opcodeOf w) (head : r ≡ isHead part o) where
-  told : (b : Bool) → r ≡ b → isHead part (opcodeOf w) ≡ b
-  told b e = ap (isHead part) (sym operation) ∙ sym head ∙ e
+pub no-head : (part : Part) (seen w left : ℕ) → (opcodeOf w ≡ 3) ⊎ (opcodeOf w ≡ 4) → headSound part seen w left ≡ false
+unfolding headSound
+no-head part seen w left o = rw (not-head part (opcodeOf w) o, and-false (eqb (w % 2 ^ 22) left))
 
-  pub turn-head : r ≡ true → t ≡ afterHead s w left → t ≡ afterWord part s w left
-  unfolding afterTest
-  turn-head e q = q ∙ sym (no-constant part s w left idle ∙ rw (told true e))
+pub size-constant : (w k : ℕ) → Compares 3 w k → secondOf w ≡ 0 → 0 < k → comparisonSize w (k + 1) ≡ 2
+unfolding comparisonSize constantSound
+size-constant w k h z p =
+    let e : w % 2 ^ 13 + 1 ≡ k + 1 = ap (λ (n : ℕ). n + 1) (h .low) in
+    rw (eq-eqb (opcodeOf w) 3 (h .operation), lt-ltb (firstOf w) 16 (h .first), lt-ltb (relationOf w) 6 (h .relation), eq-eqb (secondOf w) 0 z, eq-eqb (w % 2 ^ 13 + 1) (k + 1) e, lt-ltb 1 (k + 1) (omega arith))
 
-  pub turn-constant : (f : Bool) → r ≡ false → o ≡ 3 → f ≡ constantSound w left → t ≡ afterComparison s f true → t ≡ afterWord part s w left
-  unfolding afterTest
-  turn-constant f e n c q =
-      q ∙ ap (λ (b : Bool). afterComparison s b true) c ∙ sym (no-constant part s w left idle ∙ rw (told false e, eq-eqb (opcodeOf w) 3 (sym operation ∙ n)))
+pub size-reading : (w k : ℕ) → Compares 4 w k → secondOf w < 16 → comparisonSize w k ≡ 1
+unfolding comparisonSize readingSound
+size-reading w k h z =
+    let n : eqb (opcodeOf w) 3 ≡ false = ne-eqb (opcodeOf w) 3 (λ q. omega (arith, h .operation)) in
+    rw (n, eq-eqb (opcodeOf w) 4 (h .operation), lt-ltb (firstOf w) 16 (h .first), lt-ltb (relationOf w) 6 (h .relation), lt-ltb (secondOf w) 16 z, eq-eqb (w % 2 ^ 13) k (h .low))
 
-  pub turn-reading : (f : Bool) → r ≡ false → o ≡ 4 → f ≡ readingSound w left → t ≡ afterComparison s f false → t ≡ afterWord part s w left
-  unfolding afterTest
-  turn-reading f e n c q =
-      let m : opcodeOf w ≡ 4 = sym operation ∙ n in
-      q ∙ ap (λ (b : Bool). afterComparison s b false) c ∙ sym (no-constant part s w left idle ∙ rw (told false e, ne-eqb (opcodeOf w) 3 (λ x. omega arith), eq-eqb (opcodeOf w) 4 m))
+-- what a word is, by the size of its comparison
+pub data Sized (w left : ℕ) : Type 0 where
+  sizedConstant : (k : ℕ) → Compares 3 w k → secondOf w ≡ 0 → 0 < k → left ≡ k + 1 → comparisonSize w left ≡ 2 → Sized w left
+  sizedReading : Compares 4 w left → secondOf w < 16 → comparisonSize w left ≡ 1 → Sized w left
+  sizedNone : comparisonSize w left ≡ 0 → Sized w left
 
-  pub turn-other : r ≡ false → (o ≡ 3 → ⊥) → (o ≡ 4 → ⊥) → t ≡ broken s → t ≡ afterWord part s w left
-  unfolding afterTest
-  turn-other e n₃ n₄ q =
-      q ∙ sym (no-constant part s w left idle ∙ rw (told false e, ne-eqb (opcodeOf w) 3 (λ x. n₃ (operation ∙ x)), ne-eqb (opcodeOf w) 4 (λ x. n₄ (operation ∙ x))))
+pub sized : (w left : ℕ) → w < wordLimit → Sized w left
+unfolding comparisonSize constantSound readingSound
+sized w left limit = go (eqb (opcodeOf w) 3) (eqb (opcodeOf w) 4) refl refl
+  where
+    constant : opcodeOf w ≡ 3 → (b : Bool) → constantSound w left ≡ b → Sized w left
+    constant o true q =
+        let r = and-out (ltb (firstOf w) 16 && ltb (relationOf w) 6 && eqb (secondOf w) 0 && eqb (w % 2 ^ 13 + 1) left) (ltb 1 left) q in
+        let u = and-out (ltb (firstOf w) 16 && ltb (relationOf w) 6 && eqb (secondOf w) 0) (eqb (w % 2 ^ 13 + 1) left) (r .0) in
+        let v = and-out (ltb (firstOf w) 16 && ltb (relationOf w) 6) (eqb (secondOf w) 0) (u .0) in
+        let x = and-out (ltb (firstOf w) 16) (ltb (relationOf w) 6) (v .0) in
+        let l : w % 2 ^ 13 + 1 ≡ left = eqb-true (w % 2 ^ 13 + 1) left (u .1) in
+        let n : 1 < left = ltb-true 1 left (r .1) in
+        sizedConstant (w % 2 ^ 13)
+        (record { limit = limit; operation = o; first = ltb-true (firstOf w) 16 (x .0); relation = ltb-true (relationOf w) 6 (x .1); low = refl })
+        (eqb-true (secondOf w) 0 (v .1)) (omega arith) (sym l) (rw (eq-eqb (opcodeOf w) 3 o, q))
+    constant o false q = sizedNone (rw (eq-eqb (opcodeOf w) 3 o, q))
+
+    reading : eqb (opcodeOf w) 3 ≡ false → opcodeOf w ≡ 4 → (b : Bool) → readingSound w left ≡ b → Sized w left
+    reading n o true q =
+        let u = and-out (ltb (firstOf w) 16 && ltb (relationOf w) 6 && ltb (secondOf w) 16) (eqb (w % 2 ^ 13) left) q in
+        let v = and-out (ltb (firstOf w) 16 && ltb (relationOf w) 6) (ltb (secondOf w) 16) (u .0) in
+        let x = and-out (ltb (firstOf w) 16) (ltb (relationOf w) 6) (v .0) in
+        sizedReading
+        (record { limit = limit; operation = o; first = ltb-true (firstOf w) 16 (x .0); relation = ltb-true (relationOf w) 6 (x .1); low = eqb-true (w % 2 ^ 13) left (u .1) })
+        (ltb-true (secondOf w) 16 (v .1)) (rw (n, eq-eqb (opcodeOf w) 4 o, q))
+    reading n o false q = sizedNone (rw (n, eq-eqb (opcodeOf w) 4 o, q))
+
+    go : (a b : Bool) → eqb (opcodeOf w) 3 ≡ a → eqb (opcodeOf w) 4 ≡ b → Sized w left
+    go true b p q = constant (eqb-true (opcodeOf w) 3 p) (constantSound w left) refl
+    go false true p q = reading p (eqb-true (opcodeOf w) 4 q) (readingSound w left) refl
+    go false false p q = sizedNone (rw (p, q))
+
+-- one comparison more, of so many words
+pub compared-step : (n room k w : ℕ) (ws : List ℕ) → comparisonSize w (suc n) ≡ k → 0 < k → compared (suc room) (suc n) (w ∷ ws) ≡ compared room (suc n - k) (drop k (w ∷ ws))
+unfolding compared
+compared-step n room k w ws e p = rw (ne-eqb (suc n) 0 (λ q. omega arith), e, ne-eqb k 0 (λ q. omega arith))
+
+pub compared-none : (n room w : ℕ) (ws : List ℕ) → comparisonSize w (suc n) ≡ 0 → compared (suc room) (suc n) (w ∷ ws) ≡ false
+unfolding compared
+compared-none n room w ws e = rw (ne-eqb (suc n) 0 (λ q. omega arith), e)
 
 -- ---- the words of a valid line pass
 
--- how a scan ends
-pub record Passes (t : Scan) (heads : ℕ) : Type 0 where
-  pub sound : t .sound ≡ true
-  pub counted : t .heads ≡ heads
-
 module _ (part : Part) (e : Ending) (rest : List ℕ) where
-  condition-passes : (cs : List Comparison) (s : Scan) (m : ℕ) → s .constant ≡ false → s .sound ≡ true → s .comparisons + length cs ≤ 4 → all comparisonInRange cs ≡ true → length (conditionWords cs e) ≡ suc m
-      → Passes (scanWords part s m (conditionWords cs e ++ rest)) (s .heads)
-  unfolding conditionWords scanWords all
-  condition-passes [] s m i t f r l = let z : m ≡ 0 = omega arith in rw z (record { sound = t; counted = refl })
-  condition-passes (c ∷ cs) s m i t f r l = go m (written c (length tail) (p .0) small) size (λ s′ m′. condition-passes cs s′ m′)
+  condition-compared : (cs : List Comparison) (room m : ℕ) → length cs ≤ room → length cs ≤ 4 → all comparisonInRange cs ≡ true → length (conditionWords cs e) ≡ suc m
+      → compared room m (conditionWords cs e ++ rest) ≡ true
+  unfolding conditionWords compared all
+  condition-compared [] zero m f g r l = let z : m ≡ 0 = omega arith in rw z
+  condition-compared [] (suc room) m f g r l = let z : m ≡ 0 = omega arith in rw z
+  condition-compared (c ∷ cs) zero m f g r l = absurd (omega arith)
+  condition-compared (c ∷ cs) (suc room) m f g r l = go m (written c (length tail) (p .0) small) size (λ m′ j. condition-compared cs room m′ (omega arith) (omega arith) (p .1) j)
     where
       tail : List ℕ
       tail = conditionWords cs e
@@ -139,53 +174,69 @@ module _ (part : Part) (e : Ending) (rest : List ℕ) where
       size = sym (length-append (comparisonWords c (length tail)) tail) ∙ l
 
       Later : Type 0
-      Later = (s′ : Scan) (m′ : ℕ) → s′ .constant ≡ false → s′ .sound ≡ true → s′ .comparisons + length cs ≤ 4 → all comparisonInRange cs ≡ true → length tail ≡ suc m′ → Passes (scanWords part s′ m′ (tail ++ rest)) (s′ .heads)
+      Later = (m′ : ℕ) → length tail ≡ suc m′ → compared room m′ (tail ++ rest) ≡ true
 
-      go : (n : ℕ) → Written c (length tail) → length (comparisonWords c (length tail)) + length tail ≡ suc n → Later → Passes (scanWords part s n (comparisonWords c (length tail) ++ tail ++ rest)) (s .heads)
+      go : (n : ℕ) → Written c (length tail) → length (comparisonWords c (length tail)) + length tail ≡ suc n → Later → compared (suc room) n (comparisonWords c (length tail) ++ tail ++ rest) ≡ true
       go zero (withConstant w v q o k b h z) l′ later = absurd (omega (arith, ap length q))
-      go (suc zero) (withConstant w v q o k b h z) l′ later = absurd (omega (arith, ap length q, some-tail))
-      go (suc (suc n)) (withConstant w v q o k b h z) l′ later =
-          let j : length tail ≡ suc n = omega (arith, ap length q) in
-          let left : suc (suc n) ≡ length tail + 1 = omega arith in
-          rw (q, left, after-constant-test part s w i (omega arith) (length tail) h (z .0) some-tail, after-constant part (record { seen = s .seen; heads = s .heads; comparisons = s .comparisons + 1; constant = true; sound = s .sound }) v (suc n) refl)
-          (later (record { seen = s .seen; heads = s .heads; comparisons = s .comparisons + 1; constant = false; sound = s .sound }) n refl t (omega arith) (p .1) j)
+      go (suc n) (withConstant w v q o k b h z) l′ later =
+          let j : length tail ≡ suc (suc n - 2) = omega (arith, ap length q, some-tail) in
+          let left : suc n ≡ length tail + 1 = omega (arith, ap length q) in
+          let s : comparisonSize w (suc n) ≡ 2 = ap (comparisonSize w) left ∙ size-constant w (length tail) h (z .0) some-tail in
+          ap (λ (x : List ℕ). compared (suc room) (suc n) (x ++ tail ++ rest)) q ∙ compared-step n room 2 w (v ∷ tail ++ rest) s (omega arith) ∙ later (suc n - 2) j
       go zero (withReading w q o k b h z) l′ later = absurd (omega (arith, ap length q, some-tail))
       go (suc n) (withReading w q o k b h z) l′ later =
-          let j : length tail ≡ suc n = omega (arith, ap length q) in
-          rw (q, sym j, after-reading-test part s w i (omega arith) (length tail) h z)
-          (later (record { seen = s .seen; heads = s .heads; comparisons = s .comparisons + 1; constant = false; sound = s .sound }) n refl t (omega arith) (p .1) j)
+          let j : length tail ≡ suc (suc n - 1) = omega (arith, ap length q, some-tail) in
+          let left : suc n ≡ length tail = omega (arith, ap length q) in
+          let s : comparisonSize w (suc n) ≡ 1 = ap (comparisonSize w) left ∙ size-reading w (length tail) h z in
+          ap (λ (x : List ℕ). compared (suc room) (suc n) (x ++ tail ++ rest)) q ∙ compared-step n room 1 w (tail ++ rest) s (omega arith) ∙ later (suc n - 1) j
 
-  heads-pass : (cs : List Comparison) → length cs ≤ 4 → all comparisonInRange cs ≡ true → (ts : List Test) (s : Scan) (m : ℕ) → s .constant ≡ false → s .sound ≡ true → s .comparisons ≡ 0 → s .heads + length ts ≤ 8
-      → Fresh (s .seen) (map testNumber ts) → all testInRange ts ≡ true → all (λ (t : Test). isHead part (testOpcode t)) ts ≡ true → length (partWords ts cs e) ≡ suc m
-      → Passes (scanWords part s m (partWords ts cs e ++ rest)) (s .heads + length ts)
-  unfolding partWords scanWords all
-  heads-pass cs f r [] s m i t z h u k o l =
-      let n : s .heads + 0 ≡ s .heads = omega arith in
-      rw n (condition-passes cs s m i t (omega arith) r l)
-  heads-pass cs f r (x ∷ xs) s zero i t z h u k o l = absurd (omega (arith, part-length xs cs e, condition-size-limit cs))
-  heads-pass cs f r (x ∷ xs) s (suc m) i t z h u k o l =
+  -- no head stands where the comparisons begin
+  condition-headless : (cs : List Comparison) (seen m : ℕ) → length cs ≤ 4 → all comparisonInRange cs ≡ true → length (conditionWords cs e) ≡ suc m → headCount part seen m (conditionWords cs e ++ rest) ≡ 0
+  unfolding conditionWords headCount all
+  condition-headless [] seen m g r l = let z : m ≡ 0 = omega arith in rw z
+  condition-headless (c ∷ cs) seen zero g r l = refl
+  condition-headless (c ∷ cs) seen (suc m) g r l = go (written c (length tail) (and-out (comparisonInRange c) (all comparisonInRange cs) r .0) small)
+    where
+      tail : List ℕ
+      tail = conditionWords cs e
+
+      small : length tail < 32
+      small = omega (arith, condition-length cs e, condition-size-limit cs)
+
+      go : Written c (length tail) → headCount part seen (suc m) ((comparisonWords c (length tail) ++ tail) ++ rest) ≡ 0
+      go (withConstant w v q o k b h z) = rw (q, no-head part seen w (suc m) (inl (h .operation)))
+      go (withReading w q o k b h z) = rw (q, no-head part seen w (suc m) (inr (h .operation)))
+
+  heads-counted : (cs : List Comparison) → length cs ≤ 4 → all comparisonInRange cs ≡ true → (ts : List Test) (seen m : ℕ) → length ts ≤ 8
+      → Fresh seen (map testNumber ts) → all testInRange ts ≡ true → all (λ (t : Test). isHead part (testOpcode t)) ts ≡ true → length (partWords ts cs e) ≡ suc m
+      → headCount part seen m (partWords ts cs e ++ rest) ≡ length ts
+  unfolding partWords headCount all
+  heads-counted cs f r [] seen m h u k o l = condition-headless cs seen m f r l
+  heads-counted cs f r (x ∷ xs) seen zero h u k o l = absurd (omega (arith, part-length xs cs e, condition-size-limit cs))
+  heads-counted cs f r (x ∷ xs) seen (suc m) h u k o l =
       let p = and-out (testInRange x) (all testInRange xs) k in
       let q = and-out (isHead part (testOpcode x)) (all (λ (t : Test). isHead part (testOpcode t)) xs) o in
       let n : testNumber x < 64 = ltb-true (testNumber x) 64 (p .0) in
       let j : length tail ≡ suc m = omega arith in
       let b : length tail < 32 = omega (arith, part-length xs cs e, condition-size-limit cs) in
-      let v = fresh-out (s .seen) (testNumber x) (map testNumber xs) n u in
+      let v = fresh-out seen (testNumber x) (map testNumber xs) n u in
       let w : ℕ = testWord x (length tail) in
       let first = test-first x (length tail) n b in
-      let facts : HeadFacts part s w (suc m) i =
+      let facts : HeadFacts part seen w (suc m) =
       record {
         operation = ap (isHead part) (test-opcode x (length tail) n b) ∙ q .0;
-        order = z;
-        few = omega arith;
-        unseen = ap (has (s .seen)) first ∙ v .0;
         low = test-low x (length tail) n b ∙ j;
+        unseen = ap (has seen) first ∙ v .0;
       } in
-      let c : s .heads + 1 + length xs ≡ s .heads + suc (length xs) = omega arith in
-      rw (after-head part s w (suc m) i facts, first, sym c)
-      (heads-pass cs f r xs (record { seen = insert (s .seen) (testNumber x); heads = s .heads + 1; comparisons = s .comparisons; constant = false; sound = s .sound }) m refl t z (omega arith) (v .1) (p .1) (q .1) j)
+      rw (head-in part seen w (suc m) facts, first) (ap suc (heads-counted cs f r xs (insert seen (testNumber x)) m (omega arith) (v .1) (p .1) (q .1) j))
     where
       tail : List ℕ
       tail = partWords xs cs e
+
+  heads-dropped : (ts : List Test) (cs : List Comparison) → drop (length ts) (partWords ts cs e ++ rest) ≡ conditionWords cs e ++ rest
+  unfolding partWords
+  heads-dropped [] cs = refl
+  heads-dropped (t ∷ ts) cs = heads-dropped ts cs
 
 -- ---- the ending word of a line
 
@@ -245,16 +296,17 @@ kind-ending Part.Constraints (constraint c) k e = refl
 -- ---- a valid line at the start is found
 
 pub scan-by : (part : Part) (ws : List ℕ) (n : ℕ) → skipOf (getD ws 0 0) ≡ n
-    → scanLine part ws ≡ cond (ltb n (length ws) && isEnding part (getD ws n 0) && scanWords part scanStart n ws .sound && ltb 0 (scanWords part scanStart n ws .heads)) (n + 1) 0
+    → scanLine part ws ≡ cond (ltb n (length ws) && isEnding part (getD ws n 0) && ltb 0 (headCount part 0 n ws) && leb (headCount part 0 n ws) 8 && compared 4 (n - headCount part 0 n ws) (drop (headCount part 0 n ws) ws)) (n + 1) 0
 unfolding scanLine
-scan-by part ws n e = ap (λ (k : ℕ). cond (ltb k (length ws) && isEnding part (getD ws k 0) && scanWords part scanStart k ws .sound && ltb 0 (scanWords part scanStart k ws .heads)) (k + 1) 0) e
+scan-by part ws n e = ap (λ (k : ℕ). cond (ltb k (length ws) && isEnding part (getD ws k 0) && ltb 0 (headCount part 0 k ws) && leb (headCount part 0 k ws) 8 && compared 4 (k - headCount part 0 k ws) (drop (headCount part 0 k ws) ws)) (k + 1) 0) e
 
 parts-found : (part : Part) (ts : List Test) (cs : List Comparison) (e : Ending) (rest : List ℕ) → ValidParts ts cs e → all (λ (t : Test). isHead part (testOpcode t)) ts ≡ true → isEnding part (endingWord e) ≡ true
     → scanLine part (partWords ts cs e ++ rest) ≡ length (partWords ts cs e)
-unfolding partWords scanStart all
+unfolding partWords all
 parts-found part [] cs e rest v k n = absurd (omega (arith, v .some))
 parts-found part (t ∷ ts) cs e rest v k n =
-    scan-by part ws m skip ∙ rw (lt-ltb m (length ws) within, ending ∙ n, passes .sound, lt-ltb 0 (scanWords part scanStart m ws .heads) (omega (arith, passes .counted))) one
+    scan-by part ws m skip
+    ∙ rw (counted, lt-ltb m (length ws) within, ending ∙ n, lt-ltb 0 (suc (length ts)) (omega arith), le-leb (suc (length ts)) 8 (v .few-tests), heads-dropped part e rest ts cs, condition-compared part e rest cs 4 (m - suc (length ts)) (v .few-comparisons) (v .few-comparisons) (v .comparisons) left) one
   where
     m : ℕ
     m = length (partWords ts cs e)
@@ -277,138 +329,17 @@ parts-found part (t ∷ ts) cs e rest v k n =
     ending : isEnding part (getD ws m 0) ≡ isEnding part (endingWord e)
     ending = ap (isEnding part) (last-word (t ∷ ts) cs e rest m refl)
 
-    passes : Passes (scanWords part scanStart m ws) (0 + length (t ∷ ts))
-    passes = heads-pass part e rest cs (v .few-comparisons) (v .comparisons) (t ∷ ts) scanStart m refl refl refl (omega (arith, v .few-tests)) (fresh-all (map testNumber (t ∷ ts)) (v .distinct)) (v .tests) k refl
+    left : length (conditionWords cs e) ≡ suc (m - suc (length ts))
+    left = omega (arith, part-length ts cs e, condition-length cs e, condition-size-limit cs)
+
+    counted : headCount part 0 m ws ≡ suc (length ts)
+    counted = heads-counted part e rest cs (v .few-comparisons) (v .comparisons) (t ∷ ts) 0 m (v .few-tests) (fresh-all (map testNumber (t ∷ ts)) (v .distinct)) (v .tests) k refl
 
 pub line-found : (part : Part) (l : PolicyLine) (rest : List ℕ) → inPart part l ≡ true → valid l ≡ true → scanLine part (lineWords l ++ rest) ≡ length (lineWords l)
 unfolding lineWords
 line-found part l rest k v =
     let h = valid-out l v in
     parts-found part (headsOf l) (comparisonsOf l) (endingOf l) rest h (kind-heads part l k) (kind-ending part l k (h .ending))
-
--- ---- what one word was, from the scan after it
-
--- a scan that was broken stays so
-broken-stays : (part : Part) (s : Scan) (w left : ℕ) → s .sound ≡ false → afterWord part s w left .sound ≡ false
-unfolding afterWord afterConstant afterTest afterHead afterComparison broken
-broken-stays part s w left e = word (s .constant)
-  where
-    pick : (b : Bool) (x : Scan) → x .sound ≡ false → cond b x (record { seen = s .seen; heads = s .heads; comparisons = s .comparisons; constant = false; sound = false }) .sound ≡ false
-    pick true x h = h
-    pick false x h = refl
-
-    test : (a b c : Bool) → cond a (afterHead s w left) (cond b (afterComparison s (constantSound w left) true) (cond c (afterComparison s (readingSound w left) false) (broken s))) .sound ≡ false
-    test true b c = pick (headSound s w left) (record { seen = insert (s .seen) (firstOf w); heads = s .heads + 1; comparisons = s .comparisons; constant = false; sound = s .sound }) e
-    test false true c = pick (constantSound w left && ltb (s .comparisons) 4) (record { seen = s .seen; heads = s .heads; comparisons = s .comparisons + 1; constant = true; sound = s .sound }) e
-    test false false true = pick (readingSound w left && ltb (s .comparisons) 4) (record { seen = s .seen; heads = s .heads; comparisons = s .comparisons + 1; constant = false; sound = s .sound }) e
-    test false false false = refl
-
-    word : (b : Bool) → cond b (afterConstant s) (afterTest part s w left) .sound ≡ false
-    word true = e
-    word false = test (isHead part (opcodeOf w)) (eqb (opcodeOf w) 3) (eqb (opcodeOf w) 4)
-
-pub broken-ends : (part : Part) (m : ℕ) (s : Scan) (ws : List ℕ) → s .sound ≡ false → scanWords part s m ws .sound ≡ false
-unfolding scanWords
-broken-ends part zero s ws e = e
-broken-ends part (suc m) s ws e = broken-ends part m (afterWord part s (getD ws 0 0) (suc m)) (drop 1 ws) (broken-stays part s (getD ws 0 0) (suc m) e)
-
--- what a word is, by the scan after it
-pub data After (part : Part) (s : Scan) (w left : ℕ) (idle : s .constant ≡ false) : Type 0 where
-  asHead : HeadFacts part s w left idle → After part s w left idle
-  asConstant : (k : ℕ) → Compares 3 w k → secondOf w ≡ 0 → 0 < k → left ≡ k + 1 → s .comparisons < 4 → After part s w left idle
-  asReading : Compares 4 w left → secondOf w < 16 → s .comparisons < 4 → After part s w left idle
-  asNone : afterWord part s w left .sound ≡ false → After part s w left idle
-
-module _ (part : Part) (s : Scan) (w left : ℕ) (idle : s .constant ≡ false) (limit : w < wordLimit) where
-  breaks : afterWord part s w left ≡ broken s → afterWord part s w left .sound ≡ false
-  unfolding broken
-  breaks e = ap (λ (x : Scan). x .sound) e
-
-  idle-test : afterWord part s w left ≡ afterTest part s w left
-  idle-test = no-constant part s w left idle
-
-  head-fails : isHead part (opcodeOf w) ≡ true → headSound s w left ≡ false → afterWord part s w left ≡ broken s
-  unfolding afterTest afterHead
-  head-fails h q = idle-test ∙ rw (h, q)
-
-  head-view : isHead part (opcodeOf w) ≡ true → After part s w left idle
-  unfolding headSound
-  head-view h = go (headSound s w left) refl
-    where
-      go : (b : Bool) → headSound s w left ≡ b → After part s w left idle
-      go true q =
-          let p = and-out (eqb (s .comparisons) 0 && ltb (s .heads) 8 && not (has (s .seen) (firstOf w))) (eqb (w % 2 ^ 22) left) q in
-          let r = and-out (eqb (s .comparisons) 0 && ltb (s .heads) 8) (not (has (s .seen) (firstOf w))) (p .0) in
-          let u = and-out (eqb (s .comparisons) 0) (ltb (s .heads) 8) (r .0) in
-          asHead (record {
-            operation = h;
-            order = eqb-true (s .comparisons) 0 (u .0);
-            few = ltb-true (s .heads) 8 (u .1);
-            unseen = not-true (has (s .seen) (firstOf w)) (r .1);
-            low = eqb-true (w % 2 ^ 22) left (p .1);
-          })
-      go false q = asNone (breaks (head-fails h q))
-
-  module _ (other : isHead part (opcodeOf w) ≡ false) where
-    constant-fails : opcodeOf w ≡ 3 → constantSound w left && ltb (s .comparisons) 4 ≡ false → afterWord part s w left ≡ broken s
-    unfolding afterTest afterComparison
-    constant-fails o q = idle-test ∙ rw (other, eq-eqb (opcodeOf w) 3 o, q)
-
-    constant-view : opcodeOf w ≡ 3 → After part s w left idle
-    unfolding constantSound
-    constant-view o = go (constantSound w left && ltb (s .comparisons) 4) refl
-      where
-        go : (b : Bool) → constantSound w left && ltb (s .comparisons) 4 ≡ b → After part s w left idle
-        go true q =
-            let p = and-out (constantSound w left) (ltb (s .comparisons) 4) q in
-            let r = and-out (ltb (firstOf w) 16 && ltb (relationOf w) 6 && eqb (secondOf w) 0 && eqb (w % 2 ^ 13 + 1) left) (ltb 1 left) (p .0) in
-            let u = and-out (ltb (firstOf w) 16 && ltb (relationOf w) 6 && eqb (secondOf w) 0) (eqb (w % 2 ^ 13 + 1) left) (r .0) in
-            let v = and-out (ltb (firstOf w) 16 && ltb (relationOf w) 6) (eqb (secondOf w) 0) (u .0) in
-            let x = and-out (ltb (firstOf w) 16) (ltb (relationOf w) 6) (v .0) in
-            let l : w % 2 ^ 13 + 1 ≡ left = eqb-true (w % 2 ^ 13 + 1) left (u .1) in
-            let n : 1 < left = ltb-true 1 left (r .1) in
-            asConstant (w % 2 ^ 13)
-            (record { limit = limit; operation = o; first = ltb-true (firstOf w) 16 (x .0); relation = ltb-true (relationOf w) 6 (x .1); low = refl })
-            (eqb-true (secondOf w) 0 (v .1)) (omega arith) (sym l) (ltb-true (s .comparisons) 4 (p .1))
-        go false q = asNone (breaks (constant-fails o q))
-
-    reading-fails : opcodeOf w ≡ 4 → readingSound w left && ltb (s .comparisons) 4 ≡ false → afterWord part s w left ≡ broken s
-    unfolding afterTest afterComparison
-    reading-fails o q = let n : eqb (opcodeOf w) 3 ≡ false = ne-eqb (opcodeOf w) 3 (λ x. omega arith) in idle-test ∙ rw (other, n, eq-eqb (opcodeOf w) 4 o, q)
-
-    reading-view : opcodeOf w ≡ 4 → After part s w left idle
-    unfolding readingSound
-    reading-view o = go (readingSound w left && ltb (s .comparisons) 4) refl
-      where
-        go : (b : Bool) → readingSound w left && ltb (s .comparisons) 4 ≡ b → After part s w left idle
-        go true q =
-            let p = and-out (readingSound w left) (ltb (s .comparisons) 4) q in
-            let u = and-out (ltb (firstOf w) 16 && ltb (relationOf w) 6 && ltb (secondOf w) 16) (eqb (w % 2 ^ 13) left) (p .0) in
-            let v = and-out (ltb (firstOf w) 16 && ltb (relationOf w) 6) (ltb (secondOf w) 16) (u .0) in
-            let x = and-out (ltb (firstOf w) 16) (ltb (relationOf w) 6) (v .0) in
-            asReading
-            (record { limit = limit; operation = o; first = ltb-true (firstOf w) 16 (x .0); relation = ltb-true (relationOf w) 6 (x .1); low = eqb-true (w % 2 ^ 13) left (u .1) })
-            (ltb-true (secondOf w) 16 (v .1)) (ltb-true (s .comparisons) 4 (p .1))
-        go false q = asNone (breaks (reading-fails o q))
-
-    none-fails : eqb (opcodeOf w) 3 ≡ false → eqb (opcodeOf w) 4 ≡ false → afterWord part s w left ≡ broken s
-    unfolding afterTest
-    none-fails p q = idle-test ∙ rw (other, p, q)
-
-    other-view : After part s w left idle
-    other-view = go (eqb (opcodeOf w) 3) (eqb (opcodeOf w) 4) refl refl
-      where
-        go : (a b : Bool) → eqb (opcodeOf w) 3 ≡ a → eqb (opcodeOf w) 4 ≡ b → After part s w left idle
-        go true b p q = constant-view (eqb-true (opcodeOf w) 3 p)
-        go false true p q = reading-view (eqb-true (opcodeOf w) 4 q)
-        go false false p q = asNone (breaks (none-fails p q))
-
-  pub after-view : After part s w left idle
-  after-view = go (isHead part (opcodeOf w)) refl
-    where
-      go : (b : Bool) → isHead part (opcodeOf w) ≡ b → After part s w left idle
-      go true q = head-view q
-      go false q = other-view q
 
 seven : pack 7 0 0 0 0 ≡ 7 * 2 ^ 28
 unfolding pack

@@ -1,14 +1,12 @@
--- Going over a line word by word finds the lines that `lineAt` finds.
-use Prim.Native.Nat.{ℕ, zero, suc, _+_, _≤_, _<_}
+-- What a scan takes is a line: the scan finds the lines that `lineAt` finds.
+use Prim.Native.Nat.{ℕ, zero, suc, _+_, _-_, _≤_, _<_}
 use mathlib.Core.Bool.{Bool, true, false, cond, _&&_}
 use mathlib.Core.List.{List, [], _∷_, _++_, map, append-assoc}
-use mathlib.Core.Logic.{_⊎_, inl, inr}
 use mathlib.Core.Option.{Option, none, some}
 use mathlib.Core.Path.{_≡_, refl, sym, ap, ap₂, _∙_, subst}
-use native.Mathlib.Nat.{suc-inj}
 use native.Mathlib.Omega.{arith}
-use borrow.Author.Tests.{ltb-true, lt-ltb}
-use lib.Dec.{ltb}
+use borrow.Author.Tests.{ltb-true, lt-ltb, leb-true, ne-eqb}
+use lib.Dec.{ltb, leb}
 use lib.ListN.{length, drop, getD, length-append}
 use Rattle.policy.proofs.ListLaws.{true-false, and-in, and-out}
 use Rattle.policy.specs.Limits.{testNumber, comparisonInRange, endingInRange}
@@ -20,19 +18,113 @@ use Rattle.policy.specs.declared.line.Test.{Test}
 use Rattle.image.proofs.CodecLaws.{Compares, test-again, constant-in-range, constant-again, reading-in-range, reading-again}
 use Rattle.image.proofs.DecodeLaws.{line-out, line-none}
 use Rattle.image.proofs.FreshLaws.{Fresh, fresh-in, fresh-none}
-use Rattle.image.proofs.ScanLaws.{HeadFacts, after-head, after-constant-test, after-reading-test, after-constant, line-found, scan-by, broken-ends, After, asHead, asConstant, asReading, asNone, after-view, add-head, add-comparison, comparison-on-words, end-line}
+use Rattle.image.proofs.ScanLaws.{HeadFacts, head-out, Sized, sizedConstant, sizedReading, sizedNone, sized, compared-step, compared-none, line-found, scan-by, add-head, add-comparison, comparison-on-words, end-line}
 use Rattle.policy.proofs.ValidLaws.{ValidParts, valid-in, testInRange}
 use Rattle.word.proofs.WordLaws.{Below}
 use Rattle.image.specs.Layout.{testWord, comparisonWords, lineWords}
 use Rattle.image.specs.Load.{inPart, lineAt, lineLength}
 use Rattle.word.specs.Operation.{constantComparison, readingComparison}
-use Rattle.image.specs.Scan.{isEnding, scanStart, afterWord, scanWords, scanLine}
+use Rattle.image.specs.Scan.{isEnding, headSound, headCount, comparisonSize, compared, scanLine}
 use Rattle.word.specs.Word.{wordLimit, firstOf, secondOf, skipOf}
 use Rattle.image.specs.declared.line.Part.{Part}
-use Rattle.image.specs.declared.line.Scan.{Scan}
 
--- the rest of a line, m words and the ending word, that a scan went over from the state s on
-record Tail (part : Part) (s : Scan) (m : ℕ) (ws : List ℕ) : Type 0 where
+-- ---- comparisons and the ending word: m words and one
+
+record Condition (part : Part) (room m : ℕ) (ws : List ℕ) : Type 0 where
+  line : PolicyLine
+  kind : inPart part line ≡ true
+  headless : headsOf line ≡ []
+  words : ws ≡ lineWords line ++ drop (suc m) ws
+  size : length (lineWords line) ≡ suc m
+  comparisons : all comparisonInRange (comparisonsOf line) ≡ true
+  ending : endingInRange (endingOf line) ≡ true
+  few : length (comparisonsOf line) ≤ room
+
+condition-end : (part : Part) (room w : ℕ) (ws : List ℕ) → isEnding part w ≡ true → w < wordLimit → Condition part room 0 (w ∷ ws)
+unfolding all
+condition-end part room w ws h l =
+    let r = end-line part w h l in
+    record {
+      line = r .line;
+      kind = r .kind;
+      headless = r .heads;
+      words = ap (λ (x : List ℕ). x ++ ws) (sym (r .words));
+      size = ap length (r .words);
+      comparisons = rw (r .comparisons);
+      ending = r .ending;
+      few = omega (arith, ap length (r .comparisons));
+    }
+
+condition-more : (part : Part) (room m n : ℕ) (c : Comparison) (ws rest : List ℕ) → Condition part room m rest → comparisonInRange c ≡ true → comparisonWords c (suc m) ++ rest ≡ ws
+    → length (comparisonWords c (suc m)) + suc m ≡ suc n → drop (suc n) ws ≡ drop (suc m) rest → Condition part (suc room) n ws
+unfolding all
+condition-more part room m n c ws rest t i e size same =
+    let r = add-comparison part c (t .line) (t .kind) in
+    let words : lineWords (r .line) ≡ comparisonWords c (suc m) ++ lineWords (t .line) =
+    comparison-on-words part c (t .line) r (t .headless) ∙ ap (λ (k : ℕ). comparisonWords c k ++ lineWords (t .line)) (t .size) in
+    record {
+      line = r .line;
+      kind = r .kind;
+      headless = r .heads ∙ t .headless;
+      words =
+          sym e ∙ ap (λ (x : List ℕ). comparisonWords c (suc m) ++ x) (t .words ∙ ap (λ (x : List ℕ). lineWords (t .line) ++ x) (sym same))
+          ∙ sym (append-assoc (comparisonWords c (suc m)) (lineWords (t .line)) (drop (suc n) ws)) ∙ ap (λ (x : List ℕ). x ++ drop (suc n) ws) (sym words);
+      size = ap length words ∙ length-append (comparisonWords c (suc m)) (lineWords (t .line)) ∙ ap (λ (k : ℕ). length (comparisonWords c (suc m)) + k) (t .size) ∙ size;
+      comparisons = rw (r .comparisons) (and-in i (t .comparisons));
+      ending = rw (r .ending) (t .ending);
+      few = let f = t .few in omega (arith, ap length (r .comparisons));
+    }
+
+-- what comparisons that fill m words say
+abbrev Filled : Part → ℕ → ℕ → List ℕ → Type 0
+Filled part room m ws = m < length ws → Below wordLimit ws → isEnding part (getD ws m 0) ≡ true → compared room m ws ≡ true → Condition part room m ws
+
+two : (k : ℕ) → 2 + suc k ≡ suc (suc (suc k))
+two k = omega arith
+
+one : (k : ℕ) → 1 + suc k ≡ suc (suc k)
+one k = omega arith
+
+filled-constant : (part : Part) (room m w k : ℕ) (ws : List ℕ) → Compares 3 w k → secondOf w ≡ 0 → 0 < k → suc m ≡ k + 1 → comparisonSize w (suc m) ≡ 2 → ((m′ : ℕ) (xs : List ℕ) → Filled part room m′ xs)
+    → Filled part (suc room) (suc m) (w ∷ ws)
+filled-constant part room zero w k ws h z p q s later l b n e = absurd (omega arith)
+filled-constant part room (suc m) w k [] h z p q s later l b n e = absurd (omega arith)
+filled-constant part room (suc m) w k (v ∷ ws) h z p q s later l b n e =
+    let same : k ≡ suc m = omega arith in
+    let f : Compares 3 w (suc m) = subst (Compares 3 w) same h in
+    let again = constant-again w v (suc m) f z (b 1) in
+    let left : suc (suc m) - 2 ≡ m = omega arith in
+    condition-more part room m (suc (suc m)) (constantComparison w v) (w ∷ v ∷ ws) ws
+    (later m ws (omega arith) (λ j. b (suc (suc j))) n (ap (λ (x : ℕ). compared room x ws) (sym left) ∙ sym (compared-step (suc m) room 2 w (v ∷ ws) s (omega arith)) ∙ e))
+    (constant-in-range w v (suc m) f (b 1)) (ap (λ (x : List ℕ). x ++ ws) again) (ap (λ (x : List ℕ). length x + suc m) again ∙ two m) refl
+
+filled-reading : (part : Part) (room m w : ℕ) (ws : List ℕ) → Compares 4 w (suc m) → secondOf w < 16 → comparisonSize w (suc m) ≡ 1 → ((m′ : ℕ) (xs : List ℕ) → Filled part room m′ xs)
+    → Filled part (suc room) (suc m) (w ∷ ws)
+filled-reading part room m w ws h z s later l b n e =
+    let again = reading-again w (suc m) h in
+    let left : suc m - 1 ≡ m = omega arith in
+    condition-more part room m (suc m) (readingComparison w) (w ∷ ws) ws
+    (later m ws (omega arith) (λ j. b (suc j)) n (ap (λ (x : ℕ). compared room x ws) (sym left) ∙ sym (compared-step m room 1 w ws s (omega arith)) ∙ e))
+    (reading-in-range w (suc m) h z) (ap (λ (x : List ℕ). x ++ ws) again) (ap (λ (x : List ℕ). length x + suc m) again ∙ one m) refl
+
+filled : (part : Part) (room m : ℕ) (ws : List ℕ) → Filled part room m ws
+unfolding compared
+filled part zero zero [] l b n e = absurd (omega arith)
+filled part zero zero (w ∷ ws) l b n e = condition-end part zero w ws n (b 0)
+filled part zero (suc m) ws l b n e = absurd (true-false e (ne-eqb (suc m) 0 (λ q. omega arith)))
+filled part (suc room) zero [] l b n e = absurd (omega arith)
+filled part (suc room) zero (w ∷ ws) l b n e = condition-end part (suc room) w ws n (b 0)
+filled part (suc room) (suc m) [] l b n e = absurd (omega arith)
+filled part (suc room) (suc m) (w ∷ ws) l b n e = go (sized w (suc m) (b 0)) (filled part room)
+  where
+    go : Sized w (suc m) → ((m′ : ℕ) (xs : List ℕ) → Filled part room m′ xs) → Condition part (suc room) (suc m) (w ∷ ws)
+    go (sizedConstant k h z p q s) later = filled-constant part room m w k ws h z p q s later l b n e
+    go (sizedReading h z s) later = filled-reading part room m w ws h z s later l b n e
+    go (sizedNone s) later = absurd (true-false e (compared-none m room w ws s))
+
+-- ---- heads before them
+
+record Tail (part : Part) (seen m : ℕ) (ws : List ℕ) : Type 0 where
   line : PolicyLine
   kind : inPart part line ≡ true
   words : ws ≡ lineWords line ++ drop (suc m) ws
@@ -40,195 +132,106 @@ record Tail (part : Part) (s : Scan) (m : ℕ) (ws : List ℕ) : Type 0 where
   tests : all testInRange (headsOf line) ≡ true
   comparisons : all comparisonInRange (comparisonsOf line) ≡ true
   ending : endingInRange (endingOf line) ≡ true
-  few-tests : s .heads + length (headsOf line) ≤ 8
-  few-comparisons : s .comparisons + length (comparisonsOf line) ≤ 4
-  order : (s .comparisons ≡ 0) ⊎ (headsOf line ≡ [])
-  fresh : Fresh (s .seen) (map testNumber (headsOf line))
-  counted : scanWords part s m ws .heads ≡ s .heads + length (headsOf line)
+  few : length (comparisonsOf line) ≤ 4
+  fresh : Fresh seen (map testNumber (headsOf line))
+  counted : headCount part seen m ws ≡ length (headsOf line)
 
--- what a scan that ends well says
-abbrev Scanned : Part → ℕ → List ℕ → Type 0
-Scanned part m ws = (s : Scan) → s .constant ≡ false → s .heads ≤ 8 → s .comparisons ≤ 4 → scanWords part s m ws .sound ≡ true → Tail part s m ws
+tail-headless : (part : Part) (seen m : ℕ) (ws : List ℕ) → headCount part seen m ws ≡ 0 → Condition part 4 m ws → Tail part seen m ws
+unfolding all
+tail-headless part seen m ws z t =
+    record {
+      line = t .line;
+      kind = t .kind;
+      words = t .words;
+      size = t .size;
+      tests = rw (t .headless);
+      comparisons = t .comparisons;
+      ending = t .ending;
+      few = t .few;
+      fresh = rw (t .headless) (fresh-none seen);
+      counted = z ∙ sym (ap length (t .headless));
+    }
 
-module _ (part : Part) (s : Scan) (idle : s .constant ≡ false) where
-  tail-end : (w : ℕ) (ws : List ℕ) → s .heads ≤ 8 → s .comparisons ≤ 4 → isEnding part w ≡ true → w < wordLimit → Tail part s 0 (w ∷ ws)
-  unfolding scanWords all
-  tail-end w ws a b h l =
-      let r = end-line part w h l in
-      record {
-        line = r .line;
-        kind = r .kind;
-        words = ap (λ (x : List ℕ). x ++ ws) (sym (r .words));
-        size = ap length (r .words);
-        tests = rw (r .heads);
-        comparisons = rw (r .comparisons);
-        ending = r .ending;
-        few-tests = omega (arith, ap length (r .heads));
-        few-comparisons = omega (arith, ap length (r .comparisons));
-        order = inr (r .heads);
-        fresh = rw (r .heads) (fresh-none (s .seen));
-        counted = let z : s .heads ≡ s .heads + length (headsOf (r .line)) = omega (arith, ap length (r .heads)) in z;
-      }
+tail-head : (part : Part) (seen m w : ℕ) (ws : List ℕ) → w < wordLimit → HeadFacts part seen w (suc m) → headCount part seen (suc m) (w ∷ ws) ≡ suc (headCount part (insert seen (firstOf w)) m ws)
+    → Tail part (insert seen (firstOf w)) m ws → Tail part seen (suc m) (w ∷ ws)
+unfolding all
+tail-head part seen m w ws l h q t =
+    let r = add-head part w (t .line) (h .operation) (t .kind) in
+    let size : suc m ≡ length (lineWords (t .line)) = sym (t .size) in
+    let again : testWord (r .test) (suc m) ≡ w = test-again (r .test) w (suc m) l (h .low) (r .opcode) (r .number) in
+    let first : firstOf w < 64 = omega arith in
+    record {
+      line = r .line;
+      kind = r .kind;
+      words = ap₂ (λ (x : ℕ) (xs : List ℕ). x ∷ xs) (sym again) (t .words) ∙ ap (λ (x : List ℕ). x ++ drop (suc m) ws) (sym (r .words (suc m) size));
+      size = ap length (r .words (suc m) size) ∙ ap suc (t .size);
+      tests = rw (r .heads, r .number) (and-in (lt-ltb (firstOf w) 64 first) (t .tests));
+      comparisons = rw (r .comparisons) (t .comparisons);
+      ending = rw (r .ending) (t .ending);
+      few = rw (r .comparisons) (t .few);
+      fresh = rw (r .heads, r .number) (fresh-in seen (firstOf w) (map testNumber (headsOf (t .line))) first (h .unseen) (t .fresh));
+      counted = q ∙ ap suc (t .counted) ∙ sym (ap length (r .heads));
+    }
 
-  tail-head : (m w : ℕ) (ws : List ℕ) → w < wordLimit → HeadFacts part s w (suc m) idle → Tail part (record { seen = insert (s .seen) (firstOf w); heads = s .heads + 1; comparisons = s .comparisons; constant = false; sound = s .sound }) m ws
-      → Tail part s (suc m) (w ∷ ws)
-  unfolding scanWords all
-  tail-head m w ws l h t =
-      let r = add-head part w (t .line) (h .operation) (t .kind) in
-      let size : suc m ≡ length (lineWords (t .line)) = sym (t .size) in
-      let again : testWord (r .test) (suc m) ≡ w = test-again (r .test) w (suc m) l (h .low) (r .opcode) (r .number) in
-      let first : firstOf w < 64 = omega arith in
-      record {
-        line = r .line;
-        kind = r .kind;
-        words = ap₂ (λ (x : ℕ) (xs : List ℕ). x ∷ xs) (sym again) (t .words) ∙ ap (λ (x : List ℕ). x ++ drop (suc m) ws) (sym (r .words (suc m) size));
-        size = ap length (r .words (suc m) size) ∙ ap suc (t .size);
-        tests = rw (r .heads, r .number) (and-in (lt-ltb (firstOf w) 64 first) (t .tests));
-        comparisons = rw (r .comparisons) (t .comparisons);
-        ending = rw (r .ending) (t .ending);
-        few-tests = let f = t .few-tests in omega (arith, ap length (r .heads));
-        few-comparisons = rw (r .comparisons) (t .few-comparisons);
-        order = inl (h .order);
-        fresh = rw (r .heads, r .number) (fresh-in (s .seen) (firstOf w) (map testNumber (headsOf (t .line))) first (h .unseen) (t .fresh));
-        counted =
-            ap (λ (x : Scan). scanWords part x m ws .heads) (after-head part s w (suc m) idle h) ∙ t .counted
-            ∙ (let z : s .heads + 1 + length (headsOf (t .line)) ≡ s .heads + length (headsOf (r .line)) = omega (arith, ap length (r .heads)) in z);
-      }
-
-  no-heads : (n : ℕ) (l : PolicyLine) → (n + 1 ≡ 0) ⊎ (headsOf l ≡ []) → headsOf l ≡ []
-  no-heads n l (inl e) = absurd (omega arith)
-  no-heads n l (inr e) = e
-
-  abbrev compared : Bool → Scan
-  compared constant = record { seen = s .seen; heads = s .heads; comparisons = s .comparisons + 1; constant = constant; sound = s .sound }
-
-  -- a comparison before a rest that has no heads
-  tail-comparison : (c : Comparison) (ws rest : List ℕ) (m n : ℕ) → Tail part (compared false) m rest → comparisonInRange c ≡ true → s .comparisons < 4 → comparisonWords c (suc m) ++ rest ≡ ws
-      → length (comparisonWords c (suc m)) + suc m ≡ suc n → drop (suc n) ws ≡ drop (suc m) rest → scanWords part s n ws .heads ≡ scanWords part (compared false) m rest .heads → Tail part s n ws
-  unfolding all
-  tail-comparison c ws rest m n t i few e size same q =
-      let r = add-comparison part c (t .line) (t .kind) in
-      let empty : headsOf (t .line) ≡ [] = no-heads (s .comparisons) (t .line) (t .order) in
-      let words : lineWords (r .line) ≡ comparisonWords c (suc m) ++ lineWords (t .line) = comparison-on-words part c (t .line) r empty ∙ ap (λ (k : ℕ). comparisonWords c k ++ lineWords (t .line)) (t .size) in
-      record {
-        line = r .line;
-        kind = r .kind;
-        words =
-            sym e ∙ ap (λ (x : List ℕ). comparisonWords c (suc m) ++ x) (t .words ∙ ap (λ (x : List ℕ). lineWords (t .line) ++ x) (sym same))
-            ∙ sym (append-assoc (comparisonWords c (suc m)) (lineWords (t .line)) (drop (suc n) ws)) ∙ ap (λ (x : List ℕ). x ++ drop (suc n) ws) (sym words);
-        size = ap length words ∙ length-append (comparisonWords c (suc m)) (lineWords (t .line)) ∙ ap (λ (k : ℕ). length (comparisonWords c (suc m)) + k) (t .size) ∙ size;
-        tests = rw (r .heads) (t .tests);
-        comparisons = rw (r .comparisons) (and-in i (t .comparisons));
-        ending = rw (r .ending) (t .ending);
-        few-tests = let f = t .few-tests in omega (arith, ap length (r .heads));
-        few-comparisons = let f = t .few-comparisons in omega (arith, ap length (r .comparisons));
-        order = inr (r .heads ∙ empty);
-        fresh = rw (r .heads) (t .fresh);
-        counted = q ∙ t .counted ∙ ap (λ (ts : List Test). s .heads + length ts) (sym (r .heads));
-      }
-
-  tail-constant : (m w v : ℕ) (ws : List ℕ) → Compares 3 w (suc m) → secondOf w ≡ 0 → v < wordLimit → s .comparisons < 4 → Tail part (compared false) m ws → Tail part s (suc (suc m)) (w ∷ v ∷ ws)
-  unfolding scanWords
-  tail-constant m w v ws h z l few t =
-      let again = constant-again w v (suc m) h z l in
-      let left : suc (suc m) ≡ suc m + 1 = omega arith in
-      tail-comparison (constantComparison w v) (w ∷ v ∷ ws) ws m (suc (suc m)) t (constant-in-range w v (suc m) h l) few (ap (λ (x : List ℕ). x ++ ws) again)
-      (ap (λ (x : List ℕ). length x + suc m) again ∙ two m) refl
-      (ap (λ (k : ℕ). scanWords part (afterWord part (afterWord part s w k) v (suc m)) m ws .heads) left
-      ∙ ap (λ (x : Scan). scanWords part (afterWord part x v (suc m)) m ws .heads) (after-constant-test part s w idle few (suc m) h z (omega arith))
-      ∙ ap (λ (x : Scan). scanWords part x m ws .heads) (after-constant part (compared true) v (suc m) refl))
-    where
-      two : (k : ℕ) → 2 + suc k ≡ suc (suc (suc k))
-      two k = omega arith
-
-  tail-reading : (m w : ℕ) (ws : List ℕ) → Compares 4 w (suc m) → secondOf w < 16 → s .comparisons < 4 → Tail part (compared false) m ws → Tail part s (suc m) (w ∷ ws)
-  unfolding scanWords
-  tail-reading m w ws h z few t =
-      let again = reading-again w (suc m) h in
-      tail-comparison (readingComparison w) (w ∷ ws) ws m (suc m) t (reading-in-range w (suc m) h z) few (ap (λ (x : List ℕ). x ++ ws) again)
-      (ap (λ (x : List ℕ). length x + suc m) again ∙ one m) refl
-      (ap (λ (x : Scan). scanWords part x m ws .heads) (after-reading-test part s w idle few (suc m) h z))
-    where
-      one : (k : ℕ) → 1 + suc k ≡ suc (suc k)
-      one k = omega arith
-
-constant-step : (part : Part) (n w v : ℕ) (ws : List ℕ) (s : Scan) (i : s .constant ≡ false) → v < wordLimit → Compares 3 w (suc n) → secondOf w ≡ 0 → s .comparisons < 4 → s .heads ≤ 8 → Scanned part n ws
-    → scanWords part s (suc (suc n)) (w ∷ v ∷ ws) .sound ≡ true → Tail part s (suc (suc n)) (w ∷ v ∷ ws)
-unfolding scanWords
-constant-step part n w v ws s i l f z few h behind e =
-    let left : suc (suc n) ≡ suc n + 1 = omega arith in
-    tail-constant part s i n w v ws f z l few
-    (behind (compared part s i false) refl h (omega arith)
-    (ap (λ (x : Scan). scanWords part x n ws .sound) (sym (after-constant part (compared part s i true) v (suc n) refl))
-    ∙ ap (λ (x : Scan). scanWords part (afterWord part x v (suc n)) n ws .sound) (sym (after-constant-test part s w i few (suc n) f z (omega arith)))
-    ∙ ap (λ (k : ℕ). scanWords part (afterWord part (afterWord part s w k) v (suc n)) n ws .sound) (sym left) ∙ e))
-
--- one word more in front; `behind` is for a word with a constant behind it
-tail-step : (part : Part) (m w v : ℕ) (ws : List ℕ) → Below wordLimit (w ∷ v ∷ ws) → Scanned part m (v ∷ ws) → ((k : ℕ) → m ≡ suc k → Scanned part k ws) → Scanned part (suc m) (w ∷ v ∷ ws)
-unfolding scanWords
-tail-step part m w v ws b next behind s i h c e = go (after-view part s w (suc m) i (b 0))
+scan-tail : (part : Part) (m seen : ℕ) (ws : List ℕ) → m < length ws → Below wordLimit ws → isEnding part (getD ws m 0) ≡ true
+    → compared 4 (m - headCount part seen m ws) (drop (headCount part seen m ws) ws) ≡ true → Tail part seen m ws
+unfolding headCount
+scan-tail part zero seen ws l b n e = tail-headless part seen zero ws refl (filled part 4 zero ws l b n e)
+scan-tail part (suc m) seen [] l b n e = absurd (omega arith)
+scan-tail part (suc m) seen (w ∷ ws) l b n e =
+    go (headSound part seen w (suc m)) refl (λ q. scan-tail part m (insert seen (firstOf w)) ws (omega arith) (λ j. b (suc j)) n q)
   where
-    go : After part s w (suc m) i → Tail part s (suc m) (w ∷ v ∷ ws)
-    go (asHead f) =
-        tail-head part s i m w (v ∷ ws) (b 0) f
-        (next (record { seen = insert (s .seen) (firstOf w); heads = s .heads + 1; comparisons = s .comparisons; constant = false; sound = s .sound }) refl (omega (arith, f .few)) c
-        (ap (λ (x : Scan). scanWords part x m (v ∷ ws) .sound) (sym (after-head part s w (suc m) i f)) ∙ e))
-    go (asConstant k f z p l few) = constant k m refl f z p l few
-      where
-        constant : (k n : ℕ) → m ≡ n → Compares 3 w k → secondOf w ≡ 0 → 0 < k → suc m ≡ k + 1 → s .comparisons < 4 → Tail part s (suc m) (w ∷ v ∷ ws)
-        constant k zero q f z p l few = absurd (omega arith)
-        constant k (suc n) q f z p l few =
-            let same : k ≡ suc n = omega arith in
-            subst (λ (x : ℕ). Tail part s (suc x) (w ∷ v ∷ ws)) (sym q)
-            (constant-step part n w v ws s i (b 1) (subst (Compares 3 w) same f) z few h (behind n q) (ap (λ (x : ℕ). scanWords part s (suc x) (w ∷ v ∷ ws) .sound) (sym q) ∙ e))
-    go (asReading f z few) =
-        tail-reading part s i m w (v ∷ ws) f z few
-        (next (record { seen = s .seen; heads = s .heads; comparisons = s .comparisons + 1; constant = false; sound = s .sound }) refl h (omega arith)
-        (ap (λ (x : Scan). scanWords part x m (v ∷ ws) .sound) (sym (after-reading-test part s w i few (suc m) f z)) ∙ e))
-    go (asNone f) = absurd (true-false e (broken-ends part m (afterWord part s w (suc m)) (v ∷ ws) f))
+    next : ℕ
+    next = headCount part (insert seen (firstOf w)) m ws
 
-scan-tail : (part : Part) (m : ℕ) (ws : List ℕ) → m < length ws → Below wordLimit ws → isEnding part (getD ws m 0) ≡ true → Scanned part m ws
-scan-tail part zero [] l b n s i h c e = absurd (omega arith)
-scan-tail part zero (w ∷ ws) l b n s i h c e = tail-end part s i w ws h c n (b 0)
-scan-tail part (suc m) [] l b n s i h c e = absurd (omega arith)
-scan-tail part (suc m) (w ∷ []) l b n s i h c e = absurd (omega arith)
-scan-tail part (suc zero) (w ∷ v ∷ ws) l b n s i h c e =
-    tail-step part zero w v ws b (scan-tail part zero (v ∷ ws) (omega arith) (λ j. b (suc j)) n) (λ k q. absurd (omega arith)) s i h c e
-scan-tail part (suc (suc m)) (w ∷ v ∷ ws) l b n s i h c e =
-    tail-step part (suc m) w v ws b (scan-tail part (suc m) (v ∷ ws) (omega arith) (λ j. b (suc j)) n)
-    (λ k q. subst (λ (x : ℕ). Scanned part x ws) (suc-inj q) (scan-tail part m ws (omega arith) (λ j. b (suc (suc j))) n)) s i h c e
+    whole : suc m - 0 ≡ suc m
+    whole = omega arith
+
+    fewer : suc m - suc next ≡ m - next
+    fewer = omega arith
+
+    count : (x : Bool) → headSound part seen w (suc m) ≡ x → headCount part seen (suc m) (w ∷ ws) ≡ cond x (suc next) 0
+    count x q = ap (λ (y : Bool). cond y (suc next) 0) q
+
+    by : (h : ℕ) → headCount part seen (suc m) (w ∷ ws) ≡ h → compared 4 (suc m - h) (drop h (w ∷ ws)) ≡ true
+    by h q = ap (λ (k : ℕ). compared 4 (suc m - k) (drop k (w ∷ ws))) (sym q) ∙ e
+
+    go : (x : Bool) → headSound part seen w (suc m) ≡ x → (compared 4 (m - next) (drop next ws) ≡ true → Tail part (insert seen (firstOf w)) m ws) → Tail part seen (suc m) (w ∷ ws)
+    go true q later = tail-head part seen m w ws (b 0) (head-out part seen w (suc m) q) (count true q) (later (ap (λ (k : ℕ). compared 4 k (drop next ws)) (sym fewer) ∙ by (suc next) (count true q)))
+    go false q later = tail-headless part seen (suc m) (w ∷ ws) (count false q) (filled part 4 (suc m) (w ∷ ws) l b n (ap (λ (k : ℕ). compared 4 k (w ∷ ws)) (sym whole) ∙ by 0 (count false q)))
 
 -- ---- the scan finds what `lineAt` finds
 
 pub scan-line : (part : Part) (ws : List ℕ) → Below wordLimit ws → scanLine part ws ≡ lineLength (lineAt part ws)
-unfolding lineLength scanStart
+unfolding lineLength
 scan-line part ws b = go (lineAt part ws) refl
   where
     m : ℕ
     m = skipOf (getD ws 0 0)
 
-    t : Scan
-    t = scanWords part scanStart m ws
+    h : ℕ
+    h = headCount part 0 m ws
 
-    unscanned : lineAt part ws ≡ none → (c : Bool) → ltb m (length ws) && isEnding part (getD ws m 0) && t .sound && ltb 0 (t .heads) ≡ c → cond c (m + 1) 0 ≡ 0
+    unscanned : lineAt part ws ≡ none → (c : Bool) → ltb m (length ws) && isEnding part (getD ws m 0) && ltb 0 h && leb h 8 && compared 4 (m - h) (drop h ws) ≡ c → cond c (m + 1) 0 ≡ 0
     unscanned q false e = refl
     unscanned q true e =
-        let p = and-out (ltb m (length ws) && isEnding part (getD ws m 0) && t .sound) (ltb 0 (t .heads)) e in
-        let r = and-out (ltb m (length ws) && isEnding part (getD ws m 0)) (t .sound) (p .0) in
-        let u = and-out (ltb m (length ws)) (isEnding part (getD ws m 0)) (r .0) in
-        let x = scan-tail part m ws (ltb-true m (length ws) (u .0)) b (u .1) scanStart refl (omega arith) (omega arith) (r .1) in
+        let p = and-out (ltb m (length ws) && isEnding part (getD ws m 0) && ltb 0 h && leb h 8) (compared 4 (m - h) (drop h ws)) e in
+        let r = and-out (ltb m (length ws) && isEnding part (getD ws m 0) && ltb 0 h) (leb h 8) (p .0) in
+        let s = and-out (ltb m (length ws) && isEnding part (getD ws m 0)) (ltb 0 h) (r .0) in
+        let u = and-out (ltb m (length ws)) (isEnding part (getD ws m 0)) (s .0) in
+        let x = scan-tail part m 0 ws (ltb-true m (length ws) (u .0)) b (u .1) (p .1) in
         let parts : ValidParts (headsOf (x .line)) (comparisonsOf (x .line)) (endingOf (x .line)) =
         record {
-          some = omega (arith, x .counted, ltb-true 0 (t .heads) (p .1));
+          some = omega (arith, x .counted, ltb-true 0 h (s .1));
           tests = x .tests;
           comparisons = x .comparisons;
           ending = x .ending;
-          few-tests = omega (arith, x .few-tests);
-          few-comparisons = omega (arith, x .few-comparisons);
+          few-tests = omega (arith, x .counted, leb-true h 8 (r .1));
+          few-comparisons = x .few;
           distinct = x .fresh .once;
         } in
         absurd (line-none part ws q (x .line) (drop (suc m) ws) (x .kind) (valid-in (x .line) parts) (x .words))
 
     go : (o : Option PolicyLine) → lineAt part ws ≡ o → scanLine part ws ≡ lineLength o
-    go none q = scan-by part ws m refl ∙ unscanned q (ltb m (length ws) && isEnding part (getD ws m 0) && t .sound && ltb 0 (t .heads)) refl
+    go none q = scan-by part ws m refl ∙ unscanned q (ltb m (length ws) && isEnding part (getD ws m 0) && ltb 0 h && leb h 8 && compared 4 (m - h) (drop h ws)) refl
     go (some l) q = let h = line-out part ws l q in ap (scanLine part) (h .words) ∙ line-found part l (drop (length (lineWords l)) ws) (h .kind) (h .sound)

@@ -1,9 +1,9 @@
 -- How the code goes over a line, word by word. That this finds the lines that `lineAt` finds, and their values, is proved
 -- (`scan-line` in proofs/ScanLines.antt, `read-line` in proofs/ReadLaws.antt): a reader need not believe this file.
-use Prim.Native.Nat.{ℕ, zero, suc, _+_, _*_, _%_, _^_}
+use Prim.Native.Nat.{ℕ, zero, suc, _+_, _-_, _*_, _%_, _^_}
 use mathlib.Core.Bool.{Bool, true, false, not, cond, _&&_, _||_}
 use mathlib.Core.List.{List}
-use lib.Dec.{eqb, ltb}
+use lib.Dec.{eqb, ltb, leb}
 use lib.ListN.{length, drop, getD}
 use Rattle.policy.specs.Line.{pushHead, pushComparison, endLine}
 use Rattle.policy.specs.Set.{has, insert}
@@ -13,7 +13,6 @@ use Rattle.policy.specs.declared.line.Test.{Test}
 use Rattle.word.specs.Word.{opcodeOf, firstOf, secondOf, relationOf, skipOf}
 use Rattle.word.specs.Operation.{Operation, present, absent, againstConstant, againstReading, proposes, member, never, unknown, operationOf, eventFrom, actionFrom, constantComparison, readingComparison}
 use Rattle.image.specs.declared.line.Part.{Part}
-use Rattle.image.specs.declared.line.Scan.{Scan}
 
 -- whether an operation is that of a head in its part
 unfoldable pub isHead : Part → ℕ → Bool
@@ -25,21 +24,20 @@ unfoldable pub isEnding : Part → ℕ → Bool
 isEnding Part.Rules w = eqb (opcodeOf w) 5 && eqb (w % 2 ^ 22) 0
 isEnding Part.Constraints w = eqb w (7 * 2 ^ 28)
 
-unfoldable pub scanStart : Scan
-scanStart = record { seen = 0; heads = 0; comparisons = 0; constant = false; sound = true }
+-- the operations of heads, one bit each
+unfoldable pub headOpcodes : Part → ℕ
+headOpcodes Part.Rules = 6
+headOpcodes Part.Constraints = 64
 
-unfoldable pub broken : Scan → Scan
-broken s = record { seen = s .seen; heads = s .heads; comparisons = s .comparisons; constant = false; sound = false }
+-- whether the word w may stand as a head, with `left` words of the line behind it
+unfoldable pub headSound : Part → ℕ → ℕ → ℕ → Bool
+headSound part seen w left = eqb (w % 2 ^ 22) left && isHead part (opcodeOf w) && not (has seen (firstOf w))
 
--- `left` words of the line follow the word w
-unfoldable pub headSound : Scan → ℕ → ℕ → Bool
-headSound s w left = eqb (s .comparisons) 0 && ltb (s .heads) 8 && not (has (s .seen) (firstOf w)) && eqb (w % 2 ^ 22) left
-
-unfoldable pub afterHead : Scan → ℕ → ℕ → Scan
-afterHead s w left =
-    cond (headSound s w left)
-    (record { seen = insert (s .seen) (firstOf w); heads = s .heads + 1; comparisons = s .comparisons; constant = false; sound = s .sound })
-    (broken s)
+-- how many heads there are, of n words before the ending word
+unfoldable pub headCount : Part → ℕ → ℕ → List ℕ → ℕ
+headCount part seen zero ws = 0
+headCount part seen (suc n) ws =
+    cond (headSound part seen (getD ws 0 0) (suc n)) (suc (headCount part (insert seen (firstOf (getD ws 0 0))) n (drop 1 ws))) 0
 
 unfoldable pub constantSound : ℕ → ℕ → Bool
 constantSound w left = ltb (firstOf w) 16 && ltb (relationOf w) 6 && eqb (secondOf w) 0 && eqb (w % 2 ^ 13 + 1) left && ltb 1 left
@@ -47,36 +45,25 @@ constantSound w left = ltb (firstOf w) 16 && ltb (relationOf w) 6 && eqb (second
 unfoldable pub readingSound : ℕ → ℕ → Bool
 readingSound w left = ltb (firstOf w) 16 && ltb (relationOf w) 6 && ltb (secondOf w) 16 && eqb (w % 2 ^ 13) left
 
-unfoldable pub afterComparison : Scan → Bool → Bool → Scan
-afterComparison s fits constant =
-    cond (fits && ltb (s .comparisons) 4)
-    (record { seen = s .seen; heads = s .heads; comparisons = s .comparisons + 1; constant = constant; sound = s .sound })
-    (broken s)
+-- how many words the comparison has that w begins; 0 where none may stand
+unfoldable pub comparisonSize : ℕ → ℕ → ℕ
+comparisonSize w left =
+    cond (eqb (opcodeOf w) 3) (cond (constantSound w left) 2 0) (cond (eqb (opcodeOf w) 4) (cond (readingSound w left) 1 0) 0)
 
--- a word that is no constant
-unfoldable pub afterTest : Part → Scan → ℕ → ℕ → Scan
-afterTest part s w left =
-    cond (isHead part (opcodeOf w)) (afterHead s w left)
-    (cond (eqb (opcodeOf w) 3) (afterComparison s (constantSound w left) true)
-    (cond (eqb (opcodeOf w) 4) (afterComparison s (readingSound w left) false) (broken s)))
-
-unfoldable pub afterConstant : Scan → Scan
-afterConstant s = record { seen = s .seen; heads = s .heads; comparisons = s .comparisons; constant = false; sound = s .sound }
-
-unfoldable pub afterWord : Part → Scan → ℕ → ℕ → Scan
-afterWord part s w left = cond (s .constant) (afterConstant s) (afterTest part s w left)
-
--- so many words before the ending word
-unfoldable pub scanWords : Part → Scan → ℕ → List ℕ → Scan
-scanWords part s zero ws = s
-scanWords part s (suc n) ws = scanWords part (afterWord part s (getD ws 0 0) (suc n)) n (drop 1 ws)
+-- whether comparisons, at most so many, fill n words
+unfoldable pub compared : ℕ → ℕ → List ℕ → Bool
+compared zero n ws = eqb n 0
+compared (suc room) n ws =
+    eqb n 0
+    || (not (eqb (comparisonSize (getD ws 0 0) n) 0)
+    && compared room (n - comparisonSize (getD ws 0 0) n) (drop (comparisonSize (getD ws 0 0) n) ws))
 
 -- how many words the line at the start has; 0 where none stands there. The first word's skip says how many follow it
 unfoldable pub scanLine : Part → List ℕ → ℕ
 scanLine part ws =
     let n : ℕ = skipOf (getD ws 0 0) in
-    let s : Scan = scanWords part scanStart n ws in
-    cond (ltb n (length ws) && isEnding part (getD ws n 0) && s .sound && ltb 0 (s .heads)) (n + 1) 0
+    let h : ℕ = headCount part 0 n ws in
+    cond (ltb n (length ws) && isEnding part (getD ws n 0) && ltb 0 h && leb h 8 && compared 4 (n - h) (drop h ws)) (n + 1) 0
 
 -- ---- the value of a line, word by word
 

@@ -2,13 +2,13 @@
 ghost use mathlib.Core.Path.{_≡_};
 ghost use mathlib.Core.Bool.{false};
 ghost use mathlib.Core.List.{[]};
-ghost use Prim.Native.Nat.{_-_, _/_, _<_, _≤_};
+ghost use Prim.Native.Nat.{_+_, _-_, _/_, _<_, _≤_};
 ghost use lib.ListN.{length, drop};
 ghost use Rattle.policy.specs.Line.{lineOf};
 ghost use Rattle.policy.specs.Set.{has, insert};
 ghost use Rattle.word.specs.Word.{wordsOf, between};
 ghost use Rattle.image.specs.Load.{lineAt, lineLength, lineAnswer};
-ghost use Rattle.image.specs.Scan.{isHead, isEnding, headSound, afterHead, constantSound, readingSound, afterComparison, afterWord, broken, readFrom};
+ghost use Rattle.image.specs.Scan.{isHead, isEnding, headOpcodes, headSound, headCount, constantSound, readingSound, comparisonSize, compared, readFrom};
 use policy::Action;
 use policy::Ending;
 use policy::Event;
@@ -24,6 +24,7 @@ use word::relation;
 use word::second;
 use word::skip;
 use word::word_at;
+use word::word_in;
 
 // The part of an image that a line stands in.
 pub enum Part {
@@ -37,28 +38,21 @@ pub struct LineAt {
     pub next: usize,
 }
 
-// What is known of a line after some of its words: the events or actions in its heads, how many heads and comparisons
-// there are, whether a constant comes next, and whether all was as in a valid line.
-pub struct Scan {
-    pub seen: u64,
-    pub heads: usize,
-    pub comparisons: usize,
-    pub constant: bool,
-    pub sound: bool,
+// Bit n of the number is 1 where a head of the part may have the operation n.
+fn head_opcodes(part: Part) -> u32
+    ensures { λ r. ⌜ r ≡ headOpcodes part ⌝ }
+{
+    match part {
+        Part::Rules => 6,
+        Part::Constraints => 64,
+    }
 }
 
 fn is_head(part: Part, opcode: u32) -> bool
+    requires { ⌜ opcode < 16 ⌝ }
     ensures { λ r. ⌜ r ≡ isHead part opcode ⌝ }
 {
-    match part {
-        Part::Rules => {
-            if opcode == 1 {
-                return true;
-            }
-            opcode == 2
-        }
-        Part::Constraints => opcode == 6,
-    }
+    (head_opcodes(part) >> opcode) % 2 == 1
 }
 
 fn is_ending(part: Part, word: u32) -> bool
@@ -90,69 +84,17 @@ fn with_seen(seen: u64, n: u32) -> u64
     seen | (1 << n)
 }
 
-impl Scan {
-    fn broken(self) -> Scan
-        ensures { λ r. ⌜ r ≡ broken self ⌝ }
-    {
-        Scan {
-            seen: self.seen,
-            heads: self.heads,
-            comparisons: self.comparisons,
-            constant: false,
-            sound: false,
-        }
+// Whether the word may stand as a head, with `left` words of the line behind it.
+fn head_sound(part: Part, seen: u64, word: u32, left: u32) -> bool
+    ensures { λ r. ⌜ r ≡ headSound part seen word left ⌝ }
+{
+    if word % 0x0040_0000 != left {
+        return false;
     }
-
-    // Whether a head may stand here, with `left` words of the line behind it.
-    fn head_sound(self, word: u32, left: u32) -> bool
-        ensures { λ r. ⌜ r ≡ headSound self word left ⌝ }
-    {
-        if self.comparisons != 0 {
-            return false;
-        }
-        if self.heads >= 8 {
-            return false;
-        }
-        if is_seen(self.seen, first(word)) {
-            return false;
-        }
-        word % 0x0040_0000 == left
+    if !is_head(part, opcode(word)) {
+        return false;
     }
-
-    fn after_head(self, word: u32, left: u32) -> Scan
-        ensures { λ r. ⌜ r ≡ afterHead self word left ⌝ }
-    {
-        if self.head_sound(word, left) {
-            Scan {
-                seen: with_seen(self.seen, first(word)),
-                heads: self.heads + 1,
-                comparisons: self.comparisons,
-                constant: false,
-                sound: self.sound,
-            }
-        } else {
-            self.broken()
-        }
-    }
-
-    fn after_comparison(self, fits: bool, constant: bool) -> Scan
-        ensures { λ r. ⌜ r ≡ afterComparison self fits constant ⌝ }
-    {
-        if !fits {
-            return self.broken();
-        }
-        if self.comparisons < 4 {
-            Scan {
-                seen: self.seen,
-                heads: self.heads,
-                comparisons: self.comparisons + 1,
-                constant,
-                sound: self.sound,
-            }
-        } else {
-            self.broken()
-        }
-    }
+    !is_seen(seen, first(word))
 }
 
 // Whether operation 3 may stand here, with `left` words of the line behind it: its constant, and at least one more.
@@ -190,30 +132,54 @@ fn reading_sound(word: u32, left: u32) -> bool
     word % 0x2000 == left
 }
 
-impl Scan {
-    // The line after one word more, with `left` words behind it.
-    fn after_word(self, part: Part, word: u32, left: u32) -> Scan
-        ensures { λ r. ⌜ r ≡ afterWord part self word left ⌝ }
-    {
-        if self.constant {
-            return Scan {
-                seen: self.seen,
-                heads: self.heads,
-                comparisons: self.comparisons,
-                constant: false,
-                sound: self.sound,
-            };
-        }
-        let operation = opcode(word);
-        if is_head(part, operation) {
-            return self.after_head(word, left);
-        }
-        match operation {
-            3 => self.after_comparison(constant_sound(word, left), true),
-            4 => self.after_comparison(reading_sound(word, left), false),
-            _ => self.broken(),
-        }
+// How many words the comparison has that the word begins, with `left` words of the line behind it: 0 where none may stand.
+fn comparison_size(word: u32, left: u32) -> usize
+    ensures { λ r. ⌜ r ≡ comparisonSize word left ⌝ }
+{
+    match opcode(word) {
+        3 => { if constant_sound(word, left) { 2 } else { 0 } }
+        4 => { if reading_sound(word, left) { 1 } else { 0 } }
+        _ => 0,
     }
+}
+
+// The first word from `at` on that is no head of the line whose ending word is `last`.
+fn heads_end(image: &[u8], part: Part, at: usize, last: usize) -> usize
+    requires { ⌜ (at ≤ last) × (last < at + 32) × (last ≤ length (now image) / 4) ⌝ }
+    ensures { λ r. ⌜ r ≡ at + headCount part 0 (last - at) (drop at (wordsOf (now (image .entry)))) ⌝ }
+{
+    let mut seen: u64 = 0;
+    let mut i = at;
+    while i < last {
+        let word = word_in(image, i);
+        if !head_sound(part, seen, word, (last - i) as u32) {
+            return i;
+        }
+        seen = with_seen(seen, first(word));
+        i += 1;
+    }
+    i
+}
+
+// Whether comparisons, at most four, stand from `from` up to the ending word `last`.
+fn comparisons_sound(image: &[u8], from: usize, last: usize) -> bool
+    requires { ⌜ (from ≤ last) × (last < from + 32) × (last ≤ length (now image) / 4) ⌝ }
+    ensures { λ r. ⌜ r ≡ compared 4 (last - from) (drop from (wordsOf (now (image .entry)))) ⌝ }
+{
+    let mut room: usize = 4;
+    let mut i = from;
+    while i < last {
+        if room == 0 {
+            return false;
+        }
+        let words = comparison_size(word_in(image, i), (last - i) as u32);
+        if words == 0 {
+            return false;
+        }
+        room -= 1;
+        i += words;
+    }
+    true
 }
 
 // How many words the line has that starts at the word `at` and ends before the word `end`: 0 where no line that an
@@ -225,30 +191,23 @@ pub fn line_length(image: &[u8], part: Part, at: usize, end: usize) -> usize
     if count <= at {
         return 0;
     }
-    let size = skip(word_at(image, at)) as usize;
+    let size = skip(word_in(image, at)) as usize;
     if count - at <= size {
         return 0;
     }
     let last = at + size;
-    if !is_ending(part, word_at(image, last)) {
+    if !is_ending(part, word_in(image, last)) {
         return 0;
     }
-    let mut scan = Scan {
-        seen: 0,
-        heads: 0,
-        comparisons: 0,
-        constant: false,
-        sound: true,
-    };
-    let mut i = at;
-    while i < last {
-        scan = scan.after_word(part, word_at(image, i), (last - i) as u32);
-        i += 1;
+    let middle = heads_end(image, part, at, last);
+    if middle == at {
+        return 0;
     }
-    if scan.sound {
-        if 0 < scan.heads {
-            return size + 1;
-        }
+    if at + 8 < middle {
+        return 0;
+    }
+    if comparisons_sound(image, middle, last) {
+        return size + 1;
     }
     0
 }

@@ -15,3 +15,4 @@ pub use word::relation;
 pub use word::second;
 pub use word::skip;
 pub use word::word_at;
+pub use word::word_in;

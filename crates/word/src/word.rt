@@ -1,7 +1,8 @@
 // Words of 32 bits in a slice of bytes, most significant byte first, and the fields of a word.
 ghost use mathlib.Core.Path.{_≡_};
 ghost use mathlib.Core.List.{[], _∷_};
-ghost use Prim.Native.Nat.{min};
+ghost use Prim.Native.Nat.{_/_, _<_, min};
+ghost use lib.ListN.{length};
 ghost use Rattle.word.specs.Word.{join, swap, wordAt, opcodeOf, firstOf, secondOf, relationOf, skipOf};
 ghost use Rattle.word.specs.Write.{fits, putWords};
 
@@ -46,6 +47,23 @@ pub fn word_at(bytes: &[u8], index: usize) -> u32
     ensures { λ r. ⌜ r ≡ wordAt (now (bytes .entry)) index ⌝ }
 {
     swapped(reversed_at(bytes, index))
+}
+
+// Four bytes of a word that is there.
+fn reversed_in(bytes: &[u8], index: usize) -> u32
+    requires { ⌜ index < length (now bytes) / 4 ⌝ }
+    ensures { λ r. ⌜ swap r ≡ wordAt (now (bytes .entry)) index ⌝ }
+{
+    let at = index * 4;
+    reversed4(bytes[at], bytes[at + 1], bytes[at + 2], bytes[at + 3])
+}
+
+// A word that is there, with no test.
+pub fn word_in(bytes: &[u8], index: usize) -> u32
+    requires { ⌜ index < length (now bytes) / 4 ⌝ }
+    ensures { λ r. ⌜ r ≡ wordAt (now (bytes .entry)) index ⌝ }
+{
+    swapped(reversed_in(bytes, index))
 }
 
 pub fn opcode(word: u32) -> u32

@@ -1,26 +1,28 @@
-use borrow.Author.Tests.{eq-eqb, ne-eqb}
-use Rattle.image.specs.Scan.{isHead}
+use Prim.Native.Nat.{ℕ, _/_, _%_, _^_}
+use mathlib.Core.Path.{ap, _∙_}
+use lib.Dec.{eqb}
+use Rattle.policy.specs.Set.{has}
+use Rattle.image.proofs.ScanLaws.{head-bit}
+use native.Mathlib.Omega.{arith}
 use borrow.Author.Needs.{needs}
 use Rattle.image.proofs.line.is_head.Statement.{statement}
 use Rattle.image.proofs.line.is_head.Tie as tie
+use Rattle.image.proofs.line.is_head.Reads as reads
+use Rattle.image.proofs.line.is_head.Lts as lts
+use Rattle.image.proofs.line.head_opcodes.Reads as head-opcodes-reads
 
-enum-told : tie.Need-enum-told
-enum-told c = search needs
+-- src/line.rt:55:6
+head-opcodes-requires : tie.Need-head-opcodes-requires
+head-opcodes-requires c κs = search needs
 
+-- src/line.rt:55:6
+shr-result : tie.Need-shr-result
+shr-result c = search needs
+
+-- src/line.rt:51:1
 returns : tie.Need-returns
-unfolding isHead
-returns c = rw (c .before .enum-told .given .1, eq-eqb (c .before .before .before .args .opcode) 1 (c .if1 .taken))
-
-enum-told-2 : tie.Need-enum-told-2
-enum-told-2 c = search needs
-
-returns-2 : tie.Need-returns-2
-unfolding isHead
-returns-2 c = rw (c .before .enum-told .given .1, ne-eqb (c .before .before .before .args .opcode) 1 (c .if1 .left))
-
-returns-3 : tie.Need-returns-3
-unfolding isHead
-returns-3 c = rw (c .enum-told2 .given .1)
+unfolding has
+returns c = ap (λ (s : ℕ). eqb (s / 2 ^ c .before .args .opcode % 2) 1) (c .head-opcodes .ensures) ∙ head-bit (c .before .args .part) (c .before .args .opcode)
 
 pub is-head-spec : {M : Type 1} → statement M
-is-head-spec = tie.close (tie.spec enum-told returns enum-told-2 returns-2 returns-3)
+is-head-spec = tie.close (tie.spec head-opcodes-requires shr-result returns)

@@ -2,178 +2,176 @@ use Rattle.word.proofs.WordLaws.{Below}
 use Prim.Native.Nat.{_+_, _-_, _/_, _≤_, _<_}
 use mathlib.Core.Path.{_≡_, refl, ap, _∙_}
 use borrow.Author.Tests.{not-true, not-false}
-use lib.ListN.{length, take}
+use lib.ListN.{length, take, drop}
 use denote.Ref.{now}
 use Rattle.word.specs.Word.{wordsOf, between, skipOf}
-use Rattle.image.specs.Scan.{scanStart}
 use Rattle.image.proofs.SumLaws.{before-length}
-use Rattle.image.proofs.LengthLaws.{Scanning, scanning-none, scanning-more, length-none, length-long, length-unended, length-found, length-headless, length-unsound}
-use borrow.Author.Needs.{needs}
+use Rattle.image.proofs.LengthLaws.{head-count-limit, length-none, length-long, length-unended, length-headless, length-crowded, length-found, length-unsound}
 use native.Mathlib.Omega.{arith}
+use borrow.Author.Needs.{needs}
 use Rattle.image.proofs.line.line_length.Statement.{statement}
 use Rattle.image.proofs.line.line_length.Tie as tie
+use Rattle.image.proofs.line.line_length.Reads as reads
+use Rattle.image.proofs.line.line_length.Lts as lts
+use Rattle.image.proofs.line.comparisons_sound.Reads as comparisons-sound-reads
+use Rattle.image.proofs.line.heads_end.Reads as heads-end-reads
+use Rattle.image.proofs.line.is_ending.Reads as is-ending-reads
+use Rattle.word.proofs.at_most.Reads as at-most-reads
+use Rattle.word.proofs.skip.Reads as skip-reads
+use Rattle.word.proofs.word_in.Reads as word-in-reads
 
-abbrev Inv-loop : tie.InvT-loop
-Inv-loop image part at end count size last scan₀ i₀ scan i =
-    (count ≡ length (take end (wordsOf image))) × (count ≤ length image / 4) × Scanning part image end at size scan i
-
-abbrev μ-loop : tie.MeasureT-loop
-μ-loop image part at end count size last scan₀ i₀ scan i = last - i
-
-at-most-requires : tie.Need-at-most-requires Inv-loop μ-loop
+-- src/line.rt:202:9
+at-most-requires : tie.Need-at-most-requires
 at-most-requires c κs = search needs
 
-returns : tie.Need-returns Inv-loop μ-loop
+-- src/line.rt:204:9
+returns : tie.Need-returns
 unfolding between
 returns c =
     let a = c .before .before .before .args in
     let n = before-length (now (a .image)) (a .end) _ (c .before .at-most .ensures) in
     length-none (a .part) (now (a .image)) (a .end) (a .at) (omega (arith, c .if1 .taken))
 
-word-at-requires : tie.Need-word-at-requires Inv-loop μ-loop
-word-at-requires c κs = search needs
+-- src/line.rt:206:21
+word-in-requires : tie.Need-word-in-requires
+word-in-requires c κs = search needs
 
-skip-requires : tie.Need-skip-requires Inv-loop μ-loop
+-- src/line.rt:206:16
+skip-requires : tie.Need-skip-requires
 skip-requires c κs = search needs
 
-cast-size : tie.Need-cast-size Inv-loop μ-loop
+-- src/line.rt:206:16
+cast-size : tie.Need-cast-size
 cast-size c = search needs
 
-sub-if2 : tie.Need-sub-if2 Inv-loop μ-loop
+-- src/line.rt:207:8
+sub-if2 : tie.Need-sub-if2
 sub-if2 c = search needs
 
-returns-2 : tie.Need-returns-2 Inv-loop μ-loop
+-- src/line.rt:208:9
+returns-2 : tie.Need-returns-2
 unfolding between
 returns-2 c =
     let a = c .before .before .before .before .before .before .args in
     let n = before-length (now (a .image)) (a .end) _ (c .before .before .before .before .at-most .ensures) in
     let b : Below 256 (now (a .image)) = λ i. c .before .before .before .before .before .shared-slice-known .given i .fits in
     let l : a .at < length (take (a .end) (wordsOf (now (a .image)))) = omega (arith, c .before .before .before .if1 .left) in
-    let s = c .before .skip .ensures ∙ ap skipOf (c .before .before .word-at .ensures) in
+    let s = c .before .skip .ensures ∙ ap skipOf (c .before .before .word-in .ensures) in
     length-long (a .part) (now (a .image)) (a .end) (a .at) b l (c .before .skip .result) s (omega (arith, c .if2 .taken))
 
-add-last : tie.Need-add-last Inv-loop μ-loop
+-- src/line.rt:210:16
+add-last : tie.Need-add-last
 add-last c = search needs
 
-word-at-requires-2 : tie.Need-word-at-requires-2 Inv-loop μ-loop
-word-at-requires-2 c κs = search needs
+-- src/line.rt:211:25
+word-in-requires-2 : tie.Need-word-in-requires-2
+word-in-requires-2 c κs = search needs
 
-is-ending-requires : tie.Need-is-ending-requires Inv-loop μ-loop
+-- src/line.rt:211:9
+is-ending-requires : tie.Need-is-ending-requires
 is-ending-requires c κs = search needs
 
-returns-3 : tie.Need-returns-3 Inv-loop μ-loop
+-- src/line.rt:212:9
+returns-3 : tie.Need-returns-3
 unfolding between
 returns-3 c =
     let a = c .before .before .before .before .before .before .before .before .before .args in
     let n = before-length (now (a .image)) (a .end) _ (c .before .before .before .before .before .before .before .at-most .ensures) in
     let b : Below 256 (now (a .image)) = λ i. c .before .before .before .before .before .before .before .before .shared-slice-known .given i .fits in
     let l : a .at < length (take (a .end) (wordsOf (now (a .image)))) = omega (arith, c .before .before .before .before .before .before .if1 .left) in
-    let s = c .before .before .before .before .skip .ensures ∙ ap skipOf (c .before .before .before .before .before .word-at .ensures) in
+    let s = c .before .before .before .before .skip .ensures ∙ ap skipOf (c .before .before .before .before .before .word-in .ensures) in
     let f : a .at + c .before .before .before .before .skip .result < length (take (a .end) (wordsOf (now (a .image)))) = omega (arith, l, c .before .before .before .if2 .left) in
-    length-unended (a .part) (now (a .image)) (a .end) (a .at) b l (c .before .before .before .before .skip .result) s f _ _ (c .before .before .word-at2 .ensures) (c .before .is-ending .ensures) (not-true _ (c .if3 .taken))
+    length-unended (a .part) (now (a .image)) (a .end) (a .at) b l (c .before .before .before .before .skip .result) s f _ _ (c .before .before .word-in2 .ensures) (c .before .is-ending .ensures) (not-true _ (c .if3 .taken))
 
-loop-holds : tie.Need-loop-holds Inv-loop μ-loop
-unfolding scanStart
-loop-holds c =
-    let a = c .before .before .before .before .before .before .before .before .before .args in
-    let n = before-length (now (a .image)) (a .end) _ (c .before .before .before .before .before .before .before .at-most .ensures) in
-    let b : Below 256 (now (a .image)) = λ i. c .before .before .before .before .before .before .before .before .shared-slice-known .given i .fits in
-    let l : a .at < length (take (a .end) (wordsOf (now (a .image)))) = omega (arith, c .before .before .before .before .before .before .if1 .left) in
-    let s = c .before .before .before .before .skip .ensures ∙ ap skipOf (c .before .before .before .before .before .word-at .ensures) in
-    let f : a .at + c .before .before .before .before .skip .result < length (take (a .end) (wordsOf (now (a .image)))) = omega (arith, l, c .before .before .before .if2 .left) in
-    (n, omega (arith, c .before .before .before .before .before .before .before .at-most .ensures), scanning-none (a .part) (now (a .image)) (a .end) (a .at) b l (c .before .before .before .before .skip .result) s f)
+-- src/line.rt:214:9
+heads-end-requires : tie.Need-heads-end-requires
+heads-end-requires c κs = search needs
 
-word-at-requires-3 : tie.Need-word-at-requires-3 Inv-loop μ-loop
-word-at-requires-3 c κs = search needs
-
-sub-after-word : tie.Need-sub-after-word Inv-loop μ-loop
-sub-after-word c = search needs
-
-cast-after-word : tie.Need-cast-after-word Inv-loop μ-loop
-cast-after-word c = search needs
-
-after-word-requires : tie.Need-after-word-requires Inv-loop μ-loop
-after-word-requires c κs = search needs
-
-add-i : tie.Need-add-i Inv-loop μ-loop
-add-i c = search needs
-
-loop-less : tie.Need-loop-less Inv-loop μ-loop
-loop-less c = search needs
-
-loop-again : tie.Need-loop-again Inv-loop μ-loop
-loop-again c =
-    let a = c .before .before .before .before .before .before .before .before .before .before .before .before .before .args in
-    let n = before-length (now (a .image)) (a .end) _ (c .before .before .before .before .before .before .before .before .before .before .before .at-most .ensures) in
-    let b : Below 256 (now (a .image)) = λ i. c .before .before .before .before .before .before .before .before .before .before .before .before .shared-slice-known .given i .fits in
-    let l : a .at < length (take (a .end) (wordsOf (now (a .image)))) = omega (arith, c .before .before .before .before .before .before .before .before .before .before .if1 .left) in
-    let s = c .before .before .before .before .before .before .before .before .skip .ensures ∙ ap skipOf (c .before .before .before .before .before .before .before .before .before .word-at .ensures) in
-    let f : a .at + c .before .before .before .before .before .before .before .before .skip .result < length (take (a .end) (wordsOf (now (a .image)))) = omega (arith, l, c .before .before .before .before .before .before .before .if2 .left) in
-    let i = c .before .before .before .loop .inv in
-    (i .0, i .1, scanning-more (a .part) (now (a .image)) (a .end) (a .at) b l (c .before .before .before .before .before .before .before .before .skip .result) s f _ _ _ _ _ (i .2) (c .before .before .loop-test .taken) (c .before .word-at3 .ensures) refl (c .after-word .ensures))
-
-add-result : tie.Need-add-result Inv-loop μ-loop
-add-result c = search needs
-
-returns-4 : tie.Need-returns-4 Inv-loop μ-loop
+-- src/line.rt:216:9
+returns-4 : tie.Need-returns-4
 unfolding between
 returns-4 c =
-    let a = c .before .before .before .before .before .before .before .before .before .before .before .before .before .before .args in
-    let n = before-length (now (a .image)) (a .end) _ (c .before .before .before .before .before .before .before .before .before .before .before .before .at-most .ensures) in
-    let b : Below 256 (now (a .image)) = λ i. c .before .before .before .before .before .before .before .before .before .before .before .before .before .shared-slice-known .given i .fits in
-    let l : a .at < length (take (a .end) (wordsOf (now (a .image)))) = omega (arith, c .before .before .before .before .before .before .before .before .before .before .before .if1 .left) in
-    let s = c .before .before .before .before .before .before .before .before .before .skip .ensures ∙ ap skipOf (c .before .before .before .before .before .before .before .before .before .before .word-at .ensures) in
-    let f : a .at + c .before .before .before .before .before .before .before .before .before .skip .result < length (take (a .end) (wordsOf (now (a .image)))) = omega (arith, l, c .before .before .before .before .before .before .before .before .if2 .left) in
-    length-found (a .part) (now (a .image)) (a .end) (a .at) b l (c .before .before .before .before .before .before .before .before .before .skip .result) s f _ _ (c .before .before .before .before .before .before .before .word-at2 .ensures) (c .before .before .before .before .before .before .is-ending .ensures) (not-false _ (c .before .before .before .before .before .if3 .left)) _ _ (c .before .before .before .before .loop .inv .2) (c .before .before .before .loop-test .left) (c .before .before .if4 .taken) (c .if5 .taken)
+    let a = c .before .before .before .before .before .before .before .before .before .before .before .args in
+    let n = before-length (now (a .image)) (a .end) _ (c .before .before .before .before .before .before .before .before .before .at-most .ensures) in
+    let b : Below 256 (now (a .image)) = λ i. c .before .before .before .before .before .before .before .before .before .before .shared-slice-known .given i .fits in
+    let l : a .at < length (take (a .end) (wordsOf (now (a .image)))) = omega (arith, c .before .before .before .before .before .before .before .before .if1 .left) in
+    let s = c .before .before .before .before .before .before .skip .ensures ∙ ap skipOf (c .before .before .before .before .before .before .before .word-in .ensures) in
+    let f : a .at + c .before .before .before .before .before .before .skip .result < length (take (a .end) (wordsOf (now (a .image)))) = omega (arith, l, c .before .before .before .before .before .if2 .left) in
+    length-headless (a .part) (now (a .image)) (a .end) (a .at) b l (c .before .before .before .before .before .before .skip .result) s f _ _ (c .before .before .before .before .word-in2 .ensures) (c .before .before .before .is-ending .ensures) (not-false _ (c .before .before .if3 .left)) _ (c .before .heads-end .ensures) (c .if4 .taken)
 
-returns-5 : tie.Need-returns-5 Inv-loop μ-loop
+-- src/line.rt:218:8
+add-if5 : tie.Need-add-if5
+add-if5 c = search needs
+
+-- src/line.rt:219:9
+returns-5 : tie.Need-returns-5
 unfolding between
 returns-5 c =
-    let a = c .before .before .before .before .before .before .before .before .before .before .before .before .before .before .args in
-    let n = before-length (now (a .image)) (a .end) _ (c .before .before .before .before .before .before .before .before .before .before .before .before .at-most .ensures) in
-    let b : Below 256 (now (a .image)) = λ i. c .before .before .before .before .before .before .before .before .before .before .before .before .before .shared-slice-known .given i .fits in
-    let l : a .at < length (take (a .end) (wordsOf (now (a .image)))) = omega (arith, c .before .before .before .before .before .before .before .before .before .before .before .if1 .left) in
-    let s = c .before .before .before .before .before .before .before .before .before .skip .ensures ∙ ap skipOf (c .before .before .before .before .before .before .before .before .before .before .word-at .ensures) in
-    let f : a .at + c .before .before .before .before .before .before .before .before .before .skip .result < length (take (a .end) (wordsOf (now (a .image)))) = omega (arith, l, c .before .before .before .before .before .before .before .before .if2 .left) in
-    length-headless (a .part) (now (a .image)) (a .end) (a .at) b l (c .before .before .before .before .before .before .before .before .before .skip .result) s f _ _ (c .before .before .before .before .before .before .before .word-at2 .ensures) (c .before .before .before .before .before .before .is-ending .ensures) (not-false _ (c .before .before .before .before .before .if3 .left)) _ _ (c .before .before .before .before .loop .inv .2) (c .before .before .before .loop-test .left) (c .before .before .if4 .taken) (c .if5 .left)
-
-returns-6 : tie.Need-returns-6 Inv-loop μ-loop
-unfolding between
-returns-6 c =
     let a = c .before .before .before .before .before .before .before .before .before .before .before .before .args in
     let n = before-length (now (a .image)) (a .end) _ (c .before .before .before .before .before .before .before .before .before .before .at-most .ensures) in
     let b : Below 256 (now (a .image)) = λ i. c .before .before .before .before .before .before .before .before .before .before .before .shared-slice-known .given i .fits in
     let l : a .at < length (take (a .end) (wordsOf (now (a .image)))) = omega (arith, c .before .before .before .before .before .before .before .before .before .if1 .left) in
-    let s = c .before .before .before .before .before .before .before .skip .ensures ∙ ap skipOf (c .before .before .before .before .before .before .before .before .word-at .ensures) in
+    let s = c .before .before .before .before .before .before .before .skip .ensures ∙ ap skipOf (c .before .before .before .before .before .before .before .before .word-in .ensures) in
     let f : a .at + c .before .before .before .before .before .before .before .skip .result < length (take (a .end) (wordsOf (now (a .image)))) = omega (arith, l, c .before .before .before .before .before .before .if2 .left) in
-    length-unsound (a .part) (now (a .image)) (a .end) (a .at) b l (c .before .before .before .before .before .before .before .skip .result) s f _ _ (c .before .before .before .before .before .word-at2 .ensures) (c .before .before .before .before .is-ending .ensures) (not-false _ (c .before .before .before .if3 .left)) _ _ (c .before .before .loop .inv .2) (c .before .loop-test .left) (c .if4 .left)
+    length-crowded (a .part) (now (a .image)) (a .end) (a .at) b l (c .before .before .before .before .before .before .before .skip .result) s f _ _ (c .before .before .before .before .before .word-in2 .ensures) (c .before .before .before .before .is-ending .ensures) (not-false _ (c .before .before .before .if3 .left)) _ (c .before .before .heads-end .ensures) (c .if5 .taken)
+
+-- src/line.rt:221:8
+comparisons-sound-requires : tie.Need-comparisons-sound-requires
+comparisons-sound-requires c κs =
+    let a = c .before .before .before .before .before .before .before .before .before .before .before .before .args in
+    let k = head-count-limit (a .part) (a .at + c .before .before .before .before .before .before .before .skip .result - a .at) 0 (drop (a .at) (wordsOf (now (a .image)))) in
+    let m = c .before .before .heads-end .ensures in
+    let q : skipOf (c .before .before .before .before .before .before .before .before .word-in .result) < 32 = omega arith in
+    (omega (arith, k, m), omega (arith, k, m, q, c .before .before .before .before .before .before .before .skip .ensures), omega (arith, c .before .before .before .before .before .before .if2 .left, c .before .before .before .before .before .before .before .before .before .if1 .left, c .before .before .before .before .before .before .before .before .before .before .at-most .ensures))
+
+-- src/line.rt:222:16
+add-result : tie.Need-add-result
+add-result c = search needs
+
+-- src/line.rt:222:9
+returns-6 : tie.Need-returns-6
+unfolding between
+returns-6 c =
+    let a = c .before .before .before .before .before .before .before .before .before .before .before .before .before .before .args in
+    let n = before-length (now (a .image)) (a .end) _ (c .before .before .before .before .before .before .before .before .before .before .before .before .at-most .ensures) in
+    let b : Below 256 (now (a .image)) = λ i. c .before .before .before .before .before .before .before .before .before .before .before .before .before .shared-slice-known .given i .fits in
+    let l : a .at < length (take (a .end) (wordsOf (now (a .image)))) = omega (arith, c .before .before .before .before .before .before .before .before .before .before .before .if1 .left) in
+    let s = c .before .before .before .before .before .before .before .before .before .skip .ensures ∙ ap skipOf (c .before .before .before .before .before .before .before .before .before .before .word-in .ensures) in
+    let f : a .at + c .before .before .before .before .before .before .before .before .before .skip .result < length (take (a .end) (wordsOf (now (a .image)))) = omega (arith, l, c .before .before .before .before .before .before .before .before .if2 .left) in
+    length-found (a .part) (now (a .image)) (a .end) (a .at) b l (c .before .before .before .before .before .before .before .before .before .skip .result) s f _ _ (c .before .before .before .before .before .before .before .word-in2 .ensures) (c .before .before .before .before .before .before .is-ending .ensures) (not-false _ (c .before .before .before .before .before .if3 .left)) _ (c .before .before .before .before .heads-end .ensures) (c .before .before .before .if4 .left) (c .before .before .if5 .left) _ (c .before .comparisons-sound .ensures) (c .if6 .taken)
+
+-- src/line.rt:199:1
+returns-7 : tie.Need-returns-7
+unfolding between
+returns-7 c =
+    let a = c .before .before .before .before .before .before .before .before .before .before .before .before .before .before .args in
+    let n = before-length (now (a .image)) (a .end) _ (c .before .before .before .before .before .before .before .before .before .before .before .before .at-most .ensures) in
+    let b : Below 256 (now (a .image)) = λ i. c .before .before .before .before .before .before .before .before .before .before .before .before .before .shared-slice-known .given i .fits in
+    let l : a .at < length (take (a .end) (wordsOf (now (a .image)))) = omega (arith, c .before .before .before .before .before .before .before .before .before .before .before .if1 .left) in
+    let s = c .before .before .before .before .before .before .before .before .before .skip .ensures ∙ ap skipOf (c .before .before .before .before .before .before .before .before .before .before .word-in .ensures) in
+    let f : a .at + c .before .before .before .before .before .before .before .before .before .skip .result < length (take (a .end) (wordsOf (now (a .image)))) = omega (arith, l, c .before .before .before .before .before .before .before .before .if2 .left) in
+    length-unsound (a .part) (now (a .image)) (a .end) (a .at) b l (c .before .before .before .before .before .before .before .before .before .skip .result) s f _ _ (c .before .before .before .before .before .before .before .word-in2 .ensures) (c .before .before .before .before .before .before .is-ending .ensures) (not-false _ (c .before .before .before .before .before .if3 .left)) _ (c .before .before .before .before .heads-end .ensures) (c .before .before .before .if4 .left) (c .before .before .if5 .left) _ (c .before .comparisons-sound .ensures) (c .if6 .left)
 
 pub line-length-spec : {M : Type 1} → statement M
 line-length-spec =
     tie.close
     (tie.spec
-    Inv-loop
-    μ-loop
     at-most-requires
     returns
-    word-at-requires
+    word-in-requires
     skip-requires
     cast-size
     sub-if2
     returns-2
     add-last
-    word-at-requires-2
+    word-in-requires-2
     is-ending-requires
     returns-3
-    loop-holds
-    word-at-requires-3
-    sub-after-word
-    cast-after-word
-    after-word-requires
-    add-i
-    loop-less
-    loop-again
-    add-result
+    heads-end-requires
     returns-4
+    add-if5
     returns-5
-    returns-6)
+    comparisons-sound-requires
+    add-result
+    returns-6
+    returns-7)
