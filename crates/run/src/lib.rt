@@ -69,7 +69,8 @@ pub fn run_rules(
 }
 
 // Whether a constraint of the words from index `start` up to `end` holds on a set of actions. The first that holds ends
-// the run.
+// the run. A constraint's members come before its comparisons, so they have a loop of their own, which tests for no other
+// operation.
 pub fn run_constraints(
     image: &[u8],
     start: usize,
@@ -86,16 +87,21 @@ pub fn run_constraints(
     'constraints: while at < count {
         while at < count {
             let word = word_at(image, at);
-            let passed = skip(word) as usize;
+            if opcode(word) != 6 {
+                break;
+            }
             at += 1;
+            if !set.has(Action(first(word) as u8)) {
+                at += skip(word) as usize;
+                continue 'constraints;
+            }
+        }
+        while at < count {
+            let word = word_at(image, at);
+            let passed = skip(word) as usize;
             match opcode(word) {
-                6 => {
-                    if !set.has(Action(first(word) as u8)) {
-                        at += passed;
-                        continue 'constraints;
-                    }
-                }
                 3 => {
+                    at += 1;
                     let comparison = constant_comparison(word, word_at(image, at));
                     at += 1;
                     if !comparison.holds(given, values) {
@@ -105,16 +111,22 @@ pub fn run_constraints(
                 }
                 4 => {
                     let comparison = reading_comparison(word);
+                    at += 1;
                     if !comparison.holds(given, values) {
                         at += passed;
                         continue 'constraints;
                     }
                 }
+                6 => {
+                    continue 'constraints;
+                }
                 7 => {
                     violated = true;
                     break 'constraints;
                 }
-                _ => {}
+                _ => {
+                    at += 1;
+                }
             }
         }
     }
