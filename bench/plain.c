@@ -59,6 +59,47 @@ static bool ends_line(enum part part, uint32_t word)
     return word == 0x70000000;
 }
 
+/* Bit n is 1 where a head of the part may have the operation n. */
+static uint32_t head_opcodes(enum part part) { return part == RULES ? 1 << PRESENT | 1 << ABSENT : 1 << MEMBER; }
+
+/* The first word from `at` on that is no head of the line whose ending word is `last`. */
+static size_t heads_end(const uint8_t *image, enum part part, size_t at, size_t last)
+{
+    uint64_t seen = 0;
+    for (; at < last; at++) {
+        uint32_t word = word_at(image, at);
+        if ((word & 0x3fffff) != last - at || (head_opcodes(part) >> opcode(word) & 1) == 0 || has(seen, first(word)))
+            break;
+        seen |= (uint64_t)1 << first(word);
+    }
+    return at;
+}
+
+/* How many words the comparison has that the word begins, with `left` words of the line behind it; 0 where none may stand. */
+static size_t comparison_size(uint32_t word, size_t left)
+{
+    if (opcode(word) == CONSTANT)
+        return first(word) < 16 && relation(word) <= GREATER_OR_EQUAL && second(word) == 0 && (word & 0x1fff) + 1 == left
+                && left > 1
+            ? 2
+            : 0;
+    if (opcode(word) == READING)
+        return first(word) < 16 && relation(word) <= GREATER_OR_EQUAL && second(word) < 16 && (word & 0x1fff) == left;
+    return 0;
+}
+
+/* Whether comparisons, at most four, stand from `at` up to the ending word `last`. */
+static bool are_comparisons(const uint8_t *image, size_t at, size_t last)
+{
+    for (unsigned room = 4; at < last; room--) {
+        size_t words = room > 0 ? comparison_size(word_at(image, at), last - at) : 0;
+        if (words == 0)
+            return false;
+        at += words;
+    }
+    return true;
+}
+
 /* How many words the line has that starts at `at` and ends before `end`; 0 where none does. */
 static size_t line_length(const uint8_t *image, enum part part, size_t at, size_t end)
 {
@@ -68,43 +109,10 @@ static size_t line_length(const uint8_t *image, enum part part, size_t at, size_
     size_t last = at + size;
     if (!ends_line(part, word_at(image, last)))
         return 0;
-
-    uint64_t seen = 0;
-    unsigned heads = 0, comparisons = 0;
-    for (size_t i = at; i < last; i++) {
-        uint32_t word = word_at(image, i);
-        uint32_t left = last - i;
-        switch (opcode(word)) {
-        case PRESENT:
-        case ABSENT:
-        case MEMBER:
-            if ((opcode(word) == MEMBER) != (part == CONSTRAINTS))
-                return 0;
-            if (comparisons > 0 || heads == 8 || has(seen, first(word)) || (word & 0x3fffff) != left)
-                return 0;
-            seen |= (uint64_t)1 << first(word);
-            heads++;
-            break;
-        case CONSTANT:
-            if (first(word) >= 16 || second(word) != 0 || relation(word) > GREATER_OR_EQUAL)
-                return 0;
-            if ((word & 0x1fff) + 1 != left || left < 2 || comparisons == 4)
-                return 0;
-            comparisons++;
-            i++;
-            break;
-        case READING:
-            if (first(word) >= 16 || second(word) >= 16 || relation(word) > GREATER_OR_EQUAL)
-                return 0;
-            if ((word & 0x1fff) != left || comparisons == 4)
-                return 0;
-            comparisons++;
-            break;
-        default:
-            return 0;
-        }
-    }
-    return heads > 0 ? size + 1 : 0;
+    size_t middle = heads_end(image, part, at, last);
+    if (middle == at || middle > at + 8)
+        return 0;
+    return are_comparisons(image, middle, last) ? size + 1 : 0;
 }
 
 /* Whether the words from `start` up to `end` are at most `limit` lines: then their count is in `place`, otherwise the word at
@@ -603,31 +611,23 @@ static uint64_t run_rules(const uint8_t *image, size_t at, size_t end, const str
 static bool is_violated(const uint8_t *image, size_t at, size_t end, uint64_t set, const int32_t *values)
 {
     while (at < end) {
-        for (;;) {
-            uint32_t word = word_at(image, at++);
-            switch (opcode(word)) {
-            case MEMBER:
-                if (!has(set, first(word))) {
-                    at += skip(word);
-                    goto next_line;
-                }
-                break;
-            case CONSTANT: {
-                int32_t constant = (int32_t)word_at(image, at++);
-                if (!holds(relation(word), values[first(word)], constant)) {
-                    at += skip(word);
-                    goto next_line;
-                }
-                break;
+        uint32_t word;
+        while (opcode(word = word_at(image, at++)) == MEMBER) {
+            if (!has(set, first(word))) {
+                at += skip(word);
+                goto next_line;
             }
-            case READING:
-                if (!holds(relation(word), values[first(word)], values[second(word)])) {
-                    at += skip(word);
-                    goto next_line;
-                }
-                break;
-            default:
-                return true;
+        }
+        for (;; word = word_at(image, at++)) {
+            bool held;
+            switch (opcode(word)) {
+            case CONSTANT: held = holds(relation(word), values[first(word)], (int32_t)word_at(image, at++)); break;
+            case READING: held = holds(relation(word), values[first(word)], values[second(word)]); break;
+            default: return true;
+            }
+            if (!held) {
+                at += skip(word);
+                goto next_line;
             }
         }
     next_line:;

@@ -1,18 +1,17 @@
 -- Laws of running words: what one word does, over the words of a part with an index.
 use Prim.Native.Nat.{ℕ, zero, suc, _+_, _≤_, _<_}
-use mathlib.Core.Bool.{Bool, true, false, not, cond}
+use mathlib.Core.Bool.{Bool, true, false, not, _&&_, cond}
 use mathlib.Core.List.{List, [], _∷_}
 use mathlib.Core.Path.{_≡_, refl, sym, ap, ap₂, _∙_}
 use native.Mathlib.Nat.{add-zero}
 use native.Mathlib.Omega.{arith}
-use borrow.Author.Tests.{ltb-true, ltb-false}
-use lib.Dec.{ltb}
+use borrow.Author.Tests.{ltb-true, ltb-false, eqb-true, eqb-false, eq-eqb, ne-eqb}
+use lib.Dec.{eqb, ltb}
 use lib.ListN.{length, take, drop, getD, drop-of-length-le}
 use lib.Seq.{drop-cons, drop-drop, getD-drop}
 use Rattle.policy.specs.Comparison.{comparisonHolds}
 use Rattle.policy.specs.Epoch.{Epoch, Readings}
 use Rattle.policy.specs.Set.{hasEvent, hasAction, insertAction}
-use Rattle.policy.specs.declared.comparison.Comparison.{Comparison}
 use Rattle.policy.specs.declared.set.ActionSet.{ActionSet}
 use Rattle.word.specs.Operation.{Operation, present, absent, againstConstant, againstReading, proposes, member, never, unknown, operationFrom, operationOf, actionFrom, constantComparison, readingComparison}
 use Rattle.run.specs.Run.{passed, rulePasses, ruleProposes, runRules, constraintPasses, isNever, runConstraints}
@@ -102,6 +101,10 @@ moved-passed false at m w e = ap (λ (n : ℕ). at + n) (sym e)
 moved-constant : (b : Bool) (at m w : ℕ) → m ≡ skipOf w → at + suc (passed b w) ≡ moved b (at + 1) m
 moved-constant b at m w e = let s : at + suc (passed b w) ≡ at + 1 + passed b w = omega arith in s ∙ moved-passed b (at + 1) m w e
 
+twice-not : (b : Bool) → not (not b) ≡ b
+twice-not true = refl
+twice-not false = refl
+
 module _ (bytes : List ℕ) (end : ℕ) where
   abbrev part : List ℕ
   part = take end (wordsOf bytes)
@@ -132,18 +135,18 @@ module _ (bytes : List ℕ) (end : ℕ) where
           ∙ ap (λ (x : Bool). runRules e s 0 (drop (at + 1 + passed x w) part)) (ap (λ (n : ℕ). not (hasEvent (e .events) (record { 0 = n }))) (sym ef) ∙ ap not (sym er) ∙ eb)
           ∙ ap (λ (n : ℕ). runRules e s 0 (drop n part)) (moved-passed b (at + 1) m w (h .skips))
 
-      pub constant-turn : (b : Bool) (k : ℕ) (c : Comparison) (r : Bool) → o ≡ 3 → k ≡ wordAt bytes (at + 1) → c ≡ constantComparison w k → r ≡ comparisonHolds (e .readings) c → r ≡ b → runRules e s 0 (drop at part) ≡ runRules e s 0 (drop (moved b (at + 1 + 1) m) part)
+      pub constant-turn : (b : Bool) (k : ℕ) (r : Bool) → o ≡ 3 → k ≡ wordAt bytes (at + 1) → r ≡ comparisonHolds (e .readings) (constantComparison w k) → r ≡ b → runRules e s 0 (drop at part) ≡ runRules e s 0 (drop (moved b (at + 1 + 1) m) part)
       unfolding operationFrom ruleProposes rulePasses
-      constant-turn b k c r q ek ec er eb =
+      constant-turn b k r q ek er eb =
           rules-turn againstConstant (operation-is 3 q)
-          ∙ ap (λ (x : Bool). runRules e s 0 (drop (at + 1 + suc (passed x w)) part)) (ap (λ (n : ℕ). comparisonHolds (e .readings) (constantComparison w n)) (sym ek) ∙ ap (comparisonHolds (e .readings)) (sym ec) ∙ sym er ∙ eb)
+          ∙ ap (λ (x : Bool). runRules e s 0 (drop (at + 1 + suc (passed x w)) part)) (ap (λ (n : ℕ). comparisonHolds (e .readings) (constantComparison w n)) (sym ek) ∙ sym er ∙ eb)
           ∙ ap (λ (n : ℕ). runRules e s 0 (drop n part)) (moved-constant b (at + 1) m w (h .skips))
 
-      pub reading-turn : (b : Bool) (c : Comparison) (r : Bool) → o ≡ 4 → c ≡ readingComparison w → r ≡ comparisonHolds (e .readings) c → r ≡ b → runRules e s 0 (drop at part) ≡ runRules e s 0 (drop (moved b (at + 1) m) part)
+      pub reading-turn : (b : Bool) (r : Bool) → o ≡ 4 → r ≡ comparisonHolds (e .readings) (readingComparison w) → r ≡ b → runRules e s 0 (drop at part) ≡ runRules e s 0 (drop (moved b (at + 1) m) part)
       unfolding operationFrom ruleProposes rulePasses
-      reading-turn b c r q ec er eb =
+      reading-turn b r q er eb =
           rules-turn againstReading (operation-is 4 q)
-          ∙ ap (λ (x : Bool). runRules e s 0 (drop (at + 1 + passed x w) part)) (ap (comparisonHolds (e .readings)) (sym ec) ∙ sym er ∙ eb)
+          ∙ ap (λ (x : Bool). runRules e s 0 (drop (at + 1 + passed x w) part)) (sym er ∙ eb)
           ∙ ap (λ (n : ℕ). runRules e s 0 (drop n part)) (moved-passed b (at + 1) m w (h .skips))
 
       pub proposes-turn : (f : ℕ) (s′ : ActionSet) → o ≡ 5 → f ≡ firstOf w → s′ ≡ insertAction s (record { 0 = f }) → runRules e s 0 (drop at part) ≡ runRules e s′ 0 (drop (at + 1) part)
@@ -188,18 +191,18 @@ module _ (bytes : List ℕ) (end : ℕ) where
           ∙ ap (λ (x : Bool). goesOn (at + 1 + passed x w)) (ap (λ (n : ℕ). hasAction s (record { 0 = n })) (sym ef) ∙ sym er ∙ eb)
           ∙ ap goesOn (moved-passed b (at + 1) m w (h .skips))
 
-      pub held-constant-turn : (b : Bool) (k : ℕ) (c : Comparison) (r : Bool) → o ≡ 3 → k ≡ wordAt bytes (at + 1) → c ≡ constantComparison w k → r ≡ comparisonHolds rs c → r ≡ b → goesOn at ≡ goesOn (moved b (at + 1 + 1) m)
+      pub held-constant-turn : (b : Bool) (k : ℕ) (r : Bool) → o ≡ 3 → k ≡ wordAt bytes (at + 1) → r ≡ comparisonHolds rs (constantComparison w k) → r ≡ b → goesOn at ≡ goesOn (moved b (at + 1 + 1) m)
       unfolding operationFrom isNever constraintPasses
-      held-constant-turn b k c r q ek ec er eb =
+      held-constant-turn b k r q ek er eb =
           constraints-turn againstConstant (operation-is 3 q)
-          ∙ ap (λ (x : Bool). goesOn (at + 1 + suc (passed x w))) (ap (λ (n : ℕ). comparisonHolds rs (constantComparison w n)) (sym ek) ∙ ap (comparisonHolds rs) (sym ec) ∙ sym er ∙ eb)
+          ∙ ap (λ (x : Bool). goesOn (at + 1 + suc (passed x w))) (ap (λ (n : ℕ). comparisonHolds rs (constantComparison w n)) (sym ek) ∙ sym er ∙ eb)
           ∙ ap goesOn (moved-constant b (at + 1) m w (h .skips))
 
-      pub held-reading-turn : (b : Bool) (c : Comparison) (r : Bool) → o ≡ 4 → c ≡ readingComparison w → r ≡ comparisonHolds rs c → r ≡ b → goesOn at ≡ goesOn (moved b (at + 1) m)
+      pub held-reading-turn : (b : Bool) (r : Bool) → o ≡ 4 → r ≡ comparisonHolds rs (readingComparison w) → r ≡ b → goesOn at ≡ goesOn (moved b (at + 1) m)
       unfolding operationFrom isNever constraintPasses
-      held-reading-turn b c r q ec er eb =
+      held-reading-turn b r q er eb =
           constraints-turn againstReading (operation-is 4 q)
-          ∙ ap (λ (x : Bool). goesOn (at + 1 + passed x w)) (ap (comparisonHolds rs) (sym ec) ∙ sym er ∙ eb)
+          ∙ ap (λ (x : Bool). goesOn (at + 1 + passed x w)) (sym er ∙ eb)
           ∙ ap goesOn (moved-passed b (at + 1) m w (h .skips))
 
       pub never-turn : o ≡ 7 → goesOn at ≡ true
@@ -207,7 +210,7 @@ module _ (bytes : List ℕ) (end : ℕ) where
       never-turn q = constraints-turn never (operation-is 7 q)
 
       -- operations that do nothing
-      pub constraints-other-turn : (o ≡ 6 → ⊥) → (o ≡ 3 → ⊥) → (o ≡ 4 → ⊥) → (o ≡ 7 → ⊥) → goesOn at ≡ goesOn (at + 1)
+      constraints-other-turn : (o ≡ 6 → ⊥) → (o ≡ 3 → ⊥) → (o ≡ 4 → ⊥) → (o ≡ 7 → ⊥) → goesOn at ≡ goesOn (at + 1)
       unfolding isNever constraintPasses operationFrom
       constraints-other-turn n₆ n₃ n₄ n₇ = go o refl
         where
@@ -224,6 +227,31 @@ module _ (bytes : List ℕ) (end : ℕ) where
           go (suc (suc (suc (suc (suc (suc zero)))))) q = absurd (n₆ q)
           go (suc (suc (suc (suc (suc (suc (suc zero))))))) q = absurd (n₇ q)
           go (suc (suc (suc (suc (suc (suc (suc (suc n)))))))) q = idle unknown (operation-is _ q) refl refl
+
+      -- the same, and members: one that is not in the set passes over its skip
+      pub rest-turn : (b : Bool) (r : Bool) → (o ≡ 3 → ⊥) → (o ≡ 4 → ⊥) → (o ≡ 7 → ⊥) → r ≡ (eqb (opcodeOf w) 6 && not (hasAction s (actionFrom w))) → not r ≡ b
+          → goesOn at ≡ goesOn (moved b (at + 1) m)
+      rest-turn b r n₃ n₄ n₇ er eb = go (eqb (opcodeOf w) 6) refl
+        where
+          go : (t : Bool) → eqb (opcodeOf w) 6 ≡ t → goesOn at ≡ goesOn (moved b (at + 1) m)
+          go true q =
+              let k : opcodeOf w ≡ 6 = eqb-true (opcodeOf w) 6 q in
+              let n : r ≡ not (hasAction s (actionFrom w)) = er ∙ rw q in
+              member-turn b (firstOf w) (hasAction s (actionFrom w)) (h .operates ∙ k) refl refl
+              (sym (twice-not (hasAction s (actionFrom w))) ∙ sym (ap not n) ∙ eb)
+          go false q =
+              let k : r ≡ false = er ∙ rw q in
+              let e : true ≡ b = sym (ap not k) ∙ eb in
+              constraints-other-turn (λ (six : o ≡ 6). eqb-false (opcodeOf w) 6 q (sym (h .operates) ∙ six)) n₃ n₄ n₇
+              ∙ ap (λ (x : Bool). goesOn (moved x (at + 1) m)) e
+
+-- whether a word is a member that is not in the set
+module _ (s : ActionSet) (w o : ℕ) (h : o ≡ opcodeOf w) where
+  pub member-missing : (f : ℕ) (r : Bool) → o ≡ 6 → f ≡ firstOf w → r ≡ hasAction s (record { 0 = f }) → not r ≡ (eqb (opcodeOf w) 6 && not (hasAction s (actionFrom w)))
+  member-missing f r q ef er = ap not (er ∙ ap (λ (n : ℕ). hasAction s (record { 0 = n })) ef) ∙ sym (rw (eq-eqb (opcodeOf w) 6 (sym h ∙ q)))
+
+  pub other-missing : (o ≡ 6 → ⊥) → false ≡ (eqb (opcodeOf w) 6 && not (hasAction s (actionFrom w)))
+  other-missing n = sym (rw (ne-eqb (opcodeOf w) 6 (λ e. n (h ∙ e))))
 
 -- past the last word
 pub rules-end : (e : Epoch) (s : ActionSet) (part : List ℕ) (at : ℕ) → length part ≤ at → runRules e s 0 (drop at part) ≡ s

@@ -1,8 +1,11 @@
 // What the words of an image do when they are run by their operations and skips: the rule part on an epoch, the
 // constraint part on a set of actions. Start with specs/Run.antt.
+ghost use mathlib.Core.Bool.{not, _&&_};
 ghost use mathlib.Core.Path.{_≡_};
-ghost use Rattle.policy.specs.Set.{noActions};
-ghost use Rattle.word.specs.Word.{wordsOf, between};
+ghost use lib.Dec.{eqb};
+ghost use Rattle.policy.specs.Set.{noActions, hasAction};
+ghost use Rattle.word.specs.Operation.{actionFrom};
+ghost use Rattle.word.specs.Word.{opcodeOf, wordsOf, between};
 ghost use Rattle.run.specs.Run.{runRules, runConstraints};
 use policy::Action;
 use policy::ActionSet;
@@ -10,10 +13,10 @@ use policy::Event;
 use policy::EventSet;
 use policy::ReadingSet;
 use word::at_most;
-use word::constant_comparison;
+use word::constant_holds;
 use word::first;
 use word::opcode;
-use word::reading_comparison;
+use word::reading_holds;
 use word::skip;
 use word::word_at;
 
@@ -47,15 +50,14 @@ pub fn run_rules(
                 }
             }
             3 => {
-                let comparison = constant_comparison(word, word_at(image, at));
+                let held = constant_holds(word, word_at(image, at), given, values);
                 at += 1;
-                if !comparison.holds(given, values) {
+                if !held {
                     at += passed;
                 }
             }
             4 => {
-                let comparison = reading_comparison(word);
-                if !comparison.holds(given, values) {
+                if !reading_holds(word, given, values) {
                     at += passed;
                 }
             }
@@ -66,6 +68,17 @@ pub fn run_rules(
         }
     }
     proposed
+}
+
+// Whether the word is a member that is not in the set.
+fn is_missing(word: u32, set: ActionSet) -> bool
+    ensures { λ r. ⌜ r ≡ eqb (opcodeOf word) 6 && not (hasAction set (actionFrom word)) ⌝ }
+{
+    if opcode(word) == 6 {
+        !set.has(Action(first(word) as u8))
+    } else {
+        false
+    }
 }
 
 // Whether a constraint of the words from index `start` up to `end` holds on a set of actions. The first that holds ends
@@ -102,23 +115,19 @@ pub fn run_constraints(
             match opcode(word) {
                 3 => {
                     at += 1;
-                    let comparison = constant_comparison(word, word_at(image, at));
+                    let held = constant_holds(word, word_at(image, at), given, values);
                     at += 1;
-                    if !comparison.holds(given, values) {
+                    if !held {
                         at += passed;
                         continue 'constraints;
                     }
                 }
                 4 => {
-                    let comparison = reading_comparison(word);
                     at += 1;
-                    if !comparison.holds(given, values) {
+                    if !reading_holds(word, given, values) {
                         at += passed;
                         continue 'constraints;
                     }
-                }
-                6 => {
-                    continue 'constraints;
                 }
                 7 => {
                     violated = true;
@@ -126,6 +135,10 @@ pub fn run_constraints(
                 }
                 _ => {
                     at += 1;
+                    if is_missing(word, set) {
+                        at += passed;
+                        continue 'constraints;
+                    }
                 }
             }
         }

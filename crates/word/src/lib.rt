@@ -4,7 +4,9 @@ mod operation;
 mod word;
 
 pub use operation::constant_comparison;
+pub use operation::constant_holds;
 pub use operation::reading_comparison;
+pub use operation::reading_holds;
 pub use word::Fields;
 pub use word::at_most;
 pub use word::fields_of;

@@ -1,15 +1,14 @@
 use Prim.Native.Nat.{ℕ, _+_, _-_, _/_, _≤_, _<_}
-use mathlib.Core.Bool.{Bool, true, false}
-use mathlib.Core.Logic.{⊎-elim}
+use mathlib.Core.Bool.{Bool, true, false, not}
 use mathlib.Core.Path.{_≡_, refl, sym, ap, _∙_}
 use borrow.Author.Tests.{not-true, not-false}
 use lib.ListN.{length, take, drop}
 use denote.Ref.{now}
 use Rattle.policy.specs.Epoch.{Readings}
-use Rattle.word.specs.Word.{wordsOf, wordAt, opcodeOf, skipOf, between}
+use Rattle.word.specs.Word.{wordsOf, skipOf, between}
 use Rattle.run.specs.Run.{runConstraints}
 use Rattle.image.proofs.SumLaws.{before-length}
-use Rattle.run.proofs.RunLaws.{Fetched, member-turn, held-constant-turn, held-reading-turn, never-turn, constraints-other-turn, constraints-end}
+use Rattle.run.proofs.RunLaws.{Fetched, member-turn, held-constant-turn, held-reading-turn, never-turn, rest-turn, constraints-end}
 use borrow.Author.Needs.{needs}
 use native.Mathlib.Omega.{arith}
 use Rattle.run.proofs.run_constraints.Statement.{statement}
@@ -25,12 +24,10 @@ abbrev μ-loop : tie.MeasureT-loop
 μ-loop image start end set given values count violated at₀ at = count - at
 
 abbrev Inv-loop2 : tie.InvT-loop2
--- the first word is no member: those are passed by the loop before
 Inv-loop2 image start end set given values count violated₀ at₀ violated at =
     (violated ≡ false) × (at₀ ≤ at) × (count ≡ length (take end (wordsOf image))) × (count ≤ length image / 4)
     × (runConstraints (record { given = given; values = values }) set 0 (drop at (take end (wordsOf image)))
     ≡ runConstraints (record { given = given; values = values }) set 0 (drop start (take end (wordsOf image))))
-    × (at ≡ at₀ → at < count → opcodeOf (wordAt image at) ≡ 6 → ⊥)
 
 abbrev μ-loop2 : tie.MeasureT-loop2
 μ-loop2 image start end set given values count violated₀ at₀ violated at = count - at
@@ -65,8 +62,8 @@ add-at c = search needs
 first-requires : tie.Need-first-requires Inv-loop μ-loop Inv-loop2 μ-loop2 Inv-constraints μ-constraints
 first-requires c κs = search needs
 
-cast-t20 : tie.Need-cast-t20 Inv-loop μ-loop Inv-loop2 μ-loop2 Inv-constraints μ-constraints
-cast-t20 c = search needs
+cast-t19 : tie.Need-cast-t19 Inv-loop μ-loop Inv-loop2 μ-loop2 Inv-constraints μ-constraints
+cast-t19 c = search needs
 
 has-requires : tie.Need-has-requires Inv-loop μ-loop Inv-loop2 μ-loop2 Inv-constraints μ-constraints
 has-requires c κs = search needs
@@ -115,9 +112,7 @@ loop-again c =
     )
 
 loop2-holds : tie.Need-loop2-holds Inv-loop μ-loop Inv-loop2 μ-loop2 Inv-constraints μ-constraints
-loop2-holds c =
-    let l = c .before .loop .inv in
-    (l .0, omega arith, l .2, l .3, l .4, λ e k q. ⊎-elim (λ w. absurd (omega (arith, k, w .left))) (λ w. w .3 .taken (w .2 .ensures ∙ ap opcodeOf (w .1 .ensures) ∙ q)) (c .loop-test .came))
+loop2-holds c = let l = c .before .loop .inv in (l .0, omega arith, l .2, l .3, l .4)
 
 constraints-less-2 : tie.Need-constraints-less-2 Inv-loop μ-loop Inv-loop2 μ-loop2 Inv-constraints μ-constraints
 constraints-less-2 c = search needs
@@ -143,20 +138,17 @@ add-at-3 c = search needs
 word-at-requires-3 : tie.Need-word-at-requires-3 Inv-loop μ-loop Inv-loop2 μ-loop2 Inv-constraints μ-constraints
 word-at-requires-3 c κs = search needs
 
-constant-comparison-requires : tie.Need-constant-comparison-requires
+constant-holds-requires : tie.Need-constant-holds-requires
     Inv-loop
     μ-loop
     Inv-loop2
     μ-loop2
     Inv-constraints
     μ-constraints
-constant-comparison-requires c κs = search needs
+constant-holds-requires c κs = search needs
 
 add-at-4 : tie.Need-add-at-4 Inv-loop μ-loop Inv-loop2 μ-loop2 Inv-constraints μ-constraints
 add-at-4 c = search needs
-
-holds-requires : tie.Need-holds-requires Inv-loop μ-loop Inv-loop2 μ-loop2 Inv-constraints μ-constraints
-holds-requires c κs = search needs
 
 add-at-5 : tie.Need-add-at-5 Inv-loop μ-loop Inv-loop2 μ-loop2 Inv-constraints μ-constraints
 add-at-5 c = search needs
@@ -166,59 +158,6 @@ constraints-less-3 c = search needs
 
 constraints-again-3 : tie.Need-constraints-again-3 Inv-loop μ-loop Inv-loop2 μ-loop2 Inv-constraints μ-constraints
 constraints-again-3 c =
-    let a = c .before .before .before .before .before .before .before .before .before .before .before .before .before .before .before .before .args in
-    let i = c .before .before .before .before .before .before .before .before .before .loop2 .inv in
-    let f : Fetched (now (a .image)) (a .end) (c .before .before .before .before .before .before .before .before .before .loop2 .at) (c .before .before .before .before .before .before .before .word-at2 .result) (c .before .before .before .before .before .before .skip2 .result) (c .before .before .before .before .before .opcode2 .result) =
-    record { within = omega (arith, c .before .before .before .before .before .before .before .before .loop2-test .taken, i .2); this = c .before .before .before .before .before .before .before .word-at2 .ensures; skips = c .before .before .before .before .before .before .skip2 .ensures; operates = c .before .before .before .before .before .opcode2 .ensures } in
-    let rs : Readings = record { given = a .given; values = now (a .values) } in (
-      i .0,
-      omega (arith, i .1, c .before .before .before .before .before .before .before .before .before .before .before .loop .inv .1, c .before .before .before .before .before .before .before .before .before .before .before .before .before .constraints .inv .1),
-      i .2,
-      i .3,
-      sym (held-constant-turn (now (a .image)) (a .end) _ _ _ _ f rs (a .set) false _ _ _ (c .before .before .before .before .match .keys1) (c .before .before .before .word-at3 .ensures) (c .before .before .constant-comparison .ensures) (c .before .holds .ensures) (not-true _ (c .if3 .taken))) ∙ i .4,
-    )
-
-loop2-less : tie.Need-loop2-less Inv-loop μ-loop Inv-loop2 μ-loop2 Inv-constraints μ-constraints
-loop2-less c = search needs
-
-loop2-again : tie.Need-loop2-again Inv-loop μ-loop Inv-loop2 μ-loop2 Inv-constraints μ-constraints
-loop2-again c =
-    let a = c .before .before .before .before .before .before .before .before .before .before .before .before .before .before .before .before .args in
-    let i = c .before .before .before .before .before .before .before .before .before .loop2 .inv in
-    let f : Fetched (now (a .image)) (a .end) (c .before .before .before .before .before .before .before .before .before .loop2 .at) (c .before .before .before .before .before .before .before .word-at2 .result) (c .before .before .before .before .before .before .skip2 .result) (c .before .before .before .before .before .opcode2 .result) =
-    record { within = omega (arith, c .before .before .before .before .before .before .before .before .loop2-test .taken, i .2); this = c .before .before .before .before .before .before .before .word-at2 .ensures; skips = c .before .before .before .before .before .before .skip2 .ensures; operates = c .before .before .before .before .before .opcode2 .ensures } in
-    let rs : Readings = record { given = a .given; values = now (a .values) } in (
-      i .0,
-      omega (arith, i .1),
-      i .2,
-      i .3,
-      sym (held-constant-turn (now (a .image)) (a .end) _ _ _ _ f rs (a .set) true _ _ _ (c .before .before .before .before .match .keys1) (c .before .before .before .word-at3 .ensures) (c .before .before .constant-comparison .ensures) (c .before .holds .ensures) (not-false _ (c .if3 .left))) ∙ i .4,
-      λ e. absurd (omega (arith, i .1, e)),
-    )
-
-reading-comparison-requires : tie.Need-reading-comparison-requires
-    Inv-loop
-    μ-loop
-    Inv-loop2
-    μ-loop2
-    Inv-constraints
-    μ-constraints
-reading-comparison-requires c κs = search needs
-
-add-at-6 : tie.Need-add-at-6 Inv-loop μ-loop Inv-loop2 μ-loop2 Inv-constraints μ-constraints
-add-at-6 c = search needs
-
-holds-requires-2 : tie.Need-holds-requires-2 Inv-loop μ-loop Inv-loop2 μ-loop2 Inv-constraints μ-constraints
-holds-requires-2 c κs = search needs
-
-add-at-7 : tie.Need-add-at-7 Inv-loop μ-loop Inv-loop2 μ-loop2 Inv-constraints μ-constraints
-add-at-7 c = search needs
-
-constraints-less-4 : tie.Need-constraints-less-4 Inv-loop μ-loop Inv-loop2 μ-loop2 Inv-constraints μ-constraints
-constraints-less-4 c = search needs
-
-constraints-again-4 : tie.Need-constraints-again-4 Inv-loop μ-loop Inv-loop2 μ-loop2 Inv-constraints μ-constraints
-constraints-again-4 c =
     let a = c .before .before .before .before .before .before .before .before .before .before .before .before .before .before .before .args in
     let i = c .before .before .before .before .before .before .before .before .loop2 .inv in
     let f : Fetched (now (a .image)) (a .end) (c .before .before .before .before .before .before .before .before .loop2 .at) (c .before .before .before .before .before .before .word-at2 .result) (c .before .before .before .before .before .skip2 .result) (c .before .before .before .before .opcode2 .result) =
@@ -228,14 +167,14 @@ constraints-again-4 c =
       omega (arith, i .1, c .before .before .before .before .before .before .before .before .before .before .loop .inv .1, c .before .before .before .before .before .before .before .before .before .before .before .before .constraints .inv .1),
       i .2,
       i .3,
-      sym (held-reading-turn (now (a .image)) (a .end) _ _ _ _ f rs (a .set) false _ _ (c .before .before .before .match .keys2) (c .before .before .reading-comparison .ensures) (c .before .holds2 .ensures) (not-true _ (c .if4 .taken))) ∙ i .4,
+      sym (held-constant-turn (now (a .image)) (a .end) _ _ _ _ f rs (a .set) false _ _ (c .before .before .before .match .keys1) (c .before .before .word-at3 .ensures) (c .before .constant-holds .ensures) (not-true _ (c .if3 .taken))) ∙ i .4,
     )
 
-loop2-less-2 : tie.Need-loop2-less-2 Inv-loop μ-loop Inv-loop2 μ-loop2 Inv-constraints μ-constraints
-loop2-less-2 c = search needs
+loop2-less : tie.Need-loop2-less Inv-loop μ-loop Inv-loop2 μ-loop2 Inv-constraints μ-constraints
+loop2-less c = search needs
 
-loop2-again-2 : tie.Need-loop2-again-2 Inv-loop μ-loop Inv-loop2 μ-loop2 Inv-constraints μ-constraints
-loop2-again-2 c =
+loop2-again : tie.Need-loop2-again Inv-loop μ-loop Inv-loop2 μ-loop2 Inv-constraints μ-constraints
+loop2-again c =
     let a = c .before .before .before .before .before .before .before .before .before .before .before .before .before .before .before .args in
     let i = c .before .before .before .before .before .before .before .before .loop2 .inv in
     let f : Fetched (now (a .image)) (a .end) (c .before .before .before .before .before .before .before .before .loop2 .at) (c .before .before .before .before .before .before .word-at2 .result) (c .before .before .before .before .before .skip2 .result) (c .before .before .before .before .opcode2 .result) =
@@ -245,38 +184,93 @@ loop2-again-2 c =
       omega (arith, i .1),
       i .2,
       i .3,
-      sym (held-reading-turn (now (a .image)) (a .end) _ _ _ _ f rs (a .set) true _ _ (c .before .before .before .match .keys2) (c .before .before .reading-comparison .ensures) (c .before .holds2 .ensures) (not-false _ (c .if4 .left))) ∙ i .4,
-      λ e. absurd (omega (arith, i .1, e)),
+      sym (held-constant-turn (now (a .image)) (a .end) _ _ _ _ f rs (a .set) true _ _ (c .before .before .before .match .keys1) (c .before .before .word-at3 .ensures) (c .before .constant-holds .ensures) (not-false _ (c .if3 .left))) ∙ i .4,
     )
 
-constraints-less-5 : tie.Need-constraints-less-5 Inv-loop μ-loop Inv-loop2 μ-loop2 Inv-constraints μ-constraints
-constraints-less-5 c =
-    let i = c .before .before .before .before .before .loop2 .inv in
-    let n : (c .before .before .before .before .before .loop2 .at ≡ c .before .before .before .before .before .before .before .loop .at → ⊥) = λ e. i .5 e (c .before .before .before .before .loop2-test .taken) (sym (c .before .opcode2 .ensures ∙ ap opcodeOf (c .before .before .before .word-at2 .ensures)) ∙ c .match .keys3) in
-    omega (arith, n, i .1, c .before .before .before .before .before .before .before .loop .inv .1, c .before .before .before .before .loop2-test .taken)
+add-at-6 : tie.Need-add-at-6 Inv-loop μ-loop Inv-loop2 μ-loop2 Inv-constraints μ-constraints
+add-at-6 c = search needs
 
-constraints-again-5 : tie.Need-constraints-again-5 Inv-loop μ-loop Inv-loop2 μ-loop2 Inv-constraints μ-constraints
-constraints-again-5 c = let i = c .before .before .before .before .before .loop2 .inv in let l = c .before .before .before .before .before .before .before .loop .inv in let k = c .before .before .before .before .before .before .before .before .before .constraints .inv in (i .0, omega (arith, i .1, l .1, k .1), i .2, i .3, i .4)
+reading-holds-requires : tie.Need-reading-holds-requires Inv-loop μ-loop Inv-loop2 μ-loop2 Inv-constraints μ-constraints
+reading-holds-requires c κs = search needs
+
+add-at-7 : tie.Need-add-at-7 Inv-loop μ-loop Inv-loop2 μ-loop2 Inv-constraints μ-constraints
+add-at-7 c = search needs
+
+constraints-less-4 : tie.Need-constraints-less-4 Inv-loop μ-loop Inv-loop2 μ-loop2 Inv-constraints μ-constraints
+constraints-less-4 c = search needs
+
+constraints-again-4 : tie.Need-constraints-again-4 Inv-loop μ-loop Inv-loop2 μ-loop2 Inv-constraints μ-constraints
+constraints-again-4 c =
+    let a = c .before .before .before .before .before .before .before .before .before .before .before .before .before .before .args in
+    let i = c .before .before .before .before .before .before .before .loop2 .inv in
+    let f : Fetched (now (a .image)) (a .end) (c .before .before .before .before .before .before .before .loop2 .at) (c .before .before .before .before .before .word-at2 .result) (c .before .before .before .before .skip2 .result) (c .before .before .before .opcode2 .result) =
+    record { within = omega (arith, c .before .before .before .before .before .before .loop2-test .taken, i .2); this = c .before .before .before .before .before .word-at2 .ensures; skips = c .before .before .before .before .skip2 .ensures; operates = c .before .before .before .opcode2 .ensures } in
+    let rs : Readings = record { given = a .given; values = now (a .values) } in (
+      i .0,
+      omega (arith, i .1, c .before .before .before .before .before .before .before .before .before .loop .inv .1, c .before .before .before .before .before .before .before .before .before .before .before .constraints .inv .1),
+      i .2,
+      i .3,
+      sym (held-reading-turn (now (a .image)) (a .end) _ _ _ _ f rs (a .set) false _ (c .before .before .match .keys2) (c .before .reading-holds .ensures) (not-true _ (c .if4 .taken))) ∙ i .4,
+    )
+
+loop2-less-2 : tie.Need-loop2-less-2 Inv-loop μ-loop Inv-loop2 μ-loop2 Inv-constraints μ-constraints
+loop2-less-2 c = search needs
+
+loop2-again-2 : tie.Need-loop2-again-2 Inv-loop μ-loop Inv-loop2 μ-loop2 Inv-constraints μ-constraints
+loop2-again-2 c =
+    let a = c .before .before .before .before .before .before .before .before .before .before .before .before .before .before .args in
+    let i = c .before .before .before .before .before .before .before .loop2 .inv in
+    let f : Fetched (now (a .image)) (a .end) (c .before .before .before .before .before .before .before .loop2 .at) (c .before .before .before .before .before .word-at2 .result) (c .before .before .before .before .skip2 .result) (c .before .before .before .opcode2 .result) =
+    record { within = omega (arith, c .before .before .before .before .before .before .loop2-test .taken, i .2); this = c .before .before .before .before .before .word-at2 .ensures; skips = c .before .before .before .before .skip2 .ensures; operates = c .before .before .before .opcode2 .ensures } in
+    let rs : Readings = record { given = a .given; values = now (a .values) } in (
+      i .0,
+      omega (arith, i .1),
+      i .2,
+      i .3,
+      sym (held-reading-turn (now (a .image)) (a .end) _ _ _ _ f rs (a .set) true _ (c .before .before .match .keys2) (c .before .reading-holds .ensures) (not-false _ (c .if4 .left))) ∙ i .4,
+    )
 
 add-at-8 : tie.Need-add-at-8 Inv-loop μ-loop Inv-loop2 μ-loop2 Inv-constraints μ-constraints
 add-at-8 c = search needs
+
+is-missing-requires : tie.Need-is-missing-requires Inv-loop μ-loop Inv-loop2 μ-loop2 Inv-constraints μ-constraints
+is-missing-requires c κs = search needs
+
+add-at-9 : tie.Need-add-at-9 Inv-loop μ-loop Inv-loop2 μ-loop2 Inv-constraints μ-constraints
+add-at-9 c = search needs
+
+constraints-less-5 : tie.Need-constraints-less-5 Inv-loop μ-loop Inv-loop2 μ-loop2 Inv-constraints μ-constraints
+constraints-less-5 c = search needs
+
+constraints-again-5 : tie.Need-constraints-again-5 Inv-loop μ-loop Inv-loop2 μ-loop2 Inv-constraints μ-constraints
+constraints-again-5 c =
+    let a = c .before .before .before .before .before .before .before .before .before .before .before .before .before .before .args in
+    let i = c .before .before .before .before .before .before .before .loop2 .inv in
+    let f : Fetched (now (a .image)) (a .end) (c .before .before .before .before .before .before .before .loop2 .at) (c .before .before .before .before .before .word-at2 .result) (c .before .before .before .before .skip2 .result) (c .before .before .before .opcode2 .result) =
+    record { within = omega (arith, c .before .before .before .before .before .before .loop2-test .taken, i .2); this = c .before .before .before .before .before .word-at2 .ensures; skips = c .before .before .before .before .skip2 .ensures; operates = c .before .before .before .opcode2 .ensures } in
+    let rs : Readings = record { given = a .given; values = now (a .values) } in (
+      i .0,
+      omega (arith, i .1, c .before .before .before .before .before .before .before .before .before .loop .inv .1, c .before .before .before .before .before .before .before .before .before .before .before .constraints .inv .1),
+      i .2,
+      i .3,
+      sym (rest-turn (now (a .image)) (a .end) _ _ _ _ f rs (a .set) false _ (c .before .before .match .rest .0 .0 .1) (c .before .before .match .rest .0 .1) (c .before .before .match .rest .1) (c .before .is-missing .ensures) (ap not (c .if5 .taken))) ∙ i .4,
+    )
 
 loop2-less-3 : tie.Need-loop2-less-3 Inv-loop μ-loop Inv-loop2 μ-loop2 Inv-constraints μ-constraints
 loop2-less-3 c = search needs
 
 loop2-again-3 : tie.Need-loop2-again-3 Inv-loop μ-loop Inv-loop2 μ-loop2 Inv-constraints μ-constraints
 loop2-again-3 c =
-    let a = c .before .before .before .before .before .before .before .before .before .before .before .before .args in
-    let i = c .before .before .before .before .before .loop2 .inv in
-    let f : Fetched (now (a .image)) (a .end) (c .before .before .before .before .before .loop2 .at) (c .before .before .before .word-at2 .result) (c .before .before .skip2 .result) (c .before .opcode2 .result) =
-    record { within = omega (arith, c .before .before .before .before .loop2-test .taken, i .2); this = c .before .before .before .word-at2 .ensures; skips = c .before .before .skip2 .ensures; operates = c .before .opcode2 .ensures } in
+    let a = c .before .before .before .before .before .before .before .before .before .before .before .before .before .before .args in
+    let i = c .before .before .before .before .before .before .before .loop2 .inv in
+    let f : Fetched (now (a .image)) (a .end) (c .before .before .before .before .before .before .before .loop2 .at) (c .before .before .before .before .before .word-at2 .result) (c .before .before .before .before .skip2 .result) (c .before .before .before .opcode2 .result) =
+    record { within = omega (arith, c .before .before .before .before .before .before .loop2-test .taken, i .2); this = c .before .before .before .before .before .word-at2 .ensures; skips = c .before .before .before .before .skip2 .ensures; operates = c .before .before .before .opcode2 .ensures } in
     let rs : Readings = record { given = a .given; values = now (a .values) } in (
       i .0,
       omega (arith, i .1),
       i .2,
       i .3,
-      sym (constraints-other-turn (now (a .image)) (a .end) _ _ _ _ f rs (a .set) (c .match .rest .0 .1) (c .match .rest .0 .0 .0 .1) (c .match .rest .0 .0 .1) (c .match .rest .1)) ∙ i .4,
-      λ e. absurd (omega (arith, i .1, e)),
+      sym (rest-turn (now (a .image)) (a .end) _ _ _ _ f rs (a .set) true _ (c .before .before .match .rest .0 .0 .1) (c .before .before .match .rest .0 .1) (c .before .before .match .rest .1) (c .before .is-missing .ensures) (ap not (c .if5 .left))) ∙ i .4,
     )
 
 returns : tie.Need-returns Inv-loop μ-loop Inv-loop2 μ-loop2 Inv-constraints μ-constraints
@@ -295,7 +289,7 @@ returns-2 c =
     let f : Fetched (now (a .image)) (a .end) (c .before .before .before .before .before .loop2 .at) (c .before .before .before .word-at2 .result) (c .before .before .skip2 .result) (c .before .opcode2 .result) =
     record { within = omega (arith, c .before .before .before .before .loop2-test .taken, i .2); this = c .before .before .before .word-at2 .ensures; skips = c .before .before .skip2 .ensures; operates = c .before .opcode2 .ensures } in
     let rs : Readings = record { given = a .given; values = now (a .values) } in
-    sym (never-turn (now (a .image)) (a .end) _ _ _ _ f rs (a .set) (c .match .keys4)) ∙ i .4
+    sym (never-turn (now (a .image)) (a .end) _ _ _ _ f rs (a .set) (c .match .keys3)) ∙ i .4
 
 pub run-constraints-spec : {M : Type 1} → statement M
 run-constraints-spec =
@@ -314,7 +308,7 @@ run-constraints-spec =
     opcode-requires
     add-at
     first-requires
-    cast-t20
+    cast-t19
     has-requires
     skip-requires
     cast-at
@@ -332,25 +326,25 @@ run-constraints-spec =
     opcode-requires-2
     add-at-3
     word-at-requires-3
-    constant-comparison-requires
+    constant-holds-requires
     add-at-4
-    holds-requires
     add-at-5
     constraints-less-3
     constraints-again-3
     loop2-less
     loop2-again
-    reading-comparison-requires
     add-at-6
-    holds-requires-2
+    reading-holds-requires
     add-at-7
     constraints-less-4
     constraints-again-4
     loop2-less-2
     loop2-again-2
+    add-at-8
+    is-missing-requires
+    add-at-9
     constraints-less-5
     constraints-again-5
-    add-at-8
     loop2-less-3
     loop2-again-3
     returns

@@ -47,8 +47,8 @@ opcode-requires c κs = search needs
 first-requires : tie.Need-first-requires Inv-loop μ-loop
 first-requires c κs = search needs
 
-cast-t21 : tie.Need-cast-t21 Inv-loop μ-loop
-cast-t21 c = search needs
+cast-t20 : tie.Need-cast-t20 Inv-loop μ-loop
+cast-t20 c = search needs
 
 has-requires : tie.Need-has-requires Inv-loop μ-loop
 has-requires c κs = search needs
@@ -79,8 +79,8 @@ loop-again-2 c =
 first-requires-2 : tie.Need-first-requires-2 Inv-loop μ-loop
 first-requires-2 c κs = search needs
 
-cast-t26 : tie.Need-cast-t26 Inv-loop μ-loop
-cast-t26 c = search needs
+cast-t25 : tie.Need-cast-t25 Inv-loop μ-loop
+cast-t25 c = search needs
 
 has-requires-2 : tie.Need-has-requires-2 Inv-loop μ-loop
 has-requires-2 c κs = search needs
@@ -111,14 +111,11 @@ loop-again-4 c =
 word-at-requires-2 : tie.Need-word-at-requires-2 Inv-loop μ-loop
 word-at-requires-2 c κs = search needs
 
-constant-comparison-requires : tie.Need-constant-comparison-requires Inv-loop μ-loop
-constant-comparison-requires c κs = search needs
+constant-holds-requires : tie.Need-constant-holds-requires Inv-loop μ-loop
+constant-holds-requires c κs = search needs
 
 add-at-4 : tie.Need-add-at-4 Inv-loop μ-loop
 add-at-4 c = search needs
-
-holds-requires : tie.Need-holds-requires Inv-loop μ-loop
-holds-requires c κs = search needs
 
 add-at-5 : tie.Need-add-at-5 Inv-loop μ-loop
 add-at-5 c = search needs
@@ -128,26 +125,23 @@ loop-less-5 c = search needs
 
 loop-again-5 : tie.Need-loop-again-5 Inv-loop μ-loop
 loop-again-5 c =
-    let a = c .before .before .before .before .before .before .before .before .before .before .before .before .args in
-    let i = c .before .before .before .before .before .before .before .before .before .loop .inv in
-    let f : Fetched (now (a .image)) (a .end) (c .before .before .before .before .before .before .before .before .before .loop .at) (c .before .before .before .before .before .before .before .word-at .result) (c .before .before .before .before .before .before .skip .result) (c .before .before .before .before .before .opcode .result) = record { within = omega (arith, c .before .before .before .before .before .before .before .before .loop-test .taken); this = c .before .before .before .before .before .before .before .word-at .ensures; skips = c .before .before .before .before .before .before .skip .ensures; operates = c .before .before .before .before .before .opcode .ensures } in
-    (i .0, i .1, sym (constant-turn (now (a .image)) (a .end) _ _ _ _ f (record { events = a .events; readings = record { given = a .given; values = now (a .values) } }) _ false _ _ _ (c .before .before .before .before .match .keys3) (c .before .before .before .word-at2 .ensures) (c .before .before .constant-comparison .ensures) (c .before .holds .ensures) (not-true _ (c .if3 .taken))) ∙ i .2)
+    let a = c .before .before .before .before .before .before .before .before .before .before .before .args in
+    let i = c .before .before .before .before .before .before .before .before .loop .inv in
+    let f : Fetched (now (a .image)) (a .end) (c .before .before .before .before .before .before .before .before .loop .at) (c .before .before .before .before .before .before .word-at .result) (c .before .before .before .before .before .skip .result) (c .before .before .before .before .opcode .result) = record { within = omega (arith, c .before .before .before .before .before .before .before .loop-test .taken); this = c .before .before .before .before .before .before .word-at .ensures; skips = c .before .before .before .before .before .skip .ensures; operates = c .before .before .before .before .opcode .ensures } in
+    (i .0, i .1, sym (constant-turn (now (a .image)) (a .end) _ _ _ _ f (record { events = a .events; readings = record { given = a .given; values = now (a .values) } }) _ false _ _ (c .before .before .before .match .keys3) (c .before .before .word-at2 .ensures) (c .before .constant-holds .ensures) (not-true _ (c .if3 .taken))) ∙ i .2)
 
 loop-less-6 : tie.Need-loop-less-6 Inv-loop μ-loop
 loop-less-6 c = search needs
 
 loop-again-6 : tie.Need-loop-again-6 Inv-loop μ-loop
 loop-again-6 c =
-    let a = c .before .before .before .before .before .before .before .before .before .before .before .before .args in
-    let i = c .before .before .before .before .before .before .before .before .before .loop .inv in
-    let f : Fetched (now (a .image)) (a .end) (c .before .before .before .before .before .before .before .before .before .loop .at) (c .before .before .before .before .before .before .before .word-at .result) (c .before .before .before .before .before .before .skip .result) (c .before .before .before .before .before .opcode .result) = record { within = omega (arith, c .before .before .before .before .before .before .before .before .loop-test .taken); this = c .before .before .before .before .before .before .before .word-at .ensures; skips = c .before .before .before .before .before .before .skip .ensures; operates = c .before .before .before .before .before .opcode .ensures } in
-    (i .0, i .1, sym (constant-turn (now (a .image)) (a .end) _ _ _ _ f (record { events = a .events; readings = record { given = a .given; values = now (a .values) } }) _ true _ _ _ (c .before .before .before .before .match .keys3) (c .before .before .before .word-at2 .ensures) (c .before .before .constant-comparison .ensures) (c .before .holds .ensures) (not-false _ (c .if3 .left))) ∙ i .2)
+    let a = c .before .before .before .before .before .before .before .before .before .before .before .args in
+    let i = c .before .before .before .before .before .before .before .before .loop .inv in
+    let f : Fetched (now (a .image)) (a .end) (c .before .before .before .before .before .before .before .before .loop .at) (c .before .before .before .before .before .before .word-at .result) (c .before .before .before .before .before .skip .result) (c .before .before .before .before .opcode .result) = record { within = omega (arith, c .before .before .before .before .before .before .before .loop-test .taken); this = c .before .before .before .before .before .before .word-at .ensures; skips = c .before .before .before .before .before .skip .ensures; operates = c .before .before .before .before .opcode .ensures } in
+    (i .0, i .1, sym (constant-turn (now (a .image)) (a .end) _ _ _ _ f (record { events = a .events; readings = record { given = a .given; values = now (a .values) } }) _ true _ _ (c .before .before .before .match .keys3) (c .before .before .word-at2 .ensures) (c .before .constant-holds .ensures) (not-false _ (c .if3 .left))) ∙ i .2)
 
-reading-comparison-requires : tie.Need-reading-comparison-requires Inv-loop μ-loop
-reading-comparison-requires c κs = search needs
-
-holds-requires-2 : tie.Need-holds-requires-2 Inv-loop μ-loop
-holds-requires-2 c κs = search needs
+reading-holds-requires : tie.Need-reading-holds-requires Inv-loop μ-loop
+reading-holds-requires c κs = search needs
 
 add-at-6 : tie.Need-add-at-6 Inv-loop μ-loop
 add-at-6 c = search needs
@@ -157,26 +151,26 @@ loop-less-7 c = search needs
 
 loop-again-7 : tie.Need-loop-again-7 Inv-loop μ-loop
 loop-again-7 c =
-    let a = c .before .before .before .before .before .before .before .before .before .before .before .args in
-    let i = c .before .before .before .before .before .before .before .before .loop .inv in
-    let f : Fetched (now (a .image)) (a .end) (c .before .before .before .before .before .before .before .before .loop .at) (c .before .before .before .before .before .before .word-at .result) (c .before .before .before .before .before .skip .result) (c .before .before .before .before .opcode .result) = record { within = omega (arith, c .before .before .before .before .before .before .before .loop-test .taken); this = c .before .before .before .before .before .before .word-at .ensures; skips = c .before .before .before .before .before .skip .ensures; operates = c .before .before .before .before .opcode .ensures } in
-    (i .0, i .1, sym (reading-turn (now (a .image)) (a .end) _ _ _ _ f (record { events = a .events; readings = record { given = a .given; values = now (a .values) } }) _ false _ _ (c .before .before .before .match .keys4) (c .before .before .reading-comparison .ensures) (c .before .holds2 .ensures) (not-true _ (c .if4 .taken))) ∙ i .2)
+    let a = c .before .before .before .before .before .before .before .before .before .before .args in
+    let i = c .before .before .before .before .before .before .before .loop .inv in
+    let f : Fetched (now (a .image)) (a .end) (c .before .before .before .before .before .before .before .loop .at) (c .before .before .before .before .before .word-at .result) (c .before .before .before .before .skip .result) (c .before .before .before .opcode .result) = record { within = omega (arith, c .before .before .before .before .before .before .loop-test .taken); this = c .before .before .before .before .before .word-at .ensures; skips = c .before .before .before .before .skip .ensures; operates = c .before .before .before .opcode .ensures } in
+    (i .0, i .1, sym (reading-turn (now (a .image)) (a .end) _ _ _ _ f (record { events = a .events; readings = record { given = a .given; values = now (a .values) } }) _ false _ (c .before .before .match .keys4) (c .before .reading-holds .ensures) (not-true _ (c .if4 .taken))) ∙ i .2)
 
 loop-less-8 : tie.Need-loop-less-8 Inv-loop μ-loop
 loop-less-8 c = search needs
 
 loop-again-8 : tie.Need-loop-again-8 Inv-loop μ-loop
 loop-again-8 c =
-    let a = c .before .before .before .before .before .before .before .before .before .before .before .args in
-    let i = c .before .before .before .before .before .before .before .before .loop .inv in
-    let f : Fetched (now (a .image)) (a .end) (c .before .before .before .before .before .before .before .before .loop .at) (c .before .before .before .before .before .before .word-at .result) (c .before .before .before .before .before .skip .result) (c .before .before .before .before .opcode .result) = record { within = omega (arith, c .before .before .before .before .before .before .before .loop-test .taken); this = c .before .before .before .before .before .before .word-at .ensures; skips = c .before .before .before .before .before .skip .ensures; operates = c .before .before .before .before .opcode .ensures } in
-    (i .0, i .1, sym (reading-turn (now (a .image)) (a .end) _ _ _ _ f (record { events = a .events; readings = record { given = a .given; values = now (a .values) } }) _ true _ _ (c .before .before .before .match .keys4) (c .before .before .reading-comparison .ensures) (c .before .holds2 .ensures) (not-false _ (c .if4 .left))) ∙ i .2)
+    let a = c .before .before .before .before .before .before .before .before .before .before .args in
+    let i = c .before .before .before .before .before .before .before .loop .inv in
+    let f : Fetched (now (a .image)) (a .end) (c .before .before .before .before .before .before .before .loop .at) (c .before .before .before .before .before .word-at .result) (c .before .before .before .before .skip .result) (c .before .before .before .opcode .result) = record { within = omega (arith, c .before .before .before .before .before .before .loop-test .taken); this = c .before .before .before .before .before .word-at .ensures; skips = c .before .before .before .before .skip .ensures; operates = c .before .before .before .opcode .ensures } in
+    (i .0, i .1, sym (reading-turn (now (a .image)) (a .end) _ _ _ _ f (record { events = a .events; readings = record { given = a .given; values = now (a .values) } }) _ true _ (c .before .before .match .keys4) (c .before .reading-holds .ensures) (not-false _ (c .if4 .left))) ∙ i .2)
 
 first-requires-3 : tie.Need-first-requires-3 Inv-loop μ-loop
 first-requires-3 c κs = search needs
 
-cast-t34 : tie.Need-cast-t34 Inv-loop μ-loop
-cast-t34 c = search needs
+cast-t32 : tie.Need-cast-t32 Inv-loop μ-loop
+cast-t32 c = search needs
 
 insert-requires : tie.Need-insert-requires Inv-loop μ-loop
 insert-requires c κs = search needs
@@ -223,7 +217,7 @@ run-rules-spec =
     add-at
     opcode-requires
     first-requires
-    cast-t21
+    cast-t20
     has-requires
     add-at-2
     loop-less
@@ -231,7 +225,7 @@ run-rules-spec =
     loop-less-2
     loop-again-2
     first-requires-2
-    cast-t26
+    cast-t25
     has-requires-2
     add-at-3
     loop-less-3
@@ -239,23 +233,21 @@ run-rules-spec =
     loop-less-4
     loop-again-4
     word-at-requires-2
-    constant-comparison-requires
+    constant-holds-requires
     add-at-4
-    holds-requires
     add-at-5
     loop-less-5
     loop-again-5
     loop-less-6
     loop-again-6
-    reading-comparison-requires
-    holds-requires-2
+    reading-holds-requires
     add-at-6
     loop-less-7
     loop-again-7
     loop-less-8
     loop-again-8
     first-requires-3
-    cast-t34
+    cast-t32
     insert-requires
     loop-less-9
     loop-again-9
