@@ -45,7 +45,7 @@ module _ {A : Type 0} (limit : ℕ) (filler : A) (xs : List A) (x : A) where
   unfolding counted
   counted-past h = omega arith
 
-  push-item : pushItem limit (held limit filler xs) (counted limit xs) x ≡ held limit filler (xs ++ x ∷ [])
+  pub push-item : pushItem limit (held limit filler xs) (counted limit xs) x ≡ held limit filler (xs ++ x ∷ [])
   push-item = go (ltb (length xs) limit) refl
     where
       go : (b : Bool) → ltb (length xs) limit ≡ b → pushItem limit (held limit filler xs) (counted limit xs) x ≡ held limit filler (xs ++ x ∷ [])
@@ -56,7 +56,7 @@ module _ {A : Type 0} (limit : ℕ) (filler : A) (xs : List A) (x : A) where
           let h : limit ≤ length xs = ltb-false (length xs) limit e in
           rw (le-ltb (counted limit xs) limit (counted-past h)) (held-full h)
 
-  push-count : pushCount limit (counted limit xs) ≡ counted limit (xs ++ x ∷ [])
+  pub push-count : pushCount limit (counted limit xs) ≡ counted limit (xs ++ x ∷ [])
   unfolding counted
   push-count = go (ltb (length xs) (suc limit)) refl
     where

@@ -1,16 +1,14 @@
 -- Laws of reading `causes`, the action and the condition of a rule, and of telling the two shapes apart.
 use Prim.Native.Nat.{ℕ}
-use mathlib.Core.Bool.{Bool, true, false, _&&_, and-true, and-false}
+use mathlib.Core.Bool.{Bool, true, false}
 use mathlib.Core.List.{List, [], _∷_}
 use mathlib.Core.Option.{some}
 use mathlib.Core.Path.{_≡_, refl, sym, ap, ap₂, _∙_}
 use native.Mathlib.Omega.{arith}
 use lib.Dec.{ltb}
 use Rattle.policy.specs.Limits.{endingInRange}
-use Rattle.policy.specs.Line.{endLine}
 use Rattle.policy.specs.Number as Number
 use Rattle.policy.specs.declared.line.Ending.{Ending}
-use Rattle.policy.specs.declared.line.Line.{Line}
 use Rattle.policy.specs.declared.number.Action.{Action}
 use Rattle.policy.specs.declared.number.ActionCheck.{ActionCheck}
 use Rattle.lexer.proofs.PartLaws.{Named, name-some, name-none, action-valid, action-outside, clip-below, clip-same}
@@ -20,8 +18,9 @@ use Rattle.lexer.specs.Byte.{bytes, sameBytes, is, isSpace}
 use Rattle.lexer.specs.Token.{Token, named, actionOf, literalOf}
 use Rattle.syntax.specs.Grammar.{conditionOf, joined, ruleAfter, constraintAfter, after, lineFrom}
 use Rattle.lexer.specs.Number.{isEmpty}
-use Rattle.syntax.specs.Outcome.{failedParts, comparisonsParts, smallEnding, causedParts, causeParts, lineParts}
+use Rattle.syntax.specs.Outcome.{failedParts, conditionOutcome, smallEnding, assembledParts, causedParts, causeParts, lineParts}
 use Rattle.lexer.specs.Scan.{skip, inToken, tokenAt, wordAt, nameAt, tokensAt, lineEnd}
+use Rattle.syntax.specs.declared.line.Heads.{Heads}
 use Rattle.syntax.specs.declared.line.Parts.{Parts}
 use Rattle.lexer.specs.declared.scan.NumberAt.{NumberAt}
 use Rattle.lexer.specs.declared.scan.WordAt.{WordAt}
@@ -31,24 +30,24 @@ unfolding named isEmpty
 named-solid letter [] n e = let w : _≡_ {A = ℕ} 0 1 = cc in absurd (omega arith)
 named-solid letter (b ∷ t) n e = refl
 
-module _ (text : List ℕ) (at : ℕ) (r : Bool) (l : Line) where
+module _ (text : List ℕ) (at : ℕ) (heads : Heads) where
   abbrev s : ℕ
   s = skip isSpace text at
 
   abbrev outcome : Parts
-  outcome = causeParts text r l (lineEnd text at) (tokensAt text at)
+  outcome = causeParts text heads (lineEnd text at) (tokensAt text at)
 
   pub cause-absent : wordAt text s (bytes "causes") ≡ WordAt.Absent → failedParts text ≡ outcome
   unfolding causeParts is
-  cause-absent w = sym (ap (causeParts text r l (lineEnd text at)) (tokens-after-spaces text at) ∙ go (isEmpty (tokenAt text s)) refl)
+  cause-absent w = sym (ap (causeParts text heads (lineEnd text at)) (tokens-after-spaces text at) ∙ go (isEmpty (tokenAt text s)) refl)
     where
-      none-of : (ts : List Token) → causeParts text r l (lineEnd text at) (tokenAt text s ∷ ts) ≡ failedParts text
+      none-of : (ts : List Token) → causeParts text heads (lineEnd text at) (tokenAt text s ∷ ts) ≡ failedParts text
       none-of [] = refl
       none-of (a ∷ ts) = rw (word-absent text s (bytes "causes") w)
 
-      go : (b : Bool) → isEmpty (tokenAt text s) ≡ b → causeParts text r l (lineEnd text at) (tokensAt text s) ≡ failedParts text
-      go true h = ap (causeParts text r l (lineEnd text at)) (tokens-ended text at h)
-      go false h = ap (causeParts text r l (lineEnd text at)) (tokens-first text s h) ∙ none-of (tokensAt text (skip inToken text s))
+      go : (b : Bool) → isEmpty (tokenAt text s) ≡ b → causeParts text heads (lineEnd text at) (tokensAt text s) ≡ failedParts text
+      go true h = ap (causeParts text heads (lineEnd text at)) (tokens-ended text at h)
+      go false h = ap (causeParts text heads (lineEnd text at)) (tokens-first text s h) ∙ none-of (tokensAt text (skip inToken text s))
 
   module _ (b : ℕ) (w : wordAt text s (bytes "causes") ≡ WordAt.Found b) where
     abbrev s2 : ℕ
@@ -69,11 +68,11 @@ module _ (text : List ℕ) (at : ℕ) (r : Bool) (l : Line) where
 
     pub cause-no-action : nameAt text s2 65 ≡ NumberAt.Malformed → failedParts text ≡ outcome
     unfolding causeParts causedParts is bytes sameBytes actionOf
-    cause-no-action q = sym (ap (causeParts text r l (lineEnd text at)) tokens ∙ go (isEmpty (tokenAt text s2)) refl)
+    cause-no-action q = sym (ap (causeParts text heads (lineEnd text at)) tokens ∙ go (isEmpty (tokenAt text s2)) refl)
       where
-        go : (x : Bool) → isEmpty (tokenAt text s2) ≡ x → causeParts text r l (lineEnd text at) (bytes "causes" ∷ tokensAt text s2) ≡ failedParts text
-        go true h = ap (λ (ts : List Token). causeParts text r l (lineEnd text at) (bytes "causes" ∷ ts)) (tokens-ended text b h)
-        go false h = ap (λ (ts : List Token). causeParts text r l (lineEnd text at) (bytes "causes" ∷ ts)) (tokens-first text s2 h) ∙ rw (name-none 65 text s2 q)
+        go : (x : Bool) → isEmpty (tokenAt text s2) ≡ x → causeParts text heads (lineEnd text at) (bytes "causes" ∷ tokensAt text s2) ≡ failedParts text
+        go true h = ap (λ (ts : List Token). causeParts text heads (lineEnd text at) (bytes "causes" ∷ ts)) (tokens-ended text b h)
+        go false h = ap (λ (ts : List Token). causeParts text heads (lineEnd text at) (bytes "causes" ∷ ts)) (tokens-first text s2 h) ∙ rw (name-none 65 text s2 q)
 
     module _ (v e : ℕ) (q : nameAt text s2 65 ≡ NumberAt.Number v e) where
       name : Named 65 text s2 v e
@@ -90,15 +89,15 @@ module _ (text : List ℕ) (at : ℕ) (r : Bool) (l : Line) where
       line : lineEnd text e ≡ lineEnd text at
       line = ap (lineEnd text) (name .behind) ∙ line-past-token text s2 ∙ ends
 
-      caused : outcome ≡ comparisonsParts text (r && endingInRange (Ending.Causes action)) (endLine l (smallEnding (Ending.Causes action))) (lineEnd text at) (conditionOf (tokensAt text e))
+      caused : outcome ≡ assembledParts text heads (smallEnding (Ending.Causes action)) (endingInRange (Ending.Causes action)) (conditionOutcome (lineEnd text at) (conditionOf (tokensAt text e)))
       unfolding causeParts causedParts is bytes sameBytes actionOf action
-      caused = ap (causeParts text r l (lineEnd text at)) both-tokens ∙ rw (name .is)
+      caused = ap (causeParts text heads (lineEnd text at)) both-tokens ∙ rw (name .is)
 
       -- the action of a clipped number in range is that of the number
       in-range : ltb v 64 ≡ ltb (name .number) 64
       in-range = ap (λ (k : ℕ). ltb k 64) (name .clipped) ∙ clip-below 64 (name .number) (omega arith)
 
-      pub cause-valid : (a : Action) → Number.actionOf v ≡ ActionCheck.Valid a → comparisonsParts text r (endLine l (Ending.Causes a)) (lineEnd text e) (conditionOf (tokensAt text e)) ≡ outcome
+      pub cause-valid : (a : Action) → Number.actionOf v ≡ ActionCheck.Valid a → assembledParts text heads (Ending.Causes a) true (conditionOutcome (lineEnd text e) (conditionOf (tokensAt text e))) ≡ outcome
       unfolding endingInRange smallEnding action
       cause-valid a h =
           let p = action-valid v a h in
@@ -106,17 +105,17 @@ module _ (text : List ℕ) (at : ℕ) (r : Bool) (l : Line) where
           let m : v ≡ name .number = name .clipped ∙ clip-same 64 (name .number) (omega arith) k in
           sym (caused ∙ valid-of a k (p .1 ∙ ap (λ (i : ℕ). record { 0 = i }) m))
         where
-          valid-of : (x : Action) → ltb (name .number) 64 ≡ true → x ≡ record { 0 = name .number } → comparisonsParts text (r && endingInRange (Ending.Causes action)) (endLine l (smallEnding (Ending.Causes action))) (lineEnd text at) (conditionOf (tokensAt text e)) ≡ comparisonsParts text r (endLine l (Ending.Causes x)) (lineEnd text e) (conditionOf (tokensAt text e))
-          valid-of x k i = rw (k, i, line, and-true r)
+          valid-of : (x : Action) → ltb (name .number) 64 ≡ true → x ≡ record { 0 = name .number } → assembledParts text heads (smallEnding (Ending.Causes action)) (endingInRange (Ending.Causes action)) (conditionOutcome (lineEnd text at) (conditionOf (tokensAt text e))) ≡ assembledParts text heads (Ending.Causes x) true (conditionOutcome (lineEnd text e) (conditionOf (tokensAt text e)))
+          valid-of x k i = rw (k, i, line)
 
-      pub cause-outside : Number.actionOf v ≡ ActionCheck.OutOfRange → comparisonsParts text false (endLine l (Ending.Causes (record { 0 = 0 }))) (lineEnd text e) (conditionOf (tokensAt text e)) ≡ outcome
+      pub cause-outside : Number.actionOf v ≡ ActionCheck.OutOfRange → assembledParts text heads (Ending.Causes (record { 0 = 0 })) false (conditionOutcome (lineEnd text e) (conditionOf (tokensAt text e))) ≡ outcome
       unfolding endingInRange smallEnding action
       cause-outside h =
           let k : ltb (name .number) 64 ≡ false = sym in-range ∙ action-outside v h in
           sym (caused ∙ outside-of k)
         where
-          outside-of : ltb (name .number) 64 ≡ false → comparisonsParts text (r && endingInRange (Ending.Causes action)) (endLine l (smallEnding (Ending.Causes action))) (lineEnd text at) (conditionOf (tokensAt text e)) ≡ comparisonsParts text false (endLine l (Ending.Causes (record { 0 = 0 }))) (lineEnd text e) (conditionOf (tokensAt text e))
-          outside-of k = rw (k, line, and-false r)
+          outside-of : ltb (name .number) 64 ≡ false → assembledParts text heads (smallEnding (Ending.Causes action)) (endingInRange (Ending.Causes action)) (conditionOutcome (lineEnd text at) (conditionOf (tokensAt text e))) ≡ assembledParts text heads (Ending.Causes (record { 0 = 0 })) false (conditionOutcome (lineEnd text e) (conditionOf (tokensAt text e)))
+          outside-of k = rw (k, line)
 
 -- ---- the shape of the line, by its first token
 

@@ -1,17 +1,16 @@
 -- Laws of reading the condition of a line, one comparison after another.
 use Prim.Native.Nat.{ℕ, _<_, _≤_}
 use mathlib.Core.Bool.{Bool, true, false, _&&_, cond, and-assoc, and-true}
-use mathlib.Core.List.{List, [], _∷_}
+use mathlib.Core.List.{List, [], _∷_, map}
 use mathlib.Core.Option.{Option, none, some}
 use mathlib.Core.Path.{_≡_, refl, sym, ap, ap₂, _∙_}
 use native.Mathlib.Omega.{arith}
 use lib.ListN.{length}
 use Rattle.policy.specs.Limits.{comparisonInRange}
-use Rattle.policy.specs.Line.{pushComparison}
+use Rattle.policy.specs.Line.{held, counted, comparisonLimit, noComparison, pushItem, pushCount}
 use Rattle.policy.specs.List.{all}
 use Rattle.policy.specs.declared.comparison.Comparison.{Comparison}
 use Rattle.policy.specs.declared.comparison.Operand.{Operand}
-use Rattle.policy.specs.declared.line.Line.{Line}
 use Rattle.lexer.proofs.PartLaws.{both-none}
 use Rattle.lexer.proofs.RunLaws.{skip-ge}
 use Rattle.lexer.proofs.TokenLaws.{tokens-after-spaces, tokens-first, tokens-ended, line-past-spaces, line-past-token, line-ended}
@@ -20,10 +19,11 @@ use Rattle.lexer.specs.Byte.{bytes, sameBytes, is, isSpace}
 use Rattle.lexer.specs.Token.{Token, both, compare, named, readingOf, relationOf, orElse, operandOf, comparisonOf}
 use Rattle.syntax.specs.Grammar.{comparisonsOf, conditionOf}
 use Rattle.lexer.specs.Number.{isEmpty, constantOf}
-use Rattle.syntax.specs.Outcome.{failedParts, pushComparisons, comparisonsParts}
+use Rattle.syntax.proofs.FillLaws.{filled, tallied, filled-all, tallied-all}
+use Rattle.syntax.specs.Outcome.{noComparisons, conditionOutcome}
 use Rattle.lexer.specs.Parts.{smallComparison, comparisonEnding, nextAt, comparisonAt}
 use Rattle.lexer.specs.Scan.{skip, inToken, tokenAt, wordAt, tokensAt, lineEnd}
-use Rattle.syntax.specs.declared.line.Parts.{Parts}
+use Rattle.syntax.specs.declared.line.Condition.{Condition}
 use Rattle.lexer.specs.declared.scan.WordAt.{WordAt}
 use Rattle.lexer.specs.declared.token.ComparisonAt.{ComparisonAt}
 
@@ -52,12 +52,23 @@ module _ (r q o : Token) where
     unfolding comparisonsOf
     list-broken t ts h = rw h
 
--- one comparison more, before the others or after those that were read
-comparisons-step : (text : List ℕ) (r : Bool) (l : Line) (e : ℕ) (x : Comparison) (o : Option (List Comparison)) → comparisonsParts text r l e (both _∷_ (some x) o) ≡ comparisonsParts text (r && comparisonInRange x) (pushComparison l (smallComparison x)) e o
-unfolding comparisonsParts pushComparisons all both
-comparisons-step text r l e x none = refl
-comparisons-step text r l e x (some cs) =
-    ap (λ (b : Bool). record { ok = true; «in_range» = b; line = pushComparisons (pushComparison l (smallComparison x)) cs; at = e }) (sym (and-assoc r (comparisonInRange x) (all comparisonInRange cs)))
+-- ---- the comparisons of a line, after some that were read
+
+unfoldable pub comparisonsFrom : Bool → List Comparison → ℕ → ℕ → Option (List Comparison) → Condition
+comparisonsFrom ok held n end none = noComparisons false 0
+comparisonsFrom ok held n end (some cs) =
+    record { ok = true; «in_range» = ok && all comparisonInRange cs; comparisons = filled comparisonLimit held n (map smallComparison cs); count = tallied comparisonLimit n (map smallComparison cs); at = end }
+
+pub comparisons-start : (e : ℕ) (o : Option (List Comparison)) → conditionOutcome e o ≡ comparisonsFrom true (held comparisonLimit noComparison []) 0 e o
+unfolding conditionOutcome comparisonsFrom
+comparisons-start e none = refl
+comparisons-start e (some cs) = rw (filled-all comparisonLimit noComparison (map smallComparison cs), tallied-all comparisonLimit noComparison (map smallComparison cs))
+
+-- one comparison more
+comparisons-step : (r : Bool) (xs : List Comparison) (k e : ℕ) (x : Comparison) (o : Option (List Comparison)) → comparisonsFrom r xs k e (both _∷_ (some x) o) ≡ comparisonsFrom (r && comparisonInRange x) (pushItem comparisonLimit xs k (smallComparison x)) (pushCount comparisonLimit k) e o
+unfolding comparisonsFrom filled tallied all both
+comparisons-step r xs k e x none = refl
+comparisons-step r xs k e x (some cs) = rw (and-assoc r (comparisonInRange x) (all comparisonInRange cs))
 
 -- ---- one comparison at a position
 
@@ -122,7 +133,7 @@ module _ (text : List ℕ) (at : ℕ) where
   unfolding nextAt
   next-line = line-past-spaces text (skip inToken text at) ∙ line-past-token text at
 
-module _ (text : List ℕ) (at : ℕ) (r : Bool) (l : Line) where
+module _ (text : List ℕ) (at : ℕ) (r : Bool) (xs : List Comparison) (k : ℕ) where
   abbrev s : ℕ
   s = skip isSpace text at
 
@@ -132,12 +143,12 @@ module _ (text : List ℕ) (at : ℕ) (r : Bool) (l : Line) where
   abbrev s3 : ℕ
   s3 = nextAt text s2
 
-  abbrev outcome : Parts
-  outcome = comparisonsParts text r l (lineEnd text at) (comparisonsOf (tokensAt text at))
+  abbrev outcome : Condition
+  outcome = comparisonsFrom r xs k (lineEnd text at) (comparisonsOf (tokensAt text at))
 
-  pub comparisons-failed : comparisonAt text s ≡ ComparisonAt.Malformed → failedParts text ≡ outcome
-  unfolding comparisonsParts comparisonsOf
-  comparisons-failed q = ap (comparisonsParts text r l (lineEnd text at)) (sym (ap comparisonsOf (tokens-after-spaces text at) ∙ go1 (isEmpty (tokenAt text s)) refl))
+  pub comparisons-failed : comparisonAt text s ≡ ComparisonAt.Malformed → noComparisons false 0 ≡ outcome
+  unfolding comparisonsFrom comparisonsOf
+  comparisons-failed q = ap (comparisonsFrom r xs k (lineEnd text at)) (sym (ap comparisonsOf (tokens-after-spaces text at) ∙ go1 (isEmpty (tokenAt text s)) refl))
     where
       go3 : (b : Bool) → isEmpty (tokenAt text s3) ≡ b → comparisonsOf (tokenAt text s ∷ tokenAt text s2 ∷ tokensAt text s3) ≡ none
       go3 true h = ap (λ (ts : List Token). comparisonsOf (tokenAt text s ∷ tokenAt text s2 ∷ ts)) (next-ended text s2 h)
@@ -156,6 +167,12 @@ module _ (text : List ℕ) (at : ℕ) (r : Bool) (l : Line) where
   module _ (c : Comparison) (ok : Bool) (e : ℕ) (q : comparisonAt text s ≡ ComparisonAt.Comparison c ok e) where
     abbrev n : ℕ
     n = skip isSpace text e
+
+    abbrev xs′ : List Comparison
+    xs′ = pushItem comparisonLimit xs k c
+
+    abbrev k′ : ℕ
+    k′ = pushCount comparisonLimit k
 
     found : ComparisonRead text s c ok e
     found = comparison-some text s c ok e q
@@ -178,19 +195,19 @@ module _ (text : List ℕ) (at : ℕ) (r : Bool) (l : Line) where
         tokens-after-spaces text at ∙ next-tokens text s solid1
         ∙ ap (λ (ts : List Token). tokenAt text s ∷ ts) (next-tokens text s2 solid2)
         ∙ ap (λ (ts : List Token). tokenAt text s ∷ tokenAt text s2 ∷ ts) (next-tokens text s3 solid3)
-        ∙ ap (λ (k : ℕ). tokenAt text s ∷ tokenAt text s2 ∷ tokenAt text s3 ∷ tokensAt text k) (sym behind-third)
+        ∙ ap (λ (i : ℕ). tokenAt text s ∷ tokenAt text s2 ∷ tokenAt text s3 ∷ tokensAt text i) (sym behind-third)
 
     ends : lineEnd text n ≡ lineEnd text at
     ends = ap (lineEnd text) behind-third ∙ next-line text s3 ∙ next-line text s2 ∙ next-line text s ∙ line-past-spaces text at
 
-    taken : (o : Option (List Comparison)) → comparisonsParts text r l (lineEnd text at) (both _∷_ (some (found .comparison)) o) ≡ comparisonsParts text (r && ok) (pushComparison l c) (lineEnd text n) o
-    taken o = comparisons-step text r l (lineEnd text at) (found .comparison) o ∙ cc (found .range, found .small, ends)
+    taken : (o : Option (List Comparison)) → comparisonsFrom r xs k (lineEnd text at) (both _∷_ (some (found .comparison)) o) ≡ comparisonsFrom (r && ok) xs′ k′ (lineEnd text n) o
+    taken o = comparisons-step r xs k (lineEnd text at) (found .comparison) o ∙ cc (found .range, found .small, ends)
 
-    start : (o : Option (List Comparison)) → comparisonsOf (tokenAt text s ∷ tokenAt text s2 ∷ tokenAt text s3 ∷ tokensAt text n) ≡ o → outcome ≡ comparisonsParts text r l (lineEnd text at) o
-    start o h = ap (λ (ts : List Token). comparisonsParts text r l (lineEnd text at) (comparisonsOf ts)) tokens ∙ ap (comparisonsParts text r l (lineEnd text at)) h
+    start : (o : Option (List Comparison)) → comparisonsOf (tokenAt text s ∷ tokenAt text s2 ∷ tokenAt text s3 ∷ tokensAt text n) ≡ o → outcome ≡ comparisonsFrom r xs k (lineEnd text at) o
+    start o h = ap (λ (ts : List Token). comparisonsFrom r xs k (lineEnd text at) (comparisonsOf ts)) tokens ∙ ap (comparisonsFrom r xs k (lineEnd text at)) h
 
-    pub comparisons-done : isEmpty (tokenAt text n) ≡ true → record { ok = true; «in_range» = r && ok; line = pushComparison l c; at = n } ≡ outcome
-    unfolding comparisonsParts pushComparisons all
+    pub comparisons-done : isEmpty (tokenAt text n) ≡ true → record { ok = true; «in_range» = r && ok; comparisons = xs′; count = k′; at = n } ≡ outcome
+    unfolding comparisonsFrom filled tallied all
     comparisons-done h =
         sym (start (some (found .comparison ∷ []))
         (ap (λ (ts : List Token). comparisonsOf (tokenAt text s ∷ tokenAt text s2 ∷ tokenAt text s3 ∷ ts)) (tokens-ended text e h)
@@ -201,14 +218,14 @@ module _ (text : List ℕ) (at : ℕ) (r : Bool) (l : Line) where
       more : tokensAt text n ≡ tokenAt text n ∷ tokensAt text (skip inToken text n)
       more = tokens-first text n h
 
-      pub comparisons-broken : wordAt text n (bytes ",") ≡ WordAt.Absent → failedParts text ≡ outcome
-      unfolding comparisonsParts is
+      pub comparisons-broken : wordAt text n (bytes ",") ≡ WordAt.Absent → noComparisons false 0 ≡ outcome
+      unfolding comparisonsFrom is
       comparisons-broken w =
           sym (start none
           (ap (λ (ts : List Token). comparisonsOf (tokenAt text s ∷ tokenAt text s2 ∷ tokenAt text s3 ∷ ts)) more
           ∙ list-broken (tokenAt text s) (tokenAt text s2) (tokenAt text s3) (found .comparison) (found .read) (tokenAt text n) (tokensAt text (skip inToken text n)) (word-absent text n (bytes ",") w)))
 
-      pub comparisons-again : (b : ℕ) → wordAt text n (bytes ",") ≡ WordAt.Found b → outcome ≡ comparisonsParts text (r && ok) (pushComparison l c) (lineEnd text b) (comparisonsOf (tokensAt text b))
+      pub comparisons-again : (b : ℕ) → wordAt text n (bytes ",") ≡ WordAt.Found b → outcome ≡ comparisonsFrom (r && ok) xs′ k′ (lineEnd text b) (comparisonsOf (tokensAt text b))
       unfolding is bytes sameBytes
       comparisons-again b w =
           let f = word-token text n (bytes ",") b w in
@@ -216,7 +233,7 @@ module _ (text : List ℕ) (at : ℕ) (r : Bool) (l : Line) where
           (ap (λ (ts : List Token). comparisonsOf (tokenAt text s ∷ tokenAt text s2 ∷ tokenAt text s3 ∷ ts)) more
           ∙ list-more (tokenAt text s) (tokenAt text s2) (tokenAt text s3) (found .comparison) (found .read) (tokenAt text n) (tokensAt text (skip inToken text n)) (ap (λ (u : Token). sameBytes u (bytes ",")) (f .0)))
           ∙ taken (comparisonsOf (tokensAt text (skip inToken text n)))
-          ∙ ap₂ (λ (k m : ℕ). comparisonsParts text (r && ok) (pushComparison l c) k (comparisonsOf (tokensAt text m))) (sym (line-past-token text n) ∙ ap (lineEnd text) (sym (f .1))) (sym (f .1))
+          ∙ ap₂ (λ (i m : ℕ). comparisonsFrom (r && ok) xs′ k′ i (comparisonsOf (tokensAt text m))) (sym (line-past-token text n) ∙ ap (lineEnd text) (sym (f .1))) (sym (f .1))
 
       pub comparisons-less : (b : ℕ) → wordAt text n (bytes ",") ≡ WordAt.Found b → (at < length text) × (at < b)
       comparisons-less b w =
@@ -230,22 +247,22 @@ module _ (text : List ℕ) (at : ℕ) (r : Bool) (l : Line) where
 
 -- ---- the condition
 
-module _ (text : List ℕ) (at : ℕ) (r : Bool) (l : Line) where
-  pub condition-none : isEmpty (tokenAt text (skip isSpace text at)) ≡ true → record { ok = true; «in_range» = r; line = l; at = skip isSpace text at } ≡ comparisonsParts text r l (lineEnd text at) (conditionOf (tokensAt text at))
-  unfolding conditionOf comparisonsParts pushComparisons all
-  condition-none h = rw (tokens-after-spaces text at ∙ tokens-ended text at h) (cc (and-true r, sym (line-past-spaces text at) ∙ line-ended text at h))
+module _ (text : List ℕ) (at : ℕ) where
+  pub condition-none : isEmpty (tokenAt text (skip isSpace text at)) ≡ true → noComparisons true (skip isSpace text at) ≡ conditionOutcome (lineEnd text at) (conditionOf (tokensAt text at))
+  unfolding conditionOf conditionOutcome held counted all
+  condition-none h = rw (tokens-after-spaces text at ∙ tokens-ended text at h) (ap (noComparisons true) (sym (sym (line-past-spaces text at) ∙ line-ended text at h)))
 
   module _ (h : isEmpty (tokenAt text (skip isSpace text at)) ≡ false) where
     some-tokens : tokensAt text at ≡ tokenAt text (skip isSpace text at) ∷ tokensAt text (skip inToken text (skip isSpace text at))
     some-tokens = tokens-after-spaces text at ∙ tokens-first text (skip isSpace text at) h
 
-    pub condition-bad : wordAt text (skip isSpace text at) (bytes "if") ≡ WordAt.Absent → failedParts text ≡ comparisonsParts text r l (lineEnd text at) (conditionOf (tokensAt text at))
-    unfolding conditionOf comparisonsParts is
+    pub condition-bad : wordAt text (skip isSpace text at) (bytes "if") ≡ WordAt.Absent → noComparisons false 0 ≡ conditionOutcome (lineEnd text at) (conditionOf (tokensAt text at))
+    unfolding conditionOf conditionOutcome is
     condition-bad w = rw (some-tokens, word-absent text (skip isSpace text at) (bytes "if") w)
 
-    pub condition-some : (b : ℕ) → wordAt text (skip isSpace text at) (bytes "if") ≡ WordAt.Found b → comparisonsParts text r l (lineEnd text b) (comparisonsOf (tokensAt text b)) ≡ comparisonsParts text r l (lineEnd text at) (conditionOf (tokensAt text at))
+    pub condition-some : (b : ℕ) → wordAt text (skip isSpace text at) (bytes "if") ≡ WordAt.Found b → conditionOutcome (lineEnd text b) (comparisonsOf (tokensAt text b)) ≡ conditionOutcome (lineEnd text at) (conditionOf (tokensAt text at))
     unfolding conditionOf is bytes sameBytes
     condition-some b w =
         let f = word-token text (skip isSpace text at) (bytes "if") b w in
         rw (some-tokens, f .0)
-        (ap₂ (λ (k m : ℕ). comparisonsParts text r l k (comparisonsOf (tokensAt text m))) (ap (lineEnd text) (f .1) ∙ line-past-token text (skip isSpace text at) ∙ line-past-spaces text at) (f .1))
+        (ap₂ (λ (k m : ℕ). conditionOutcome k (comparisonsOf (tokensAt text m))) (ap (lineEnd text) (f .1) ∙ line-past-token text (skip isSpace text at) ∙ line-past-spaces text at) (f .1))

@@ -6,9 +6,9 @@ use mathlib.Core.Option.{Option, none, some, Option·map}
 use mathlib.Core.Path.{_≡_, refl, sym, ap, ap₂, _∙_}
 use native.Mathlib.Omega.{arith}
 use lib.ListN.{length}
-use Rattle.policy.specs.Line.{pushHead}
+use Rattle.policy.specs.Line.{head, held, counted, headLimit, noHead, pushItem, pushCount}
 use Rattle.policy.specs.List.{all}
-use Rattle.policy.specs.declared.line.Line.{Line}
+use Rattle.policy.specs.declared.line.Head.{Head}
 use Rattle.policy.specs.declared.line.Test.{Test}
 use Rattle.lexer.proofs.TokenLaws.{tokens-after-spaces, tokens-first, tokens-ended, line-past-spaces, line-past-token}
 use Rattle.lexer.proofs.RunLaws.{skip-ge}
@@ -17,9 +17,11 @@ use Rattle.lexer.specs.Byte.{bytes, sameBytes, is, isSpace}
 use Rattle.lexer.specs.Token.{Token, both, literalOf, actionOf, named}
 use Rattle.syntax.specs.Grammar.{Joined, last, before, joined}
 use Rattle.lexer.specs.Number.{isEmpty}
-use Rattle.syntax.specs.Outcome.{Outcome, viewOf, failedParts, pushHeads, headsOutcome}
+use Rattle.syntax.proofs.FillLaws.{filled, tallied, filled-all, tallied-all}
+use Rattle.syntax.specs.Outcome.{HeadsRead, viewOf, smallHeads, headsOutcome}
 use Rattle.lexer.specs.Parts.{testInRange, smallTest, testOf, headEnding, headAt}
 use Rattle.lexer.specs.Scan.{skip, inToken, tokenAt, wordAt, tokensAt, lineEnd}
+use Rattle.syntax.specs.declared.line.Heads.{Heads}
 use Rattle.lexer.specs.declared.scan.WordAt.{WordAt}
 use Rattle.lexer.specs.declared.token.HeadAt.{HeadAt}
 
@@ -52,12 +54,23 @@ module _ {A : Type 0} (item : Token → Option A) (t : Token) where
     unfolding joined
     joined-last s ts h = rw (h, e)
 
--- one head more, before the others or after those that were read
-heads-step : (text : List ℕ) (r : Bool) (l : Line) (e : ℕ) (x : Test) (o : Option (Joined Test)) → headsOutcome text r l e (Option·map (before x) o) ≡ headsOutcome text (r && testInRange x) (pushHead l (smallTest x)) e o
-unfolding headsOutcome pushHeads all
-heads-step text r l e x none = refl
-heads-step text r l e x (some j) =
-    ap (λ (b : Bool). record { ok = true; inRange = b; line = pushHeads (pushHead l (smallTest x)) (j .items); rest = j .rest; end = e }) (sym (and-assoc r (testInRange x) (all testInRange (j .items))))
+-- ---- the heads of a line, after some that were read
+
+unfoldable pub headsFrom : Bool → List Head → ℕ → ℕ → Option (Joined Test) → Option HeadsRead
+headsFrom ok heads n end none = none
+headsFrom ok heads n end (some j) =
+    some (record { inRange = ok && all testInRange (j .items); heads = filled headLimit heads n (smallHeads (j .items)); count = tallied headLimit n (smallHeads (j .items)); rest = j .rest; end = end })
+
+pub heads-start : (e : ℕ) (o : Option (Joined Test)) → headsOutcome e o ≡ headsFrom true (held headLimit noHead []) 0 e o
+unfolding headsOutcome headsFrom
+heads-start e none = refl
+heads-start e (some j) = rw (filled-all headLimit noHead (smallHeads (j .items)), tallied-all headLimit noHead (smallHeads (j .items)))
+
+-- one head more
+heads-step : (r : Bool) (hs : List Head) (k e : ℕ) (x : Test) (o : Option (Joined Test)) → headsFrom r hs k e (Option·map (before x) o) ≡ headsFrom (r && testInRange x) (pushItem headLimit hs k (head (smallTest x))) (pushCount headLimit k) e o
+unfolding headsFrom filled tallied all
+heads-step r hs k e x none = refl
+heads-step r hs k e x (some j) = rw (and-assoc r (testInRange x) (all testInRange (j .items)))
 
 -- ---- one head at a position
 
@@ -93,19 +106,19 @@ test-token false (b ∷ t) x e = refl
 
 -- ---- a turn of reading
 
-module _ (text : List ℕ) (at : ℕ) (never r : Bool) (l : Line) where
+module _ (text : List ℕ) (at : ℕ) (never r : Bool) (hs : List Head) (k : ℕ) where
   abbrev s : ℕ
   s = skip isSpace text at
 
   abbrev item : Token → Option Test
   item = testOf never
 
-  abbrev outcome : Outcome
-  outcome = headsOutcome text r l (lineEnd text at) (joined item (tokensAt text at))
+  abbrev outcome : Option HeadsRead
+  outcome = headsFrom r hs k (lineEnd text at) (joined item (tokensAt text at))
 
-  pub heads-failed : headAt text s never ≡ HeadAt.Malformed → viewOf text (failedParts text) ≡ outcome
-  unfolding headsOutcome joined
-  heads-failed q = ap (headsOutcome text r l (lineEnd text at)) (sym (ap (joined item) (tokens-after-spaces text at) ∙ go (isEmpty (tokenAt text s)) refl))
+  pub heads-failed : headAt text s never ≡ HeadAt.Malformed → none ≡ outcome
+  unfolding headsFrom joined
+  heads-failed q = ap (headsFrom r hs k (lineEnd text at)) (sym (ap (joined item) (tokens-after-spaces text at) ∙ go (isEmpty (tokenAt text s)) refl))
     where
       go : (b : Bool) → isEmpty (tokenAt text s) ≡ b → joined item (tokensAt text s) ≡ none
       go true h = ap (joined item) (tokens-ended text at h)
@@ -115,49 +128,55 @@ module _ (text : List ℕ) (at : ℕ) (never r : Bool) (l : Line) where
     abbrev n : ℕ
     n = skip isSpace text e
 
-    head : HeadRead text s never t ok e
-    head = head-some text s never t ok e q
+    abbrev hs′ : List Head
+    hs′ = pushItem headLimit hs k (head t)
+
+    abbrev k′ : ℕ
+    k′ = pushCount headLimit k
+
+    found : HeadRead text s never t ok e
+    found = head-some text s never t ok e q
 
     solid : isEmpty (tokenAt text s) ≡ false
-    solid = test-token never (tokenAt text s) (head .test) (head .read)
+    solid = test-token never (tokenAt text s) (found .test) (found .read)
 
     -- the head, and what is behind it
     tokens : tokensAt text at ≡ tokenAt text s ∷ tokensAt text n
-    tokens = tokens-after-spaces text at ∙ tokens-first text s solid ∙ ap (λ (k : ℕ). tokenAt text s ∷ tokensAt text k) (sym (head .behind)) ∙ ap (λ (ts : List Token). tokenAt text s ∷ ts) (tokens-after-spaces text e)
+    tokens = tokens-after-spaces text at ∙ tokens-first text s solid ∙ ap (λ (i : ℕ). tokenAt text s ∷ tokensAt text i) (sym (found .behind)) ∙ ap (λ (ts : List Token). tokenAt text s ∷ ts) (tokens-after-spaces text e)
 
     ends : lineEnd text n ≡ lineEnd text at
-    ends = line-past-spaces text e ∙ ap (lineEnd text) (head .behind) ∙ line-past-token text s ∙ line-past-spaces text at
+    ends = line-past-spaces text e ∙ ap (lineEnd text) (found .behind) ∙ line-past-token text s ∙ line-past-spaces text at
 
-    taken : (o : Option (Joined Test)) → headsOutcome text r l (lineEnd text at) (Option·map (before (head .test)) o) ≡ headsOutcome text (r && ok) (pushHead l t) (lineEnd text n) o
+    taken : (o : Option (Joined Test)) → headsFrom r hs k (lineEnd text at) (Option·map (before (found .test)) o) ≡ headsFrom (r && ok) hs′ k′ (lineEnd text n) o
     taken o =
-        heads-step text r l (lineEnd text at) (head .test) o
-        ∙ cc (head .range, head .small, ends)
+        heads-step r hs k (lineEnd text at) (found .test) o
+        ∙ cc (found .range, found .small, ends)
 
-    pub heads-again : (b : ℕ) → wordAt text n (bytes "&") ≡ WordAt.Found b → outcome ≡ headsOutcome text (r && ok) (pushHead l t) (lineEnd text b) (joined item (tokensAt text b))
+    pub heads-again : (b : ℕ) → wordAt text n (bytes "&") ≡ WordAt.Found b → outcome ≡ headsFrom (r && ok) hs′ k′ (lineEnd text b) (joined item (tokensAt text b))
     unfolding is bytes isEmpty sameBytes
     heads-again b w =
         let f = word-token text n (bytes "&") b w in
-        ap (λ (ts : List Token). headsOutcome text r l (lineEnd text at) (joined item ts)) (tokens ∙ ap (λ (ts : List Token). tokenAt text s ∷ ts) (tokens-first text n (ap isEmpty (f .0))))
-        ∙ ap (headsOutcome text r l (lineEnd text at)) (joined-more item (tokenAt text s) (head .test) (head .read) (tokenAt text n) (tokensAt text (skip inToken text n)) (ap (λ (u : Token). sameBytes u (bytes "&")) (f .0)))
+        ap (λ (ts : List Token). headsFrom r hs k (lineEnd text at) (joined item ts)) (tokens ∙ ap (λ (ts : List Token). tokenAt text s ∷ ts) (tokens-first text n (ap isEmpty (f .0))))
+        ∙ ap (headsFrom r hs k (lineEnd text at)) (joined-more item (tokenAt text s) (found .test) (found .read) (tokenAt text n) (tokensAt text (skip inToken text n)) (ap (λ (u : Token). sameBytes u (bytes "&")) (f .0)))
         ∙ taken (joined item (tokensAt text (skip inToken text n)))
-        ∙ ap₂ (λ (k m : ℕ). headsOutcome text (r && ok) (pushHead l t) k (joined item (tokensAt text m))) (sym (line-past-token text n) ∙ ap (lineEnd text) (sym (f .1))) (sym (f .1))
+        ∙ ap₂ (λ (i m : ℕ). headsFrom (r && ok) hs′ k′ i (joined item (tokensAt text m))) (sym (line-past-token text n) ∙ ap (lineEnd text) (sym (f .1))) (sym (f .1))
 
-    pub heads-done : wordAt text n (bytes "&") ≡ WordAt.Absent → viewOf text (record { ok = true; «in_range» = r && ok; line = pushHead l t; at = n }) ≡ outcome
-    unfolding headsOutcome pushHeads all is bytes
+    pub heads-done : wordAt text n (bytes "&") ≡ WordAt.Absent → viewOf text (record { ok = true; «in_range» = r && ok; heads = hs′; count = k′; at = n }) ≡ outcome
+    unfolding headsFrom filled tallied all is bytes
     heads-done w =
-        sym (ap (λ (ts : List Token). headsOutcome text r l (lineEnd text at) (joined item ts)) tokens
-        ∙ ap (headsOutcome text r l (lineEnd text at)) (go (isEmpty (tokenAt text n)) refl)
-        ∙ cc (head .range, head .small, ends, and-true (testInRange (head .test))))
+        sym (ap (λ (ts : List Token). headsFrom r hs k (lineEnd text at) (joined item ts)) tokens
+        ∙ ap (headsFrom r hs k (lineEnd text at)) (go (isEmpty (tokenAt text n)) refl)
+        ∙ cc (found .range, found .small, ends, and-true (testInRange (found .test))))
       where
-        go : (b : Bool) → isEmpty (tokenAt text n) ≡ b → joined item (tokenAt text s ∷ tokensAt text n) ≡ some (last (tokensAt text n) (head .test))
-        go true h = rw (tokens-ended text e h) (joined-alone item (tokenAt text s) (head .test) (head .read))
+        go : (b : Bool) → isEmpty (tokenAt text n) ≡ b → joined item (tokenAt text s ∷ tokensAt text n) ≡ some (last (tokensAt text n) (found .test))
+        go true h = rw (tokens-ended text e h) (joined-alone item (tokenAt text s) (found .test) (found .read))
         go false h =
             rw (tokens-first text n h)
-            (joined-last item (tokenAt text s) (head .test) (head .read) (tokenAt text n) (tokensAt text (skip inToken text n)) (word-absent text n (bytes "&") w))
+            (joined-last item (tokenAt text s) (found .test) (found .read) (tokenAt text n) (tokensAt text (skip inToken text n)) (word-absent text n (bytes "&") w))
 
     pub heads-less : (b : ℕ) → wordAt text n (bytes "&") ≡ WordAt.Found b → (at < length text) × (at < b)
     heads-less b w =
         let i : s < length text = token-inside text s solid in
         let f : b ≡ skip inToken text n = word-token text n (bytes "&") b w .1 in
-        let g : e ≡ skip inToken text s = head .behind in
+        let g : e ≡ skip inToken text s = found .behind in
         (omega (arith, skip-ge isSpace text at), omega (arith, skip-ge isSpace text at, skip-grows text s solid, skip-ge isSpace text e, skip-ge inToken text n))

@@ -3,6 +3,7 @@ pub mod CauseLaws
 pub mod ConditionLaws
 pub mod EpochLaws
 pub mod Examples
+pub mod FillLaws
 pub mod HeadLaws
 pub mod ItemLaws
 pub mod JudgeLaws

@@ -6,11 +6,12 @@ use mathlib.Core.Option.{Option, none, some}
 use lib.Dec.{ltb}
 use lib.ListN.{length}
 use Rattle.policy.specs.Limits.{inRange, comparisonInRange, endingInRange}
-use Rattle.policy.specs.Line.{PolicyLine, headsOf, comparisonsOf, endingOf, lineOf, pushHead, pushComparison, endLine}
+use Rattle.policy.specs.Line.{PolicyLine, headsOf, comparisonsOf, endingOf, lineOf, head, held, counted, headLimit, noHead, comparisonLimit, noComparison}
 use Rattle.policy.specs.List.{all}
 use Rattle.policy.specs.Number.{setLimit}
 use Rattle.policy.specs.declared.comparison.Comparison.{Comparison}
 use Rattle.policy.specs.declared.line.Ending.{Ending}
+use Rattle.policy.specs.declared.line.Head.{Head}
 use Rattle.policy.specs.declared.line.Line.{Line}
 use Rattle.policy.specs.declared.line.Test.{Test}
 use Rattle.policy.specs.declared.number.Action.{Action}
@@ -19,6 +20,8 @@ use Rattle.lexer.specs.Token.{Token, actionOf}
 use Rattle.syntax.specs.Grammar.{Joined, conditionOf}
 use Rattle.lexer.specs.Parts.{testInRange, smallTest, smallComparison}
 use Rattle.lexer.specs.Scan.{tokensAt, lineEnd}
+use Rattle.syntax.specs.declared.line.Condition.{Condition}
+use Rattle.syntax.specs.declared.line.Heads.{Heads}
 use Rattle.syntax.specs.declared.line.Parts.{Parts}
 
 abbrev pub newLine : Line
@@ -27,36 +30,37 @@ newLine = lineOf [] [] Ending.Never
 abbrev pub failedParts : List ℕ → Parts
 failedParts text = record { ok = false; «in_range» = false; line = newLine; at = length text }
 
--- what was read, with the tokens that are left of the line and its end
-pub record Outcome : Type 0 where
-  pub ok : Bool
+-- ---- the heads
+
+-- heads that were read, with the tokens that are left of the line and its end
+pub record HeadsRead : Type 0 where
   pub inRange : Bool
-  pub line : Line
+  pub heads : List Head
+  pub count : ℕ
   pub rest : List Token
   pub end : ℕ
 
-abbrev pub viewOf : List ℕ → Parts → Outcome
-viewOf text p = record { ok = p .ok; inRange = p .«in_range»; line = p .line; rest = tokensAt text (p .at); end = lineEnd text (p .at) }
+abbrev pub viewOf : List ℕ → Heads → Option HeadsRead
+viewOf text h =
+    cond (h .ok) (some (record { inRange = h .«in_range»; heads = h .heads; count = h .count; rest = tokensAt text (h .at); end = lineEnd text (h .at) })) none
 
-unfoldable pub pushHeads : Line → List Test → Line
-pushHeads l [] = l
-pushHeads l (t ∷ ts) = pushHeads (pushHead l (smallTest t)) ts
+abbrev pub smallHeads : List Test → List Head
+smallHeads ts = map head (map smallTest ts)
 
--- the heads of a line, after some that were read
-unfoldable pub headsOutcome : List ℕ → Bool → Line → ℕ → Option (Joined Test) → Outcome
-headsOutcome text ok line end none = viewOf text (failedParts text)
-headsOutcome text ok line end (some j) =
-    record { ok = true; inRange = ok && all testInRange (j .items); line = pushHeads line (j .items); rest = j .rest; end = end }
+unfoldable pub headsOutcome : ℕ → Option (Joined Test) → Option HeadsRead
+headsOutcome end none = none
+headsOutcome end (some j) =
+    some (record { inRange = all testInRange (j .items); heads = held headLimit noHead (smallHeads (j .items)); count = counted headLimit (smallHeads (j .items)); rest = j .rest; end = end })
 
-unfoldable pub pushComparisons : Line → List Comparison → Line
-pushComparisons l [] = l
-pushComparisons l (c ∷ cs) = pushComparisons (pushComparison l (smallComparison c)) cs
+-- ---- the condition
 
--- the comparisons of a line, after some that were read
-unfoldable pub comparisonsParts : List ℕ → Bool → Line → ℕ → Option (List Comparison) → Parts
-comparisonsParts text ok line end none = failedParts text
-comparisonsParts text ok line end (some cs) =
-    record { ok = true; «in_range» = ok && all comparisonInRange cs; line = pushComparisons line cs; at = end }
+abbrev pub noComparisons : Bool → ℕ → Condition
+noComparisons ok at = record { ok = ok; «in_range» = ok; comparisons = held comparisonLimit noComparison []; count = 0; at = at }
+
+unfoldable pub conditionOutcome : ℕ → Option (List Comparison) → Condition
+conditionOutcome end none = noComparisons false 0
+conditionOutcome end (some cs) =
+    record { ok = true; «in_range» = all comparisonInRange cs; comparisons = held comparisonLimit noComparison (map smallComparison cs); count = counted comparisonLimit (map smallComparison cs); at = end }
 
 -- ---- the whole line
 
@@ -64,15 +68,27 @@ unfoldable pub smallEnding : Ending → Ending
 smallEnding (Ending.Causes a) = cond (ltb (a .0) setLimit) (Ending.Causes a) (Ending.Causes (record { 0 = 0 }))
 smallEnding Ending.Never = Ending.Never
 
--- what follows the literals of a rule
-unfoldable pub causedParts : List ℕ → Bool → Line → ℕ → Option Action → Option (List Comparison) → Parts
-causedParts text ok line end none o = failedParts text
-causedParts text ok line end (some a) o = comparisonsParts text (ok && endingInRange (Ending.Causes a)) (endLine line (smallEnding (Ending.Causes a))) end o
+-- the line put together, with an ending and whether that is in range
+unfoldable pub assembledParts : List ℕ → Heads → Ending → Bool → Condition → Parts
+assembledParts text h ending ok c =
+    cond (c .ok)
+    (record {
+      ok = true;
+      «in_range» = h .«in_range» && c .«in_range» && ok;
+      line = record { heads = h .heads; «head_count» = h .count; comparisons = c .comparisons; «comparison_count» = c .count; ending = ending };
+      at = c .at;
+    })
+    (failedParts text)
 
-unfoldable pub causeParts : List ℕ → Bool → Line → ℕ → List Token → Parts
-causeParts text ok line end [] = failedParts text
-causeParts text ok line end (t ∷ []) = failedParts text
-causeParts text ok line end (t ∷ a ∷ ts) = cond (is "causes" t) (causedParts text ok line end (actionOf a) (conditionOf ts)) (failedParts text)
+-- what follows the literals of a rule
+unfoldable pub causedParts : List ℕ → Heads → ℕ → Option Action → Option (List Comparison) → Parts
+causedParts text h end none o = failedParts text
+causedParts text h end (some a) o = assembledParts text h (smallEnding (Ending.Causes a)) (endingInRange (Ending.Causes a)) (conditionOutcome end o)
+
+unfoldable pub causeParts : List ℕ → Heads → ℕ → List Token → Parts
+causeParts text h end [] = failedParts text
+causeParts text h end (t ∷ []) = failedParts text
+causeParts text h end (t ∷ a ∷ ts) = cond (is "causes" t) (causedParts text h end (actionOf a) (conditionOf ts)) (failedParts text)
 
 -- the value of a line, with a filler for each part that is out of range
 unfoldable pub smallLine : PolicyLine → Line

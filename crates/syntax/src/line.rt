@@ -1,10 +1,9 @@
 // The lines of a rule text. A line is scanned once: its parts are collected with a flag that says whether every number is
 // in range, and the line is judged at its end.
 ghost use mathlib.Core.Path.{_≡_};
-ghost use mathlib.Core.Bool.{true, false, _&&_};
-ghost use mathlib.Core.List.{[]};
-ghost use Rattle.policy.specs.Line.{lineOf};
-ghost use Rattle.policy.specs.declared.line.Ending.{Ending};
+ghost use mathlib.Core.Bool.{false, _&&_};
+ghost use Prim.Native.Nat.{_≤_};
+ghost use Rattle.policy.specs.Line.{pushCount};
 ghost use Rattle.lexer.specs.Token.{literalOf, actionOf};
 ghost use Rattle.syntax.specs.Grammar.{joined, comparisonsOf, conditionOf};
 ghost use Rattle.syntax.specs.Grammar.{after, ruleAfter, constraintAfter, lineFrom};
@@ -13,7 +12,8 @@ ghost use Rattle.lexer.specs.Scan.{tokenAt, tokensAt, lineEnd};
 ghost use Rattle.lexer.specs.Number.{isEmpty};
 ghost use Rattle.syntax.specs.Answers.{judgedLine, judgedParts, behindLine, lineReadOf, lineRead};
 ghost use Rattle.syntax.specs.Text.{LineAnswer};
-ghost use Rattle.syntax.specs.Outcome.{failedParts, viewOf, headsOutcome, comparisonsParts, causeParts, lineParts};
+ghost use Rattle.syntax.specs.Outcome.{failedParts, viewOf, headsOutcome, noComparisons, conditionOutcome};
+ghost use Rattle.syntax.specs.Outcome.{assembledParts, causeParts, lineParts};
 use lexer::ComparisonAt;
 use lexer::HeadAt;
 use lexer::NumberAt;
@@ -30,8 +30,10 @@ use lexer::never_at;
 use lexer::skip_spaces;
 use policy::Action;
 use policy::ActionCheck;
+use policy::Comparison;
 use policy::Ending;
 use policy::Fault;
+use policy::Head;
 use policy::Line;
 
 // What was read of a line: whether it has the right shape, whether every number is in range, the parts, and the position
@@ -43,10 +45,36 @@ pub struct Parts {
     pub at: usize,
 }
 
+// The same of its literals or its actions.
+pub struct Heads {
+    pub ok: bool,
+    pub in_range: bool,
+    pub heads: [Head; 8],
+    pub count: usize,
+    pub at: usize,
+}
+
+// The same of its condition.
+pub struct Condition {
+    pub ok: bool,
+    pub in_range: bool,
+    pub comparisons: [Comparison; 4],
+    pub count: usize,
+    pub at: usize,
+}
+
 fn both(a: bool, b: bool) -> bool
     ensures { λ r. ⌜ r ≡ a && b ⌝ }
 {
     if a { b } else { false }
+}
+
+// A count of parts, which stops at one past the limit.
+fn one_more(n: usize, limit: usize) -> usize
+    requires { ⌜ limit ≤ 8 ⌝ }
+    ensures { λ r. ⌜ r ≡ pushCount limit n ⌝ }
+{
+    if n <= limit { n + 1 } else { n }
 }
 
 fn failed(text: &[u8]) -> Parts
@@ -61,27 +89,38 @@ fn failed(text: &[u8]) -> Parts
 }
 
 // The literals of a rule or the actions of a constraint, joined by `&`.
-fn read_heads(text: &[u8], from: usize, never: bool) -> Parts
+fn read_heads(text: &[u8], from: usize, never: bool) -> Heads
     ensures { λ r. ⌜ viewOf (now (text .entry)) r
-        ≡ headsOutcome (now (text .entry)) true (lineOf [] [] Ending.Never) (lineEnd (now (text .entry)) from)
-        (joined (testOf never) (tokensAt (now (text .entry)) from)) ⌝ }
+        ≡ headsOutcome (lineEnd (now (text .entry)) from) (joined (testOf never) (tokensAt (now (text .entry)) from)) ⌝ }
 {
-    let mut line = Line::new();
+    let line = Line::new();
+    let mut heads = line.heads;
+    let mut count = 0;
     let mut in_range = true;
     let mut at = from;
     loop {
         let start = skip_spaces(text, at);
         let HeadAt::Head(test, ok, end) = head_at(text, start, never) else {
-            return failed(text);
+            return Heads {
+                ok: false,
+                in_range,
+                heads,
+                count,
+                at,
+            };
         };
-        line = line.with_head(test);
+        if count < 8 {
+            heads[count] = Head(test);
+        }
+        count = one_more(count, 8);
         in_range = both(in_range, ok);
         let next = skip_spaces(text, end);
         let WordAt::Found(behind) = ampersand_at(text, next) else {
-            return Parts {
+            return Heads {
                 ok: true,
                 in_range,
-                line,
+                heads,
+                count,
                 at: next,
             };
         };
@@ -89,60 +128,106 @@ fn read_heads(text: &[u8], from: usize, never: bool) -> Parts
     }
 }
 
-// The comparisons of a line, joined by `,`, to the end of the line.
-fn read_comparisons(text: &[u8], from: usize, heads: Line, heads_in_range: bool) -> Parts
-    ensures { λ r. ⌜ r ≡ comparisonsParts (now (text .entry)) «heads_in_range» heads (lineEnd (now (text .entry)) from)
-        (comparisonsOf (tokensAt (now (text .entry)) from)) ⌝ }
+// A condition with no comparison.
+fn no_comparisons(ok: bool, at: usize) -> Condition
+    ensures { λ r. ⌜ r ≡ noComparisons ok at ⌝ }
 {
-    let mut line = heads;
-    let mut in_range = heads_in_range;
+    let line = Line::new();
+    let comparisons = line.comparisons;
+    Condition {
+        ok,
+        in_range: ok,
+        comparisons,
+        count: 0,
+        at,
+    }
+}
+
+// The comparisons of a line, joined by `,`, to the end of the line.
+fn read_comparisons(text: &[u8], from: usize) -> Condition
+    ensures { λ r. ⌜ r
+        ≡ conditionOutcome (lineEnd (now (text .entry)) from) (comparisonsOf (tokensAt (now (text .entry)) from)) ⌝ }
+{
+    let line = Line::new();
+    let mut comparisons = line.comparisons;
+    let mut count = 0;
+    let mut in_range = true;
     let mut at = from;
     loop {
         let start = skip_spaces(text, at);
         let ComparisonAt::Comparison(comparison, ok, end) = comparison_at(text, start) else {
-            return failed(text);
+            return no_comparisons(false, 0);
         };
-        line = line.with_comparison(comparison);
+        if count < 4 {
+            comparisons[count] = comparison;
+        }
+        count = one_more(count, 4);
         in_range = both(in_range, ok);
         let next = skip_spaces(text, end);
         if at_token_end(text, next) {
-            return Parts {
+            return Condition {
                 ok: true,
                 in_range,
-                line,
+                comparisons,
+                count,
                 at: next,
             };
         }
         let WordAt::Found(behind) = comma_at(text, next) else {
-            return failed(text);
+            return no_comparisons(false, 0);
         };
         at = behind;
     }
 }
 
 // The condition of a line: `if` and comparisons, or nothing, to the end of the line.
-fn read_condition(text: &[u8], from: usize, heads: Line, in_range: bool) -> Parts
-    ensures { λ r. ⌜ r ≡ comparisonsParts (now (text .entry)) «in_range» heads (lineEnd (now (text .entry)) from)
-        (conditionOf (tokensAt (now (text .entry)) from)) ⌝ }
+fn read_condition(text: &[u8], from: usize) -> Condition
+    ensures { λ r. ⌜ r
+        ≡ conditionOutcome (lineEnd (now (text .entry)) from) (conditionOf (tokensAt (now (text .entry)) from)) ⌝ }
 {
     let start = skip_spaces(text, from);
     if at_token_end(text, start) {
-        return Parts {
-            ok: true,
-            in_range,
-            line: heads,
-            at: start,
-        };
+        return no_comparisons(true, start);
     }
     let WordAt::Found(behind) = if_at(text, start) else {
-        return failed(text);
+        return no_comparisons(false, 0);
     };
-    read_comparisons(text, behind, heads, in_range)
+    read_comparisons(text, behind)
+}
+
+// The line put together, with an ending that is in range or not.
+fn assembled(
+    text: &[u8],
+    heads: Heads,
+    ending: Ending,
+    ending_in_range: bool,
+    condition: Condition,
+) -> Parts
+    ensures { λ r. ⌜ r ≡ assembledParts (now (text .entry)) heads ending «ending_in_range» condition ⌝ }
+{
+    if condition.ok {
+        let head_array = heads.heads;
+        let comparisons = condition.comparisons;
+        Parts {
+            ok: true,
+            in_range: both(both(heads.in_range, condition.in_range), ending_in_range),
+            line: Line {
+                heads: head_array,
+                head_count: heads.count,
+                comparisons,
+                comparison_count: condition.count,
+                ending,
+            },
+            at: condition.at,
+        }
+    } else {
+        failed(text)
+    }
 }
 
 // `causes`, the action and the condition of a rule whose literals were read.
-fn read_cause(text: &[u8], heads: Parts) -> Parts
-    ensures { λ r. ⌜ r ≡ causeParts (now (text .entry)) (heads .«in_range») (heads .line) (lineEnd (now (text .entry)) (heads .at))
+fn read_cause(text: &[u8], heads: Heads) -> Parts
+    ensures { λ r. ⌜ r ≡ causeParts (now (text .entry)) heads (lineEnd (now (text .entry)) (heads .at))
         (tokensAt (now (text .entry)) (heads .at)) ⌝ }
 {
     let first = skip_spaces(text, heads.at);
@@ -153,19 +238,14 @@ fn read_cause(text: &[u8], heads: Parts) -> Parts
     let NumberAt::Number(n, end) = action_at(text, second) else {
         return failed(text);
     };
-    let line = heads.line;
+    let condition = read_condition(text, end);
     let check = Action::new(n);
     match check {
         ActionCheck::Valid(action) => {
-            read_condition(
-                text,
-                end,
-                line.ended(Ending::Causes(action)),
-                heads.in_range,
-            )
+            assembled(text, heads, Ending::Causes(action), true, condition)
         }
         ActionCheck::OutOfRange => {
-            read_condition(text, end, line.ended(Ending::Causes(Action(0))), false)
+            assembled(text, heads, Ending::Causes(Action(0)), false, condition)
         }
     }
 }
@@ -188,8 +268,8 @@ fn read_constraint(text: &[u8], from: usize) -> Parts
 {
     let heads = read_heads(text, from, true);
     if heads.ok {
-        let line = heads.line;
-        read_condition(text, heads.at, line, heads.in_range)
+        let condition = read_condition(text, heads.at);
+        assembled(text, heads, Ending::Never, true, condition)
     } else {
         failed(text)
     }

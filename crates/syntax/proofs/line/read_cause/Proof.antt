@@ -1,9 +1,9 @@
 use Prim.Native.Nat.{ℕ}
 use mathlib.Core.Path.{sym, ap, _∙_}
 use denote.Ref.{now}
-use Rattle.syntax.proofs.CauseLaws.{cause-absent, cause-no-action, cause-valid, cause-outside}
 use Rattle.lexer.specs.Byte.{bytes}
 use Rattle.lexer.specs.Scan.{wordAt, nameAt}
+use Rattle.syntax.proofs.CauseLaws.{cause-absent, cause-no-action, cause-valid, cause-outside}
 use borrow.Author.Needs.{needs}
 use Rattle.syntax.proofs.line.read_cause.Statement.{statement}
 use Rattle.syntax.proofs.line.read_cause.Tie as tie
@@ -28,7 +28,7 @@ returns c =
     let t = now (c .before .before .before .before .before .before .args .text) in
     let p = c .before .before .before .before .before .before .args .heads in
     let w = ap (λ (k : ℕ). wordAt t k (bytes "causes")) (sym (c .before .before .before .before .skip-spaces .ensures)) ∙ sym (c .before .before .before .causes-at .ensures) ∙ c .before .enum-told .given .1 in
-    c .failed .ensures ∙ cause-absent t (p .at) (p .«in_range») (p .line) w
+    c .failed .ensures ∙ cause-absent t (p .at) p w
 
 skip-spaces-requires-2 : tie.Need-skip-spaces-requires-2
 skip-spaces-requires-2 c κs = search needs
@@ -51,7 +51,10 @@ returns-2 c =
     let p = c .before .before .before .before .before .before .before .before .before .before .before .args .heads in
     let w = ap (λ (k : ℕ). wordAt t k (bytes "causes")) (sym (c .before .before .before .before .before .before .before .before .before .skip-spaces .ensures)) ∙ sym (c .before .before .before .before .before .before .before .before .causes-at .ensures) ∙ c .before .before .before .before .before .before .behind .given .1 in
     let q = ap (λ (k : ℕ). nameAt t k 65) (sym (c .before .before .before .before .skip-spaces2 .ensures)) ∙ sym (c .before .before .before .action-at .ensures) ∙ c .before .enum-told2 .given .1 in
-    c .failed2 .ensures ∙ cause-no-action t (p .at) (p .«in_range») (p .line) _ w q
+    c .failed2 .ensures ∙ cause-no-action t (p .at) p _ w q
+
+read-condition-requires : tie.Need-read-condition-requires
+read-condition-requires c κs = search needs
 
 new-requires : tie.Need-new-requires
 new-requires c κs = search needs
@@ -59,36 +62,30 @@ new-requires c κs = search needs
 enum-known-check : tie.Need-enum-known-check
 enum-known-check c = search needs
 
-ended-requires : tie.Need-ended-requires
-ended-requires c κs = search needs
-
-read-condition-requires : tie.Need-read-condition-requires
-read-condition-requires c κs = search needs
+assembled-requires : tie.Need-assembled-requires
+assembled-requires c κs = search needs
 
 enum-told-3 : tie.Need-enum-told-3
 enum-told-3 c = search needs
 
-ended-requires-2 : tie.Need-ended-requires-2
-ended-requires-2 c κs = search needs
-
-read-condition-requires-2 : tie.Need-read-condition-requires-2
-read-condition-requires-2 c κs = search needs
+assembled-requires-2 : tie.Need-assembled-requires-2
+assembled-requires-2 c κs = search needs
 
 returns-3 : tie.Need-returns-3
 returns-3 c =
-    let t = now (c .before .before .before .before .before .before .before .before .before .before .before .before .before .before .before .before .before .before .args .text) in
-    let p = c .before .before .before .before .before .before .before .before .before .before .before .before .before .before .before .before .before .before .args .heads in
-    let w = ap (λ (k : ℕ). wordAt t k (bytes "causes")) (sym (c .before .before .before .before .before .before .before .before .before .before .before .before .before .before .before .before .skip-spaces .ensures)) ∙ sym (c .before .before .before .before .before .before .before .before .before .before .before .before .before .before .before .causes-at .ensures) ∙ c .before .before .before .before .before .before .before .before .before .before .before .before .before .behind .given .1 in
-    let q = ap (λ (k : ℕ). nameAt t k 65) (sym (c .before .before .before .before .before .before .before .before .before .before .before .skip-spaces2 .ensures)) ∙ sym (c .before .before .before .before .before .before .before .before .before .before .action-at .ensures) ∙ c .before .before .before .before .before .before .before .before .n .given .1 in
-    c .read-condition .ensures ∙ rw (c .before .ended .ensures) (cause-valid t (p .at) (p .«in_range») (p .line) _ w _ _ q _ (sym (c .before .before .before .before .before .new .ensures) ∙ c .before .before .before .check .given .1))
-
-returns-4 : tie.Need-returns-4
-returns-4 c =
     let t = now (c .before .before .before .before .before .before .before .before .before .before .before .before .before .before .before .before .before .args .text) in
     let p = c .before .before .before .before .before .before .before .before .before .before .before .before .before .before .before .before .before .args .heads in
     let w = ap (λ (k : ℕ). wordAt t k (bytes "causes")) (sym (c .before .before .before .before .before .before .before .before .before .before .before .before .before .before .before .skip-spaces .ensures)) ∙ sym (c .before .before .before .before .before .before .before .before .before .before .before .before .before .before .causes-at .ensures) ∙ c .before .before .before .before .before .before .before .before .before .before .before .before .behind .given .1 in
     let q = ap (λ (k : ℕ). nameAt t k 65) (sym (c .before .before .before .before .before .before .before .before .before .before .skip-spaces2 .ensures)) ∙ sym (c .before .before .before .before .before .before .before .before .before .action-at .ensures) ∙ c .before .before .before .before .before .before .before .n .given .1 in
-    c .read-condition2 .ensures ∙ rw (c .before .ended2 .ensures) (cause-outside t (p .at) (p .«in_range») (p .line) _ w _ _ q (sym (c .before .before .before .before .new .ensures) ∙ c .before .before .enum-told3 .given .1))
+    c .assembled .ensures ∙ rw (c .before .before .before .before .before .read-condition .ensures) (cause-valid t (p .at) p _ w _ _ q _ (sym (c .before .before .before .before .new .ensures) ∙ c .before .before .check .given .1))
+
+returns-4 : tie.Need-returns-4
+returns-4 c =
+    let t = now (c .before .before .before .before .before .before .before .before .before .before .before .before .before .before .before .before .args .text) in
+    let p = c .before .before .before .before .before .before .before .before .before .before .before .before .before .before .before .before .args .heads in
+    let w = ap (λ (k : ℕ). wordAt t k (bytes "causes")) (sym (c .before .before .before .before .before .before .before .before .before .before .before .before .before .before .skip-spaces .ensures)) ∙ sym (c .before .before .before .before .before .before .before .before .before .before .before .before .before .causes-at .ensures) ∙ c .before .before .before .before .before .before .before .before .before .before .before .behind .given .1 in
+    let q = ap (λ (k : ℕ). nameAt t k 65) (sym (c .before .before .before .before .before .before .before .before .before .skip-spaces2 .ensures)) ∙ sym (c .before .before .before .before .before .before .before .before .action-at .ensures) ∙ c .before .before .before .before .before .before .n .given .1 in
+    c .assembled2 .ensures ∙ rw (c .before .before .before .before .read-condition .ensures) (cause-outside t (p .at) p _ w _ _ q (sym (c .before .before .before .new .ensures) ∙ c .before .enum-told3 .given .1))
 
 pub read-cause-spec : {M : Type 1} → statement M
 read-cause-spec =
@@ -106,12 +103,11 @@ read-cause-spec =
     enum-told-2
     failed-requires-2
     returns-2
+    read-condition-requires
     new-requires
     enum-known-check
-    ended-requires
-    read-condition-requires
+    assembled-requires
     enum-told-3
-    ended-requires-2
-    read-condition-requires-2
+    assembled-requires-2
     returns-3
     returns-4)

@@ -1,30 +1,33 @@
 use Prim.Native.Nat.{ℕ, _-_}
-use mathlib.Core.Bool.{true}
+use mathlib.Core.Logic.{⊎-elim}
 use mathlib.Core.Path.{_≡_, sym, ap, _∙_}
-use lib.ListN.{length}
 use denote.Ref.{now}
-use Rattle.syntax.proofs.HeadLaws.{heads-failed, heads-done, heads-less, heads-again}
+use lib.ListN.{length}
+use Rattle.policy.specs.Line.{head, lineOf}
 use Rattle.lexer.specs.Byte.{bytes}
-use Rattle.syntax.specs.Grammar.{joined}
-use Rattle.syntax.specs.Outcome.{newLine, headsOutcome}
 use Rattle.lexer.specs.Parts.{testOf, headAt}
 use Rattle.lexer.specs.Scan.{tokensAt, lineEnd, wordAt}
+use Rattle.syntax.proofs.FillLaws.{taken-in, left-out}
+use Rattle.syntax.proofs.HeadLaws.{headsFrom, heads-start, heads-failed, heads-done, heads-less, heads-again}
+use Rattle.syntax.specs.Grammar.{joined}
+use Rattle.syntax.specs.Outcome.{headsOutcome}
 use borrow.Author.Needs.{needs}
 use native.Mathlib.Omega.{arith}
 use Rattle.syntax.proofs.line.read_heads.Statement.{statement}
 use Rattle.syntax.proofs.line.read_heads.Tie as tie
 
 abbrev Inv-loop : tie.InvT-loop
-Inv-loop text from never line₀ in-range₀ at₀ line in-range at = headsOutcome text true newLine (lineEnd text from) (joined (testOf never) (tokensAt text from)) ≡ headsOutcome text in-range line (lineEnd text at) (joined (testOf never) (tokensAt text at))
+Inv-loop text from never heads₀ count₀ in-range₀ at₀ heads count in-range at = headsOutcome (lineEnd text from) (joined (testOf never) (tokensAt text from)) ≡ headsFrom in-range heads count (lineEnd text at) (joined (testOf never) (tokensAt text at))
 
 abbrev μ-loop : tie.MeasureT-loop
-μ-loop text from never line₀ in-range₀ at₀ line in-range at = length text - at
+μ-loop text from never heads₀ count₀ in-range₀ at₀ heads count in-range at = length text - at
 
 new-requires : tie.Need-new-requires Inv-loop μ-loop
 new-requires c κs = search needs
 
 loop-holds : tie.Need-loop-holds Inv-loop μ-loop
-loop-holds c = rw (c .new .ensures)
+unfolding lineOf
+loop-holds c = rw (c .before .new .ensures) (heads-start _ _)
 
 skip-spaces-requires : tie.Need-skip-spaces-requires Inv-loop μ-loop
 skip-spaces-requires c κs = search needs
@@ -38,19 +41,22 @@ enum-known-test c = search needs
 enum-told : tie.Need-enum-told Inv-loop μ-loop
 enum-told c = search needs
 
-failed-requires : tie.Need-failed-requires Inv-loop μ-loop
-failed-requires c κs = search needs
-
 returns : tie.Need-returns Inv-loop μ-loop
 returns c =
     let t = now (c .before .before .before .before .before .before .before .before .args .text) in
     let v = c .before .before .before .before .before .before .before .before .args .never in
-    let l = c .before .before .before .before .before .loop in
-    let q = ap (λ (k : ℕ). headAt t k v) (sym (c .before .before .before .before .skip-spaces .ensures)) ∙ sym (c .before .before .before .head-at .ensures) ∙ c .before .enum-told .given .1 in
-    rw (c .failed .ensures) (heads-failed t (l .at) v (l .in-range) (l .line) q ∙ sym (l .inv))
+    let l = c .before .before .before .before .loop in
+    let q = ap (λ (k : ℕ). headAt t k v) (sym (c .before .before .before .skip-spaces .ensures)) ∙ sym (c .before .before .head-at .ensures) ∙ c .enum-told .given .1 in
+    heads-failed t (l .at) v (l .in-range) (l .heads) (l .count) q ∙ sym (l .inv)
 
-with-head-requires : tie.Need-with-head-requires Inv-loop μ-loop
-with-head-requires c κs = search needs
+mul-heads : tie.Need-mul-heads Inv-loop μ-loop
+mul-heads c = search needs
+
+array-set-from-heads : tie.Need-array-set-from-heads Inv-loop μ-loop
+array-set-from-heads c = search needs
+
+one-more-requires : tie.Need-one-more-requires Inv-loop μ-loop
+one-more-requires c κs = search needs
 
 both-requires : tie.Need-both-requires Inv-loop μ-loop
 both-requires c κs = search needs
@@ -69,33 +75,35 @@ enum-told-2 c = search needs
 
 returns-2 : tie.Need-returns-2 Inv-loop μ-loop
 returns-2 c =
-    let t = now (c .before .before .before .before .before .before .before .before .before .before .before .before .before .before .args .text) in
-    let v = c .before .before .before .before .before .before .before .before .before .before .before .before .before .before .args .never in
-    let l = c .before .before .before .before .before .before .before .before .before .before .before .loop in
-    let q = ap (λ (k : ℕ). headAt t k v) (sym (c .before .before .before .before .before .before .before .before .before .before .skip-spaces .ensures)) ∙ sym (c .before .before .before .before .before .before .before .before .before .head-at .ensures) ∙ c .before .before .before .before .before .before .before .test .given .1 in
+    let t = now (c .before .before .before .before .before .before .before .before .before .before .before .before .before .before .before .before .args .text) in
+    let v = c .before .before .before .before .before .before .before .before .before .before .before .before .before .before .before .before .args .never in
+    let l = c .before .before .before .before .before .before .before .before .before .before .before .before .loop in
+    let q = ap (λ (k : ℕ). headAt t k v) (sym (c .before .before .before .before .before .before .before .before .before .before .before .skip-spaces .ensures)) ∙ sym (c .before .before .before .before .before .before .before .before .before .before .head-at .ensures) ∙ c .before .before .before .before .before .before .before .before .test .given .1 in
     let w = ap (λ (k : ℕ). wordAt t k (bytes "&")) (sym (c .before .before .before .skip-spaces2 .ensures)) ∙ sym (c .before .before .ampersand-at .ensures) ∙ c .enum-told2 .given .1 in
-    rw (c .before .before .before .before .both .ensures, c .before .before .before .before .before .with-head .ensures, c .before .before .before .skip-spaces2 .ensures)
-    (heads-done t (l .at) v (l .in-range) (l .line) _ _ _ q w ∙ sym (l .inv))
+    let x = c .before .before .before .before .before .before .before .before .test .given .0 .0 in
+    let k = ⊎-elim (λ y. taken-in 8 (l .heads) _ (l .count) (head x) (y .0 .taken) (y .1)) (λ y. left-out 8 (l .heads) _ (l .count) (head x) (y .0 .left) (y .1)) (c .before .before .before .before .before .before .if1 .came) in
+    rw (c .before .before .before .before .both .ensures, k, c .before .before .before .before .before .one-more .ensures, c .before .before .before .skip-spaces2 .ensures) (heads-done t (l .at) v (l .in-range) (l .heads) (l .count) _ _ _ q w ∙ sym (l .inv))
 
 loop-less : tie.Need-loop-less Inv-loop μ-loop
 loop-less c =
-    let t = now (c .before .before .before .before .before .before .before .before .before .before .before .before .before .before .before .args .text) in
-    let v = c .before .before .before .before .before .before .before .before .before .before .before .before .before .before .before .args .never in
-    let l = c .before .before .before .before .before .before .before .before .before .before .before .before .loop in
-    let q = ap (λ (k : ℕ). headAt t k v) (sym (c .before .before .before .before .before .before .before .before .before .before .before .skip-spaces .ensures)) ∙ sym (c .before .before .before .before .before .before .before .before .before .before .head-at .ensures) ∙ c .before .before .before .before .before .before .before .before .test .given .1 in
+    let t = now (c .before .before .before .before .before .before .before .before .before .before .before .before .before .before .before .before .before .args .text) in
+    let v = c .before .before .before .before .before .before .before .before .before .before .before .before .before .before .before .before .before .args .never in
+    let l = c .before .before .before .before .before .before .before .before .before .before .before .before .before .loop in
+    let q = ap (λ (k : ℕ). headAt t k v) (sym (c .before .before .before .before .before .before .before .before .before .before .before .before .skip-spaces .ensures)) ∙ sym (c .before .before .before .before .before .before .before .before .before .before .before .head-at .ensures) ∙ c .before .before .before .before .before .before .before .before .before .test .given .1 in
     let w = ap (λ (k : ℕ). wordAt t k (bytes "&")) (sym (c .before .before .before .before .skip-spaces2 .ensures)) ∙ sym (c .before .before .before .ampersand-at .ensures) ∙ c .before .behind .given .1 in
-    let h = heads-less t (l .at) v (l .in-range) (l .line) _ _ _ q _ w in
+    let h = heads-less t (l .at) v (l .in-range) (l .heads) (l .count) _ _ _ q _ w in
     omega arith
 
 loop-again : tie.Need-loop-again Inv-loop μ-loop
 loop-again c =
-    let t = now (c .before .before .before .before .before .before .before .before .before .before .before .before .before .before .before .args .text) in
-    let v = c .before .before .before .before .before .before .before .before .before .before .before .before .before .before .before .args .never in
-    let l = c .before .before .before .before .before .before .before .before .before .before .before .before .loop in
-    let q = ap (λ (k : ℕ). headAt t k v) (sym (c .before .before .before .before .before .before .before .before .before .before .before .skip-spaces .ensures)) ∙ sym (c .before .before .before .before .before .before .before .before .before .before .head-at .ensures) ∙ c .before .before .before .before .before .before .before .before .test .given .1 in
+    let t = now (c .before .before .before .before .before .before .before .before .before .before .before .before .before .before .before .before .before .args .text) in
+    let v = c .before .before .before .before .before .before .before .before .before .before .before .before .before .before .before .before .before .args .never in
+    let l = c .before .before .before .before .before .before .before .before .before .before .before .before .before .loop in
+    let q = ap (λ (k : ℕ). headAt t k v) (sym (c .before .before .before .before .before .before .before .before .before .before .before .before .skip-spaces .ensures)) ∙ sym (c .before .before .before .before .before .before .before .before .before .before .before .head-at .ensures) ∙ c .before .before .before .before .before .before .before .before .before .test .given .1 in
     let w = ap (λ (k : ℕ). wordAt t k (bytes "&")) (sym (c .before .before .before .before .skip-spaces2 .ensures)) ∙ sym (c .before .before .before .ampersand-at .ensures) ∙ c .before .behind .given .1 in
-    rw (c .before .before .before .before .before .both .ensures, c .before .before .before .before .before .before .with-head .ensures)
-    (l .inv ∙ heads-again t (l .at) v (l .in-range) (l .line) _ _ _ q _ w)
+    let x = c .before .before .before .before .before .before .before .before .before .test .given .0 .0 in
+    let k = ⊎-elim (λ y. taken-in 8 (l .heads) _ (l .count) (head x) (y .0 .taken) (y .1)) (λ y. left-out 8 (l .heads) _ (l .count) (head x) (y .0 .left) (y .1)) (c .before .before .before .before .before .before .before .if1 .came) in
+    rw (c .before .before .before .before .before .both .ensures, k, c .before .before .before .before .before .before .one-more .ensures) (l .inv ∙ heads-again t (l .at) v (l .in-range) (l .heads) (l .count) _ _ _ q _ w)
 
 pub read-heads-spec : {M : Type 1} → statement M
 read-heads-spec =
@@ -109,9 +117,10 @@ read-heads-spec =
     head-at-requires
     enum-known-test
     enum-told
-    failed-requires
     returns
-    with-head-requires
+    mul-heads
+    array-set-from-heads
+    one-more-requires
     both-requires
     skip-spaces-requires-2
     ampersand-at-requires

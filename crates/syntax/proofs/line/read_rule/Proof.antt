@@ -15,10 +15,14 @@ failed-requires : tie.Need-failed-requires
 failed-requires c κs = search needs
 
 returns : tie.Need-returns
-returns c = c .read-cause .ensures ∙ rule-yes (now (c .before .before .before .before .args .text)) (c .before .before .before .before .args .from) (c .before .before .read-heads .result) (c .before .before .read-heads .ensures) (c .before .if1 .taken)
+returns c =
+    let h = c .before .before .read-heads in
+    c .read-cause .ensures ∙ rule-yes (now (c .before .before .before .before .args .text)) (c .before .before .before .before .args .from) (h .result) (h .ensures) (c .before .if1 .taken)
 
 returns-2 : tie.Need-returns-2
-returns-2 c = c .failed .ensures ∙ rule-no (now (c .before .before .before .before .args .text)) (c .before .before .before .before .args .from) (c .before .before .read-heads .result) (c .before .before .read-heads .ensures) (c .before .if1 .left)
+returns-2 c =
+    let h = c .before .before .read-heads in
+    c .failed .ensures ∙ rule-no (now (c .before .before .before .before .args .text)) (c .before .before .before .before .args .from) (h .result) (h .ensures) (c .before .if1 .left)
 
 pub read-rule-spec : {M : Type 1} → statement M
 read-rule-spec =
