@@ -35,19 +35,19 @@ module _ (text : List ℕ) (at : ℕ) (heads : Heads) where
   s = skip isSpace text at
 
   abbrev outcome : Parts
-  outcome = causeParts text heads (lineEnd text at) (tokensAt text at)
+  outcome = causeParts heads (lineEnd text at) (tokensAt text at)
 
-  pub cause-absent : wordAt text s (bytes "causes") ≡ WordAt.Absent → failedParts text ≡ outcome
+  pub cause-absent : wordAt text s (bytes "causes") ≡ WordAt.Absent → failedParts ≡ outcome
   unfolding causeParts is
-  cause-absent w = sym (ap (causeParts text heads (lineEnd text at)) (tokens-after-spaces text at) ∙ go (isEmpty (tokenAt text s)) refl)
+  cause-absent w = sym (ap (causeParts heads (lineEnd text at)) (tokens-after-spaces text at) ∙ go (isEmpty (tokenAt text s)) refl)
     where
-      none-of : (ts : List Token) → causeParts text heads (lineEnd text at) (tokenAt text s ∷ ts) ≡ failedParts text
+      none-of : (ts : List Token) → causeParts heads (lineEnd text at) (tokenAt text s ∷ ts) ≡ failedParts
       none-of [] = refl
       none-of (a ∷ ts) = rw (word-absent text s (bytes "causes") w)
 
-      go : (b : Bool) → isEmpty (tokenAt text s) ≡ b → causeParts text heads (lineEnd text at) (tokensAt text s) ≡ failedParts text
-      go true h = ap (causeParts text heads (lineEnd text at)) (tokens-ended text at h)
-      go false h = ap (causeParts text heads (lineEnd text at)) (tokens-first text s h) ∙ none-of (tokensAt text (skip inToken text s))
+      go : (b : Bool) → isEmpty (tokenAt text s) ≡ b → causeParts heads (lineEnd text at) (tokensAt text s) ≡ failedParts
+      go true h = ap (causeParts heads (lineEnd text at)) (tokens-ended text at h)
+      go false h = ap (causeParts heads (lineEnd text at)) (tokens-first text s h) ∙ none-of (tokensAt text (skip inToken text s))
 
   module _ (b : ℕ) (w : wordAt text s (bytes "causes") ≡ WordAt.Found b) where
     abbrev s2 : ℕ
@@ -66,13 +66,13 @@ module _ (text : List ℕ) (at : ℕ) (heads : Heads) where
     ends : lineEnd text s2 ≡ lineEnd text at
     ends = line-past-spaces text b ∙ ap (lineEnd text) (word .1) ∙ line-past-token text s ∙ line-past-spaces text at
 
-    pub cause-no-action : nameAt text s2 65 ≡ NumberAt.Malformed → failedParts text ≡ outcome
+    pub cause-no-action : nameAt text s2 65 ≡ NumberAt.Malformed → failedParts ≡ outcome
     unfolding causeParts causedParts is bytes sameBytes actionOf
-    cause-no-action q = sym (ap (causeParts text heads (lineEnd text at)) tokens ∙ go (isEmpty (tokenAt text s2)) refl)
+    cause-no-action q = sym (ap (causeParts heads (lineEnd text at)) tokens ∙ go (isEmpty (tokenAt text s2)) refl)
       where
-        go : (x : Bool) → isEmpty (tokenAt text s2) ≡ x → causeParts text heads (lineEnd text at) (bytes "causes" ∷ tokensAt text s2) ≡ failedParts text
-        go true h = ap (λ (ts : List Token). causeParts text heads (lineEnd text at) (bytes "causes" ∷ ts)) (tokens-ended text b h)
-        go false h = ap (λ (ts : List Token). causeParts text heads (lineEnd text at) (bytes "causes" ∷ ts)) (tokens-first text s2 h) ∙ rw (name-none 65 text s2 q)
+        go : (x : Bool) → isEmpty (tokenAt text s2) ≡ x → causeParts heads (lineEnd text at) (bytes "causes" ∷ tokensAt text s2) ≡ failedParts
+        go true h = ap (λ (ts : List Token). causeParts heads (lineEnd text at) (bytes "causes" ∷ ts)) (tokens-ended text b h)
+        go false h = ap (λ (ts : List Token). causeParts heads (lineEnd text at) (bytes "causes" ∷ ts)) (tokens-first text s2 h) ∙ rw (name-none 65 text s2 q)
 
     module _ (v e : ℕ) (q : nameAt text s2 65 ≡ NumberAt.Number v e) where
       name : Named 65 text s2 v e
@@ -89,15 +89,15 @@ module _ (text : List ℕ) (at : ℕ) (heads : Heads) where
       line : lineEnd text e ≡ lineEnd text at
       line = ap (lineEnd text) (name .behind) ∙ line-past-token text s2 ∙ ends
 
-      caused : outcome ≡ assembledParts text heads (smallEnding (Ending.Causes action)) (endingInRange (Ending.Causes action)) (conditionOutcome (lineEnd text at) (conditionOf (tokensAt text e)))
+      caused : outcome ≡ assembledParts heads (smallEnding (Ending.Causes action)) (endingInRange (Ending.Causes action)) (conditionOutcome (lineEnd text at) (conditionOf (tokensAt text e)))
       unfolding causeParts causedParts is bytes sameBytes actionOf action
-      caused = ap (causeParts text heads (lineEnd text at)) both-tokens ∙ rw (name .is)
+      caused = ap (causeParts heads (lineEnd text at)) both-tokens ∙ rw (name .is)
 
       -- the action of a clipped number in range is that of the number
       in-range : ltb v 64 ≡ ltb (name .number) 64
       in-range = ap (λ (k : ℕ). ltb k 64) (name .clipped) ∙ clip-below 64 (name .number) (omega arith)
 
-      pub cause-valid : (a : Action) → Number.actionOf v ≡ ActionCheck.Valid a → assembledParts text heads (Ending.Causes a) true (conditionOutcome (lineEnd text e) (conditionOf (tokensAt text e))) ≡ outcome
+      pub cause-valid : (a : Action) → Number.actionOf v ≡ ActionCheck.Valid a → assembledParts heads (Ending.Causes a) true (conditionOutcome (lineEnd text e) (conditionOf (tokensAt text e))) ≡ outcome
       unfolding endingInRange smallEnding action
       cause-valid a h =
           let p = action-valid v a h in
@@ -105,28 +105,28 @@ module _ (text : List ℕ) (at : ℕ) (heads : Heads) where
           let m : v ≡ name .number = name .clipped ∙ clip-same 64 (name .number) (omega arith) k in
           sym (caused ∙ valid-of a k (p .1 ∙ ap (λ (i : ℕ). record { 0 = i }) m))
         where
-          valid-of : (x : Action) → ltb (name .number) 64 ≡ true → x ≡ record { 0 = name .number } → assembledParts text heads (smallEnding (Ending.Causes action)) (endingInRange (Ending.Causes action)) (conditionOutcome (lineEnd text at) (conditionOf (tokensAt text e))) ≡ assembledParts text heads (Ending.Causes x) true (conditionOutcome (lineEnd text e) (conditionOf (tokensAt text e)))
+          valid-of : (x : Action) → ltb (name .number) 64 ≡ true → x ≡ record { 0 = name .number } → assembledParts heads (smallEnding (Ending.Causes action)) (endingInRange (Ending.Causes action)) (conditionOutcome (lineEnd text at) (conditionOf (tokensAt text e))) ≡ assembledParts heads (Ending.Causes x) true (conditionOutcome (lineEnd text e) (conditionOf (tokensAt text e)))
           valid-of x k i = rw (k, i, line)
 
-      pub cause-outside : Number.actionOf v ≡ ActionCheck.OutOfRange → assembledParts text heads (Ending.Causes (record { 0 = 0 })) false (conditionOutcome (lineEnd text e) (conditionOf (tokensAt text e))) ≡ outcome
+      pub cause-outside : Number.actionOf v ≡ ActionCheck.OutOfRange → assembledParts heads (Ending.Causes (record { 0 = 0 })) false (conditionOutcome (lineEnd text e) (conditionOf (tokensAt text e))) ≡ outcome
       unfolding endingInRange smallEnding action
       cause-outside h =
           let k : ltb (name .number) 64 ≡ false = sym in-range ∙ action-outside v h in
           sym (caused ∙ outside-of k)
         where
-          outside-of : ltb (name .number) 64 ≡ false → assembledParts text heads (smallEnding (Ending.Causes action)) (endingInRange (Ending.Causes action)) (conditionOutcome (lineEnd text at) (conditionOf (tokensAt text e))) ≡ assembledParts text heads (Ending.Causes (record { 0 = 0 })) false (conditionOutcome (lineEnd text e) (conditionOf (tokensAt text e)))
+          outside-of : ltb (name .number) 64 ≡ false → assembledParts heads (smallEnding (Ending.Causes action)) (endingInRange (Ending.Causes action)) (conditionOutcome (lineEnd text at) (conditionOf (tokensAt text e))) ≡ assembledParts heads (Ending.Causes (record { 0 = 0 })) false (conditionOutcome (lineEnd text e) (conditionOf (tokensAt text e)))
           outside-of k = rw (k, line)
 
 -- ---- the shape of the line, by its first token
 
 module _ (text : List ℕ) (at : ℕ) (h : isEmpty (tokenAt text at) ≡ false) where
-  pub line-never : (b : ℕ) → wordAt text at (bytes "never") ≡ WordAt.Found b → lineParts text (lineEnd text b) (after constraintAfter (joined actionOf (tokensAt text b))) ≡ lineParts text (lineEnd text at) (lineFrom (tokensAt text at))
+  pub line-never : (b : ℕ) → wordAt text at (bytes "never") ≡ WordAt.Found b → lineParts (lineEnd text b) (after constraintAfter (joined actionOf (tokensAt text b))) ≡ lineParts (lineEnd text at) (lineFrom (tokensAt text at))
   unfolding lineFrom is bytes sameBytes
   line-never b w =
       let f = word-token text at (bytes "never") b w in
       rw (tokens-first text at h, f .0)
-      (ap₂ (λ (k m : ℕ). lineParts text k (after constraintAfter (joined actionOf (tokensAt text m)))) (ap (lineEnd text) (f .1) ∙ line-past-token text at) (f .1))
+      (ap₂ (λ (k m : ℕ). lineParts k (after constraintAfter (joined actionOf (tokensAt text m)))) (ap (lineEnd text) (f .1) ∙ line-past-token text at) (f .1))
 
-  pub line-rule : wordAt text at (bytes "never") ≡ WordAt.Absent → lineParts text (lineEnd text at) (after ruleAfter (joined literalOf (tokensAt text at))) ≡ lineParts text (lineEnd text at) (lineFrom (tokensAt text at))
+  pub line-rule : wordAt text at (bytes "never") ≡ WordAt.Absent → lineParts (lineEnd text at) (after ruleAfter (joined literalOf (tokensAt text at))) ≡ lineParts (lineEnd text at) (lineFrom (tokensAt text at))
   unfolding lineFrom is
   line-rule w = rw (tokens-first text at h, word-absent text at (bytes "never") w)

@@ -19,7 +19,7 @@ use Rattle.lexer.specs.Byte.{bytes, sameBytes, is, isSpace}
 use Rattle.lexer.specs.Token.{Token, both, compare, named, readingOf, relationOf, orElse, operandOf, comparisonOf}
 use Rattle.syntax.specs.Grammar.{comparisonsOf, conditionOf}
 use Rattle.lexer.specs.Number.{isEmpty, constantOf}
-use Rattle.syntax.proofs.FillLaws.{filled, tallied, filled-all, tallied-all}
+use Rattle.syntax.proofs.FillLaws.{filled, filledCount, filled-all, filled-count-all}
 use Rattle.syntax.specs.Outcome.{noComparisons, conditionOutcome}
 use Rattle.lexer.specs.Parts.{smallComparison, comparisonEnding, nextAt, comparisonAt}
 use Rattle.lexer.specs.Scan.{skip, inToken, tokenAt, wordAt, tokensAt, lineEnd}
@@ -57,16 +57,16 @@ module _ (r q o : Token) where
 unfoldable pub comparisonsFrom : Bool → List Comparison → ℕ → ℕ → Option (List Comparison) → Condition
 comparisonsFrom ok held n end none = noComparisons false 0
 comparisonsFrom ok held n end (some cs) =
-    record { ok = true; «in_range» = ok && all comparisonInRange cs; comparisons = filled comparisonLimit held n (map smallComparison cs); count = tallied comparisonLimit n (map smallComparison cs); at = end }
+    record { ok = true; «in_range» = ok && all comparisonInRange cs; comparisons = filled comparisonLimit held n (map smallComparison cs); count = filledCount comparisonLimit n (map smallComparison cs); at = end }
 
 pub comparisons-start : (e : ℕ) (o : Option (List Comparison)) → conditionOutcome e o ≡ comparisonsFrom true (held comparisonLimit noComparison []) 0 e o
 unfolding conditionOutcome comparisonsFrom
 comparisons-start e none = refl
-comparisons-start e (some cs) = rw (filled-all comparisonLimit noComparison (map smallComparison cs), tallied-all comparisonLimit noComparison (map smallComparison cs))
+comparisons-start e (some cs) = rw (filled-all comparisonLimit noComparison (map smallComparison cs), filled-count-all comparisonLimit noComparison (map smallComparison cs))
 
 -- one comparison more
 comparisons-step : (r : Bool) (xs : List Comparison) (k e : ℕ) (x : Comparison) (o : Option (List Comparison)) → comparisonsFrom r xs k e (both _∷_ (some x) o) ≡ comparisonsFrom (r && comparisonInRange x) (pushItem comparisonLimit xs k (smallComparison x)) (pushCount comparisonLimit k) e o
-unfolding comparisonsFrom filled tallied all both
+unfolding comparisonsFrom filled filledCount all both
 comparisons-step r xs k e x none = refl
 comparisons-step r xs k e x (some cs) = rw (and-assoc r (comparisonInRange x) (all comparisonInRange cs))
 
@@ -207,7 +207,7 @@ module _ (text : List ℕ) (at : ℕ) (r : Bool) (xs : List Comparison) (k : ℕ
     start o h = ap (λ (ts : List Token). comparisonsFrom r xs k (lineEnd text at) (comparisonsOf ts)) tokens ∙ ap (comparisonsFrom r xs k (lineEnd text at)) h
 
     pub comparisons-done : isEmpty (tokenAt text n) ≡ true → record { ok = true; «in_range» = r && ok; comparisons = xs′; count = k′; at = n } ≡ outcome
-    unfolding comparisonsFrom filled tallied all
+    unfolding comparisonsFrom filled filledCount all
     comparisons-done h =
         sym (start (some (found .comparison ∷ []))
         (ap (λ (ts : List Token). comparisonsOf (tokenAt text s ∷ tokenAt text s2 ∷ tokenAt text s3 ∷ ts)) (tokens-ended text e h)

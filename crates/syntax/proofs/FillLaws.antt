@@ -13,9 +13,9 @@ module _ {A : Type 0} (limit : ℕ) where
   filled array n [] = array
   filled array n (x ∷ xs) = filled (pushItem limit array n x) (pushCount limit n) xs
 
-  unfoldable pub tallied : ℕ → List A → ℕ
-  tallied n [] = n
-  tallied n (x ∷ xs) = tallied (pushCount limit n) xs
+  unfoldable pub filledCount : ℕ → List A → ℕ
+  filledCount n [] = n
+  filledCount n (x ∷ xs) = filledCount (pushCount limit n) xs
 
 module _ {A : Type 0} (limit : ℕ) (filler : A) where
   filled-on : (xs ys : List A) → filled limit (held limit filler xs) (counted limit xs) ys ≡ held limit filler (xs ++ ys)
@@ -25,11 +25,11 @@ module _ {A : Type 0} (limit : ℕ) (filler : A) where
       ap₂ (λ (l : List A) (n : ℕ). filled limit l n ys) (push-item limit filler xs y) (push-count limit filler xs y) ∙ filled-on (xs ++ y ∷ []) ys
       ∙ ap (held limit filler) (append-assoc xs (y ∷ []) ys)
 
-  tallied-on : (xs ys : List A) → tallied limit (counted limit xs) ys ≡ counted limit (xs ++ ys)
-  unfolding tallied
-  tallied-on xs [] = ap (counted limit) (sym (append-nil xs))
-  tallied-on xs (y ∷ ys) =
-      ap (λ (n : ℕ). tallied limit n ys) (push-count limit filler xs y) ∙ tallied-on (xs ++ y ∷ []) ys ∙ ap (counted limit) (append-assoc xs (y ∷ []) ys)
+  filled-count-on : (xs ys : List A) → filledCount limit (counted limit xs) ys ≡ counted limit (xs ++ ys)
+  unfolding filledCount
+  filled-count-on xs [] = ap (counted limit) (sym (append-nil xs))
+  filled-count-on xs (y ∷ ys) =
+      ap (λ (n : ℕ). filledCount limit n ys) (push-count limit filler xs y) ∙ filled-count-on (xs ++ y ∷ []) ys ∙ ap (counted limit) (append-assoc xs (y ∷ []) ys)
 
   -- from an empty array
   none-counted : counted {A = A} limit [] ≡ 0
@@ -39,8 +39,8 @@ module _ {A : Type 0} (limit : ℕ) (filler : A) where
   pub filled-all : (xs : List A) → filled limit (held limit filler []) 0 xs ≡ held limit filler xs
   filled-all xs = ap (λ (n : ℕ). filled limit (held limit filler []) n xs) (sym none-counted) ∙ filled-on [] xs
 
-  pub tallied-all : (xs : List A) → tallied limit 0 xs ≡ counted limit xs
-  tallied-all xs = ap (λ (n : ℕ). tallied limit n xs) (sym none-counted) ∙ tallied-on [] xs
+  pub filled-count-all : (xs : List A) → filledCount limit 0 xs ≡ counted limit xs
+  filled-count-all xs = ap (λ (n : ℕ). filledCount limit n xs) (sym none-counted) ∙ filled-count-on [] xs
 
 -- the array after an item was taken in, or left out
 module _ {A : Type 0} (limit : ℕ) (array after : List A) (n : ℕ) (x : A) where

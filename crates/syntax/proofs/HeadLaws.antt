@@ -6,7 +6,7 @@ use mathlib.Core.Option.{Option, none, some, Option·map}
 use mathlib.Core.Path.{_≡_, refl, sym, ap, ap₂, _∙_}
 use native.Mathlib.Omega.{arith}
 use lib.ListN.{length}
-use Rattle.policy.specs.Line.{head, held, counted, headLimit, noHead, pushItem, pushCount}
+use Rattle.policy.specs.Line.{head, held, headLimit, noHead, pushItem, pushCount}
 use Rattle.policy.specs.List.{all}
 use Rattle.policy.specs.declared.line.Head.{Head}
 use Rattle.policy.specs.declared.line.Test.{Test}
@@ -17,11 +17,10 @@ use Rattle.lexer.specs.Byte.{bytes, sameBytes, is, isSpace}
 use Rattle.lexer.specs.Token.{Token, both, literalOf, actionOf, named}
 use Rattle.syntax.specs.Grammar.{Joined, last, before, joined}
 use Rattle.lexer.specs.Number.{isEmpty}
-use Rattle.syntax.proofs.FillLaws.{filled, tallied, filled-all, tallied-all}
+use Rattle.syntax.proofs.FillLaws.{filled, filledCount, filled-all, filled-count-all}
 use Rattle.syntax.specs.Outcome.{HeadsRead, viewOf, smallHeads, headsOutcome}
 use Rattle.lexer.specs.Parts.{testInRange, smallTest, testOf, headEnding, headAt}
 use Rattle.lexer.specs.Scan.{skip, inToken, tokenAt, wordAt, tokensAt, lineEnd}
-use Rattle.syntax.specs.declared.line.Heads.{Heads}
 use Rattle.lexer.specs.declared.scan.WordAt.{WordAt}
 use Rattle.lexer.specs.declared.token.HeadAt.{HeadAt}
 
@@ -59,16 +58,16 @@ module _ {A : Type 0} (item : Token → Option A) (t : Token) where
 unfoldable pub headsFrom : Bool → List Head → ℕ → ℕ → Option (Joined Test) → Option HeadsRead
 headsFrom ok heads n end none = none
 headsFrom ok heads n end (some j) =
-    some (record { inRange = ok && all testInRange (j .items); heads = filled headLimit heads n (smallHeads (j .items)); count = tallied headLimit n (smallHeads (j .items)); rest = j .rest; end = end })
+    some (record { inRange = ok && all testInRange (j .items); heads = filled headLimit heads n (smallHeads (j .items)); count = filledCount headLimit n (smallHeads (j .items)); rest = j .rest; end = end })
 
 pub heads-start : (e : ℕ) (o : Option (Joined Test)) → headsOutcome e o ≡ headsFrom true (held headLimit noHead []) 0 e o
 unfolding headsOutcome headsFrom
 heads-start e none = refl
-heads-start e (some j) = rw (filled-all headLimit noHead (smallHeads (j .items)), tallied-all headLimit noHead (smallHeads (j .items)))
+heads-start e (some j) = rw (filled-all headLimit noHead (smallHeads (j .items)), filled-count-all headLimit noHead (smallHeads (j .items)))
 
 -- one head more
 heads-step : (r : Bool) (hs : List Head) (k e : ℕ) (x : Test) (o : Option (Joined Test)) → headsFrom r hs k e (Option·map (before x) o) ≡ headsFrom (r && testInRange x) (pushItem headLimit hs k (head (smallTest x))) (pushCount headLimit k) e o
-unfolding headsFrom filled tallied all
+unfolding headsFrom filled filledCount all
 heads-step r hs k e x none = refl
 heads-step r hs k e x (some j) = rw (and-assoc r (testInRange x) (all testInRange (j .items)))
 
@@ -162,7 +161,7 @@ module _ (text : List ℕ) (at : ℕ) (never r : Bool) (hs : List Head) (k : ℕ
         ∙ ap₂ (λ (i m : ℕ). headsFrom (r && ok) hs′ k′ i (joined item (tokensAt text m))) (sym (line-past-token text n) ∙ ap (lineEnd text) (sym (f .1))) (sym (f .1))
 
     pub heads-done : wordAt text n (bytes "&") ≡ WordAt.Absent → viewOf text (record { ok = true; «in_range» = r && ok; heads = hs′; count = k′; at = n }) ≡ outcome
-    unfolding headsFrom filled tallied all is bytes
+    unfolding headsFrom filled filledCount all is bytes
     heads-done w =
         sym (ap (λ (ts : List Token). headsFrom r hs k (lineEnd text at) (joined item ts)) tokens
         ∙ ap (headsFrom r hs k (lineEnd text at)) (go (isEmpty (tokenAt text n)) refl)

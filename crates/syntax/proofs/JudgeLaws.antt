@@ -120,10 +120,10 @@ value-judged l h = go (ltb headLimit (length (headsOf l))) refl (ltb comparisonL
     go false p true q = rw (over-heads l, over-comparisons l, p, q)
     go false p false q = rw (over-heads l, over-comparisons l, p, q, value-repeats l h p) (twice (repeated l))
 
-parts-judged : (text : List ℕ) (e : ℕ) (o : Option PolicyLine) → judgedParts (lineParts text e o) ≡ statusOf (judge o)
+parts-judged : (e : ℕ) (o : Option PolicyLine) → judgedParts (lineParts e o) ≡ statusOf (judge o)
 unfolding judgedParts lineParts judge statusOf
-parts-judged text e none = refl
-parts-judged text e (some l) = go (inRange l) refl
+parts-judged e none = refl
+parts-judged e (some l) = go (inRange l) refl
   where
     go : (b : Bool) → inRange l ≡ b → cond b (judgedLine (smallLine l)) (LineStatus.Refused Fault.OutOfRange) ≡ statusOf (cond (not b) (refused Fault.OutOfRange) (cond (crowded l) (refused Fault.TooManyParts) (cond (repeated l) (refused Fault.Duplicate) (accepted l))))
     go true h = ap judgedLine (in-range-value l h) ∙ value-judged l h
@@ -166,30 +166,30 @@ accepted-uncrowded line l = go (tokensOf line)
         comment false k = of-judge (lineFrom (t ∷ ts)) (judged-cases (lineFrom (t ∷ ts))) k
 
 -- the line as it is read, by the status of its parts
-module _ (text : List ℕ) (e next : ℕ) (o : Option PolicyLine) where
-  pub read-accepted : judgedParts (lineParts text e o) ≡ LineStatus.Accepted → record { status = LineStatus.Accepted; line = lineParts text e o .line; next = next } ≡ lineReadOf next (judge o)
+module _ (e next : ℕ) (o : Option PolicyLine) where
+  pub read-accepted : judgedParts (lineParts e o) ≡ LineStatus.Accepted → record { status = LineStatus.Accepted; line = lineParts e o .line; next = next } ≡ lineReadOf next (judge o)
   unfolding lineParts lineReadOf statusOf
   read-accepted q = go (judged-cases o)
     where
-      go : Judged o → record { status = LineStatus.Accepted; line = lineParts text e o .line; next = next } ≡ lineReadOf next (judge o)
+      go : Judged o → record { status = LineStatus.Accepted; line = lineParts e o .line; next = next } ≡ lineReadOf next (judge o)
       go (yes-line l p h _ _ k) = rw (k, p) (ap (λ (x : Line). record { status = LineStatus.Accepted; line = x; next = next }) (in-range-value l h))
-      go (no-line f k) = let w : _≡_ {A = ℕ} 0 1 = cc (sym q ∙ parts-judged text e o ∙ ap statusOf k) in absurd (omega arith)
+      go (no-line f k) = let w : _≡_ {A = ℕ} 0 1 = cc (sym q ∙ parts-judged e o ∙ ap statusOf k) in absurd (omega arith)
 
-  pub read-refused : (f : Fault) → judgedParts (lineParts text e o) ≡ LineStatus.Refused f → lineReadOf 0 (refused f) ≡ lineReadOf next (judge o)
+  pub read-refused : (f : Fault) → judgedParts (lineParts e o) ≡ LineStatus.Refused f → lineReadOf 0 (refused f) ≡ lineReadOf next (judge o)
   unfolding lineReadOf statusOf
   read-refused f q = go (judged-cases o)
     where
       go : Judged o → lineReadOf 0 (refused f) ≡ lineReadOf next (judge o)
-      go (yes-line l p h _ _ k) = let w : _≡_ {A = ℕ} 0 1 = cc (sym q ∙ parts-judged text e o ∙ ap statusOf k) in absurd (omega arith)
-      go (no-line g k) = rw k (ap (λ (x : LineStatus). record { status = x; line = newLine; next = 0 }) (sym q ∙ parts-judged text e o ∙ ap statusOf k))
+      go (yes-line l p h _ _ k) = let w : _≡_ {A = ℕ} 0 1 = cc (sym q ∙ parts-judged e o ∙ ap statusOf k) in absurd (omega arith)
+      go (no-line g k) = rw k (ap (λ (x : LineStatus). record { status = x; line = newLine; next = 0 }) (sym q ∙ parts-judged e o ∙ ap statusOf k))
 
-  pub read-skipped : judgedParts (lineParts text e o) ≡ LineStatus.Skipped → (r : LineRead) → r ≡ lineReadOf next (judge o)
+  pub read-skipped : judgedParts (lineParts e o) ≡ LineStatus.Skipped → (r : LineRead) → r ≡ lineReadOf next (judge o)
   unfolding statusOf
   read-skipped q r = go (judged-cases o)
     where
       go : Judged o → r ≡ lineReadOf next (judge o)
-      go (yes-line l p h _ _ k) = let w : _≡_ {A = ℕ} 0 1 = cc (sym q ∙ parts-judged text e o ∙ ap statusOf k) in absurd (omega arith)
-      go (no-line g k) = let w : _≡_ {A = ℕ} 0 1 = cc (sym q ∙ parts-judged text e o ∙ ap statusOf k) in absurd (omega arith)
+      go (yes-line l p h _ _ k) = let w : _≡_ {A = ℕ} 0 1 = cc (sym q ∙ parts-judged e o ∙ ap statusOf k) in absurd (omega arith)
+      go (no-line g k) = let w : _≡_ {A = ℕ} 0 1 = cc (sym q ∙ parts-judged e o ∙ ap statusOf k) in absurd (omega arith)
 
 -- ---- the line at a position
 
@@ -222,14 +222,14 @@ module _ (text : List ℕ) (at : ℕ) where
         sym (answer ∙ ap (λ (ts : List (List ℕ)). lineReadOf (behindLine text (lineEnd text s)) (tokensAnswer ts)) first ∙ rw (ne-eqb (getD text s 0) 35 q)
         (ap (λ (ts : List (List ℕ)). lineReadOf (behindLine text (lineEnd text s)) (judge (lineFrom ts))) (sym first)))
 
-parts-end : (text : List ℕ) (e : ℕ) (o : Option PolicyLine) → judgedParts (lineParts text e o) ≡ LineStatus.Accepted → lineParts text e o .at ≡ e
+parts-end : (e : ℕ) (o : Option PolicyLine) → judgedParts (lineParts e o) ≡ LineStatus.Accepted → lineParts e o .at ≡ e
 unfolding judgedParts lineParts
-parts-end text e none q = let w : _≡_ {A = ℕ} 0 1 = cc in absurd (omega arith)
-parts-end text e (some l) q = refl
+parts-end e none q = let w : _≡_ {A = ℕ} 0 1 = cc in absurd (omega arith)
+parts-end e (some l) q = refl
 
 -- the answer for a line that is neither blank nor a comment, by its parts
 module _ (text : List ℕ) (at start : ℕ) (k : start ≡ skip isSpace text at) (h : isEmpty (tokenAt text start) ≡ false) (q : getD text start 0 ≡ 35 → ⊥) (p : Parts)
-    (r : p ≡ lineParts text (lineEnd text start) (lineFrom (tokensAt text start))) where
+    (r : p ≡ lineParts (lineEnd text start) (lineFrom (tokensAt text start))) where
   line-parts : lineReadOf (behindLine text (lineEnd text start)) (judge (lineFrom (tokensAt text start))) ≡ lineRead text at
   line-parts =
       ap (λ (n : ℕ). lineReadOf (behindLine text (lineEnd text n)) (judge (lineFrom (tokensAt text n)))) k
@@ -237,12 +237,12 @@ module _ (text : List ℕ) (at start : ℕ) (k : start ≡ skip isSpace text at)
 
   pub line-accepted : (st : LineStatus) → st ≡ judgedParts p → st ≡ LineStatus.Accepted → (n : ℕ) → n ≡ behindLine text (p .at) → record { status = st; line = p .line; next = n } ≡ lineRead text at
   line-accepted st a b n m =
-      let j : judgedParts (lineParts text (lineEnd text start) (lineFrom (tokensAt text start))) ≡ LineStatus.Accepted = sym (ap judgedParts r) ∙ sym a ∙ b in
-      let e : n ≡ behindLine text (lineEnd text start) = m ∙ ap (λ (x : Parts). behindLine text (x .at)) r ∙ ap (behindLine text) (parts-end text (lineEnd text start) (lineFrom (tokensAt text start)) j) in
-      cc (b, ap (λ (x : Parts). x .line) r, e) ∙ read-accepted text (lineEnd text start) (behindLine text (lineEnd text start)) (lineFrom (tokensAt text start)) j ∙ line-parts
+      let j : judgedParts (lineParts (lineEnd text start) (lineFrom (tokensAt text start))) ≡ LineStatus.Accepted = sym (ap judgedParts r) ∙ sym a ∙ b in
+      let e : n ≡ behindLine text (lineEnd text start) = m ∙ ap (λ (x : Parts). behindLine text (x .at)) r ∙ ap (behindLine text) (parts-end (lineEnd text start) (lineFrom (tokensAt text start)) j) in
+      cc (b, ap (λ (x : Parts). x .line) r, e) ∙ read-accepted (lineEnd text start) (behindLine text (lineEnd text start)) (lineFrom (tokensAt text start)) j ∙ line-parts
 
   pub line-refused : (f : Fault) → judgedParts p ≡ LineStatus.Refused f → lineReadOf 0 (refused f) ≡ lineRead text at
-  line-refused f a = read-refused text (lineEnd text start) (behindLine text (lineEnd text start)) (lineFrom (tokensAt text start)) f (sym (ap judgedParts r) ∙ a) ∙ line-parts
+  line-refused f a = read-refused (lineEnd text start) (behindLine text (lineEnd text start)) (lineFrom (tokensAt text start)) f (sym (ap judgedParts r) ∙ a) ∙ line-parts
 
   pub line-skipped : judgedParts p ≡ LineStatus.Skipped → (x : LineRead) → x ≡ lineRead text at
-  line-skipped a x = read-skipped text (lineEnd text start) (behindLine text (lineEnd text start)) (lineFrom (tokensAt text start)) (sym (ap judgedParts r) ∙ a) x ∙ line-parts
+  line-skipped a x = read-skipped (lineEnd text start) (behindLine text (lineEnd text start)) (lineFrom (tokensAt text start)) (sym (ap judgedParts r) ∙ a) x ∙ line-parts

@@ -57,46 +57,46 @@ record OfHeads (h : Heads) (ts : List Test) : Type 0 where
 some-same : {A : Type 0} {x y : A} → some x ≡ some y → x ≡ y
 some-same e = cc
 
-module _ (text : List ℕ) (E : ℕ) (h : Heads) where
-  line-parts : (l : PolicyLine) → OfHeads h (headsOf l) → assembledParts text h (smallEnding (endingOf l)) (endingInRange (endingOf l)) (conditionOutcome E (some (Line.comparisonsOf l))) ≡ lineParts text E (some l)
+module _ (E : ℕ) (h : Heads) where
+  line-parts : (l : PolicyLine) → OfHeads h (headsOf l) → assembledParts h (smallEnding (endingOf l)) (endingInRange (endingOf l)) (conditionOutcome E (some (Line.comparisonsOf l))) ≡ lineParts E (some l)
   unfolding assembledParts conditionOutcome lineParts inRange smallLine lineOf testInRange
   line-parts l k = rw (k .range, k .held, k .count)
 
-  never-parts : (actions : List Action) → OfHeads h (map Test.Member actions) → (o : Option (List Comparison)) → assembledParts text h Ending.Never true (conditionOutcome E o) ≡ lineParts text E (Option·map (never actions) o)
+  never-parts : (actions : List Action) → OfHeads h (map Test.Member actions) → (o : Option (List Comparison)) → assembledParts h Ending.Never true (conditionOutcome E o) ≡ lineParts E (Option·map (never actions) o)
   unfolding assembledParts conditionOutcome lineParts headsOf Line.comparisonsOf endingOf endingInRange smallEnding
   never-parts actions k none = refl
   never-parts actions k (some cs) = line-parts (never actions cs) k
 
-  rule-parts : (literals : List Literal) → OfHeads h (map Test.Occurs literals) → (ts : List Token) → causeParts text h E ts ≡ lineParts text E (ruleAfter literals ts)
+  rule-parts : (literals : List Literal) → OfHeads h (map Test.Occurs literals) → (ts : List Token) → causeParts h E ts ≡ lineParts E (ruleAfter literals ts)
   unfolding causeParts causedParts ruleAfter lineParts both assembledParts conditionOutcome headsOf Line.comparisonsOf endingOf
   rule-parts literals k [] = refl
   rule-parts literals k (t ∷ []) = refl
   rule-parts literals k (t ∷ u ∷ ts) = go (is "causes" t)
     where
-      caused : (x : Option Action) (o : Option (List Comparison)) → causedParts text h E x o ≡ lineParts text E (both (causes literals) x o)
+      caused : (x : Option Action) (o : Option (List Comparison)) → causedParts h E x o ≡ lineParts E (both (causes literals) x o)
       caused none o = refl
       caused (some a) none = refl
       caused (some a) (some cs) = line-parts (causes literals a cs) k
 
-      go : (b : Bool) → cond b (causedParts text h E (actionOf u) (conditionOf ts)) (failedParts text) ≡ lineParts text E (cond b (both (causes literals) (actionOf u) (conditionOf ts)) none)
+      go : (b : Bool) → cond b (causedParts h E (actionOf u) (conditionOf ts)) failedParts ≡ lineParts E (cond b (both (causes literals) (actionOf u) (conditionOf ts)) none)
       go true = caused (actionOf u) (conditionOf ts)
       go false = refl
 
   -- the heads that were read, against those of the line
-  module _ {A : Type 0} (f : A → Test) (tail : List A → List Token → Option PolicyLine) (o : Option (Joined A)) (q : viewOf text h ≡ headsOutcome E (Option·map (mapped f) o)) where
-    heads-no : h .ok ≡ false → failedParts text ≡ lineParts text E (after tail o)
+  module _ (text : List ℕ) {A : Type 0} (f : A → Test) (tail : List A → List Token → Option PolicyLine) (o : Option (Joined A)) (q : viewOf text h ≡ headsOutcome E (Option·map (mapped f) o)) where
+    heads-no : h .ok ≡ false → failedParts ≡ lineParts E (after tail o)
     unfolding headsOutcome lineParts after
     heads-no k = go o (rw k at q)
       where
-        go : (x : Option (Joined A)) → none ≡ headsOutcome E (Option·map (mapped f) x) → failedParts text ≡ lineParts text E (after tail x)
+        go : (x : Option (Joined A)) → none ≡ headsOutcome E (Option·map (mapped f) x) → failedParts ≡ lineParts E (after tail x)
         go none p = refl
         go (some j) p = let w : _≡_ {A = ℕ} 0 1 = cc in absurd (omega arith)
 
-    heads-yes : h .ok ≡ true → (made : ℕ → List Token → Parts) → ((j : Joined A) → OfHeads h (map f (j .items)) → made E (j .rest) ≡ lineParts text E (tail (j .items) (j .rest))) → made (lineEnd text (h .at)) (tokensAt text (h .at)) ≡ lineParts text E (after tail o)
+    heads-yes : h .ok ≡ true → (made : ℕ → List Token → Parts) → ((j : Joined A) → OfHeads h (map f (j .items)) → made E (j .rest) ≡ lineParts E (tail (j .items) (j .rest))) → made (lineEnd text (h .at)) (tokensAt text (h .at)) ≡ lineParts E (after tail o)
     unfolding headsOutcome lineParts after mapped
     heads-yes k made law = go o (rw k at q)
       where
-        go : (x : Option (Joined A)) → some (record { inRange = h .«in_range»; heads = h .heads; count = h .count; rest = tokensAt text (h .at); end = lineEnd text (h .at) }) ≡ headsOutcome E (Option·map (mapped f) x) → made (lineEnd text (h .at)) (tokensAt text (h .at)) ≡ lineParts text E (after tail x)
+        go : (x : Option (Joined A)) → some (record { inRange = h .«in_range»; heads = h .heads; count = h .count; rest = tokensAt text (h .at); end = lineEnd text (h .at) }) ≡ headsOutcome E (Option·map (mapped f) x) → made (lineEnd text (h .at)) (tokensAt text (h .at)) ≡ lineParts E (after tail x)
         go none p = let w : _≡_ {A = ℕ} 0 1 = cc in absurd (omega arith)
         go (some j) p =
             let e = some-same p in
@@ -115,14 +115,14 @@ module _ (text : List ℕ) (from : ℕ) (h : Heads) where
     unfolding testOf
     actions-read = q ∙ ap (headsOutcome E) (joined-map Test.Member actionOf (tokensAt text from))
 
-    pub constraint-no : h .ok ≡ false → failedParts text ≡ lineParts text E (after constraintAfter actions)
-    constraint-no k = heads-no text E h Test.Member constraintAfter actions actions-read k
+    pub constraint-no : h .ok ≡ false → failedParts ≡ lineParts E (after constraintAfter actions)
+    constraint-no k = heads-no E h text Test.Member constraintAfter actions actions-read k
 
-    pub constraint-yes : h .ok ≡ true → assembledParts text h Ending.Never true (conditionOutcome (lineEnd text (h .at)) (conditionOf (tokensAt text (h .at)))) ≡ lineParts text E (after constraintAfter actions)
+    pub constraint-yes : h .ok ≡ true → assembledParts h Ending.Never true (conditionOutcome (lineEnd text (h .at)) (conditionOf (tokensAt text (h .at)))) ≡ lineParts E (after constraintAfter actions)
     unfolding constraintAfter
     constraint-yes k =
-        heads-yes text E h Test.Member constraintAfter actions actions-read k
-        (λ end ts. assembledParts text h Ending.Never true (conditionOutcome end (conditionOf ts))) (λ j p. never-parts text E h (j .items) p (conditionOf (j .rest)))
+        heads-yes E h text Test.Member constraintAfter actions actions-read k
+        (λ end ts. assembledParts h Ending.Never true (conditionOutcome end (conditionOf ts))) (λ j p. never-parts E h (j .items) p (conditionOf (j .rest)))
 
   module _ (q : viewOf text h ≡ headsOutcome E (joined (testOf false) (tokensAt text from))) where
     abbrev literals : Option (Joined Literal)
@@ -132,10 +132,10 @@ module _ (text : List ℕ) (from : ℕ) (h : Heads) where
     unfolding testOf
     literals-read = q ∙ ap (headsOutcome E) (joined-map Test.Occurs literalOf (tokensAt text from))
 
-    pub rule-no : h .ok ≡ false → failedParts text ≡ lineParts text E (after ruleAfter literals)
-    rule-no k = heads-no text E h Test.Occurs ruleAfter literals literals-read k
+    pub rule-no : h .ok ≡ false → failedParts ≡ lineParts E (after ruleAfter literals)
+    rule-no k = heads-no E h text Test.Occurs ruleAfter literals literals-read k
 
-    pub rule-yes : h .ok ≡ true → causeParts text h (lineEnd text (h .at)) (tokensAt text (h .at)) ≡ lineParts text E (after ruleAfter literals)
+    pub rule-yes : h .ok ≡ true → causeParts h (lineEnd text (h .at)) (tokensAt text (h .at)) ≡ lineParts E (after ruleAfter literals)
     rule-yes k =
-        heads-yes text E h Test.Occurs ruleAfter literals literals-read k
-        (causeParts text h) (λ j p. rule-parts text E h (j .items) p (j .rest))
+        heads-yes E h text Test.Occurs ruleAfter literals literals-read k
+        (causeParts h) (λ j p. rule-parts E h (j .items) p (j .rest))

@@ -4,7 +4,6 @@ use mathlib.Core.Bool.{Bool, true, false, _&&_, cond}
 use mathlib.Core.List.{List, [], _∷_, map}
 use mathlib.Core.Option.{Option, none, some}
 use lib.Dec.{ltb}
-use lib.ListN.{length}
 use Rattle.policy.specs.Limits.{inRange, comparisonInRange, endingInRange}
 use Rattle.policy.specs.Line.{PolicyLine, headsOf, comparisonsOf, endingOf, lineOf, head, held, counted, headLimit, noHead, comparisonLimit, noComparison}
 use Rattle.policy.specs.List.{all}
@@ -27,8 +26,8 @@ use Rattle.syntax.specs.declared.line.Parts.{Parts}
 abbrev pub newLine : Line
 newLine = lineOf [] [] Ending.Never
 
-abbrev pub failedParts : List ℕ → Parts
-failedParts text = record { ok = false; «in_range» = false; line = newLine; at = length text }
+abbrev pub failedParts : Parts
+failedParts = record { ok = false; «in_range» = false; line = newLine; at = 0 }
 
 -- ---- the heads
 
@@ -69,8 +68,8 @@ smallEnding (Ending.Causes a) = cond (ltb (a .0) setLimit) (Ending.Causes a) (En
 smallEnding Ending.Never = Ending.Never
 
 -- the line put together, with an ending and whether that is in range
-unfoldable pub assembledParts : List ℕ → Heads → Ending → Bool → Condition → Parts
-assembledParts text h ending ok c =
+unfoldable pub assembledParts : Heads → Ending → Bool → Condition → Parts
+assembledParts h ending ok c =
     cond (c .ok)
     (record {
       ok = true;
@@ -78,22 +77,22 @@ assembledParts text h ending ok c =
       line = record { heads = h .heads; «head_count» = h .count; comparisons = c .comparisons; «comparison_count» = c .count; ending = ending };
       at = c .at;
     })
-    (failedParts text)
+    failedParts
 
 -- what follows the literals of a rule
-unfoldable pub causedParts : List ℕ → Heads → ℕ → Option Action → Option (List Comparison) → Parts
-causedParts text h end none o = failedParts text
-causedParts text h end (some a) o = assembledParts text h (smallEnding (Ending.Causes a)) (endingInRange (Ending.Causes a)) (conditionOutcome end o)
+unfoldable pub causedParts : Heads → ℕ → Option Action → Option (List Comparison) → Parts
+causedParts h end none o = failedParts
+causedParts h end (some a) o = assembledParts h (smallEnding (Ending.Causes a)) (endingInRange (Ending.Causes a)) (conditionOutcome end o)
 
-unfoldable pub causeParts : List ℕ → Heads → ℕ → List Token → Parts
-causeParts text h end [] = failedParts text
-causeParts text h end (t ∷ []) = failedParts text
-causeParts text h end (t ∷ a ∷ ts) = cond (is "causes" t) (causedParts text h end (actionOf a) (conditionOf ts)) (failedParts text)
+unfoldable pub causeParts : Heads → ℕ → List Token → Parts
+causeParts h end [] = failedParts
+causeParts h end (t ∷ []) = failedParts
+causeParts h end (t ∷ a ∷ ts) = cond (is "causes" t) (causedParts h end (actionOf a) (conditionOf ts)) failedParts
 
 -- the value of a line, with a filler for each part that is out of range
 unfoldable pub smallLine : PolicyLine → Line
 smallLine l = lineOf (map smallTest (headsOf l)) (map smallComparison (comparisonsOf l)) (smallEnding (endingOf l))
 
-unfoldable pub lineParts : List ℕ → ℕ → Option PolicyLine → Parts
-lineParts text end none = failedParts text
-lineParts text end (some l) = record { ok = true; «in_range» = inRange l; line = smallLine l; at = end }
+unfoldable pub lineParts : ℕ → Option PolicyLine → Parts
+lineParts end none = failedParts
+lineParts end (some l) = record { ok = true; «in_range» = inRange l; line = smallLine l; at = end }

@@ -45,7 +45,7 @@ pub struct Parts {
     pub at: usize,
 }
 
-// The same of its literals or its actions.
+// The same of its literals or actions, held and counted as in `Line`.
 pub struct Heads {
     pub ok: bool,
     pub in_range: bool,
@@ -54,7 +54,7 @@ pub struct Heads {
     pub at: usize,
 }
 
-// The same of its condition.
+// The same of its condition, which ends the line.
 pub struct Condition {
     pub ok: bool,
     pub in_range: bool,
@@ -77,14 +77,14 @@ fn one_more(n: usize, limit: usize) -> usize
     if n <= limit { n + 1 } else { n }
 }
 
-fn failed(text: &[u8]) -> Parts
-    ensures { λ r. ⌜ r ≡ failedParts (now (text .entry)) ⌝ }
+fn failed() -> Parts
+    ensures { λ r. ⌜ r ≡ failedParts ⌝ }
 {
     Parts {
         ok: false,
         in_range: false,
         line: Line::new(),
-        at: text.len(),
+        at: 0,
     }
 }
 
@@ -128,7 +128,7 @@ fn read_heads(text: &[u8], from: usize, never: bool) -> Heads
     }
 }
 
-// A condition with no comparison.
+// A condition with no comparison: there is none, or it has the wrong shape.
 fn no_comparisons(ok: bool, at: usize) -> Condition
     ensures { λ r. ⌜ r ≡ noComparisons ok at ⌝ }
 {
@@ -195,24 +195,18 @@ fn read_condition(text: &[u8], from: usize) -> Condition
     read_comparisons(text, behind)
 }
 
-// The line put together, with an ending that is in range or not.
-fn assembled(
-    text: &[u8],
-    heads: Heads,
-    ending: Ending,
-    ending_in_range: bool,
-    condition: Condition,
-) -> Parts
-    ensures { λ r. ⌜ r ≡ assembledParts (now (text .entry)) heads ending «ending_in_range» condition ⌝ }
+// The line put together from its parts. An ending out of range is a filler.
+fn assembled(heads: Heads, ending: Ending, ending_in_range: bool, condition: Condition) -> Parts
+    ensures { λ r. ⌜ r ≡ assembledParts heads ending «ending_in_range» condition ⌝ }
 {
     if condition.ok {
-        let head_array = heads.heads;
+        let held = heads.heads;
         let comparisons = condition.comparisons;
         Parts {
             ok: true,
             in_range: both(both(heads.in_range, condition.in_range), ending_in_range),
             line: Line {
-                heads: head_array,
+                heads: held,
                 head_count: heads.count,
                 comparisons,
                 comparison_count: condition.count,
@@ -221,64 +215,60 @@ fn assembled(
             at: condition.at,
         }
     } else {
-        failed(text)
+        failed()
     }
 }
 
 // `causes`, the action and the condition of a rule whose literals were read.
 fn read_cause(text: &[u8], heads: Heads) -> Parts
-    ensures { λ r. ⌜ r ≡ causeParts (now (text .entry)) heads (lineEnd (now (text .entry)) (heads .at))
+    ensures { λ r. ⌜ r ≡ causeParts heads (lineEnd (now (text .entry)) (heads .at))
         (tokensAt (now (text .entry)) (heads .at)) ⌝ }
 {
     let first = skip_spaces(text, heads.at);
     let WordAt::Found(behind) = causes_at(text, first) else {
-        return failed(text);
+        return failed();
     };
     let second = skip_spaces(text, behind);
     let NumberAt::Number(n, end) = action_at(text, second) else {
-        return failed(text);
+        return failed();
     };
     let condition = read_condition(text, end);
     let check = Action::new(n);
     match check {
-        ActionCheck::Valid(action) => {
-            assembled(text, heads, Ending::Causes(action), true, condition)
-        }
-        ActionCheck::OutOfRange => {
-            assembled(text, heads, Ending::Causes(Action(0)), false, condition)
-        }
+        ActionCheck::Valid(action) => { assembled(heads, Ending::Causes(action), true, condition) }
+        ActionCheck::OutOfRange => { assembled(heads, Ending::Causes(Action(0)), false, condition) }
     }
 }
 
 fn read_rule(text: &[u8], from: usize) -> Parts
-    ensures { λ r. ⌜ r ≡ lineParts (now (text .entry)) (lineEnd (now (text .entry)) from)
+    ensures { λ r. ⌜ r ≡ lineParts (lineEnd (now (text .entry)) from)
         (after ruleAfter (joined literalOf (tokensAt (now (text .entry)) from))) ⌝ }
 {
     let heads = read_heads(text, from, false);
     if heads.ok {
         read_cause(text, heads)
     } else {
-        failed(text)
+        failed()
     }
 }
 
 fn read_constraint(text: &[u8], from: usize) -> Parts
-    ensures { λ r. ⌜ r ≡ lineParts (now (text .entry)) (lineEnd (now (text .entry)) from)
+    ensures { λ r. ⌜ r ≡ lineParts (lineEnd (now (text .entry)) from)
         (after constraintAfter (joined actionOf (tokensAt (now (text .entry)) from))) ⌝ }
 {
     let heads = read_heads(text, from, true);
     if heads.ok {
         let condition = read_condition(text, heads.at);
-        assembled(text, heads, Ending::Never, true, condition)
+        assembled(heads, Ending::Never, true, condition)
     } else {
-        failed(text)
+        failed()
     }
 }
 
 // The parts of the line whose first token is at the position.
 fn read_parts(text: &[u8], start: usize) -> Parts
     ensures { λ r. ⌜ (isEmpty (tokenAt (now (text .entry)) start) ≡ false →
-        r ≡ lineParts (now (text .entry)) (lineEnd (now (text .entry)) start) (lineFrom (tokensAt (now (text .entry)) start))) ⌝ }
+        r ≡ lineParts (lineEnd (now (text .entry)) start) (lineFrom (tokensAt (now (text .entry)) start))) ⌝ }
 {
     let never = never_at(text, start);
     match never {
