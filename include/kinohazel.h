@@ -40,7 +40,7 @@ extern "C" {
 /* Bytes of stack that a call takes at most, rounded up. They are measured, not proved: tests/library/stack.c makes some thousand
  * calls through this header, compiled without optimisation, on painted stacks, with the largest inputs and with others. They belong
  * to the library as the kit builds it. */
-#define KINOHAZEL_COMPILE_STACK 1600
+#define KINOHAZEL_COMPILE_STACK 1152
 #define KINOHAZEL_CHECK_STACK 640
 #define KINOHAZEL_DECIDE_STACK 896
 
