@@ -195,7 +195,7 @@ fn read_condition(text: &[u8], from: usize) -> Condition
     read_comparisons(text, behind)
 }
 
-// The line put together from its parts. An ending out of range is a filler.
+// The line put together, where its condition has the right shape. An ending out of range is a filler.
 fn assembled(heads: Heads, ending: Ending, ending_in_range: bool, condition: Condition) -> Parts
     ensures { λ r. ⌜ r ≡ assembledParts heads ending «ending_in_range» condition ⌝ }
 {
