@@ -16,7 +16,7 @@ use Rattle.monitor.specs.declared.decision.Decision.{Decision}
 use Rattle.report.specs.Report.{refusalLine}
 use Rattle.report.proofs.AppendLaws.{Put, put-length}
 use Rattle.session.specs.Printed.{next, decisionLine, epochLines, answersTo, printedFor}
-use Rattle.session.specs.Owed.{current, leftIn, owed, Fitting, Good, Room, TextEnded, LineEnded}
+use Rattle.session.specs.Owed.{current, leftIn, owed, Fitting, Good, Room, TracksIn, TextEnded, LineEnded}
 use Rattle.session.specs.declared.state.Phase.{Phase}
 use Rattle.session.specs.declared.state.State.{State}
 use Rattle.session.proofs.BufferLaws.{put-end, put-take}
@@ -53,7 +53,7 @@ module _ (text : List ℕ) (s : State) (image out : List ℕ) (answer : Compiled
   pub text-refused : (f : Fault) (place : ℕ) (out' : List ℕ) (end : ℕ) → answer ≡ Compiled.Refused f place → place < 18446744073709551616
       → Put out (s .used) (refusalLine f place) out' end
       → TextEnded text s out (record { phase = Phase.Over; start = 0; count = 0; epochs = 0; size = 0; used = end }) image' out'
-  unfolding owed leftIn Fitting any
+  unfolding owed leftIn Fitting TracksIn any
   text-refused f place out' end e small p =
       let short : length (refusalLine f place) ≤ 512 = refusal-short f place small in
       let fits : s .used + length (refusalLine f place) ≤ length out = omega arith in
@@ -74,12 +74,13 @@ module _ (text : List ℕ) (s : State) (image out : List ℕ) (answer : Compiled
               sized = omega arith;
               used = omega arith;
             };
+        tracks = λ held x ran none. ran;
         quiet = λ held. refl;
       }
 
   pub text-accepted : (size : ℕ) → answer ≡ Compiled.Image size
       → TextEnded text s out (record { phase = Phase.Epochs; start = 0; count = 0; epochs = 0; size = size; used = s .used }) image' out
-  unfolding owed leftIn Fitting any epochLines linesOf pieces
+  unfolding owed leftIn Fitting TracksIn any epochLines linesOf pieces
   text-accepted size e =
       let k : size ≤ 13064 = size-small size e in
       record {
@@ -95,6 +96,7 @@ module _ (text : List ℕ) (s : State) (image out : List ℕ) (answer : Compiled
               sized = k;
               used = omega arith;
             };
+        tracks = λ held x ran none. (ran, ap (take 1025) (sym none));
         quiet = λ held. refl;
       }
 

@@ -1,18 +1,20 @@
 -- Laws of a byte of an epoch line.
 use Prim.Native.Nat.{ℕ, _+_, _≤_, _<_}
 use mathlib.Core.List.{List, [], _∷_, _++_, append-assoc}
+use mathlib.Core.Bool.{true}
 use mathlib.Core.Path.{_≡_, refl, sym, ap, subst, _∙_}
 use native.Mathlib.Omega.{arith}
 use lib.ListN.{length, take, set, length-take, length-drop, length-set}
 use Rattle.lexer.specs.Lines.{linesOf}
 use Rattle.monitor.specs.Decision.{decision}
 use Rattle.session.specs.Printed.{next, decisionLine, epochLines}
-use Rattle.session.specs.Owed.{current, Good, Took, counted, Pushed, room, full, decidedBy, LineEnded}
+use Rattle.session.specs.Owed.{current, Good, Seen, seeByte, TracksIn, Took, counted, Pushed, room, full, decidedBy, LineEnded}
 use Rattle.session.specs.declared.state.Phase.{Phase}
 use Rattle.session.specs.declared.state.State.{State}
 use Rattle.session.proofs.EpochLaws.{epoch-ends, full-line}
 use Rattle.session.proofs.HeldLaws.{owed-epochs, fitting-epochs, as-epochs, held-more, snoc}
 use Rattle.session.proofs.LineLaws.{empty-line, line-more}
+use Rattle.session.proofs.SeenLaws.{held-grows, held-stays, see-end, see-other, ran-stays, tracks-at, at-tracks}
 
 module _ (s : State) (held image out : List ℕ) (g : Good s held image out) (t : s .phase ≡ Phase.Epochs) where
   pub limits : (s .start ≡ 0) × (s .count ≤ 1025)
@@ -26,7 +28,25 @@ module _ (s : State) (held image out : List ℕ) (g : Good s held image out) (t 
       let l : length held ≡ 32773 = g .heldLong in
       simp (length-drop, length-take) (omega (arith, limits .0, limits .1))
 
+  -- a byte that is held, and one for which there is no room
+  grown-tracks : (b : ℕ) → s .count < 1025 → (b ≡ 10 → ⊥) → {line : List ℕ} → line ≡ current s held ++ b ∷ [] → (x : Seen) → TracksIn Phase.Epochs x s held
+      → (seeByte x b .ran ≡ true) × (line ≡ take 1025 (seeByte x b .tail))
+  unfolding TracksIn
+  grown-tracks b c n e x (ran, line) = (
+    ran-stays x b ran,
+    e ∙ held-grows 1025 (x .tail) (current s held) line b (omega (arith, line-length)) ∙ ap (λ (y : Seen). take 1025 (y .tail)) (sym (see-other x b n)),
+  )
+
+  full-tracks : (b : ℕ) → 1025 ≤ s .count → (b ≡ 10 → ⊥) → (x : Seen) → TracksIn Phase.Epochs x s held
+      → (seeByte x b .ran ≡ true) × (current s held ≡ take 1025 (seeByte x b .tail))
+  unfolding TracksIn
+  full-tracks b c n x (ran, line) = (
+    ran-stays x b ran,
+    held-stays 1025 (x .tail) (current s held) line b (omega (arith, line-length)) ∙ ap (λ (y : Seen). take 1025 (y .tail)) (sym (see-other x b n)),
+  )
+
   epoch-counted : (b : ℕ) → s .count < 1025 → (b ≡ 10 → ⊥) → Took s held image out (b ∷ []) (counted s) (set held (s .count) b) image out
+  unfolding TracksIn
   epoch-counted b h n =
       let k : s .count < length held = rw (g .heldLong) (omega arith) in
       let more = held-more held (s .start) (s .count) b (g .ordered) k in
@@ -36,6 +56,7 @@ module _ (s : State) (held image out : List ℕ) (g : Good s held image out) (t 
             ∙ ap (λ (x : List ℕ). take (s .used) out ++ epochLines (take (s .size) image) (s .epochs) (linesOf x))
             (ap (λ (x : List ℕ). x ++ rest) more ∙ snoc (current s held) rest b)
             ∙ sym (owed-epochs s held image out (b ∷ rest) t);
+        tracks = λ x h'. at-tracks Phase.Epochs (seeByte x b) (counted s) (set held (s .count) b) t (grown-tracks b h n more x (tracks-at Phase.Epochs x s held t h'));
         good =
             record {
               heldLong = length-set held (s .count) b ∙ g .heldLong;
@@ -50,6 +71,7 @@ module _ (s : State) (held image out : List ℕ) (g : Good s held image out) (t 
       }
 
   epoch-full : (b : ℕ) → 1025 ≤ s .count → (b ≡ 10 → ⊥) → Took s held image out (b ∷ []) s held image out
+  unfolding TracksIn
   epoch-full b h n =
       record {
         owes = λ rest.
@@ -57,6 +79,7 @@ module _ (s : State) (held image out : List ℕ) (g : Good s held image out) (t 
             ∙ ap (λ (x : List ℕ). take (s .used) out ++ x)
             (sym (full-line (take (s .size) image) (s .epochs) (current s held) b rest (g .oneLine) (line-length ∙ omega (arith, limits .1)) n))
             ∙ sym (owed-epochs s held image out (b ∷ rest) t);
+        tracks = λ x h'. at-tracks Phase.Epochs (seeByte x b) s held t (full-tracks b h n x (tracks-at Phase.Epochs x s held t h'));
         good = g;
       }
 
@@ -78,6 +101,7 @@ module _ (s : State) (held image out : List ℕ) (g : Good s held image out) (t 
       }
 
   pub epoch-line : (r : State) (out' : List ℕ) → LineEnded s held image out r out' → Took s held image out (10 ∷ []) r held image out'
+  unfolding TracksIn
   epoch-line r out' d =
       subst (λ (x : State). Took s held image out (10 ∷ []) x held image out') (sym (d .state))
       (record {
@@ -87,5 +111,8 @@ module _ (s : State) (held image out : List ℕ) (g : Good s held image out) (t 
             ∙ append-assoc (take (s .used) out) (decisionLine (next (s .epochs)) (decision (take (s .size) image) (current s held))) (epochLines (take (s .size) image) (next (s .epochs)) (linesOf rest))
             ∙ ap (λ (x : List ℕ). take (s .used) out ++ x) (sym (epoch-ends (take (s .size) image) (s .epochs) (current s held) rest (g .oneLine)))
             ∙ sym (owed-epochs s held image out (10 ∷ rest) t);
+        tracks = λ x h.
+            at-tracks Phase.Epochs (seeByte x 10) (decidedBy s (r .used)) held t
+            (ran-stays x 10 (tracks-at Phase.Epochs x s held t h .0), ap (λ (y : Seen). take 1025 (y .tail)) (sym (see-end x)));
         good = decided-good out' (r .used) (d .outLong) (d .used);
       })

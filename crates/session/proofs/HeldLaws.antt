@@ -8,9 +8,10 @@ use lib.ListN.{length, take, drop, set, length-take, take-append-drop, drop-of-l
 use lib.Seq.{take-suc-set, take-set-le, drop-append-le, length-take-le, take-take}
 use Rattle.lexer.specs.Lines.{linesOf}
 use Rattle.session.specs.Printed.{epochLines}
-use Rattle.session.specs.Owed.{printedBehind, current, leftIn, owed, Fitting, Good, Took, Pushed}
+use Rattle.session.specs.Owed.{printedBehind, current, leftIn, owed, Fitting, Good, seeByte, TracksIn, Took, Pushed}
 use Rattle.session.specs.declared.state.Phase.{Phase}
 use Rattle.session.specs.declared.state.State.{State}
+use Rattle.session.proofs.SeenLaws.{ran-stays, tracks-at, at-tracks}
 
 -- ---- the phases
 
@@ -77,4 +78,5 @@ module _ (s : State) (held image out : List ℕ) (b : ℕ) (ten : b ≡ 10) wher
 -- ---- once the text is refused
 
 pub over-byte : (s : State) (held image out : List ℕ) (b : ℕ) → Good s held image out → s .phase ≡ Phase.Over → Took s held image out (b ∷ []) s held image out
-over-byte s held image out b g t = record { owes = λ rest. owed-over s held image out rest t ∙ sym (owed-over s held image out (b ∷ rest) t); good = g }
+unfolding TracksIn
+over-byte s held image out b g t = record { tracks = λ x h. at-tracks Phase.Over (seeByte x b) s held t (ran-stays x b (tracks-at Phase.Over x s held t h)); owes = λ rest. owed-over s held image out rest t ∙ sym (owed-over s held image out (b ∷ rest) t); good = g }

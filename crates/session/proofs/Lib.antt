@@ -1,4 +1,5 @@
 pub mod RunLaws
+pub mod SeenLaws
 pub mod LineLaws
 pub mod SplitLaws
 pub mod EpochLaws

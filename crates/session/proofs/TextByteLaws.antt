@@ -1,19 +1,20 @@
 -- Laws of a byte of the text.
-use Prim.Native.Nat.{ℕ, _+_, min, _≤_, _<_}
+use Prim.Native.Nat.{ℕ, _+_, _-_, min, _≤_, _<_}
 use mathlib.Core.Bool.{true, false}
 use mathlib.Core.List.{List, [], _∷_, _++_}
 use mathlib.Core.Path.{_≡_, refl, sym, ap, ap₂, _∙_}
 use native.Mathlib.Omega.{arith}
 use lib.ListN.{length, take, set, length-take, length-drop, length-set, length-append}
-use lib.Seq.{length-take-le}
+use lib.Seq.{length-take-le, take-nil}
 use Rattle.policy.specs.declared.fault.Fault.{Fault}
 use Rattle.lexer.specs.Byte.{is}
 use Rattle.report.specs.Report.{refusalLine}
-use Rattle.session.specs.Owed.{printedBehind, current, Good, Took, startingAt, lineBehind, counted, Pushed, room, full, TextEnded}
+use Rattle.session.specs.Owed.{printedBehind, current, Good, Seen, seeByte, TracksIn, Tracks, Took, startingAt, lineBehind, counted, Pushed, room, full, TextEnded}
 use Rattle.session.specs.declared.state.Phase.{Phase}
 use Rattle.session.specs.declared.state.State.{State}
 use Rattle.session.proofs.HeldLaws.{owed-text, fitting-text, as-text, held-more, done-same, done-line, none-left, snoc}
 use Rattle.session.proofs.LineLaws.{empty-line, line-more}
+use Rattle.session.proofs.SeenLaws.{or-second, or-none, held-grows, held-stays, held-run, see-end, see-other, tracks-at, at-tracks}
 use Rattle.session.proofs.SplitLaws.{behind-run, behind-line, over-text, full-text}
 
 line-long : (done line : List ℕ) → 32768 < length done + length line → 32768 < length (done ++ line ++ 10 ∷ [])
@@ -33,6 +34,35 @@ module _ (s : State) (held image out : List ℕ) (g : Good s held image out) (t 
       let o : s .start ≤ s .count = g .ordered in
       simp (length-drop, length-take) (omega arith)
 
+  -- what the held part of the line tells
+
+  run-same : (x : Seen) → TracksIn Phase.Text x s held → is "run" (current s held) ≡ is "run" (x .tail)
+  unfolding TracksIn
+  run-same x (ran, line, first) = held-run (32773 - s .start) (x .tail) (current s held) line (omega (arith, first))
+
+  run-seen : (x : Seen) → TracksIn Phase.Text x s held → is "run" (current s held) ≡ true → seeByte x 10 .ran ≡ true
+  run-seen x h e = ap (λ (y : Seen). y .ran) (see-end x) ∙ or-second (x .ran) (is "run" (x .tail)) (sym (run-same x h) ∙ e)
+
+  line-seen : (x : Seen) → TracksIn Phase.Text x s held → is "run" (current s held) ≡ false → seeByte x 10 .ran ≡ false
+  unfolding TracksIn
+  line-seen x h e = ap (λ (y : Seen). y .ran) (see-end x) ∙ or-none (x .ran) (is "run" (x .tail)) (h .0) (sym (run-same x h) ∙ e)
+
+  -- the next line starts, and nothing of it is held
+  line-tracks : (n : ℕ) (held' : List ℕ) → n ≤ 32769 → is "run" (current s held) ≡ false → (x : Seen) → Tracks x s held → Tracks (seeByte x 10) (startingAt n s) held'
+  unfolding TracksIn
+  line-tracks n held' k e x h =
+      at-tracks Phase.Text (seeByte x 10) (startingAt n s) held' t (
+        line-seen x (tracks-at Phase.Text x s held t h) e,
+        none-left held' n ∙ sym (ap (λ (y : Seen). take (32773 - n) (y .tail)) (see-end x) ∙ take-nil (32773 - n)),
+        k,
+      )
+
+  line-held : length (current s held) ≡ s .count - s .start
+  line-held =
+      let c : s .count ≤ 32773 = at-most in
+      let l : length held ≡ 32773 = g .heldLong in
+      simp (length-drop, length-take) (omega arith)
+
   -- ---- the line `run`
 
   pub text-run : (r : State) (image' out' : List ℕ) → is "run" (current s held) ≡ true → TextEnded (take (s .start) held) s out r image' out'
@@ -43,14 +73,27 @@ module _ (s : State) (held image out : List ℕ) (g : Good s held image out) (t 
             ended' .owes held rest
             ∙ sym (owed-text s held image out (10 ∷ rest) t
             ∙ ap (λ (x : List ℕ). take (s .used) out ++ x) (behind-run (take (s .start) held) (current s held) (g .oneLine) rest e));
+        tracks = λ x h.
+            let h' : TracksIn Phase.Text x s held = tracks-at Phase.Text x s held t h in
+            ended' .tracks held (seeByte x 10) (run-seen x h' e) (ap (λ (y : Seen). y .tail) (see-end x));
         good = ended' .good held (g .heldLong);
       }
 
   -- ---- a byte that is held
 
+  byte-tracks : (b : ℕ) → s .count < 32773 → (b ≡ 10 → ⊥) → {line : List ℕ} → line ≡ current s held ++ b ∷ [] → (x : Seen) → TracksIn Phase.Text x s held
+      → (seeByte x b .ran ≡ false) × (line ≡ take (32773 - s .start) (seeByte x b .tail)) × (s .start ≤ 32769)
+  unfolding TracksIn
+  byte-tracks b c n e x (ran, line, first) = (
+    ap (λ (y : Seen). y .ran) (see-other x b n) ∙ ran,
+    e ∙ held-grows (32773 - s .start) (x .tail) (current s held) line b (omega (arith, line-held, g .ordered)) ∙ ap (λ (y : Seen). take (32773 - s .start) (y .tail)) (sym (see-other x b n)),
+    first,
+  )
+
   text-counted : (b : ℕ) → s .count < 32773 → (b ≡ 10 → ⊥) → Took s held image out (b ∷ []) (counted s) (set held (s .count) b) image out
-  text-counted b h n =
-      let k : s .count < length held = rw (g .heldLong) h in
+  unfolding TracksIn
+  text-counted b h' n =
+      let k : s .count < length held = rw (g .heldLong) h' in
       let more = held-more held (s .start) (s .count) b (g .ordered) k in
       record {
         owes = λ rest.
@@ -58,6 +101,8 @@ module _ (s : State) (held image out : List ℕ) (g : Good s held image out) (t 
             ∙ ap₂ (λ (d : List ℕ) (x : List ℕ). take (s .used) out ++ printedBehind d x) (done-same held (s .start) (s .count) b (g .ordered) k)
             (ap (λ (x : List ℕ). x ++ rest) more ∙ snoc (current s held) rest b)
             ∙ sym (owed-text s held image out (b ∷ rest) t);
+        tracks = λ x h.
+            at-tracks Phase.Text (seeByte x b) (counted s) (set held (s .count) b) t (byte-tracks b h' n more x (tracks-at Phase.Text x s held t h));
         good =
             record {
               heldLong = length-set held (s .count) b ∙ g .heldLong;
@@ -95,6 +140,7 @@ module _ (s : State) (held image out : List ℕ) (g : Good s held image out) (t 
             (done-line held (s .start) (s .count) 10 (g .ordered) k) (none-left (set held (s .count) 10) (s .count + 1))
             ∙ ap (λ (x : List ℕ). take (s .used) out ++ x) (sym (behind-line (take (s .start) held) (current s held) (g .oneLine) rest e))
             ∙ sym (owed-text s held image out (10 ∷ rest) t);
+        tracks = line-tracks (s .count + 1) (set held (s .count) 10) (omega arith) e;
         good = line-good (s .count + 1) (set held (s .count) 10) (length-set held (s .count) 10 ∙ g .heldLong) (omega arith);
       }
 
@@ -103,13 +149,15 @@ module _ (s : State) (held image out : List ℕ) (g : Good s held image out) (t 
   text-over : (b : ℕ) (r : State) → r .phase ≡ Phase.Text → r .used ≡ s .used
       → ((rest : List ℕ) → printedBehind (take (s .start) held) (current s held ++ b ∷ rest) ≡ refusalLine Fault.TooLong 0)
       → ((rest : List ℕ) → printedBehind (take (r .start) held) (current r held ++ rest) ≡ refusalLine Fault.TooLong 0)
+      → ((x : Seen) → Tracks x s held → Tracks (seeByte x b) r held)
       → Good r held image out → Took s held image out (b ∷ []) r held image out
-  text-over b r p u before after g' =
+  text-over b r p u before after tracks' g' =
       record {
         owes = λ rest.
             owed-text r held image out rest p
             ∙ ap₂ (λ (n : ℕ) (x : List ℕ). take n out ++ x) u (after rest ∙ sym (before rest))
             ∙ sym (owed-text s held image out (b ∷ rest) t);
+        tracks = tracks';
         good = g';
       }
 
@@ -129,11 +177,23 @@ module _ (s : State) (held image out : List ℕ) (g : Good s held image out) (t 
       let l : length (take 32769 held) ≡ 32769 = length-take-le 32769 held (rw (g .heldLong) (omega arith)) in
       over-text (take 32769 held) (current (startingAt 32769 s) held ++ rest) (omega arith)
 
+  full-tracks : (b : ℕ) → 32773 ≤ s .count → (b ≡ 10 → ⊥) → (x : Seen) → Tracks x s held → Tracks (seeByte x b) s held
+  unfolding TracksIn
+  full-tracks b c n x h = at-tracks Phase.Text (seeByte x b) s held t (go (tracks-at Phase.Text x s held t h))
+    where
+      go : (x .ran ≡ false) × (current s held ≡ take (32773 - s .start) (x .tail)) × (s .start ≤ 32769)
+          → (seeByte x b .ran ≡ false) × (current s held ≡ take (32773 - s .start) (seeByte x b .tail)) × (s .start ≤ 32769)
+      go (ran, line, first) = (
+        ap (λ (y : Seen). y .ran) (see-other x b n) ∙ ran,
+        held-stays (32773 - s .start) (x .tail) (current s held) line b (omega (arith, line-held, g .ordered)) ∙ ap (λ (y : Seen). take (32773 - s .start) (y .tail)) (sym (see-other x b n)),
+        first,
+      )
+
   -- ---- what the functions do
 
   pub text-pushed : (b : ℕ) (r : State) (held' : List ℕ) → (b ≡ 10 → ⊥) → Pushed 32773 s b held r held' → Took s held image out (b ∷ []) r held' image out
   text-pushed b r held' n (room h e k) = rw (e, k) (text-counted b h n)
-  text-pushed b r held' n (full h e k) = rw (e, k) (text-over b s t refl (λ rest. all-full h (b ∷ rest)) (all-full h) g)
+  text-pushed b r held' n (full h e k) = rw (e, k) (text-over b s t refl (λ rest. all-full h (b ∷ rest)) (all-full h) (full-tracks b h n) g)
 
   -- the end of a line that is not `run`
   pub text-line : (r : State) (held' : List ℕ) → is "run" (current s held) ≡ false → Pushed 32769 s 10 held r held'
@@ -143,7 +203,7 @@ module _ (s : State) (held image out : List ℕ) (g : Good s held image out) (t 
       rw (q, k, m) (line-counted e h)
   text-line r held' e (full h q k) =
       let m : min (s .count) 32769 ≡ 32769 = omega arith in
-      rw (q, k, m) (text-over 10 (startingAt 32769 s) t refl (line-over e h) next-over (line-good 32769 held (g .heldLong) (omega arith)))
+      rw (q, k, m) (text-over 10 (startingAt 32769 s) t refl (line-over e h) next-over (line-tracks 32769 held (omega arith) e) (line-good 32769 held (g .heldLong) (omega arith)))
 
 -- ---- where the next line starts
 

@@ -1,20 +1,21 @@
 -- Laws of many bytes: what a session owes along its calls.
 use Prim.Native.Nat.{ℕ, zero, suc, _+_, _≤_, _<_}
-use mathlib.Core.List.{List, [], _∷_, _++_, append-assoc, append-nil}
+use mathlib.Core.List.{List, [], _∷_, _++_, append-assoc, append-nil, foldl, foldl-append}
 use mathlib.Core.Path.{_≡_, refl, sym, ap, _∙_}
 use native.Mathlib.Numerals.{add-one}
 use native.Mathlib.Omega.{arith}
 use lib.ListN.{length, getD, take}
 use lib.Seq.{take-suc}
 use Rattle.session.specs.Printed.{printed}
-use Rattle.session.specs.Owed.{printedBehind, leftIn, owed, Fitting, Good, Took, Represents, startState, emptied}
+use Rattle.session.specs.Owed.{printedBehind, leftIn, owed, Fitting, Good, seeByte, see, nothingSeen, TracksIn, Took, Represents, startState, emptied}
 use Rattle.session.specs.declared.state.Phase.{Phase}
 use Rattle.session.specs.declared.state.State.{State}
 use Rattle.session.proofs.LineLaws.{empty-line}
+use Rattle.session.proofs.SeenLaws.{tracks-same}
 
 module _ (s : State) (held image out : List ℕ) where
   pub took-none : Good s held image out → Took s held image out [] s held image out
-  took-none g = record { owes = λ rest. refl; good = g }
+  took-none g = record { owes = λ rest. refl; tracks = λ x h. h; good = g }
 
   pub took-more : (x : List ℕ) (r : State) (held' image' out' y : List ℕ) (r2 : State) (held2 image2 out2 : List ℕ)
       → Took s held image out x r held' image' out' → Took r held' image' out' y r2 held2 image2 out2
@@ -22,6 +23,7 @@ module _ (s : State) (held image out : List ℕ) where
   took-more x r held' image' out' y r2 held2 image2 out2 p q =
       record {
         owes = λ rest. q .owes rest ∙ p .owes (y ++ rest) ∙ ap (owed s held image out) (sym (append-assoc x y rest));
+        tracks = λ seen h. rw (foldl-append seeByte seen x y) (q .tracks (see seen x) (p .tracks seen h));
         good = q .good;
       }
 
@@ -63,6 +65,7 @@ module _ (consumed handed : List ℕ) (s : State) (held image out : List ℕ) (w
   represents-took bytes r held' image' out' p =
       record {
         whole = λ rest. ap printed (append-assoc consumed bytes rest) ∙ w .whole (bytes ++ rest) ∙ ap (λ (x : List ℕ). handed ++ x) (sym (p .owes rest));
+        tracks = rw (foldl-append seeByte nothingSeen consumed bytes) (p .tracks (see nothingSeen consumed) (w .tracks));
         good = p .good;
       }
 
@@ -72,6 +75,7 @@ module _ (consumed handed : List ℕ) (s : State) (held image out : List ℕ) (w
   represents-emptied =
       record {
         whole = λ rest. w .whole rest ∙ sym (append-assoc handed (take (s .used) out) (leftIn (s .phase) s held image rest)) ∙ left-same (s .phase) rest;
+        tracks = tracks-same (s .phase) (see nothingSeen consumed) s held (w .tracks);
         good = emptied-good s held image out (w .good);
       }
     where
@@ -86,10 +90,11 @@ module _ (consumed handed : List ℕ) (s : State) (held image out : List ℕ) (w
 
 pub represents-start : (held image out : List ℕ) → length held ≡ 32773 → length image ≡ 13064 → length out ≡ 65536
     → Represents [] [] startState held image out
-unfolding owed leftIn printedBehind printed Fitting
+unfolding owed leftIn printedBehind printed Fitting TracksIn
 represents-start held image out h i o =
     record {
       whole = λ rest. refl;
+      tracks = (refl, refl, omega arith);
       good =
           record {
             heldLong = h;

@@ -2,7 +2,7 @@
 -- what the definition prints for the input. And what the compiler lists is what its definition says.
 use Prim.Native.Nat.{ℕ, _+_, _≤_}
 use mathlib.Core.Bool.{Bool, true, false}
-use mathlib.Core.List.{List, [], _++_}
+use mathlib.Core.List.{List, [], _++_, append-nil}
 use mathlib.Core.Path.{_≡_, refl, sym, ap, _∙_}
 use native.Mathlib.Omega.{arith}
 use borrow.Author.Tests.{leb-true, leb-false}
@@ -11,8 +11,10 @@ use lib.ListN.{length, take, length-take}
 use lib.Seq.{take-all}
 use Rattle.report.specs.Buffer.{appended, behind}
 use Rattle.session.specs.Listed.{listed}
-use Rattle.session.specs.Printed.{printed}
-use Rattle.session.specs.Owed.{Good, Fed, Finished, Represents, Called, begun, fed, handedOut, Reached, startState, emptied}
+use Rattle.lexer.specs.Lines.{pieces, linesOf}
+use Rattle.session.specs.Printed.{epochLines, printed}
+use Rattle.session.specs.Owed.{leftIn, owed, Good, Seen, see, nothingSeen, TracksIn, Fed, Finished, Represents, Called, begun, fed, handedOut, Reached, startState, emptied}
+use Rattle.session.specs.declared.state.Phase.{Phase}
 use Rattle.session.specs.declared.state.State.{State}
 use Rattle.session.proofs.BufferLaws.{put-take}
 use Rattle.session.proofs.ListingLaws.{listed-short, listed-long}
@@ -29,6 +31,26 @@ represented (handedOut c) = represents-emptied _ _ _ _ _ _ (represented c)
 pub all-printed : {consumed handed held image out : List ℕ} {s : State} → Called consumed handed s held image out
     → (r : State) (out' : List ℕ) → Finished s held image out r out' → handed ++ take (r .used) out' ≡ printed consumed
 all-printed c r out' f = represents-all _ _ _ _ _ _ (represented c) (take (r .used) out') (f .all)
+
+-- nothing is left to be printed for lines that have ended
+none-left : (p : Phase) (x : Seen) (s : State) (held image : List ℕ) → TracksIn p x s held → x .ran ≡ true → x .tail ≡ []
+    → leftIn p s held image [] ≡ []
+unfolding TracksIn leftIn epochLines linesOf pieces
+none-left Phase.Text x s held image (ran, line, first) r e = let z : _≡_ {A = ℕ} 0 1 = cc in absurd (omega arith)
+none-left Phase.Epochs x s held image (ran, line) r e =
+    ap (λ (l : List ℕ). epochLines (take (s .size) image) (s .epochs) (linesOf (l ++ []))) (line ∙ ap (take 1025) e)
+none-left Phase.Over x s held image ran r e = refl
+
+-- the answers are there as soon as they can be: once the line `run` has ended and no line has begun behind the last line end, all
+-- that is printed for the input so far was handed out or waits
+pub answers-wait : {consumed handed held image out : List ℕ} {s : State} → Called consumed handed s held image out
+    → see nothingSeen consumed .ran ≡ true → see nothingSeen consumed .tail ≡ [] → handed ++ take (s .used) out ≡ printed consumed
+unfolding owed
+answers-wait {consumed} {handed} {held} {image} {out} {s} c r e =
+    let w = represented c in
+    ap (λ (l : List ℕ). handed ++ l)
+    (sym (append-nil (take (s .used) out)) ∙ ap (λ (l : List ℕ). take (s .used) out ++ l) (sym (none-left (s .phase) (see nothingSeen consumed) s held image (w .tracks) r e)))
+    ∙ sym (w .whole []) ∙ ap printed (append-nil consumed)
 
 -- `feed` and `finish` may be called
 pub callable : (s : State) (held image out : List ℕ) → Reached s held image out → Good s held image out

@@ -1,12 +1,13 @@
 -- What the functions of this crate keep to: with the bytes that wait in `out`, a state owes what is printed for the input
 -- that is left.
-use Prim.Native.Nat.{ℕ, _+_, min, _≤_, _<_}
-use mathlib.Core.Bool.{Bool, false}
-use mathlib.Core.List.{List, [], _∷_, _++_}
+use Prim.Native.Nat.{ℕ, _+_, _-_, min, _≤_, _<_}
+use mathlib.Core.Bool.{Bool, true, false, _||_, cond}
+use mathlib.Core.List.{List, [], _∷_, _++_, foldl}
 use mathlib.Core.Path.{_≡_}
 use lib.Dec.{eqb}
 use lib.ListN.{length, take, drop, set}
 use Rattle.policy.specs.List.{any}
+use Rattle.lexer.specs.Byte.{is}
 use Rattle.lexer.specs.Lines.{linesOf}
 use Rattle.session.specs.Printed.{Session, splitAtRun, textOf, epochsOf, printedFor, printed, next, decisionLine, epochLines}
 use Rattle.monitor.specs.Decision.{decision}
@@ -49,14 +50,40 @@ pub record Good (s : State) (held image out : List ℕ) : Type 0 where
 abbrev pub Room : State → Type 0
 Room s = s .used ≤ 65024
 
+-- ---- what the lines of the input were so far: whether one of the complete ones is `run`, and the bytes behind the last line end
+
+pub record Seen : Type 0 where
+  pub ran : Bool
+  pub tail : List ℕ
+
+abbrev pub nothingSeen : Seen
+nothingSeen = record { ran = false; tail = [] }
+
+unfoldable pub seeByte : Seen → ℕ → Seen
+seeByte x byte = cond (eqb byte 10) (record { ran = x .ran || is "run" (x .tail); tail = [] }) (record { ran = x .ran; tail = x .tail ++ byte ∷ [] })
+
+abbrev pub see : Seen → List ℕ → Seen
+see x bytes = foldl seeByte x bytes
+
+-- a state is past the text exactly if a line `run` was seen, and holds the start of the open line
+unfoldable pub TracksIn : Phase → Seen → State → List ℕ → Type 0
+TracksIn Phase.Text x s held = (x .ran ≡ false) × (current s held ≡ take (32773 - s .start) (x .tail)) × (s .start ≤ 32769)
+TracksIn Phase.Epochs x s held = (x .ran ≡ true) × (current s held ≡ take 1025 (x .tail))
+TracksIn Phase.Over x s held = x .ran ≡ true
+
+abbrev pub Tracks : Seen → State → List ℕ → Type 0
+Tracks x s held = TracksIn (s .phase) x s held
+
 -- a call that took these bytes of the input
 pub record Took (s : State) (held image out bytes : List ℕ) (r : State) (held' image' out' : List ℕ) : Type 0 where
   pub owes : (rest : List ℕ) → owed r held' image' out' rest ≡ owed s held image out (bytes ++ rest)
+  pub tracks : (x : Seen) → Tracks x s held → Tracks (see x bytes) r held'
   pub good : Good r held' image' out'
 
 -- what of the input was consumed and what of the output was handed out, with what a session holds
 pub record Represents (consumed handed : List ℕ) (s : State) (held image out : List ℕ) : Type 0 where
   pub whole : (rest : List ℕ) → printed (consumed ++ rest) ≡ handed ++ owed s held image out rest
+  pub tracks : Tracks (see nothingSeen consumed) s held
   pub good : Good s held image out
 
 abbrev pub startState : State
@@ -116,6 +143,8 @@ pub data Pushed (limit : ℕ) (s : State) (byte : ℕ) (held : List ℕ) (r : St
 pub record TextEnded (text : List ℕ) (s : State) (out : List ℕ) (r : State) (image' out' : List ℕ) : Type 0 where
   pub owes : (held rest : List ℕ) → owed r held image' out' rest ≡ take (s .used) out ++ printedFor text (linesOf rest)
   pub good : (held : List ℕ) → length held ≡ 32773 → Good r held image' out'
+  -- behind its line `run`
+  pub tracks : (held : List ℕ) (x : Seen) → x .ran ≡ true → x .tail ≡ [] → Tracks x r held
   -- the end of the input adds nothing
   pub quiet : (held : List ℕ) → leftIn (r .phase) r held image' [] ≡ []
 
