@@ -21,12 +21,21 @@ fn reversed4(a: u8, b: u8, c: u8, d: u8) -> u32
     (d as u32) * 0x0100_0000 + (c as u32) * 0x0001_0000 + (b as u32) * 0x0100 + (a as u32)
 }
 
+// Four bytes of a word that is there.
+fn reversed_in(bytes: &[u8], index: usize) -> u32
+    requires { ⌜ index < length (now bytes) / 4 ⌝ }
+    ensures { λ r. ⌜ swap r ≡ wordAt (now (bytes .entry)) index ⌝ }
+{
+    let at = index * 4;
+    reversed4(bytes[at], bytes[at + 1], bytes[at + 2], bytes[at + 3])
+}
+
+// 0 past the last whole word.
 fn reversed_at(bytes: &[u8], index: usize) -> u32
     ensures { λ r. ⌜ swap r ≡ wordAt (now (bytes .entry)) index ⌝ }
 {
     if index < bytes.len() / 4 {
-        let at = index * 4;
-        reversed4(bytes[at], bytes[at + 1], bytes[at + 2], bytes[at + 3])
+        reversed_in(bytes, index)
     } else {
         0
     }
@@ -47,15 +56,6 @@ pub fn word_at(bytes: &[u8], index: usize) -> u32
     ensures { λ r. ⌜ r ≡ wordAt (now (bytes .entry)) index ⌝ }
 {
     swapped(reversed_at(bytes, index))
-}
-
-// Four bytes of a word that is there.
-fn reversed_in(bytes: &[u8], index: usize) -> u32
-    requires { ⌜ index < length (now bytes) / 4 ⌝ }
-    ensures { λ r. ⌜ swap r ≡ wordAt (now (bytes .entry)) index ⌝ }
-{
-    let at = index * 4;
-    reversed4(bytes[at], bytes[at + 1], bytes[at + 2], bytes[at + 3])
 }
 
 // A word that is there, with no test.
