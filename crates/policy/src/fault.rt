@@ -1,6 +1,6 @@
-// Why an input is refused (document 01: the ground), each with its number.
+// Why an input is refused (document 01: the ground), each with its number, and where (the place).
 ghost use mathlib.Core.Path.{_≡_};
-ghost use Rattle.policy.specs.Fault.{faultNumber};
+ghost use Rattle.policy.specs.Fault.{faultNumber, refusal};
 
 pub enum Fault {
     // A rule text or an epoch line is over its length (long).
@@ -57,4 +57,21 @@ impl Fault {
             Fault::BufferTooSmall => 15,
         }
     }
+
+    // The refusal for this fault at a location.
+    pub fn at(self, location: usize) -> Refusal
+        ensures { λ r. ⌜ r ≡ refusal self location ⌝ }
+    {
+        Refusal {
+            fault: self,
+            location,
+        }
+    }
+}
+
+// Why an input is refused, and where: a line of a text counted from 1, a word of an image counted from 0, or 0 where the fault is
+// at neither.
+pub struct Refusal {
+    pub fault: Fault,
+    pub location: usize,
 }

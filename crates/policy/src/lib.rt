@@ -11,6 +11,7 @@ pub use comparison::Literal;
 pub use comparison::Operand;
 pub use comparison::Relation;
 pub use fault::Fault;
+pub use fault::Refusal;
 pub use line::Ending;
 pub use line::Head;
 pub use line::Line;
