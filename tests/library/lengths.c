@@ -2,7 +2,7 @@
    the length of valid bytes, which stand at the start, so that a length cut to fewer bits would be answered otherwise. The areas
    have over 4 GiB, of which few pages are ever used. They can be read to their end, and written at their start alone. */
 #define _DEFAULT_SOURCE
-#include "../reference/reference.h"
+#include "../reference/inputs.h"
 #include "kinohazel.h"
 
 #include <inttypes.h>
@@ -154,7 +154,7 @@ static void try_lines(uint8_t *area, const uint8_t *image, size_t size)
 
 int main(void)
 {
-    static const char text[] = "E1 & !E2 causes A3 if R0 > 40\nE3 causes A4\nnever A3 & A4\n";
+    static const char text[] = EXAMPLE;
     static uint8_t image[IMAGE_BYTES], empty[8];
     uint8_t *area = new_area(), *out = new_area();
     size_t size, empty_size;

@@ -111,9 +111,7 @@ static void measure_input(const struct buffer *input, struct dice *dice)
 static void measure_largest(struct buffer *input, struct dice *dice)
 {
     unsigned i;
-    add_largest(input);
-    add(input, "run\n");
-    add_epochs_of_largest(input);
+    add_largest_input(input);
     for (i = 0; i < 3; i++) {
         size_t from = input->length;
         while (input->length - from < EPOCH_BYTES - 16)

@@ -45,13 +45,10 @@ static void make(struct sample *sample, struct dice *dice)
     struct buffer *input = &sample->input;
     size_t at;
     *input = new_buffer();
-    if (sample == samples) {
-        add_largest(input);
-        add(input, "run\n");
-        add_epochs_of_largest(input);
-    } else {
+    if (sample == samples)
+        add_largest_input(input);
+    else
         add_engine_input(input, dice, (unsigned)(sample - samples) % 16);
-    }
     find_run(input->bytes, input->length, &sample->text_length, &at);
     while (sample->count < LINES
         && next_line(input->bytes, input->length, &at, &sample->lines[sample->count], &sample->lengths[sample->count]))

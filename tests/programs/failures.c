@@ -107,13 +107,18 @@ static const char *shown(const char *bytes, size_t length)
     return line;
 }
 
+static bool is_compiler(const char *program)
+{
+    return strcmp(program, "compiler") == 0;
+}
+
 static struct bytes due_of(const char *program, const uint8_t *input, size_t length)
 {
     struct bytes due = {NULL, 0};
     FILE *out = open_memstream(&due.at, &due.length);
     if (out == NULL)
         fail("no memory");
-    if (strcmp(program, "compiler") == 0)
+    if (is_compiler(program))
         print_compiler(input, length, out);
     else
         print_engine(input, length, out);
@@ -128,7 +133,7 @@ static struct bytes due_of_part(const char *program, const uint8_t *input, size_
     size_t text, epochs;
     while (length > 0 && input[length - 1] != '\n')
         length--;
-    if (strcmp(program, "compiler") == 0 || !find_run(input, length, &text, &epochs))
+    if (is_compiler(program) || !find_run(input, length, &text, &epochs))
         return none;
     return due_of(program, input, length);
 }
@@ -422,7 +427,6 @@ static struct buffer *add_sample(const char *program, const char *name, const ch
     return &sample->input;
 }
 
-#define EXAMPLE "E1 & !E2 causes A3 if R0 > 40\nE3 causes A4\nnever A3 & A4\n"
 #define NEAR_RUN "ru\nrunx\nxrun\n run\nrun \nrrun\nrun run\n"
 
 static void add_compiler_samples(void)
@@ -452,10 +456,7 @@ static void add_engine_samples(void)
     add_sample("engine", "no run", EXAMPLE);
     add_sample("engine", "a faulty line and no run", "E1 causes\nE1 causes A1\n");
     add_sample("engine", "run without its end", "E1 causes A1\nrun");
-    input = add_sample("engine", "the largest image", "");
-    add_largest(input);
-    add(input, "run\n");
-    add_epochs_of_largest(input);
+    add_largest_input(add_sample("engine", "the largest image", ""));
     for (i = 0; i < 3; i++) {
         static const char *const names[] = {"32,768 bytes", "32,769 bytes", "200,000 bytes"};
         static const size_t lengths[] = {TEXT_BYTES, TEXT_BYTES + 1, 200000};
@@ -473,11 +474,8 @@ static void add_engine_samples(void)
     add_times(input, "\n", 3500);
     add(input, "E1");
     input = add_sample("engine", "long answers", "");
-    for (i = 0; i < ACTIONS; i++) {
-        add(input, "E1 causes A");
-        add_number(input, (long)i);
-        add(input, "\n");
-    }
+    for (i = 0; i < ACTIONS; i++)
+        add_format(input, "E1 causes A%u\n", i);
     add(input, "run\n");
     add_times(input, "E1\n", 700);
 }
@@ -538,6 +536,17 @@ static size_t find_places(size_t length, size_t places[FEW])
 
 /* With the shim */
 
+/* A program on a sample with a script, until it has ended by itself. */
+static struct run run_script(const struct sample *sample, const char *script)
+{
+    struct run run;
+    begin("%s, %s, '%s'", sample->program, sample->name, script);
+    run = start_piped(on(sample, script));
+    end(&run);
+    check_status(&run);
+    return run;
+}
+
 /* Interruptions and short calls change nothing. */
 static void test_sound(void)
 {
@@ -551,11 +560,7 @@ static void test_sound(void)
     for (i = 0; i < sample_count; i++)
         for (k = 0; k < sizeof scripts / sizeof *scripts; k++) {
             const struct sample *sample = &samples[i];
-            struct run run;
-            begin("%s, %s, '%s'", sample->program, sample->name, scripts[k]);
-            run = start_piped(on(sample, scripts[k]));
-            end(&run);
-            check_status(&run);
+            struct run run = run_script(sample, scripts[k]);
             check_said(&run, "");
             check_printed(&run, sample->due.at, sample->due.length);
             check_calls(0, 0);
@@ -582,10 +587,7 @@ static void test_failing_reads(void)
                 char script[200];
                 snprintf(script, sizeof script, "read_stop=%lu read_error=%d%s", (unsigned long)places[n],
                     ways[k].error, ways[k].script);
-                begin("%s, %s, '%s'", sample->program, sample->name, script);
-                run = start_piped(on(sample, script));
-                end(&run);
-                check_status(&run);
+                run = run_script(sample, script);
                 check_error(&run, "input", ways[k].error);
                 check_printed(&run, due.at, due.length);
                 check_calls(1, 0);
@@ -612,17 +614,14 @@ static void test_failing_writes(void)
                 char script[200];
                 snprintf(script, sizeof script, "write_stop=%lu write_error=%d%s", (unsigned long)places[n],
                     ways[k].error, ways[k].script);
-                begin("%s, %s, '%s'", sample->program, sample->name, script);
-                run = start_piped(on(sample, script));
-                end(&run);
-                check_status(&run);
+                run = run_script(sample, script);
                 if (!fails)
                     check_said(&run, "");
                 else if (ways[k].error != 0)
                     check_error(&run, "output", ways[k].error);
                 else
-                    check_said_line(&run, strcmp(sample->program, "compiler") == 0 ? "compiler: standard output: "
-                                                                                   : "engine: standard output: ");
+                    check_said_line(&run, is_compiler(sample->program) ? "compiler: standard output: "
+                                                                       : "engine: standard output: ");
                 check_printed(&run, sample->due.at, places[n]);
                 check_calls(0, fails);
                 forget(&run);

@@ -3,7 +3,6 @@
    met. It fails if one was never met. */
 #include "../reference/inputs.h"
 
-#include <stdarg.h>
 #include <stdlib.h>
 #include <string.h>
 
@@ -18,7 +17,7 @@ static void fail(const char *message, const char *name)
 /* Writing cases, and counting what they meet */
 
 struct tally {
-    unsigned long text[FAULT_ROOM + 1], epoch[FAULT_ROOM + 1];
+    unsigned long text[FAULTS], epoch[FAULTS];
     unsigned long decisions, cancelling, loaded, bodies;
     unsigned long most_accepted, most_cancelled, most_epochs; /* in one decision, in one input */
 };
@@ -43,40 +42,25 @@ static void close_file(FILE *file, const char *name)
 /* Changes one word of an image's body and mends the sum: what still loads is written again as it was. */
 static void check_loader(const uint8_t *image, size_t length, struct dice *dice, const char *name, struct tally *tally)
 {
-    static uint8_t changed[IMAGE_BYTES];
-    static uint32_t words[IMAGE_WORDS];
+    static uint8_t changed[IMAGE_BYTES], again[IMAGE_BYTES];
     static struct policy loaded;
     struct verdict verdict;
-    size_t i, count = length / 4, at = 1 + below(dice, (unsigned)(count - 1));
-    uint32_t sum = 0;
+    size_t count = length / WORD_BYTES, at = 1 + below(dice, (unsigned)(count - 1));
     memcpy(changed, image, length);
     if (chance(dice, 500)) /* a word of another place, or one bit */
-        memcpy(changed + 4 * at, image + 4 * (1 + below(dice, (unsigned)(count - 1))), 4);
+        put_word(changed, at, word_at(image, 1 + below(dice, (unsigned)(count - 1))));
     else
-        changed[4 * at + below(dice, 4)] ^= (uint8_t)(1u << below(dice, 8));
-    for (i = 0; i < length - 4; i++)
-        sum += (uint32_t)changed[i] << (24 - 8 * (i % 4));
-    for (i = 0; i < 4; i++)
-        changed[length - 4 + i] = (uint8_t)((0 - sum) >> (24 - 8 * i));
+        changed[WORD_BYTES * at + below(dice, WORD_BYTES)] ^= (uint8_t)(1u << below(dice, 8));
+    put_sum(changed, count);
     verdict = load_image(changed, length, &loaded);
     tally->loaded += verdict.fault == FAULT_NONE;
     tally->bodies += verdict.fault == FAULT_BODY;
     if (verdict.fault == FAULT_BODY ? verdict.location == 0 || verdict.location > at
                                     : verdict.fault != FAULT_NONE || verdict.location != 0)
         fail("a changed body is refused for another reason or at another place", name);
-    if (verdict.fault == FAULT_NONE && image_words(&loaded, words) != count)
-        fail("a changed image loads as one of another size", name);
-    for (i = 0; verdict.fault == FAULT_NONE && i < length; i++)
-        if (changed[i] != (uint8_t)(words[i / 4] >> (24 - 8 * (i % 4))))
-            fail("a changed image is not written again as it was", name);
-}
-
-static unsigned long size_of(action_set set)
-{
-    unsigned long size = 0;
-    for (; set != 0; set &= set - 1)
-        size++;
-    return size;
+    if (verdict.fault == FAULT_NONE
+        && (write_image(&loaded, again) != length || memcmp(again, changed, length) != 0))
+        fail("a changed image is not written again as it was", name);
 }
 
 static void raise_to(unsigned long *most, unsigned long number)
@@ -90,12 +74,11 @@ static void raise_to(unsigned long *most, unsigned long number)
 static void check_reference(const struct buffer *input, const char *name, bool engine, struct tally *tally)
 {
     static uint8_t image[IMAGE_BYTES], changed[IMAGE_BYTES];
-    static uint32_t words[IMAGE_WORDS], loaded_words[IMAGE_WORDS];
     static struct policy policy, loaded;
     struct dice dice = {input->length};
     unsigned long epochs = 0;
     const uint8_t *line;
-    size_t text_length = input->length, at = input->length, written, count, line_length, byte;
+    size_t text_length = input->length, at = input->length, written, line_length, byte;
     struct verdict verdict;
     if (engine)
         find_run(input->bytes, input->length, &text_length, &at);
@@ -104,9 +87,8 @@ static void check_reference(const struct buffer *input, const char *name, bool e
     if (verdict.fault != FAULT_NONE)
         return;
     read_text(input->bytes, text_length, &policy);
-    count = image_words(&policy, words);
-    if (load_image(image, written, &loaded).fault != FAULT_NONE || image_words(&loaded, loaded_words) != count
-        || memcmp(words, loaded_words, count * sizeof *words) != 0 || written != count * 4)
+    if (load_image(image, written, &loaded).fault != FAULT_NONE || write_image(&loaded, changed) != written
+        || memcmp(changed, image, written) != 0)
         fail("the image does not load as it was written", name);
     verdict = compile(input->bytes, text_length, changed, written - 1, &byte);
     if (verdict.fault != FAULT_ROOM || byte != 0)
@@ -128,8 +110,8 @@ static void check_reference(const struct buffer *input, const char *name, bool e
         tally->epoch[one.verdict.fault]++;
         tally->decisions += one.accepted != 0;
         tally->cancelling += one.cancelled != 0;
-        raise_to(&tally->most_accepted, size_of(one.accepted));
-        raise_to(&tally->most_cancelled, size_of(one.cancelled));
+        raise_to(&tally->most_accepted, size_of_set(one.accepted));
+        raise_to(&tally->most_cancelled, size_of_set(one.cancelled));
         raise_to(&tally->most_epochs, ++epochs);
     }
 }
@@ -160,14 +142,14 @@ static void write_case(
 static void write_limits(const char *folder, struct buffer *input, struct tally *tally)
 {
     static struct policy policy;
-    static uint32_t words[IMAGE_WORDS];
+    static uint8_t image[IMAGE_BYTES];
     unsigned i;
     size_t k;
 
     input->length = 0;
     add_largest(input);
     if (read_text(input->bytes, input->length, &policy).fault != FAULT_NONE
-        || image_words(&policy, words) != IMAGE_WORDS || IMAGE_WORDS != 3266)
+        || write_image(&policy, image) != IMAGE_BYTES || IMAGE_WORDS != 3266)
         fail("the largest image has not 3,266 words", "largest");
     write_case(folder, false, "largest", input, tally);
     add(input, "run\n");
@@ -189,13 +171,11 @@ static void write_limits(const char *folder, struct buffer *input, struct tally 
         add_times(input, i < 2 ? "E0 causes A0\n" : "never A0\n", (i < 2 ? RULES : CONSTRAINTS) + i % 2);
         write_case(folder, false, names[i], input, tally);
     }
-    for (i = 0; i < 4; i++) { /* the other faults of a line come before 5 */
+    for (i = 0; i < FAULTY_LINES; i++) { /* the other faults of a line come before 5 */
         static const char *const names[] = {"full_and_shape", "full_and_range", "full_and_crowd", "full_and_repeat"};
-        static const char *const lines[] = {"E0 causes", "E64 causes A0",
-            "E0 & E1 & E2 & E3 & E4 & E5 & E6 & E7 & E8 causes A0", "E0 & !E0 causes A0"};
         input->length = 0;
         add_times(input, "E0 causes A0\n", RULES);
-        add(input, lines[i]);
+        add(input, faulty_lines[i]);
         write_case(folder, false, names[i], input, tally);
     }
     for (i = 0; i < 5; i++) {
@@ -220,15 +200,11 @@ static void write_limits(const char *folder, struct buffer *input, struct tally 
             add(input, "run\nE1\n");
         write_case(folder, i >= 2, i % 2 == 0 ? "range_in_32768" : "range_in_32769", input, tally);
     }
-    input->length = 0; /* the longest list of one line */
-    add(input, "E0");
-    while (input->length + 15 < TEXT_BYTES)
-        add(input, " & E0");
-    add(input, " causes A0");
+    input->length = 0;
+    add_longest_line(input);
     write_case(folder, false, "one_line", input, tally);
-    input->length = 0; /* as many lines as there may be, the last one faulty */
-    add_times(input, "\n", TEXT_BYTES - 1);
-    add(input, "E");
+    input->length = 0;
+    add_most_lines(input);
     write_case(folder, false, "lines_32768", input, tally);
     input->length = 0;
     add(input, "E1 causes A3\nE2 causes A4\nnever A3 & A4\nrun\n");
@@ -257,34 +233,17 @@ static void write_limits(const char *folder, struct buffer *input, struct tally 
 /* Further cases, by name: `limit_` those about the length of a text, `large_` those of many bytes, `shift_` those that
    differ in where a buffer ends. */
 
-static void add_line(struct buffer *to, const char *format, ...)
-{
-    char line[256];
-    va_list list;
-    va_start(list, format);
-    vsnprintf(line, sizeof line, format, list);
-    va_end(list);
-    add(to, line);
-}
-
-/* `E3 E4 E5 `: so many events from one on. */
-static void add_events(struct buffer *to, unsigned first, unsigned count)
-{
-    for (; count > 0; count--)
-        add_line(to, "E%u ", first++);
-}
-
 /* Sets of every size. Of the proposed actions those under R0 are cancelled. */
 static void write_sets(const char *folder, struct buffer *input, struct tally *tally)
 {
     unsigned i;
     input->length = 0;
     for (i = 0; i < ACTIONS; i++)
-        add_line(input, "E%u causes A%u\nnever A%u if R0 > %u\n", i, i, i, i);
+        add_format(input, "E%u causes A%u\nnever A%u if R0 > %u\n", i, i, i, i);
     add(input, "run\n");
     for (i = 0; i <= ACTIONS; i++) {
         add_events(input, 0, EVENTS); /* all proposed, i of them cancelled */
-        add_line(input, "R0=%u\n", i);
+        add_format(input, "R0=%u\n", i);
         add_events(input, 0, i); /* i proposed, none cancelled, and all */
         add(input, "\n");
         add_events(input, EVENTS - i, i);
@@ -293,14 +252,14 @@ static void write_sets(const char *folder, struct buffer *input, struct tally *t
     for (i = 0; i < EVENTS; i++) { /* all but one */
         add_events(input, 0, i);
         add_events(input, i + 1, EVENTS - 1 - i);
-        add_line(input, "R0=%u\n", i % 3 * 32);
+        add_format(input, "R0=%u\n", i % 3 * 32);
     }
     write_case(folder, true, "sets", input, tally);
     input->length = 0; /* all but the first are cancelled because of it */
     for (i = 0; i < ACTIONS; i++)
-        add_line(input, "E63 causes A%u\n", i);
+        add_format(input, "E63 causes A%u\n", i);
     for (i = 1; i < ACTIONS; i++)
-        add_line(input, "never A0 & A%u\n", i);
+        add_format(input, "never A0 & A%u\n", i);
     add(input, "run\nE63\n\nE63");
     write_case(folder, true, "sets_first", input, tally);
 }
@@ -313,10 +272,10 @@ static void write_readings(const char *folder, struct buffer *input, struct tall
     unsigned i, k;
     input->length = 0;
     for (i = 0; i < READINGS; i++) {
-        add_line(input, "E0 causes A%u if R%u = %ld\n", i, i, values[i]);
-        add_line(input, "E1 causes A%u if R%u < R%u\n", 16 + i, i, (i + 1) % READINGS);
-        add_line(input, "E2 causes A%u if R%u >= %ld\n", 32 + i, i, values[i]);
-        add_line(input, "E63 causes A%u if R%u != %ld\n", 48 + i, i, values[i]);
+        add_format(input, "E0 causes A%u if R%u = %ld\n", i, i, values[i]);
+        add_format(input, "E1 causes A%u if R%u < R%u\n", 16 + i, i, (i + 1) % READINGS);
+        add_format(input, "E2 causes A%u if R%u >= %ld\n", 32 + i, i, values[i]);
+        add_format(input, "E63 causes A%u if R%u != %ld\n", 48 + i, i, values[i]);
     }
     add(input, "run\n");
     for (k = 0; k <= 3 * READINGS; k++) {
@@ -329,9 +288,9 @@ static void write_readings(const char *folder, struct buffer *input, struct tall
             if (k == READINGS + reading)
                 continue;
             if (k == 2 * READINGS + reading)
-                add_line(input, "R%u=%ld ", reading, values[(reading + 1) % READINGS]);
+                add_format(input, "R%u=%ld ", reading, values[(reading + 1) % READINGS]);
             else
-                add_line(input, "R%u=%ld ", reading, k == reading ? values[reading] / 2 : values[reading]);
+                add_format(input, "R%u=%ld ", reading, k == reading ? values[reading] / 2 : values[reading]);
         }
         add(input, k % 4 == 0 ? "E1\n" : "\n");
     }
@@ -422,10 +381,10 @@ static void write_floods(const char *folder, struct buffer *input, struct tally 
         name[sizeof name - 2] = (char)('0' + k);
         input->length = 0;
         for (i = 0; i < ACTIONS; i++)
-            add_line(input, "E0 causes A%u\n", i);
+            add_format(input, "E0 causes A%u\n", i);
         add(input, all);
         for (i = 1; i < CONSTRAINTS; i++)
-            add_line(input, "never A%u if R0 = 1\n", i);
+            add_format(input, "never A%u if R0 = 1\n", i);
         add(input, "run\n");
         for (i = 0; i < 6000; i++) {
             add(input, k == 2 || (k == 1 && chance(&dice, 800)) ? "E0" : k == 3 ? "E64" : CHOOSE(&dice, lines));
@@ -439,7 +398,7 @@ static void write_floods(const char *folder, struct buffer *input, struct tally 
         char name[32];
         input->length = 0;
         for (i = 0; i < ACTIONS; i++)
-            add_line(input, "E0 causes A%u\n", i);
+            add_format(input, "E0 causes A%u\n", i);
         add(input, all);
         add(input, "run\n");
         for (i = 0; i < 32; i++)
@@ -461,7 +420,7 @@ static void write_long_texts(const char *folder, struct buffer *input, struct ta
         for (k = 0; k < 4; k++) {
             char name[40];
             input->length = 0;
-            add(input, "E1 & !E2 causes A3 if R0 > 40\nE3 causes A4\nnever A3 & A4\n");
+            add(input, EXAMPLE);
             while (input->length < lengths[i])
                 add(input, fills[k]);
             input->length = lengths[i];

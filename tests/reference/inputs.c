@@ -1,5 +1,6 @@
 #include "inputs.h"
 
+#include <stdarg.h>
 #include <stdlib.h>
 #include <string.h>
 
@@ -36,17 +37,32 @@ void add_byte(struct buffer *to, unsigned byte)
     add_bytes(to, &one, 1);
 }
 
+void add_format(struct buffer *to, const char *format, ...)
+{
+    char string[256];
+    va_list list;
+    va_start(list, format);
+    if (vsnprintf(string, sizeof string, format, list) >= (int)sizeof string)
+        no_room();
+    va_end(list);
+    add(to, string);
+}
+
 void add_number(struct buffer *to, long number)
 {
-    char digits[24];
-    sprintf(digits, "%ld", number);
-    add(to, digits);
+    add_format(to, "%ld", number);
 }
 
 void add_times(struct buffer *to, const char *string, unsigned times)
 {
     while (times-- > 0)
         add(to, string);
+}
+
+void add_events(struct buffer *to, unsigned first, unsigned count)
+{
+    for (; count > 0; count--)
+        add_format(to, "E%u ", first++);
 }
 
 void splice(struct buffer *in, size_t from, size_t until, const void *bytes, size_t length)
@@ -177,7 +193,6 @@ static void add_constant(struct buffer *to, struct dice *dice, const struct tast
 
 static void add_condition(struct buffer *to, struct dice *dice, const struct taste *taste)
 {
-    static const char *const relations[] = {"=", "!=", "<", "<=", ">", ">="};
     static const char *const odd[] = {"==", "=>", "=<", "<>", "!", "", "is", "!==", "& ", "-", ">==", "<<"};
     static const char *const commas[] = {"", ",,", "&", ", ,", ";", "and", "if"};
     unsigned count = 1 + below(dice, chance(dice, 500) ? 4 : 2), i;
@@ -191,7 +206,7 @@ static void add_condition(struct buffer *to, struct dice *dice, const struct tas
         }
         add_name(to, dice, taste, 'R', taste->readings, READINGS);
         add_gap(to, dice, taste);
-        add(to, chance(dice, taste->shape) ? CHOOSE(dice, odd) : CHOOSE(dice, relations));
+        add(to, chance(dice, taste->shape) ? CHOOSE(dice, odd) : CHOOSE(dice, relation_names));
         add_gap(to, dice, taste);
         if (chance(dice, 350))
             add_name(to, dice, taste, 'R', taste->readings, READINGS);
@@ -234,7 +249,7 @@ static void add_list(struct buffer *to, struct dice *dice, const struct taste *t
             continue;
         }
         number = below(dice, used);
-        while (i < used && (seen >> number & 1) != 0)
+        while (i < used && in_set(seen, number))
             number = (number + 1) % used;
         if (i == 0)
             first = number;
@@ -257,14 +272,9 @@ static void add_keyword(struct buffer *to, struct dice *dice, const struct taste
     add(to, chance(dice, taste->shape) ? CHOOSE(dice, odd) : word);
 }
 
-static void add_rule(struct buffer *to, struct dice *dice, const struct taste *taste)
+/* `if` and a condition, or nothing, to the end of the line. */
+static void add_option(struct buffer *to, struct dice *dice, const struct taste *taste)
 {
-    add_edge(to, dice, taste);
-    add_list(to, dice, taste, true);
-    add_gap(to, dice, taste);
-    add_keyword(to, dice, taste, "causes");
-    add_gap(to, dice, taste);
-    add_name(to, dice, taste, 'A', taste->actions, ACTIONS);
     if (chance(dice, 400)) {
         add_gap(to, dice, taste);
         add_keyword(to, dice, taste, "if");
@@ -274,19 +284,24 @@ static void add_rule(struct buffer *to, struct dice *dice, const struct taste *t
     add_edge(to, dice, taste);
 }
 
+static void add_rule(struct buffer *to, struct dice *dice, const struct taste *taste)
+{
+    add_edge(to, dice, taste);
+    add_list(to, dice, taste, true);
+    add_gap(to, dice, taste);
+    add_keyword(to, dice, taste, "causes");
+    add_gap(to, dice, taste);
+    add_name(to, dice, taste, 'A', taste->actions, ACTIONS);
+    add_option(to, dice, taste);
+}
+
 static void add_constraint(struct buffer *to, struct dice *dice, const struct taste *taste)
 {
     add_edge(to, dice, taste);
     add_keyword(to, dice, taste, "never");
     add_gap(to, dice, taste);
     add_list(to, dice, taste, false);
-    if (chance(dice, 400)) {
-        add_gap(to, dice, taste);
-        add_keyword(to, dice, taste, "if");
-        add_gap(to, dice, taste);
-        add_condition(to, dice, taste);
-    }
-    add_edge(to, dice, taste);
+    add_option(to, dice, taste);
 }
 
 static void add_skipped(struct buffer *to, struct dice *dice, const struct taste *taste)
@@ -513,7 +528,7 @@ void add_epoch(struct buffer *to, struct dice *dice, const struct taste *taste)
             add_index(to, dice, taste, taste->events, EVENTS);
         } else {
             number = below(dice, taste->readings);
-            if ((given >> number & 1) != 0 && !chance(dice, taste->repeat))
+            if (in_set(given, number) && !chance(dice, taste->repeat))
                 continue;
             given |= UINT64_C(1) << number;
             add_byte(to, 'R');
@@ -584,51 +599,55 @@ void add_engine_input(struct buffer *to, struct dice *dice, unsigned kind)
 
 void add_largest(struct buffer *to)
 {
-    static const char condition[] = "if R0 = 7 , R1 != -2147483648 , R2 < 2147483647 , R3 >= -1";
+    static const char condition[] = "if R0 = 7 , R1 != -2147483648 , R2 < 2147483647 , R3 >= -1\n";
     unsigned i, k;
     for (i = 0; i < RULES; i++) {
-        for (k = 0; k < LITERALS; k++) {
-            add(to, k % 2 == 0 ? "E" : "!E");
-            add_number(to, (long)((i + k) % 32 + 32 * (k % 2)));
-            add(to, k < LITERALS - 1 ? " & " : " causes A");
-        }
-        add_number(to, (long)(i * 5 % ACTIONS));
-        add(to, " ");
-        add(to, condition);
-        add(to, "\n");
+        for (k = 0; k < LITERALS; k++)
+            add_format(to, "%sE%u%s", k % 2 == 0 ? "" : "!", (i + k) % 32 + 32 * (k % 2),
+                k < LITERALS - 1 ? " & " : " causes ");
+        add_format(to, "A%u %s", i * 5 % ACTIONS, condition);
         if (i % 2 == 1) {
-            add(to, "never ");
-            for (k = 0; k < MEMBERS; k++) {
-                add(to, "A");
-                add_number(to, (long)((i / 2 + 3 * k) % ACTIONS));
-                add(to, k < MEMBERS - 1 ? " & " : " ");
-            }
+            for (k = 0; k < MEMBERS; k++)
+                add_format(to, "%s A%u ", k == 0 ? "never" : "&", (i / 2 + 3 * k) % ACTIONS);
             add(to, condition);
-            add(to, "\n");
         }
     }
 }
 
 void add_epochs_of_largest(struct buffer *to)
 {
-    unsigned i;
-    for (i = 0; i < 32; i++) {
-        add(to, "E");
-        add_number(to, (long)i);
-        add(to, " ");
-    }
+    add_events(to, 0, 32);
     add(to, "R0=7\n\nE1 E3 R0=7\n");
-    for (i = 0; i < 32; i++) {
-        add(to, "E");
-        add_number(to, (long)i);
-        add(to, i < 31 ? " " : "\n");
-    }
-    for (i = 0; i < 31; i++) {
-        add(to, "E");
-        add_number(to, (long)(i + 1));
-        add(to, i < 30 ? " " : " R0=7 R3=-1 R2=-5\n");
-    }
+    add_events(to, 0, 31);
+    add(to, "E31\n");
+    add_events(to, 1, 31);
+    add(to, "R0=7 R3=-1 R2=-5\n");
 }
+
+void add_largest_input(struct buffer *to)
+{
+    add_largest(to);
+    add(to, "run\n");
+    add_epochs_of_largest(to);
+}
+
+void add_longest_line(struct buffer *to)
+{
+    size_t from = to->length;
+    add(to, "E0");
+    while (to->length - from + 15 < TEXT_BYTES)
+        add(to, " & E0");
+    add(to, " causes A0");
+}
+
+void add_most_lines(struct buffer *to)
+{
+    add_times(to, "\n", TEXT_BYTES - 1);
+    add(to, "E");
+}
+
+const char *const faulty_lines[FAULTY_LINES] = {"E0 causes", "E64 causes A0",
+    "E0 & E1 & E2 & E3 & E4 & E5 & E6 & E7 & E8 causes A0", "E0 & !E0 causes A0"};
 
 void add_length(struct buffer *to, size_t length, bool closed)
 {

@@ -4,6 +4,9 @@
 
 #include "reference.h"
 
+/* The rule text of document 01's example. */
+#define EXAMPLE "E1 & !E2 causes A3 if R0 > 40\nE3 causes A4\nnever A3 & A4\n"
+
 enum { ROOM = 1 << 20 };
 
 /* Lent bytes with room for ROOM of them. What is added is put behind `length`. */
@@ -17,7 +20,9 @@ void add_bytes(struct buffer *to, const void *bytes, size_t length);
 void add(struct buffer *to, const char *string);
 void add_byte(struct buffer *to, unsigned byte);
 void add_number(struct buffer *to, long number);
+void add_format(struct buffer *to, const char *format, ...); /* at most 255 bytes */
 void add_times(struct buffer *to, const char *string, unsigned times);
+void add_events(struct buffer *to, unsigned first, unsigned count); /* E3 E4 E5, each with a space behind it */
 
 /* Puts other bytes in the place of those from `from` to `until`. */
 void splice(struct buffer *in, size_t from, size_t until, const void *bytes, size_t length);
@@ -67,6 +72,19 @@ void add_engine_input(struct buffer *to, struct dice *dice, unsigned kind);
    actions are proposed. */
 void add_largest(struct buffer *to);
 void add_epochs_of_largest(struct buffer *to);
+
+/* An input of the engine with that text and its epochs. */
+void add_largest_input(struct buffer *to);
+
+/* One line, a list as long as a text may be. */
+void add_longest_line(struct buffer *to);
+
+/* As many lines as a text may have, the last one faulty. */
+void add_most_lines(struct buffer *to);
+
+/* A line for each of the grounds 2, 3, 4 and 6. */
+enum { FAULTY_LINES = 4 };
+extern const char *const faulty_lines[FAULTY_LINES];
 
 /* A text of so many bytes with one rule, padded by a comment. */
 void add_length(struct buffer *to, size_t length, bool closed);

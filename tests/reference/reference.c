@@ -111,12 +111,14 @@ static bool is_reading_value(int64_t value)
     return value >= INT32_MIN && value <= INT32_MAX;
 }
 
+const char *const relation_names[RELATIONS] = {
+    [EQUAL] = "=", [UNEQUAL] = "!=", [LESS] = "<", [AT_MOST] = "<=", [GREATER] = ">", [AT_LEAST] = ">="};
+
 static bool read_relation(struct slice slice, enum relation *relation)
 {
-    static const char *const names[] = {"=", "!=", "<", "<=", ">", ">="};
     int i;
-    for (i = EQUAL; i <= AT_LEAST; i++)
-        if (is(slice, names[i])) {
+    for (i = 0; i < RELATIONS; i++)
+        if (is(slice, relation_names[i])) {
             *relation = (enum relation)i;
             return true;
         }
@@ -140,10 +142,9 @@ static unsigned ranged(uint64_t value, unsigned limit, struct defects *defects)
 /* Notes a member of a list of distinct numbers. */
 static void note(uint64_t *seen, unsigned number, struct defects *defects)
 {
-    uint64_t bit = UINT64_C(1) << number;
-    if (*seen & bit)
+    if (in_set(*seen, number))
         defects->repeat = true;
-    *seen |= bit;
+    *seen |= UINT64_C(1) << number;
 }
 
 static bool read_comparison(struct tokens *tokens, struct comparison *comparison, struct defects *defects)
@@ -304,47 +305,6 @@ struct verdict read_text(const uint8_t *text, size_t length, struct policy *poli
 
 /* Images */
 
-enum operation {
-    PRESENT = 1,
-    ABSENT = 2,
-    AGAINST_CONSTANT = 3,
-    AGAINST_READING = 4,
-    PROPOSE = 5,
-    MEMBER = 6,
-    FORBID = 7
-};
-
-struct fields {
-    unsigned operation, first, second, relation, skip;
-};
-
-static uint32_t pack(struct fields fields)
-{
-    return (uint32_t)fields.operation << 28 | (uint32_t)fields.first << 22 | (uint32_t)fields.second << 16
-        | (uint32_t)fields.relation << 13 | (uint32_t)fields.skip;
-}
-
-static struct fields unpack(uint32_t word)
-{
-    struct fields fields;
-    fields.operation = word >> 28;
-    fields.first = word >> 22 & 63;
-    fields.second = word >> 16 & 63;
-    fields.relation = word >> 13 & 7;
-    fields.skip = word & 31;
-    return fields;
-}
-
-static uint32_t word_of(int32_t value)
-{
-    return (uint32_t)value;
-}
-
-static int32_t value_of(uint32_t word)
-{
-    return word <= INT32_MAX ? (int32_t)word : -1 - (int32_t)(UINT32_MAX - word);
-}
-
 static size_t comparison_words(const struct comparison *comparison)
 {
     return comparison->with_reading ? 1 : 2;
@@ -359,137 +319,138 @@ static size_t condition_words(const struct condition *condition)
 }
 
 /* Writes the tests of a condition from word `at` of a line of `size` words. */
-static size_t write_condition(const struct condition *condition, size_t at, size_t size, uint32_t *line)
+static size_t write_condition(const struct condition *condition, size_t at, size_t size, uint8_t *line)
 {
     size_t i;
     for (i = 0; i < condition->count; i++) {
         const struct comparison *comparison = &condition->comparisons[i];
         size_t own = comparison_words(comparison);
-        struct fields fields = {AGAINST_CONSTANT, comparison->reading, 0, comparison->relation, 0};
-        fields.skip = (unsigned)(size - at - own);
+        struct fields fields = {.operation = AGAINST_CONSTANT,
+            .first = comparison->reading,
+            .relation = comparison->relation,
+            .skip = (unsigned)(size - at - own)};
         if (comparison->with_reading) {
             fields.operation = AGAINST_READING;
             fields.second = comparison->other;
         } else {
-            line[at + 1] = word_of(comparison->constant);
+            put_word(line, at + 1, (uint32_t)comparison->constant);
         }
-        line[at] = pack(fields);
+        put_word(line, at, pack(fields));
         at += own;
     }
     return at;
 }
 
-static size_t write_rule(const struct rule *rule, uint32_t *line)
+static size_t write_rule(const struct rule *rule, uint8_t *line)
 {
     size_t at, size = rule->count + condition_words(&rule->condition) + 1;
-    struct fields end = {PROPOSE, rule->action, 0, 0, 0};
+    struct fields end = {.operation = PROPOSE, .first = rule->action};
     for (at = 0; at < rule->count; at++) {
-        struct fields fields = {PRESENT, rule->literals[at].event, 0, 0, 0};
-        if (rule->literals[at].negated)
-            fields.operation = ABSENT;
-        fields.skip = (unsigned)(size - at - 1);
-        line[at] = pack(fields);
+        struct fields fields = {.operation = rule->literals[at].negated ? ABSENT : PRESENT,
+            .first = rule->literals[at].event,
+            .skip = (unsigned)(size - at - 1)};
+        put_word(line, at, pack(fields));
     }
     at = write_condition(&rule->condition, at, size, line);
-    line[at] = pack(end);
+    put_word(line, at, pack(end));
     return size;
 }
 
-static size_t write_constraint(const struct constraint *constraint, uint32_t *line)
+static size_t write_constraint(const struct constraint *constraint, uint8_t *line)
 {
     size_t at, size = constraint->count + condition_words(&constraint->condition) + 1;
-    struct fields end = {FORBID, 0, 0, 0, 0};
+    struct fields end = {.operation = FORBID};
     for (at = 0; at < constraint->count; at++) {
-        struct fields fields = {MEMBER, constraint->members[at], 0, 0, 0};
-        fields.skip = (unsigned)(size - at - 1);
-        line[at] = pack(fields);
+        struct fields fields = {
+            .operation = MEMBER, .first = constraint->members[at], .skip = (unsigned)(size - at - 1)};
+        put_word(line, at, pack(fields));
     }
     at = write_condition(&constraint->condition, at, size, line);
-    line[at] = pack(end);
+    put_word(line, at, pack(end));
     return size;
 }
 
-size_t image_words(const struct policy *policy, uint32_t words[IMAGE_WORDS])
+size_t write_image(const struct policy *policy, uint8_t image[IMAGE_BYTES])
 {
-    size_t i, at = 1, rule_words;
-    uint32_t sum = 0;
+    struct header header = {.form = FORM};
+    size_t i, at = 1;
     for (i = 0; i < policy->rule_count; i++)
-        at += write_rule(&policy->rules[i], words + at);
-    rule_words = at - 1;
+        at += write_rule(&policy->rules[i], image + WORD_BYTES * at);
+    header.rule_words = (unsigned)(at - 1);
     for (i = 0; i < policy->constraint_count; i++)
-        at += write_constraint(&policy->constraints[i], words + at);
-    words[0] = UINT32_C(1) << 24 | (uint32_t)rule_words << 12 | (uint32_t)(at - 1 - rule_words);
-    for (i = 0; i < at; i++)
-        sum += words[i];
-    words[at] = 0 - sum;
-    return at + 1;
+        at += write_constraint(&policy->constraints[i], image + WORD_BYTES * at);
+    header.constraint_words = (unsigned)(at - 1) - header.rule_words;
+    put_word(image, 0, pack_header(header));
+    put_sum(image, at + 1);
+    return WORD_BYTES * (at + 1);
 }
 
 struct verdict compile(const uint8_t *text, size_t length, uint8_t *buffer, size_t room, size_t *written)
 {
     struct policy policy;
-    uint32_t words[IMAGE_WORDS];
+    uint8_t image[IMAGE_BYTES];
     struct verdict verdict = read_text(text, length, &policy);
-    size_t i, count;
+    size_t size;
     *written = 0;
     if (verdict.fault != FAULT_NONE)
         return verdict;
-    count = image_words(&policy, words);
-    if (room < count * 4)
+    size = write_image(&policy, image);
+    if (room < size)
         return refuse(FAULT_ROOM, 0);
-    for (i = 0; i < count; i++) {
-        buffer[4 * i] = (uint8_t)(words[i] >> 24);
-        buffer[4 * i + 1] = (uint8_t)(words[i] >> 16);
-        buffer[4 * i + 2] = (uint8_t)(words[i] >> 8);
-        buffer[4 * i + 3] = (uint8_t)words[i];
-    }
-    *written = count * 4;
+    memcpy(buffer, image, size);
+    *written = size;
     return ACCEPTED;
 }
 
 /* Loading. A line is read from its operations and numbers, then written again: the words have to be the same. */
 
-static size_t load_condition(const uint32_t *words, size_t at, size_t end, struct condition *condition)
+/* The comparison that begins at word `at`. */
+static struct comparison comparison_at(const uint8_t *image, size_t at)
 {
-    for (; at < end; at++) {
-        struct fields fields = unpack(words[at]);
+    struct fields fields = unpack(word_at(image, at));
+    struct comparison comparison = {.reading = fields.first, .relation = (enum relation)fields.relation};
+    if (fields.operation == AGAINST_READING) {
+        comparison.with_reading = true;
+        comparison.other = fields.second;
+    } else {
+        comparison.constant = value_of(word_at(image, at + 1));
+    }
+    return comparison;
+}
+
+/* The word behind the comparisons from `at` on; `end` if one of them is faulty. */
+static size_t load_condition(const uint8_t *image, size_t at, size_t end, struct condition *condition)
+{
+    while (at < end) {
+        struct fields fields = unpack(word_at(image, at));
         struct comparison *comparison = &condition->comparisons[condition->count];
         if (fields.operation != AGAINST_CONSTANT && fields.operation != AGAINST_READING)
             return at;
-        if (condition->count == COMPARISONS || fields.first >= READINGS || fields.relation > AT_LEAST)
+        if (condition->count == COMPARISONS || fields.first >= READINGS || fields.second >= READINGS
+            || fields.relation >= RELATIONS || (fields.operation == AGAINST_CONSTANT && at + 1 == end))
             return end;
-        comparison->reading = fields.first;
-        comparison->relation = (enum relation)fields.relation;
-        comparison->with_reading = fields.operation == AGAINST_READING;
-        if (comparison->with_reading) {
-            if (fields.second >= READINGS)
-                return end;
-            comparison->other = fields.second;
-        } else {
-            if (++at == end)
-                return end;
-            comparison->constant = value_of(words[at]);
-        }
+        *comparison = comparison_at(image, at);
         condition->count++;
+        at += comparison_words(comparison);
     }
     return end;
 }
 
-static bool same_words(const uint32_t *one, const uint32_t *other, size_t count)
+static bool same_words(const uint8_t *one, size_t one_count, const uint8_t *other, size_t other_count)
 {
-    return memcmp(one, other, count * sizeof *one) == 0;
+    return one_count == other_count && memcmp(one, other, WORD_BYTES * one_count) == 0;
 }
 
 /* The number of words of the rule that begins at `at` and ends before `end`; 0 if there is none. */
-static size_t load_rule(const uint32_t *words, size_t at, size_t end, struct rule *rule)
+static size_t load_rule(const uint8_t *image, size_t at, size_t end, struct rule *rule)
 {
-    uint32_t line[LINE_WORDS];
+    uint8_t line[WORD_BYTES * LINE_WORDS];
     uint64_t seen = 0;
     struct defects defects = {false, false, false};
-    size_t start = at;
+    size_t start = at, size;
     memset(rule, 0, sizeof *rule);
     for (; at < end; at++) {
-        struct fields fields = unpack(words[at]);
+        struct fields fields = unpack(word_at(image, at));
         if (fields.operation != PRESENT && fields.operation != ABSENT)
             break;
         if (rule->count == LITERALS)
@@ -499,24 +460,23 @@ static size_t load_rule(const uint32_t *words, size_t at, size_t end, struct rul
         rule->count++;
         note(&seen, fields.first, &defects);
     }
-    at = load_condition(words, at, end, &rule->condition);
-    if (at == end || rule->count == 0 || defects.repeat || unpack(words[at]).operation != PROPOSE)
+    at = load_condition(image, at, end, &rule->condition);
+    if (at == end || rule->count == 0 || defects.repeat)
         return 0;
-    rule->action = unpack(words[at]).first;
-    return write_rule(rule, line) == at + 1 - start && same_words(line, words + start, at + 1 - start)
-        ? at + 1 - start
-        : 0;
+    rule->action = unpack(word_at(image, at)).first;
+    size = at + 1 - start;
+    return same_words(line, write_rule(rule, line), image + WORD_BYTES * start, size) ? size : 0;
 }
 
-static size_t load_constraint(const uint32_t *words, size_t at, size_t end, struct constraint *constraint)
+static size_t load_constraint(const uint8_t *image, size_t at, size_t end, struct constraint *constraint)
 {
-    uint32_t line[LINE_WORDS];
+    uint8_t line[WORD_BYTES * LINE_WORDS];
     uint64_t seen = 0;
     struct defects defects = {false, false, false};
-    size_t start = at;
+    size_t start = at, size;
     memset(constraint, 0, sizeof *constraint);
     for (; at < end; at++) {
-        struct fields fields = unpack(words[at]);
+        struct fields fields = unpack(word_at(image, at));
         if (fields.operation != MEMBER)
             break;
         if (constraint->count == MEMBERS)
@@ -524,63 +484,39 @@ static size_t load_constraint(const uint32_t *words, size_t at, size_t end, stru
         constraint->members[constraint->count++] = fields.first;
         note(&seen, fields.first, &defects);
     }
-    at = load_condition(words, at, end, &constraint->condition);
-    if (at == end || constraint->count == 0 || defects.repeat || unpack(words[at]).operation != FORBID)
+    at = load_condition(image, at, end, &constraint->condition);
+    if (at == end || constraint->count == 0 || defects.repeat)
         return 0;
-    return write_constraint(constraint, line) == at + 1 - start && same_words(line, words + start, at + 1 - start)
-        ? at + 1 - start
-        : 0;
+    size = at + 1 - start;
+    return same_words(line, write_constraint(constraint, line), image + WORD_BYTES * start, size) ? size : 0;
 }
 
-/* An image of the right size as words. */
-static size_t words_of(const uint8_t *bytes, size_t length, uint32_t words[IMAGE_WORDS])
-{
-    size_t i;
-    for (i = 0; i < length / 4; i++)
-        words[i] = (uint32_t)bytes[4 * i] << 24 | (uint32_t)bytes[4 * i + 1] << 16 | (uint32_t)bytes[4 * i + 2] << 8
-            | (uint32_t)bytes[4 * i + 3];
-    return length / 4;
-}
-
-static size_t count_of_rule_words(uint32_t head)
-{
-    return head >> 12 & 0xFFF;
-}
-
-static size_t count_of_constraint_words(uint32_t head)
-{
-    return head & 0xFFF;
-}
-
-struct verdict load_image(const uint8_t *bytes, size_t length, struct policy *policy)
+struct verdict load_image(const uint8_t *image, size_t length, struct policy *policy)
 {
     struct policy result;
-    uint32_t words[IMAGE_WORDS], sum = 0;
-    size_t count, i, at, end, size;
-    if (length < 8 || length > IMAGE_BYTES || length % 4 != 0)
+    struct header header;
+    size_t at = 1, end, size;
+    if (length < 2 * WORD_BYTES || length > IMAGE_BYTES || length % WORD_BYTES != 0)
         return refuse(FAULT_SIZE, 0);
-    count = words_of(bytes, length, words);
-    if (words[0] >> 24 != 1)
+    header = unpack_header(word_at(image, 0));
+    if (header.form != FORM)
         return refuse(FAULT_FORM, 0);
-    if (count_of_rule_words(words[0]) > RULE_WORDS || count_of_constraint_words(words[0]) > CONSTRAINT_WORDS
-        || count != count_of_rule_words(words[0]) + count_of_constraint_words(words[0]) + 2)
+    if (header.rule_words > RULE_WORDS || header.constraint_words > CONSTRAINT_WORDS
+        || length / WORD_BYTES != header.rule_words + header.constraint_words + 2)
         return refuse(FAULT_COUNT, 0);
-    for (i = 0; i < count; i++)
-        sum += words[i];
-    if (sum != 0)
+    if (sum_words(image, length / WORD_BYTES) != 0)
         return refuse(FAULT_SUM, 0);
     memset(&result, 0, sizeof result);
-    at = 1;
-    for (end = at + count_of_rule_words(words[0]); at < end; at += size) {
+    for (end = at + header.rule_words; at < end; at += size) {
         struct rule rule;
-        size = result.rule_count < RULES ? load_rule(words, at, end, &rule) : 0;
+        size = result.rule_count < RULES ? load_rule(image, at, end, &rule) : 0;
         if (size == 0)
             return refuse(FAULT_BODY, at);
         result.rules[result.rule_count++] = rule;
     }
-    for (end = at + count_of_constraint_words(words[0]); at < end; at += size) {
+    for (end = at + header.constraint_words; at < end; at += size) {
         struct constraint constraint;
-        size = result.constraint_count < CONSTRAINTS ? load_constraint(words, at, end, &constraint) : 0;
+        size = result.constraint_count < CONSTRAINTS ? load_constraint(image, at, end, &constraint) : 0;
         if (size == 0)
             return refuse(FAULT_BODY, at);
         result.constraints[result.constraint_count++] = constraint;
@@ -597,7 +533,7 @@ struct verdict read_epoch(const uint8_t *line, size_t length, struct epoch *epoc
     struct slice token;
     struct epoch result;
     struct defects defects = {false, false, false};
-    uint64_t number, given = 0;
+    uint64_t number;
     int64_t value;
     size_t i;
     memset(&result, 0, sizeof result);
@@ -621,7 +557,7 @@ struct verdict read_epoch(const uint8_t *line, size_t length, struct epoch *epoc
             defects.range = true;
             continue;
         }
-        note(&given, (unsigned)number, &defects);
+        note(&result.given, (unsigned)number, &defects);
         result.readings[number] = (int32_t)value;
     }
     if (defects.range)
@@ -633,11 +569,6 @@ struct verdict read_epoch(const uint8_t *line, size_t length, struct epoch *epoc
 }
 
 /* What an epoch yields, by the policy */
-
-static bool in_set(uint64_t set, unsigned number)
-{
-    return (set >> number & 1) != 0;
-}
 
 static bool relation_holds(enum relation relation, int32_t left, int32_t right)
 {
@@ -651,15 +582,25 @@ static bool relation_holds(enum relation relation, int32_t left, int32_t right)
     }
 }
 
+/* A reading that the epoch does not give is 0. */
+static int32_t reading_of(const struct epoch *epoch, unsigned reading)
+{
+    return in_set(epoch->given, reading) ? epoch->readings[reading] : 0;
+}
+
+static bool comparison_holds(const struct comparison *comparison, const struct epoch *epoch)
+{
+    int32_t left = reading_of(epoch, comparison->reading);
+    int32_t right = comparison->with_reading ? reading_of(epoch, comparison->other) : comparison->constant;
+    return relation_holds(comparison->relation, left, right);
+}
+
 static bool condition_holds(const struct condition *condition, const struct epoch *epoch)
 {
     size_t i;
-    for (i = 0; i < condition->count; i++) {
-        const struct comparison *comparison = &condition->comparisons[i];
-        int32_t right = comparison->with_reading ? epoch->readings[comparison->other] : comparison->constant;
-        if (!relation_holds(comparison->relation, epoch->readings[comparison->reading], right))
+    for (i = 0; i < condition->count; i++)
+        if (!comparison_holds(&condition->comparisons[i], epoch))
             return false;
-    }
     return true;
 }
 
@@ -722,30 +663,27 @@ struct decision decide_by_policy(const struct policy *policy, const uint8_t *lin
 
 /* Runs the words from `at` to `end` on an epoch and a set of actions, and collects what they propose. True if a
    constraint holds; the run ends there. */
-static bool run_words(const uint32_t *words, size_t at, size_t end, const struct epoch *epoch, action_set set,
+static bool run_words(const uint8_t *image, size_t at, size_t end, const struct epoch *epoch, action_set set,
     action_set *proposals)
 {
     while (at < end) {
-        struct fields fields = unpack(words[at]);
+        struct fields fields = unpack(word_at(image, at));
+        struct comparison comparison;
         bool holds = true;
-        at++;
         switch (fields.operation) {
         case PRESENT: holds = in_set(epoch->events, fields.first); break;
         case ABSENT: holds = !in_set(epoch->events, fields.first); break;
         case AGAINST_CONSTANT:
-            holds = relation_holds((enum relation)fields.relation, epoch->readings[fields.first], value_of(words[at]));
-            at++;
-            break;
         case AGAINST_READING:
-            holds = relation_holds(
-                (enum relation)fields.relation, epoch->readings[fields.first], epoch->readings[fields.second]);
+            comparison = comparison_at(image, at);
+            holds = comparison_holds(&comparison, epoch);
+            at += comparison_words(&comparison) - 1;
             break;
         case PROPOSE: *proposals |= UINT64_C(1) << fields.first; break;
         case MEMBER: holds = in_set(set, fields.first); break;
         default: return true;
         }
-        if (!holds)
-            at += fields.skip;
+        at += holds ? 1 : 1 + fields.skip;
     }
     return false;
 }
@@ -755,7 +693,7 @@ struct decision decide(const uint8_t *image, size_t image_length, const uint8_t 
     struct decision decision = {{FAULT_NONE, 0}, 0, 0};
     struct policy policy;
     struct epoch epoch;
-    uint32_t words[IMAGE_WORDS];
+    struct header header;
     size_t rules_end, end;
     action_set candidates = 0, none = 0;
     unsigned action;
@@ -765,12 +703,13 @@ struct decision decide(const uint8_t *image, size_t image_length, const uint8_t 
     decision.verdict = read_epoch(line, length, &epoch);
     if (decision.verdict.fault != FAULT_NONE)
         return decision;
-    end = words_of(image, image_length, words) - 1;
-    rules_end = 1 + count_of_rule_words(words[0]);
-    run_words(words, 1, rules_end, &epoch, 0, &candidates);
+    header = unpack_header(word_at(image, 0));
+    rules_end = 1 + header.rule_words;
+    end = rules_end + header.constraint_words;
+    run_words(image, 1, rules_end, &epoch, 0, &candidates);
     for (action = 0; action < ACTIONS; action++) {
         action_set tried = decision.accepted | UINT64_C(1) << action;
-        if (in_set(candidates, action) && !run_words(words, rules_end, end, &epoch, tried, &none))
+        if (in_set(candidates, action) && !run_words(image, rules_end, end, &epoch, tried, &none))
             decision.accepted = tried;
     }
     decision.cancelled = candidates & ~decision.accepted;
@@ -830,16 +769,14 @@ void print_decision(unsigned long number, struct decision decision, FILE *out)
 void print_compiler(const uint8_t *input, size_t length, FILE *out)
 {
     uint8_t image[IMAGE_BYTES];
-    uint32_t words[IMAGE_WORDS];
-    size_t written, count, i;
+    size_t written, i;
     struct verdict verdict = compile(input, length, image, sizeof image, &written);
     if (verdict.fault != FAULT_NONE) {
         print_refusal(verdict, out);
         return;
     }
-    count = words_of(image, written, words);
-    for (i = 0; i < count; i++)
-        fprintf(out, "%08" PRIX32 "\n", words[i]);
+    for (i = 0; i < written / WORD_BYTES; i++)
+        fprintf(out, "%08" PRIX32 "\n", word_at(image, i));
 }
 
 void print_engine(const uint8_t *input, size_t length, FILE *out)

@@ -3,47 +3,31 @@
 #ifndef REFERENCE_H
 #define REFERENCE_H
 
-#include <stdbool.h>
-#include <stddef.h>
-#include <stdint.h>
+#include "words.h"
+
 #include <stdio.h>
 
-enum {
-    EVENTS = 64,
-    ACTIONS = 64,
-    READINGS = 16,
-    TEXT_BYTES = 32768,
-    EPOCH_BYTES = 1024,
-    RULES = 128,
-    CONSTRAINTS = 64,
-    LITERALS = 8,
-    MEMBERS = 8,
-    COMPARISONS = 4,
-    LINE_WORDS = 17,
-    RULE_WORDS = RULES * LINE_WORDS,
-    CONSTRAINT_WORDS = CONSTRAINTS * LINE_WORDS,
-    IMAGE_WORDS = RULE_WORDS + CONSTRAINT_WORDS + 2,
-    IMAGE_BYTES = IMAGE_WORDS * 4
-};
+enum { EVENTS = 64, ACTIONS = 64, TEXT_BYTES = 32768, EPOCH_BYTES = 1024 };
 
 /* The grounds for refusing, by their numbers. */
 enum fault {
-    FAULT_NONE,
-    FAULT_LONG,
-    FAULT_SHAPE,
-    FAULT_RANGE,
-    FAULT_CROWD,
-    FAULT_FULL,
-    FAULT_REPEAT,
-    FAULT_SIZE,
-    FAULT_FORM,
-    FAULT_COUNT,
-    FAULT_SUM,
-    FAULT_BODY,
-    FAULT_EPOCH_SHAPE,
-    FAULT_EPOCH_RANGE,
-    FAULT_TWICE,
-    FAULT_ROOM
+    FAULT_NONE = 0,
+    FAULT_LONG = 1,
+    FAULT_SHAPE = 2,
+    FAULT_RANGE = 3,
+    FAULT_CROWD = 4,
+    FAULT_FULL = 5,
+    FAULT_REPEAT = 6,
+    FAULT_SIZE = 7,
+    FAULT_FORM = 8,
+    FAULT_COUNT = 9,
+    FAULT_SUM = 10,
+    FAULT_BODY = 11,
+    FAULT_EPOCH_SHAPE = 12,
+    FAULT_EPOCH_RANGE = 13,
+    FAULT_TWICE = 14,
+    FAULT_ROOM = 15,
+    FAULTS = 16
 };
 
 /* What a call answers: no fault, or a fault and its location. */
@@ -52,7 +36,8 @@ struct verdict {
     size_t location;
 };
 
-enum relation { EQUAL, UNEQUAL, LESS, AT_MOST, GREATER, AT_LEAST };
+/* How a text writes each relation. */
+extern const char *const relation_names[RELATIONS];
 
 struct comparison {
     unsigned reading;
@@ -93,13 +78,14 @@ struct policy {
     struct constraint constraints[CONSTRAINTS];
 };
 
-/* Bit n of a set is event n or action n. */
 typedef uint64_t event_set;
 typedef uint64_t action_set;
+typedef uint64_t reading_set;
 
 struct epoch {
     event_set events;
-    int32_t readings[READINGS];
+    reading_set given;
+    int32_t readings[READINGS]; /* of those that are given */
 };
 
 struct decision {
@@ -110,8 +96,8 @@ struct decision {
 /* Reads a rule text. A refused one leaves the policy as it was. */
 struct verdict read_text(const uint8_t *text, size_t length, struct policy *policy);
 
-/* The words of a policy's image; their number is returned. */
-size_t image_words(const struct policy *policy, uint32_t words[IMAGE_WORDS]);
+/* Writes the image of a policy; the number of its bytes is returned. */
+size_t write_image(const struct policy *policy, uint8_t image[IMAGE_BYTES]);
 
 /* Compiles a rule text into a lent buffer; `written` is the number of image bytes. A refused text leaves the buffer as
    it was and writes 0 bytes. */

@@ -1,0 +1,170 @@
+/* One call of each function, compared with the reference: the answer, what was lent, and what lies around it. */
+#include "compare.h"
+
+#include <inttypes.h>
+#include <stdlib.h>
+#include <string.h>
+
+bool same(const uint8_t *one, const uint8_t *other, size_t length)
+{
+    return length == 0 || memcmp(one, other, length) == 0;
+}
+
+static unsigned nulls(const uint8_t *first, const uint8_t *second)
+{
+    return (first == NULL ? 1 : 0) + (second == NULL ? 2 : 0);
+}
+
+struct verdict compare_compile(const uint8_t *text, size_t length, size_t room)
+{
+    static uint8_t image[IMAGE_BYTES], wanted[OUT_BYTES];
+    static const char name[] = "kinohazel_compile";
+    char what[200];
+    size_t size;
+    struct verdict verdict = compile(text, length, image, room, &size);
+    struct kinohazel_compilation answer;
+    const uint8_t *lent = lend(text_pen, text, length);
+    uint8_t *out = tally.comparisons % 3 == 0 ? out_pen.from + GUARD
+        : tally.comparisons % 3 == 1          ? out_pen.end - GUARD - room
+                                              : out_pen.end - room;
+    uint8_t *lent_out = room == 0 && out_pen.null ? NULL : out;
+    memcpy(out_pen.from, pattern, OUT_BYTES);
+    memcpy(wanted, pattern, OUT_BYTES);
+    memcpy(wanted + (out - out_pen.from), image, size);
+    start_call(true);
+    answer = kinohazel_compile(lent, length, lent_out, room);
+    end_call();
+    if (answer.fault != (uint64_t)verdict.fault || answer.line != verdict.location || answer.size != size) {
+        sprintf(what, "room %lu, fault %" PRIu64 " line %" PRIu64 " size %" PRIu64 ", expected %d, %lu, %lu",
+            (unsigned long)room, answer.fault, answer.line, answer.size, (int)verdict.fault,
+            (unsigned long)verdict.location, (unsigned long)size);
+        fail_on(name, what, text, length);
+    }
+    if (!same(out_pen.from, wanted, OUT_BYTES))
+        fail_on(name, "wrong bytes in the buffer, or changed ones outside the image", text, length);
+    if (!same(lent, text, length))
+        fail_on(name, "the text was changed", text, length);
+    tally.compile[verdict.fault]++;
+    tally.compile_nulls[nulls(lent, lent_out)]++;
+    tally.comparisons++;
+    return verdict;
+}
+
+struct verdict compare_check(const uint8_t *image, size_t length)
+{
+    static struct policy policy;
+    static const char name[] = "kinohazel_check";
+    char what[200];
+    struct verdict verdict = load_image(image, length, &policy);
+    struct kinohazel_image_check answer;
+    const uint8_t *lent = lend(text_pen, image, length);
+    size_t rules = 0, constraints = 0;
+    if (verdict.fault == FAULT_NONE) {
+        rules = policy.rule_count;
+        constraints = policy.constraint_count;
+    }
+    start_call(false);
+    answer = kinohazel_check(lent, length);
+    end_call();
+    if (answer.fault != (uint64_t)verdict.fault || answer.word != verdict.location || answer.rules != rules
+        || answer.constraints != constraints) {
+        sprintf(what,
+            "fault %" PRIu64 " word %" PRIu64 " rules %" PRIu64 " constraints %" PRIu64 ", expected %d, %lu, %lu, %lu",
+            answer.fault, answer.word, answer.rules, answer.constraints, (int)verdict.fault,
+            (unsigned long)verdict.location, (unsigned long)rules, (unsigned long)constraints);
+        fail_on(name, what, image, length);
+    }
+    if (!same(lent, image, length))
+        fail_on(name, "the image was changed", image, length);
+    if (verdict.fault == FAULT_BODY) {
+        size_t rules_end = 1 + unpack_header(word_at(image, 0)).rule_words;
+        tally.places[verdict.location < rules_end ? verdict.location > 1 : 2 + (verdict.location > rules_end)]++;
+    }
+    tally.check[verdict.fault]++;
+    tally.check_nulls[lent == NULL]++;
+    tally.comparisons++;
+    return verdict;
+}
+
+bool agree(struct kinohazel_decision answer, struct decision wanted)
+{
+    return answer.fault == (uint64_t)wanted.verdict.fault && answer.word == wanted.verdict.location
+        && answer.accepted == wanted.accepted && answer.cancelled == wanted.cancelled;
+}
+
+static bool all_readings(const struct epoch *epoch)
+{
+    const int32_t *readings = epoch->readings;
+    bool negative = false, positive = false;
+    unsigned i, k;
+    for (i = 0; i < READINGS; i++) {
+        negative = negative || readings[i] < 0;
+        positive = positive || readings[i] > 0;
+        for (k = 0; k < i; k++)
+            if (!in_set(epoch->given, i) || readings[i] == 0 || readings[k] == 0 || readings[i] == readings[k])
+                return false;
+    }
+    return negative && positive;
+}
+
+/* The last token of a line of 1,024 bytes begins so, behind 1,000 bytes and more. */
+static bool far(const uint8_t *line, size_t length, const char *token)
+{
+    size_t from = length, size = strlen(token);
+    while (from > 0 && line[from - 1] != ' ')
+        from--;
+    return length == EPOCH_BYTES && from >= 1000 && length - from >= size && memcmp(line + from, token, size) == 0;
+}
+
+static void count_extremes(struct decision decision, const uint8_t *line, size_t length)
+{
+    struct epoch epoch;
+    read_epoch(line, length, &epoch);
+    tally.extremes[ALL_ACCEPTED] += decision.accepted == UINT64_MAX;
+    tally.extremes[ALL_CANCELLED] += decision.cancelled == UINT64_MAX;
+    tally.extremes[OVER_30_CANCELLED] += size_of_set(decision.cancelled) > 30;
+    tally.extremes[ALL_EVENTS] += epoch.events == UINT64_MAX;
+    tally.extremes[ALL_READINGS] += all_readings(&epoch);
+    tally.extremes[FAR_EVENT] += far(line, length, "E63");
+    tally.extremes[FAR_READING] += far(line, length, "R15=");
+}
+
+struct decision compare_decide(const uint8_t *image, size_t length, const uint8_t *line, size_t line_length,
+    const struct policy *policy)
+{
+    static const char name[] = "kinohazel_decide";
+    char what[300];
+    struct decision wanted = decide(image, length, line, line_length), plain = wanted;
+    struct kinohazel_decision answer;
+    const uint8_t *lent = lend(text_pen, image, length), *lent_line = lend(line_pen, line, line_length);
+    if (policy != NULL)
+        plain = decide_by_policy(policy, line, line_length);
+    start_call(false);
+    answer = kinohazel_decide(lent, length, lent_line, line_length);
+    end_call();
+    if (!agree(answer, wanted)) {
+        sprintf(what,
+            "fault %" PRIu64 " word %" PRIu64 " sets %" PRIX64 " %" PRIX64 ", expected %d, %lu, %" PRIX64 " %" PRIX64,
+            answer.fault, answer.word, answer.accepted, answer.cancelled, (int)wanted.verdict.fault,
+            (unsigned long)wanted.verdict.location, wanted.accepted, wanted.cancelled);
+        describe(name, what);
+        print_bytes("image", image, length);
+        print_bytes("line", line, line_length);
+        printf("\n");
+        exit(1);
+    }
+    if (!agree(answer, plain))
+        fail_on(name, "the plain machine answers differently", line, line_length);
+    if (answer.fault != KINOHAZEL_OK && (answer.accepted | answer.cancelled) != 0)
+        fail_on(name, "sets on a refusal", line, line_length);
+    if (!same(lent, image, length) || !same(lent_line, line, line_length))
+        fail_on(name, "the image or the line was changed", line, line_length);
+    if (wanted.verdict.fault == FAULT_NONE)
+        count_extremes(wanted, line, line_length);
+    tally.decide[wanted.verdict.fault]++;
+    tally.decide_nulls[nulls(lent, lent_line)]++;
+    tally.accepting += wanted.accepted != 0;
+    tally.cancelling += wanted.cancelled != 0;
+    tally.comparisons++;
+    return wanted;
+}

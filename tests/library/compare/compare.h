@@ -1,0 +1,187 @@
+/* What the parts of `compare` share; main.c says what it is. */
+#ifndef COMPARE_H
+#define COMPARE_H
+
+#include "../../reference/inputs.h"
+#include "kinohazel.h"
+
+#define COUNT(list) (sizeof(list) / sizeof *(list))
+
+/* tally.c */
+
+/* Damages that a line of an image can have. Each makes the image be refused under 11 at the start of the line. */
+enum flaw {
+    SKIP_MORE,
+    SKIP_LESS,
+    SKIP_AT_END,
+    ZERO_FIELD,
+    SECOND_UNUSED,
+    RELATION_UNUSED,
+    FIRST_UNUSED,
+    READING_16,
+    OTHER_READING_16,
+    RELATION_6,
+    REPEATED_HEAD,
+    NINE_HEADS,
+    FIVE_COMPARISONS,
+    NO_HEAD,
+    NO_END,
+    HEAD_BEHIND_COMPARISON,
+    OPERATION_OF_OTHER_PART,
+    NO_OPERATION,
+    CUT_AT_PART_END,
+    NO_CONSTANT_AT_PART_END,
+    END_AS_CONSTANT,
+    TOO_MANY_LINES,
+    FLAWS
+};
+
+/* What accepted epochs have at the most. */
+enum extreme {
+    ALL_ACCEPTED,
+    ALL_CANCELLED,
+    OVER_30_CANCELLED,
+    ALL_EVENTS,
+    ALL_READINGS, /* all different, some below 0 and some above */
+    FAR_EVENT,    /* E63 behind 1,000 bytes, the last of 1,024 */
+    FAR_READING,  /* R15 likewise */
+    EXTREMES
+};
+
+/* What was met. Places of ground 11: the first line of the rules, a later one, and the same of the constraints. Nulls: 1 if the
+   first area of a call is null, and 2 more if the second one is. */
+struct tally {
+    unsigned long comparisons, compile[FAULTS], check[FAULTS], decide[FAULTS];
+    unsigned long places[4], flaws[2][FLAWS], accepting, cancelling, extremes[EXTREMES];
+    unsigned long compile_nulls[4], check_nulls[4], decide_nulls[4], lines_in_images;
+};
+
+extern struct tally tally;
+extern unsigned long current_round;
+extern const char *step;
+
+/* Prints the counts. False if something was never met. */
+bool report(void);
+
+/* The beginning of a message about the step at hand; `bytes` are shown behind it. */
+void describe(const char *function, const char *what);
+void print_bytes(const char *name, const uint8_t *bytes, size_t length);
+
+/* These end the program. */
+void fail(const char *function, const char *what);
+void fail_on(const char *function, const char *what, const uint8_t *bytes, size_t length);
+
+/* lend.c */
+
+enum {
+    GUARD = 64,
+    OUT_BYTES = 20480, /* the buffer lent for an image, and what lies before and behind it */
+    MOST_ROOM = OUT_BYTES - 2 * GUARD
+};
+
+/* Bytes between two pages that cannot be touched. If `null`, no bytes are lent as a null pointer. */
+struct pen {
+    uint8_t *from, *end;
+    bool null;
+};
+
+extern struct pen text_pen, line_pen, out_pen;
+
+/* What the buffer for an image holds before a call. */
+extern uint8_t pattern[OUT_BYTES];
+
+void make_pens(void);
+
+/* Bit 0 is for the texts and images, bit 1 for the lines, bit 2 for the buffer. */
+void set_nulls(unsigned which);
+void make_pattern(struct dice *dice);
+
+/* A copy of the bytes, mostly at the end of the pen, else near it or at the start. */
+const uint8_t *lend(struct pen pen, const uint8_t *bytes, size_t length);
+
+/* Before and after a call: nothing but the buffer, and that by a compilation alone, can be written to during the call. One call
+   of 499 is made so, since it takes long. */
+void start_call(bool compilation);
+void end_call(void);
+
+/* calls.c: the three functions. The answers of the reference are returned. */
+
+bool same(const uint8_t *one, const uint8_t *other, size_t length);
+struct verdict compare_compile(const uint8_t *text, size_t length, size_t room);
+struct verdict compare_check(const uint8_t *image, size_t length);
+
+/* The policy, if there is one, is that of the text the image was compiled from. */
+struct decision compare_decide(const uint8_t *image, size_t length, const uint8_t *line, size_t line_length,
+    const struct policy *policy);
+bool agree(struct kinohazel_decision answer, struct decision wanted);
+
+/* texts.c */
+
+/* A text with buffers of several lengths. */
+struct verdict compare_rooms(const uint8_t *text, size_t length, struct dice *dice);
+void compare_limit_texts(struct buffer *input, struct dice *dice);
+
+/* images.c */
+
+void compare_flaws(struct dice *dice, struct buffer *work);
+
+/* Lines with any numbers of parts, and words without any order. */
+void compare_draft(struct dice *dice, struct buffer *work);
+
+/* Words by chance, with a header of the right form or the right counts or neither, mostly with a right sum. */
+void compare_random(struct dice *dice, struct buffer *work);
+void compare_limit_images(struct buffer *input, struct buffer *work, struct dice *dice);
+
+/* Images of one line that has the number twice. */
+void compare_repeated(unsigned number, struct dice *dice);
+
+/* damages.c */
+
+uint32_t other_word(struct dice *dice, uint32_t word);
+
+/* A decision on a damaged image: no epoch line counts, since the image is looked at first. */
+void compare_damaged(const uint8_t *image, size_t length, struct dice *dice);
+
+/* An image with damages; `share` of 1000 words, bits and lengths are tried in damages of one place. */
+void damage_image(const uint8_t *original, size_t length, struct dice *dice, unsigned share);
+
+/* epochs.c */
+
+/* A text that is accepted, with its policy and its image. */
+struct subject {
+    struct policy policy;
+    uint8_t image[IMAGE_BYTES];
+    size_t size;
+};
+
+void make_subject(struct subject *subject, const void *text, size_t length);
+
+/* A line on a subject. */
+struct decision compare_line(const struct subject *subject, const void *line, size_t length);
+
+/* The epoch lines of an input from `at` on, and others, full and damaged. */
+void compare_lines(const struct subject *subject, const struct buffer *input, size_t at, struct buffer *work,
+    struct dice *dice);
+void compare_limit_epochs(struct buffer *input);
+void compare_lines_in_image(void);
+
+/* Decisions that take all there can be. */
+void compare_extremes(struct buffer *text, struct buffer *line);
+
+/* each.c */
+
+/* Every byte in the place of each byte of a text, an image and an epoch line, and between each two. */
+void compare_each_byte(struct buffer *input);
+
+/* Every number of an event, an action and a reading, and some beyond. */
+void compare_each_number(struct buffer *input, struct buffer *work, struct dice *dice);
+
+/* header.c */
+
+/* Limits, faults and the words for them. */
+void compare_header(void);
+
+/* Null pointers for areas of length 0. */
+void compare_nulls(void);
+
+#endif

@@ -1,0 +1,87 @@
+/* What was met, and messages about what is not as it should be. */
+#include "compare.h"
+
+#include <stdlib.h>
+
+struct tally tally;
+unsigned long current_round;
+const char *step = "start";
+
+void print_bytes(const char *name, const uint8_t *bytes, size_t length)
+{
+    size_t i;
+    printf("; %s of %lu bytes:", name, (unsigned long)length);
+    for (i = 0; i < length && i < 128; i++)
+        printf("%s%02X", i % 4 == 0 ? " " : "", (unsigned)bytes[i]);
+    fputs(i < length ? " ..." : "", stdout);
+}
+
+void describe(const char *function, const char *what)
+{
+    printf("library: round %lu, %s: %s: %s", current_round, step, function, what);
+}
+
+void fail(const char *function, const char *what)
+{
+    describe(function, what);
+    printf("\n");
+    exit(1);
+}
+
+void fail_on(const char *function, const char *what, const uint8_t *bytes, size_t length)
+{
+    describe(function, what);
+    print_bytes("input", bytes, length);
+    printf("\n");
+    exit(1);
+}
+
+bool report(void)
+{
+    static const enum fault compile_grounds[] = {FAULT_NONE, FAULT_LONG, FAULT_SHAPE, FAULT_RANGE, FAULT_CROWD,
+        FAULT_FULL, FAULT_REPEAT, FAULT_ROOM};
+    static const enum fault check_grounds[] = {FAULT_NONE, FAULT_SIZE, FAULT_FORM, FAULT_COUNT, FAULT_SUM, FAULT_BODY};
+    static const enum fault decide_grounds[] = {FAULT_NONE, FAULT_LONG, FAULT_SIZE, FAULT_FORM, FAULT_COUNT, FAULT_SUM,
+        FAULT_BODY, FAULT_EPOCH_SHAPE, FAULT_EPOCH_RANGE, FAULT_TWICE};
+    static const struct {
+        const char *name;
+        const unsigned long *counts;
+        const enum fault *grounds;
+        size_t size;
+    } functions[] = {
+        {"compile", tally.compile, compile_grounds, COUNT(compile_grounds)},
+        {"check", tally.check, check_grounds, COUNT(check_grounds)},
+        {"decide", tally.decide, decide_grounds, COUNT(decide_grounds)}};
+    static const char *const extremes[EXTREMES] = {[ALL_ACCEPTED] = "all actions accepted",
+        [ALL_CANCELLED] = "all cancelled",
+        [OVER_30_CANCELLED] = "over 30 cancelled",
+        [ALL_EVENTS] = "all events",
+        [ALL_READINGS] = "all readings",
+        [FAR_EVENT] = "E63 at the end of 1,024 bytes",
+        [FAR_READING] = "R15 there"};
+    bool all = tally.accepting > 0 && tally.cancelling > 0 && tally.lines_in_images > 0;
+    size_t i, k;
+    printf("library: %lu comparisons agree", tally.comparisons);
+    for (i = 0; i < COUNT(functions); i++) {
+        printf("; %s", functions[i].name);
+        for (k = 0; k < functions[i].size; k++) {
+            unsigned long count = functions[i].counts[functions[i].grounds[k]];
+            printf(" %d: %lu", (int)functions[i].grounds[k], count);
+            all = all && count > 0;
+        }
+    }
+    printf("; %lu accept an action, %lu cancel one; 11 at the first rule %lu, a later one %lu, the first constraint "
+           "%lu, a later one %lu; decided with",
+        tally.accepting, tally.cancelling, tally.places[0], tally.places[1], tally.places[2], tally.places[3]);
+    for (i = 0; i < EXTREMES; i++) {
+        printf("%s %s %lu", i == 0 ? "" : ",", extremes[i], tally.extremes[i]);
+        all = all && tally.extremes[i] > 0;
+    }
+    printf("\n");
+    for (i = 0; i < 4; i++)
+        all = all && tally.places[i] > 0 && tally.compile_nulls[i] > 0 && tally.decide_nulls[i] > 0
+            && (tally.check_nulls[i] > 0 || i > 1);
+    for (i = 0; i < FLAWS; i++)
+        all = all && tally.flaws[0][i] > 0 && (tally.flaws[1][i] > 0 || i == FIRST_UNUSED);
+    return all;
+}
