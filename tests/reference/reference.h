@@ -7,7 +7,7 @@
 
 #include <stdio.h>
 
-enum { EVENTS = 64, ACTIONS = 64, TEXT_BYTES = 32768, EPOCH_BYTES = 1024 };
+enum { TEXT_BYTES = 32768, EPOCH_BYTES = 1024 };
 
 /* The grounds for refusing, by their numbers. */
 enum fault {

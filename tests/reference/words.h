@@ -8,6 +8,8 @@
 #include <stdint.h>
 
 enum {
+    EVENTS = 64,
+    ACTIONS = 64,
     READINGS = 16,
     RULES = 128,
     CONSTRAINTS = 64,
@@ -46,15 +48,17 @@ static inline uint32_t pack(struct fields fields)
         | (uint32_t)fields.relation << 13 | (uint32_t)fields.zero << 5 | (uint32_t)fields.skip;
 }
 
+static inline unsigned operation_of(uint32_t word) { return word >> 28; }
+static inline unsigned first_of(uint32_t word) { return word >> 22 & 63; }
+static inline unsigned second_of(uint32_t word) { return word >> 16 & 63; }
+static inline unsigned relation_of(uint32_t word) { return word >> 13 & 7; }
+static inline unsigned zero_of(uint32_t word) { return word >> 5 & 255; }
+static inline unsigned skip_of(uint32_t word) { return word & 31; }
+
 static inline struct fields unpack(uint32_t word)
 {
-    struct fields fields;
-    fields.operation = word >> 28;
-    fields.first = word >> 22 & 63;
-    fields.second = word >> 16 & 63;
-    fields.relation = word >> 13 & 7;
-    fields.zero = word >> 5 & 255;
-    fields.skip = word & 31;
+    struct fields fields = {operation_of(word), first_of(word), second_of(word), relation_of(word), zero_of(word),
+        skip_of(word)};
     return fields;
 }
 
