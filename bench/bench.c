@@ -1,6 +1,6 @@
 /* Measures the library on the same inputs against C: checks and decisions against plain.c, compilations against the reference.
  *
- *   bench check      both sides give the same answers on all inputs, and on damaged ones
+ *   bench check      both sides give the same answers on all inputs, on damaged ones and on others made by chance
  *   bench count      calls each side once on each input, for callgrind: bench/run reads the counts
  *   bench time       ratios of time
  *   bench proposed   how many actions the epochs propose
@@ -387,6 +387,24 @@ static void check_damaged_texts(const struct sample *s, struct buffer *work, str
     }
 }
 
+/* Inputs of the engine by chance: their texts, images and epoch lines. */
+static void check_made(struct buffer *work, struct dice *dice)
+{
+    static uint8_t image[IMAGE_BYTES];
+    for (unsigned i = 0; i < 4000; i++) {
+        const uint8_t *line;
+        size_t text_length, at, length, size;
+        work->length = 0;
+        add_engine_input(work, dice, i % 16);
+        find_run(work->bytes, work->length, &text_length, &at);
+        met |= 1ul << same_compilation(work->bytes, text_length, IMAGE_BYTES).fault;
+        compile(work->bytes, text_length, image, sizeof image, &size);
+        same_check(image, size);
+        while (next_line(work->bytes, work->length, &at, &line, &length))
+            met |= 1ul << same_decision(image, size, line, length).fault;
+    }
+}
+
 /* Faults that no damage makes. */
 static void check_limits(const struct sample *s, struct buffer *work)
 {
@@ -413,6 +431,7 @@ static void check_all(void)
         check_damaged_texts(s, &work, &dice);
         check_damaged_images(s, &dice);
     }
+    check_made(&work, &dice);
     check_limits(rows[0].sample, &work);
     same(met == (1ul << FAULTS) - 1, "the faults: one was never met");
     printf("same answers in %ld comparisons, in which every fault is met\n", compared);

@@ -77,20 +77,20 @@ static size_t line_length(const uint8_t *image, enum part part, size_t at, size_
     return are_comparisons(image, middle, last) ? size + 1 : 0;
 }
 
-/* Whether the words from `start` up to `end` are at most `limit` lines: then their count is in `place`, otherwise the word at
+/* Whether the words from `start` up to `end` are at most `limit` lines: then their count is in `answer`, otherwise the word at
  * which no line fits. */
-static bool check_part(const uint8_t *image, enum part part, size_t start, size_t end, size_t limit, uint64_t *place)
+static bool check_part(const uint8_t *image, enum part part, size_t start, size_t end, size_t limit, uint64_t *answer)
 {
     size_t count = 0;
     for (size_t at = start; at < end; count++) {
         size_t words = count < limit ? line_length(image, part, at, end) : 0;
         if (words == 0) {
-            *place = at;
+            *answer = at;
             return false;
         }
         at += words;
     }
-    *place = count;
+    *answer = count;
     return true;
 }
 
@@ -227,18 +227,6 @@ static int32_t reading(const struct epoch *epoch, unsigned n)
     return epoch->values[n];
 }
 
-static bool holds(unsigned relation, int32_t left, int32_t right)
-{
-    switch (relation) {
-    case EQUAL: return left == right;
-    case UNEQUAL: return left != right;
-    case LESS: return left < right;
-    case AT_MOST: return left <= right;
-    case GREATER: return left > right;
-    default: return left >= right;
-    }
-}
-
 /* What the rule words from `at` up to `end` propose. */
 static uint64_t run_rules(const uint8_t *image, size_t at, size_t end, const struct epoch *epoch)
 {
@@ -256,12 +244,12 @@ static uint64_t run_rules(const uint8_t *image, size_t at, size_t end, const str
             break;
         case AGAINST_CONSTANT: {
             int32_t constant = value_of(word_at(image, at++));
-            if (!holds(relation_of(word), reading(epoch, first_of(word)), constant))
+            if (!relation_holds(relation_of(word), reading(epoch, first_of(word)), constant))
                 at += skip_of(word);
             break;
         }
         case AGAINST_READING:
-            if (!holds(relation_of(word), reading(epoch, first_of(word)), reading(epoch, second_of(word))))
+            if (!relation_holds(relation_of(word), reading(epoch, first_of(word)), reading(epoch, second_of(word))))
                 at += skip_of(word);
             break;
         case PROPOSE: proposed |= (uint64_t)1 << first_of(word); break;
@@ -285,10 +273,10 @@ static bool is_violated(const uint8_t *image, size_t at, size_t end, uint64_t se
             bool held;
             switch (operation_of(word)) {
             case AGAINST_CONSTANT:
-                held = holds(relation_of(word), reading(epoch, first_of(word)), value_of(word_at(image, at++)));
+                held = relation_holds(relation_of(word), reading(epoch, first_of(word)), value_of(word_at(image, at++)));
                 break;
             case AGAINST_READING:
-                held = holds(relation_of(word), reading(epoch, first_of(word)), reading(epoch, second_of(word)));
+                held = relation_holds(relation_of(word), reading(epoch, first_of(word)), reading(epoch, second_of(word)));
                 break;
             default: return true;
             }

@@ -85,7 +85,7 @@ static void measure_input(const struct buffer *input, struct dice *dice)
 {
     static uint8_t image[KINOHAZEL_IMAGE_LIMIT];
     const uint8_t *line;
-    size_t at, length, size, place;
+    size_t at, length, size, byte;
     unsigned lines = 0;
     call.text = input->bytes;
     find_run(input->bytes, input->length, &call.text_length, &at);
@@ -100,8 +100,8 @@ static void measure_input(const struct buffer *input, struct dice *dice)
     measure_image(image, size, NULL, 0);
     while (lines++ < 20 && next_line(input->bytes, input->length, &at, &line, &length)) {
         measure_image(image, size, line, length);
-        place = below(dice, (unsigned)size);
-        image[place] ^= (uint8_t)(1 << below(dice, 8));
+        byte = below(dice, (unsigned)size);
+        image[byte] ^= (uint8_t)(1 << below(dice, 8));
         measure_image(image, size, line, length);
         measure(&compiling);
     }

@@ -78,12 +78,12 @@ int main(void)
 {
     struct dice dice = {UINT64_C(0x7E) << 32};
     pthread_t threads[THREADS];
-    unsigned i, accepted = 0, right = 0;
+    unsigned i, compiled = 0, right = 0;
     for (i = 0; i < CASES; i++) {
         make(&samples[i], &dice);
-        accepted += samples[i].answers.compilation.fault == KINOHAZEL_OK;
+        compiled += samples[i].answers.compilation.fault == KINOHAZEL_OK;
     }
-    if (accepted < CASES / 2 || pthread_barrier_init(&start, NULL, THREADS) != 0)
+    if (compiled < CASES / 2 || pthread_barrier_init(&start, NULL, THREADS) != 0)
         return 2;
     for (i = 0; i < THREADS; i++)
         if (pthread_create(&threads[i], NULL, run, &samples[i * CASES / THREADS]) != 0)

@@ -1000,7 +1000,7 @@ static void refuse_long(size_t length, const char *before)
 static void answer_after(size_t length)
 {
     struct buffer text = new_buffer();
-    bool accepted = length <= TEXT_BYTES;
+    bool fits = length <= TEXT_BYTES;
     struct run run;
     int to;
     begin("engine, a client that sends a text of %lu bytes and waits", (unsigned long)length);
@@ -1009,13 +1009,13 @@ static void answer_after(size_t length)
     say(&run, to, text.bytes, text.length);
     say(&run, to, "ru", 2);
     say(&run, to, "n\n", 2);
-    if (!accepted)
+    if (!fits)
         await(&run, "refused 1 line 0\n");
     say(&run, to, "E1\n", 3);
-    if (accepted)
+    if (fits)
         await(&run, "1 accept A3 cancel -\n");
     say(&run, to, "E2", 2);
-    leave(&run, to, accepted ? "1 accept A3 cancel -\n2 accept - cancel -\n" : "refused 1 line 0\n");
+    leave(&run, to, fits ? "1 accept A3 cancel -\n2 accept - cancel -\n" : "refused 1 line 0\n");
     free(text.bytes);
 }
 

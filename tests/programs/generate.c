@@ -57,7 +57,7 @@ static void check_loader(const uint8_t *image, size_t length, struct dice *dice,
     tally->bodies += verdict.fault == FAULT_BODY;
     if (verdict.fault == FAULT_BODY ? verdict.location == 0 || verdict.location > at
                                     : verdict.fault != FAULT_NONE || verdict.location != 0)
-        fail("a changed body is refused for another reason or at another place", name);
+        fail("a changed body is refused for another fault or at another location", name);
     if (verdict.fault == FAULT_NONE
         && (write_image(&loaded, again) != length || memcmp(again, changed, length) != 0))
         fail("a changed image is not written again as it was", name);

@@ -82,7 +82,7 @@ void add_longest_line(struct buffer *to);
 /* As many lines as a text may have, the last one faulty. */
 void add_most_lines(struct buffer *to);
 
-/* A line for each of the grounds 2, 3, 4 and 6. */
+/* A line for each of the faults 2, 3, 4 and 6. */
 enum { FAULTY_LINES = 4 };
 extern const char *const faulty_lines[FAULTY_LINES];
 

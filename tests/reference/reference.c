@@ -570,18 +570,6 @@ struct verdict read_epoch(const uint8_t *line, size_t length, struct epoch *epoc
 
 /* What an epoch yields, by the policy */
 
-static bool relation_holds(enum relation relation, int32_t left, int32_t right)
-{
-    switch (relation) {
-    case EQUAL: return left == right;
-    case UNEQUAL: return left != right;
-    case LESS: return left < right;
-    case AT_MOST: return left <= right;
-    case GREATER: return left > right;
-    default: return left >= right;
-    }
-}
-
 /* A reading that the epoch does not give is 0. */
 static int32_t reading_of(const struct epoch *epoch, unsigned reading)
 {

@@ -9,7 +9,7 @@
 
 enum { TEXT_BYTES = 32768, EPOCH_BYTES = 1024 };
 
-/* The grounds for refusing, by their numbers. */
+/* Why something is refused: the grounds of document 01, by their numbers. */
 enum fault {
     FAULT_NONE = 0,
     FAULT_LONG = 1,

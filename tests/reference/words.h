@@ -37,6 +37,18 @@ enum operation {
 
 enum relation { EQUAL = 0, UNEQUAL = 1, LESS = 2, AT_MOST = 3, GREATER = 4, AT_LEAST = 5, RELATIONS = 6 };
 
+static inline bool relation_holds(unsigned relation, int32_t left, int32_t right)
+{
+    switch (relation) {
+    case EQUAL: return left == right;
+    case UNEQUAL: return left != right;
+    case LESS: return left < right;
+    case AT_MOST: return left <= right;
+    case GREATER: return left > right;
+    default: return left >= right;
+    }
+}
+
 /* The fields of a word that is neither the header, a constant nor the last one. */
 struct fields {
     unsigned operation, first, second, relation, zero, skip;

@@ -78,7 +78,7 @@ struct verdict compare_check(const uint8_t *image, size_t length)
         fail_on(name, "the image was changed", image, length);
     if (verdict.fault == FAULT_BODY) {
         size_t rules_end = 1 + unpack_header(word_at(image, 0)).rule_words;
-        tally.places[verdict.location < rules_end ? verdict.location > 1 : 2 + (verdict.location > rules_end)]++;
+        tally.locations[verdict.location < rules_end ? verdict.location > 1 : 2 + (verdict.location > rules_end)]++;
     }
     tally.check[verdict.fault]++;
     tally.check_nulls[lent == NULL]++;

@@ -48,11 +48,11 @@ enum extreme {
     EXTREMES
 };
 
-/* What was met. Places of ground 11: the first line of the rules, a later one, and the same of the constraints. Nulls: 1 if the
+/* What was met. Locations of fault 11: the first line of the rules, a later one, and the same of the constraints. Nulls: 1 if the
    first area of a call is null, and 2 more if the second one is. */
 struct tally {
     unsigned long comparisons, compile[FAULTS], check[FAULTS], decide[FAULTS];
-    unsigned long places[4], flaws[2][FLAWS], accepting, cancelling, extremes[EXTREMES];
+    unsigned long locations[4], flaws[2][FLAWS], accepting, cancelling, extremes[EXTREMES];
     unsigned long compile_nulls[4], check_nulls[4], decide_nulls[4], lines_in_images;
 };
 

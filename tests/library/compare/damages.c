@@ -144,7 +144,7 @@ static void move_border(uint8_t *image, size_t length, struct dice *dice)
     compare_damaged(image, length, dice);
 }
 
-/* So that one ground comes before another. */
+/* So that one fault comes before another. */
 static void damage_several(uint8_t *image, size_t length, struct dice *dice)
 {
     size_t size = length, bit = 8 + below(dice, 24);

@@ -67,7 +67,7 @@ static void compare_flaw(struct dice *dice, bool rule, enum flaw flaw, struct bu
     static struct draft draft;
     unsigned limit = rule ? RULES : CONSTRAINTS, before, after, i;
     bool ends_part = flaw == CUT_AT_PART_END || flaw == NO_CONSTANT_AT_PART_END;
-    size_t place, length;
+    size_t location, length;
     struct verdict verdict;
     before = flaw == TOO_MANY_LINES ? limit : chance(dice, 50) ? limit - 1 : below(dice, 4);
     after = ends_part ? 0 : below(dice, 4);
@@ -79,7 +79,7 @@ static void compare_flaw(struct dice *dice, bool rule, enum flaw flaw, struct bu
     }
     for (i = 0; i < before; i++)
         append(&draft, good_line(dice, rule, before > 4));
-    place = draft.count;
+    location = draft.count;
     append(&draft, flaw == TOO_MANY_LINES ? good_line(dice, rule, true) : flawed_line(dice, rule, flaw));
     for (i = 0; i < after; i++)
         append(&draft, good_line(dice, rule, true));
@@ -90,8 +90,8 @@ static void compare_flaw(struct dice *dice, bool rule, enum flaw flaw, struct bu
     }
     length = finish(&draft, bytes);
     verdict = compare_image(bytes, length, work, dice);
-    if (verdict.fault != FAULT_BODY || verdict.location != place)
-        fail_on("reference", "a flaw was not found at its place", bytes, length);
+    if (verdict.fault != FAULT_BODY || verdict.location != location)
+        fail_on("reference", "a flaw was not found at its location", bytes, length);
     tally.flaws[rule][flaw]++;
 }
 

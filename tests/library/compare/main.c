@@ -1,6 +1,6 @@
 /* Compares the functions of include/kinohazel.h with the reference, on inputs that are the same on each run:
    `compare ROUNDS` runs round 0, which has the limits, and the rounds behind it, each made from its number;
-   `compare ROUNDS FIRST` begins with another round. It ends at the first difference, and fails if a ground, or another thing
+   `compare ROUNDS FIRST` begins with another round. It ends at the first difference, and fails if a fault, or another thing
    that is counted, was never met. */
 #include "compare.h"
 

@@ -38,20 +38,20 @@ void fail_on(const char *function, const char *what, const uint8_t *bytes, size_
 
 bool report(void)
 {
-    static const enum fault compile_grounds[] = {FAULT_NONE, FAULT_LONG, FAULT_SHAPE, FAULT_RANGE, FAULT_CROWD,
+    static const enum fault compile_faults[] = {FAULT_NONE, FAULT_LONG, FAULT_SHAPE, FAULT_RANGE, FAULT_CROWD,
         FAULT_FULL, FAULT_REPEAT, FAULT_ROOM};
-    static const enum fault check_grounds[] = {FAULT_NONE, FAULT_SIZE, FAULT_FORM, FAULT_COUNT, FAULT_SUM, FAULT_BODY};
-    static const enum fault decide_grounds[] = {FAULT_NONE, FAULT_LONG, FAULT_SIZE, FAULT_FORM, FAULT_COUNT, FAULT_SUM,
+    static const enum fault check_faults[] = {FAULT_NONE, FAULT_SIZE, FAULT_FORM, FAULT_COUNT, FAULT_SUM, FAULT_BODY};
+    static const enum fault decide_faults[] = {FAULT_NONE, FAULT_LONG, FAULT_SIZE, FAULT_FORM, FAULT_COUNT, FAULT_SUM,
         FAULT_BODY, FAULT_EPOCH_SHAPE, FAULT_EPOCH_RANGE, FAULT_TWICE};
     static const struct {
         const char *name;
         const unsigned long *counts;
-        const enum fault *grounds;
+        const enum fault *faults;
         size_t size;
     } functions[] = {
-        {"compile", tally.compile, compile_grounds, COUNT(compile_grounds)},
-        {"check", tally.check, check_grounds, COUNT(check_grounds)},
-        {"decide", tally.decide, decide_grounds, COUNT(decide_grounds)}};
+        {"compile", tally.compile, compile_faults, COUNT(compile_faults)},
+        {"check", tally.check, check_faults, COUNT(check_faults)},
+        {"decide", tally.decide, decide_faults, COUNT(decide_faults)}};
     static const char *const extremes[EXTREMES] = {[ALL_ACCEPTED] = "all actions accepted",
         [ALL_CANCELLED] = "all cancelled",
         [OVER_30_CANCELLED] = "over 30 cancelled",
@@ -65,21 +65,21 @@ bool report(void)
     for (i = 0; i < COUNT(functions); i++) {
         printf("; %s", functions[i].name);
         for (k = 0; k < functions[i].size; k++) {
-            unsigned long count = functions[i].counts[functions[i].grounds[k]];
-            printf(" %d: %lu", (int)functions[i].grounds[k], count);
+            unsigned long count = functions[i].counts[functions[i].faults[k]];
+            printf(" %d: %lu", (int)functions[i].faults[k], count);
             all = all && count > 0;
         }
     }
     printf("; %lu accept an action, %lu cancel one; 11 at the first rule %lu, a later one %lu, the first constraint "
            "%lu, a later one %lu; decided with",
-        tally.accepting, tally.cancelling, tally.places[0], tally.places[1], tally.places[2], tally.places[3]);
+        tally.accepting, tally.cancelling, tally.locations[0], tally.locations[1], tally.locations[2], tally.locations[3]);
     for (i = 0; i < EXTREMES; i++) {
         printf("%s %s %lu", i == 0 ? "" : ",", extremes[i], tally.extremes[i]);
         all = all && tally.extremes[i] > 0;
     }
     printf("\n");
     for (i = 0; i < 4; i++)
-        all = all && tally.places[i] > 0 && tally.compile_nulls[i] > 0 && tally.decide_nulls[i] > 0
+        all = all && tally.locations[i] > 0 && tally.compile_nulls[i] > 0 && tally.decide_nulls[i] > 0
             && (tally.check_nulls[i] > 0 || i > 1);
     for (i = 0; i < FLAWS; i++)
         all = all && tally.flaws[0][i] > 0 && (tally.flaws[1][i] > 0 || i == FIRST_UNUSED);

@@ -36,7 +36,7 @@ void compare_limit_texts(struct buffer *input, struct dice *dice)
         add_times(input, i < 4 ? "E0 causes A0\n" : "never A0\n", (i < 4 ? RULES : CONSTRAINTS) - 1 + (unsigned)i % 4);
         compare_rooms(input->bytes, input->length, dice);
     }
-    for (i = 0; i < FAULTY_LINES + 2; i++) { /* the other grounds of a line come before 5 */
+    for (i = 0; i < FAULTY_LINES + 2; i++) { /* the other faults of a line come before 5 */
         input->length = 0;
         add_times(input, "E0 causes A0\n", RULES);
         add_times(input, "never A0\n", CONSTRAINTS);
