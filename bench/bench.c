@@ -68,12 +68,12 @@ static void small(struct buffer *text, struct epochs *quiet, struct epochs *busy
 }
 
 /* Events under 40 are asked to be present, those from 40 on to be absent. */
-static void scan(struct epochs *e, int events, int chance, int readings, int low, int high)
+static void scan(struct epochs *e, int events, int per_cent, int readings, int low, int high)
 {
     char line[EPOCH_BYTES + 1] = "";
     size_t n = 0;
     for (int i = 0; i < events; i++)
-        if (pick(100) < chance)
+        if (pick(100) < per_cent)
             n += (size_t)sprintf(line + n, "E%d ", i);
     for (int i = 0; i < readings; i++)
         n += (size_t)sprintf(line + n, "R%d=%d ", i, low + pick(high - low));

@@ -17,6 +17,7 @@ static void add_condition_of(struct buffer *to, const struct condition *conditio
     add(to, "\n");
 }
 
+/* A text with this policy; its constraints come first. */
 static void add_policy(struct buffer *to, const struct policy *policy)
 {
     size_t i, k;

@@ -17,7 +17,7 @@ struct verdict compare_rooms(const uint8_t *text, size_t length, struct dice *di
     compare_compile(text, length, size - 1);
     compare_compile(text, length, size + 1);
     compare_compile(text, length, below(dice, (unsigned)size));
-    compare_compile(text, length, chance(dice, 500) ? size - 4 : 4);
+    compare_compile(text, length, chance(dice, 500) ? size - WORD_BYTES : WORD_BYTES);
     compare_compile(text, length, MOST_ROOM);
     return verdict;
 }
