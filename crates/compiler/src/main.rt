@@ -21,7 +21,7 @@ fn read_text(text: &mut [u8; 32769]) -> Input
                 failed: input.failed,
             };
         }
-        size = report::put_bytes(text, size, &chunk[..n]);
+        size = output::put_bytes(text, size, &chunk[..n]);
         turns -= 1;
     }
     Input { size, failed: true }

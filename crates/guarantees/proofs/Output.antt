@@ -13,7 +13,7 @@ use Rattle.codegen.specs.Compile.{newestForm}
 use Rattle.monitor.specs.Decision.{decision}
 use Rattle.monitor.specs.declared.decision.Decision.{Decision}
 use Rattle.report.specs.Report.{refusedLine}
-use Rattle.session.specs.Printed.{Session, splitAtRun, textOf, epochsOf, next, decisionLine, epochLines, answersTo, printedFor, printed}
+use Rattle.session.specs.Printed.{Session, splitAtRun, textPart, epochPart, next, decisionLine, epochLines, answersTo, printedFor, printed}
 use Rattle.guarantees.specs.Claims.{answerOf}
 use Rattle.guarantees.specs.Machine.{Answer, step, run}
 use Rattle.guarantees.specs.Output.{answerLine, answerLines, machineLines, machinePrints}
@@ -45,4 +45,4 @@ pub output-agrees : (input : List ℕ) → printed input ≡ machinePrints input
 unfolding printed machinePrints
 output-agrees input =
     let s : Session = splitAtRun (linesOf input) in
-    text-lines (textOf input s) (epochsOf s)
+    text-lines (textPart input s) (epochPart s)

@@ -5,9 +5,9 @@ use mathlib.Core.List.{List, [], _∷_, _++_}
 use Rattle.lexer.specs.Byte.{bytes}
 use Rattle.lexer.specs.Lines.{linesOf}
 use Rattle.syntax.specs.Text.{Progress, reading, stopped, readText}
-use Rattle.printer.specs.Printed.{decimal}
+use Rattle.output.specs.Number.{decimal}
 use Rattle.report.specs.Report.{refusalLine, acceptLine}
-use Rattle.session.specs.Printed.{Session, splitAtRun, textOf, epochsOf, next}
+use Rattle.session.specs.Printed.{Session, splitAtRun, textPart, epochPart, next}
 use Rattle.guarantees.specs.Machine.{Answer, run}
 
 -- "A refused epoch shows its number only."
@@ -27,4 +27,4 @@ machineLines (reading n policy) epochs = answerLines 0 (run policy epochs)
 unfoldable pub machinePrints : List ℕ → List ℕ
 machinePrints input =
     let s : Session = splitAtRun (linesOf input) in
-    machineLines (readText (textOf input s)) (epochsOf s)
+    machineLines (readText (textPart input s)) (epochPart s)

@@ -1,49 +1,28 @@
--- Laws of the digits of a number: reading them back yields it, and how many there are.
-use Prim.Native.Nat.{ℕ, zero, suc, _+_, _*_, _-_, _/_, _%_, _^_, _≤_, _<_}
-use mathlib.Core.Bool.{Bool, true, false, or-true}
-use mathlib.Core.List.{List, [], _∷_, _++_}
+-- Reading the decimal digits of a number back yields it.
+use Prim.Native.Nat.{ℕ, zero, suc, _+_, _*_, _%_, _<_}
+use mathlib.Core.Bool.{true, false, or-true}
+use mathlib.Core.List.{List, [], _∷_, _++_, foldl}
 use mathlib.Core.Option.{none, some}
 use mathlib.Core.Path.{_≡_, refl, sym, ap, _∙_}
 use native.Mathlib.Omega.{arith}
-use borrow.Author.Tests.{ltb-true, ltb-false, le-leb, ne-eqb}
-use lib.Dec.{eqb, ltb}
+use borrow.Author.Tests.{le-leb, ne-eqb}
+use lib.Dec.{eqb}
 use lib.IntN.{ℤ, pos, negsuc}
-use lib.ListN.{length, length-append}
 use Rattle.policy.proofs.ListLaws.{true-false, and-in, and-out, all-append}
 use Rattle.policy.specs.List.{all}
 use Rattle.lexer.specs.Byte.{isDigit}
 use Rattle.lexer.specs.Token.{named}
 use Rattle.lexer.specs.Number.{decimalFrom, isEmpty, numberOf, positive, negative, constantOf}
-use Rattle.printer.specs.Printed.{digit, digits, decimal, constantToken}
-
--- what holds of a number with one digit, and of a number by what holds of its tenth, holds of every number
-module _ (P : ℕ → List ℕ → Type 0) (one : (n : ℕ) → n < 10 → P n (digit n ∷ []))
-    (more : (n : ℕ) → 10 ≤ n → (ds : List ℕ) → P (n / 10) ds → P n (ds ++ digit (n % 10) ∷ [])) where
-  digits-by : (k n : ℕ) → n ≤ k → P n (digits k (ltb n 10) n)
-  unfolding digits
-  digits-by zero n h = one n (omega arith)
-  digits-by (suc k) n h = go (ltb n 10) refl (digits-by k (n / 10))
-    where
-      go : (b : Bool) → ltb n 10 ≡ b → (n / 10 ≤ k → P (n / 10) (digits k (ltb (n / 10) 10) (n / 10))) → P n (digits (suc k) b n)
-      go true e f = one n (ltb-true n 10 e)
-      go false e f =
-          let l : 10 ≤ n = ltb-false n 10 e in
-          more n l (digits k (ltb (n / 10) 10) (n / 10)) (f (omega arith))
-
-  decimal-by : (n : ℕ) → P n (decimal n)
-  unfolding decimal
-  decimal-by n = digits-by n n (omega arith)
+use Rattle.output.specs.Number.{digit, digits, decimal, digitValue}
+use Rattle.output.proofs.DecimalLaws.{decimal-by, decimal-value, Leading, decimal-lead}
+use Rattle.printer.specs.Printed.{constantToken}
 
 -- ---- the digits are those of the number
 
-decimal-snoc : (v : ℕ) (ds : List ℕ) (d : ℕ) → decimalFrom v (ds ++ d ∷ []) ≡ decimalFrom v ds * 10 + (d - 48)
+decimal-fold : (v : ℕ) (ds : List ℕ) → decimalFrom v ds ≡ foldl (λ (x d : ℕ). x * 10 + digitValue d) v ds
 unfolding decimalFrom
-decimal-snoc v [] d = refl
-decimal-snoc v (e ∷ ds) d = decimal-snoc (v * 10 + (e - 48)) ds d
-
-decimal-value : (n : ℕ) → decimalFrom 0 (decimal n) ≡ n
-unfolding decimalFrom
-decimal-value = decimal-by (λ n ds. decimalFrom 0 ds ≡ n) (λ n h. omega arith) (λ n h ds e. decimal-snoc 0 ds (digit (n % 10)) ∙ rw e (omega arith))
+decimal-fold v [] = refl
+decimal-fold v (d ∷ ds) = decimal-fold (v * 10 + digitValue d) ds
 
 one-digit : (n : ℕ) → n < 10 → all isDigit (digit n ∷ []) ≡ true
 unfolding all
@@ -63,28 +42,6 @@ decimal-some = decimal-by (λ n ds. isEmpty ds ≡ false) (λ n h. refl) (λ n h
     go (b ∷ ds) d = refl
 
 -- they do not start with 0, unless the number is 0
-record Leading (ds : List ℕ) : Type 0 where
-  first : ℕ
-  others : List ℕ
-  same : ds ≡ first ∷ others
-  nonzero : first ≡ 48 → ⊥
-
-decimal-lead : (n : ℕ) → 0 < n → Leading (decimal n)
-decimal-lead = decimal-by (λ n ds. 0 < n → Leading ds) alone longer
-  where
-    alone : (n : ℕ) → n < 10 → 0 < n → Leading (digit n ∷ [])
-    alone n h l = record { first = digit n; others = []; same = refl; nonzero = λ q. omega arith }
-
-    longer : (n : ℕ) → 10 ≤ n → (ds : List ℕ) → (0 < n / 10 → Leading ds) → 0 < n → Leading (ds ++ digit (n % 10) ∷ [])
-    longer n h ds f l =
-        let r : Leading ds = f (omega arith) in
-        record {
-          first = r .first;
-          others = r .others ++ digit (n % 10) ∷ [];
-          same = ap (λ (s : List ℕ). s ++ digit (n % 10) ∷ []) (r .same);
-          nonzero = r .nonzero;
-        }
-
 led-read : (ds : List ℕ) → Leading ds → all isDigit ds ≡ true → numberOf ds ≡ some (decimalFrom 0 ds)
 unfolding numberOf
 led-read ds r h = rw (r .same) (led (r .first) (r .others) (sym (ap (all isDigit) (r .same)) ∙ h) (r .nonzero))
@@ -98,7 +55,7 @@ zero-read = refl
 
 pub number-read : (n : ℕ) → numberOf (decimal n) ≡ some n
 number-read zero = zero-read
-number-read (suc m) = led-read (decimal (suc m)) (decimal-lead (suc m) (omega arith)) (decimal-all (suc m)) ∙ ap some (decimal-value (suc m))
+number-read (suc m) = led-read (decimal (suc m)) (decimal-lead (suc m) (omega arith)) (decimal-all (suc m)) ∙ ap some (decimal-fold 0 (decimal (suc m)) ∙ decimal-value (suc m))
 
 -- ---- digits are taken for nothing else
 
@@ -119,12 +76,3 @@ pub constant-read : (k : ℤ) → constantOf (constantToken k) ≡ some k
 unfolding constantToken constantOf positive negative
 constant-read (pos n) = digits-constant (decimal n) (decimal-all n) ∙ ap positive (number-read n)
 constant-read (negsuc n) = ap negative (number-read (suc n))
-
--- ---- how many there are
-
-pub decimal-few : (n w : ℕ) → n < 10 ^ suc w → length (decimal n) ≤ suc w
-decimal-few = decimal-by (λ n ds. (w : ℕ) → n < 10 ^ suc w → length ds ≤ suc w) (λ n h w l. omega arith) longer
-  where
-    longer : (n : ℕ) → 10 ≤ n → (ds : List ℕ) → ((w : ℕ) → n / 10 < 10 ^ suc w → length ds ≤ suc w) → (w : ℕ) → n < 10 ^ suc w → length (ds ++ digit (n % 10) ∷ []) ≤ suc w
-    longer n h ds f zero l = absurd (omega arith)
-    longer n h ds f (suc w) l = omega (arith, length-append ds (digit (n % 10) ∷ []), f w (omega arith))

@@ -7,7 +7,8 @@ use Rattle.policy.specs.Limits.{isReadingValue, testNumber, operandInRange, com
 use Rattle.policy.specs.Line.{headsOf, comparisonsOf, endingOf}
 use Rattle.policy.specs.List.{all, any}
 use Rattle.printer.specs.Examples.{printedTexts, reprinted}
-use Rattle.printer.specs.Printed.{digits, decimal, constantToken, literalToken, actionToken, readingToken, relationToken, operandToken, comparisonTokens, joinedBy, headTokens, conditionTokens, lineTokens, lineBytes, linesText, textOf}
+use Rattle.output.specs.Number.{digits, decimal}
+use Rattle.printer.specs.Printed.{constantToken, literalToken, actionToken, readingToken, relationToken, operandToken, comparisonTokens, joinedBy, headTokens, conditionTokens, lineTokens, lineBytes, linesText, textOf}
 use Rattle.lexer.specs.Byte.{bytes, sameBytes, is}
 use Rattle.syntax.specs.Grammar as Grammar
 use Rattle.lexer.specs.Token.{named, literalOf, actionOf, readingOf, relationOf, orElse, operandOf, both, comparisonOf}

@@ -21,9 +21,10 @@ use Rattle.policy.specs.declared.number.Action.{Action}
 use Rattle.policy.specs.declared.number.Reading.{Reading}
 use Rattle.lexer.specs.Byte.{bytes}
 use Rattle.lexer.specs.Token.{Token}
-use Rattle.printer.proofs.DecimalLaws.{decimal-few}
+use Rattle.output.proofs.DecimalLaws.{decimal-few}
 use Rattle.policy.proofs.ValidLaws.{ValidParts, testInRange, valid-out}
-use Rattle.printer.specs.Printed.{decimal, constantToken, literalToken, actionToken, readingToken, relationToken, operandToken, comparisonTokens, joinedBy, headTokens, conditionTokens, lineTokens, lineBytes}
+use Rattle.output.specs.Number.{decimal}
+use Rattle.printer.specs.Printed.{constantToken, literalToken, actionToken, readingToken, relationToken, operandToken, comparisonTokens, joinedBy, headTokens, conditionTokens, lineTokens, lineBytes}
 
 all-map : {A B : Type 0} (p : B → Bool) (f : A → B) (xs : List A) → all p (map f xs) ≡ all (λ x. p (f x)) xs
 unfolding all

@@ -24,7 +24,8 @@ use Rattle.syntax.specs.Text.{accepted, judge, isComment, tokensAnswer, lineAns
 use Rattle.printer.proofs.DecimalLaws.{decimal-all, number-read, digits-unnamed, constant-read}
 use Rattle.printer.proofs.SplitLaws.{line-tokens}
 use Rattle.policy.proofs.ValidLaws.{valid-tests}
-use Rattle.printer.specs.Printed.{decimal, constantToken, literalToken, actionToken, readingToken, relationToken, operandToken, comparisonTokens, joinedBy, headTokens, conditionTokens, lineTokens, lineBytes}
+use Rattle.output.specs.Number.{decimal}
+use Rattle.printer.specs.Printed.{constantToken, literalToken, actionToken, readingToken, relationToken, operandToken, comparisonTokens, joinedBy, headTokens, conditionTokens, lineTokens, lineBytes}
 
 -- ---- the parts
 

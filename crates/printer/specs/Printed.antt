@@ -1,10 +1,9 @@
 -- The rule text written from a policy: document 01, "Rule text", in one form of its own. The rules come first, then the
 -- constraints, one space stands between tokens, and every line is ended.
 use Prim.Native.Char.{code}
-use Prim.Native.Nat.{ℕ, zero, suc, _+_, _/_, _%_}
-use mathlib.Core.Bool.{Bool, true, false, cond}
+use Prim.Native.Nat.{ℕ, suc}
+use mathlib.Core.Bool.{cond}
 use mathlib.Core.List.{List, [], _∷_, _++_, map}
-use lib.Dec.{ltb}
 use lib.IntN.{ℤ, pos, negsuc}
 use Rattle.policy.specs.Line.{PolicyLine, rule, constraint}
 use Rattle.policy.specs.Policy.{Policy}
@@ -16,26 +15,13 @@ use Rattle.policy.specs.declared.number.Action.{Action}
 use Rattle.policy.specs.declared.number.Reading.{Reading}
 use Rattle.lexer.specs.Byte.{bytes}
 use Rattle.lexer.specs.Token.{Token}
+use Rattle.output.specs.Number.{decimal}
 
--- ---- numbers
-
-abbrev pub digit : ℕ → ℕ
-digit d = code "0" + d
-
--- the digits of n, the most significant first, if they are at most k + 1; `only` tells whether n has just one
-unfoldable pub digits : ℕ → Bool → ℕ → List ℕ
-digits zero only n = digit n ∷ []
-digits (suc k) true n = digit n ∷ []
-digits (suc k) false n = digits k (ltb (n / 10) 10) (n / 10) ++ digit (n % 10) ∷ []
-
-unfoldable pub decimal : ℕ → List ℕ
-decimal n = digits n (ltb n 10) n
+-- ---- the parts of a line
 
 unfoldable pub constantToken : ℤ → Token
 constantToken (pos n) = decimal n
 constantToken (negsuc n) = code "-" ∷ decimal (suc n)
-
--- ---- the parts of a line
 
 unfoldable pub literalToken : Literal → Token
 literalToken l = cond (l .negated) (bytes "!") [] ++ code "E" ∷ decimal (l .event .0)

@@ -2,11 +2,11 @@
 use mathlib.Core.List.{map}
 use mathlib.Core.Path.{_≡_, refl}
 use Rattle.policy.specs.Set.{has, insert}
-use Rattle.report.specs.Examples.{examples, lineOf, expected}
+use Rattle.report.specs.Examples.{examples, printedLine, expected}
 use Rattle.lexer.specs.Byte.{bytes}
-use Rattle.printer.specs.Printed.{digits, decimal}
-use Rattle.report.specs.Report.{hexDigit, hexDigits, membersFrom, actionName, further, joined, actionList, wordLine, refusalLine, acceptLine, refusedLine}
+use Rattle.output.specs.Number.{digits, decimal, hexDigit, hexDigits}
+use Rattle.report.specs.Report.{membersFrom, actionName, furtherNames, actionNames, actionList, wordLine, refusalLine, acceptLine, refusedLine}
 
-pub lines-hold : map lineOf examples ≡ map expected examples
-unfolding examples lineOf expected bytes digits decimal hexDigit hexDigits membersFrom actionName further joined actionList wordLine refusalLine acceptLine refusedLine has insert
+pub lines-hold : map printedLine examples ≡ map expected examples
+unfolding examples printedLine expected bytes digits decimal hexDigit hexDigits membersFrom actionName furtherNames actionNames actionList wordLine refusalLine acceptLine refusedLine has insert
 lines-hold = refl

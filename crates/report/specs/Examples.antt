@@ -46,8 +46,8 @@ examples =
     ∷ row (acceptLine 100 (setOf (63 ∷ 0 ∷ 10 ∷ [])) (setOf (2 ∷ 1 ∷ []))) "100 accept A0,A10,A63 cancel A1,A2\n"
     ∷ []
 
-unfoldable pub lineOf : Example → List ℕ
-lineOf x = x .line
+unfoldable pub printedLine : Example → List ℕ
+printedLine x = x .line
 
 unfoldable pub expected : Example → List ℕ
 expected x = bytes (x .printed)

@@ -1,4 +1,3 @@
 -- What a reader must believe of this layer. Start with `Report`: the lines that the two programs print.
-pub mod Buffer
 pub mod Report
 pub mod Examples

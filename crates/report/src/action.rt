@@ -2,11 +2,10 @@
 ghost use mathlib.Core.Path.{_≡_};
 ghost use mathlib.Core.Bool.{cond};
 ghost use mathlib.Core.List.{[], _∷_, _++_};
-ghost use Rattle.report.specs.Buffer.{appended, behind};
+ghost use Rattle.output.specs.Buffer.{appended, behind};
 ghost use Rattle.report.specs.Report.{actionName, actionList};
-use crate::buffer::at_most;
-use crate::buffer::put_byte;
-use crate::number::put_decimal;
+use output::put_byte;
+use output::put_decimal;
 use policy::ActionSet;
 
 fn put_name(out: &mut [u8], at: usize, number: u64) -> usize
@@ -43,9 +42,5 @@ pub fn put_actions(out: &mut [u8], at: usize, set: ActionSet) -> usize
         number += 1;
         rest /= 2;
     }
-    if first {
-        put_byte(out, end, b'-')
-    } else {
-        at_most(end, out.len())
-    }
+    if first { put_byte(out, end, b'-') } else { end }
 }

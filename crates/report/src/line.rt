@@ -1,35 +1,20 @@
 // The lines that the two programs print.
 ghost use mathlib.Core.Path.{_≡_};
-ghost use Prim.Native.Nat.{_<_};
-ghost use Rattle.report.specs.Buffer.{appended, behind};
-ghost use Rattle.report.specs.Report.{hexDigit, wordLine, refusalLine, acceptLine, refusedLine};
+ghost use Rattle.output.specs.Buffer.{appended, behind};
+ghost use Rattle.report.specs.Report.{wordLine, refusalLine, acceptLine, refusedLine};
 use crate::action::put_actions;
-use crate::buffer::put_byte;
-use crate::buffer::put_bytes;
-use crate::number::put_decimal;
+use output::put_byte;
+use output::put_bytes;
+use output::put_decimal;
+use output::put_hex_word;
 use policy::ActionSet;
 use policy::Fault;
 
-fn hex_digit(d: u32) -> u8
-    requires { ⌜ d < 16 ⌝ }
-    ensures { λ r. ⌜ r ≡ hexDigit d ⌝ }
-{
-    if d < 10 {
-        b'0' + d as u8
-    } else {
-        b'A' + (d - 10) as u8
-    }
-}
-
+// A word of the image.
 pub fn put_word_line(out: &mut [u8], at: usize, word: u32) -> usize
     ensures { λ r. ⌜ (r ≡ behind (now (out .entry)) at (wordLine word)) × (now (out .exit) ≡ appended (now (out .entry)) at (wordLine word)) ⌝ }
 {
-    let mut end = at;
-    let mut digits: u32 = 8;
-    while 0 < digits {
-        digits -= 1;
-        end = put_byte(out, end, hex_digit((word >> (4 * digits)) % 16));
-    }
+    let end = put_hex_word(out, at, word);
     put_byte(out, end, b'\n')
 }
 

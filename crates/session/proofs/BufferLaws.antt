@@ -5,8 +5,8 @@ use mathlib.Core.Path.{_≡_, refl, sym, ap, ap₂, _∙_}
 use native.Mathlib.Omega.{arith}
 use lib.ListN.{length, take, set, length-set}
 use lib.Seq.{take-suc-set, append-snoc}
-use Rattle.report.specs.Buffer.{appended, behind}
-use Rattle.report.proofs.AppendLaws.{Put}
+use Rattle.output.specs.Buffer.{appended, behind}
+use Rattle.output.proofs.AppendLaws.{Put}
 
 append-take : (buffer : List ℕ) (at : ℕ) (bytes : List ℕ) → at + length bytes ≤ length buffer
     → take (at + length bytes) (appended buffer at bytes) ≡ take at buffer ++ bytes

@@ -14,7 +14,7 @@ use Rattle.codegen.specs.declared.Compiled.{Compiled}
 use Rattle.monitor.specs.Decision.{decision}
 use Rattle.monitor.specs.declared.decision.Decision.{Decision}
 use Rattle.report.specs.Report.{refusalLine}
-use Rattle.report.proofs.AppendLaws.{Put, put-length}
+use Rattle.output.proofs.AppendLaws.{Put, put-length}
 use Rattle.session.specs.Printed.{next, decisionLine, epochLines, answersTo, printedFor}
 use Rattle.session.specs.Owed.{current, leftIn, owed, Fitting, Good, Room, TracksIn, TextEnded, LineEnded}
 use Rattle.session.specs.declared.state.Phase.{Phase}

@@ -8,7 +8,7 @@ use lib.ListN.{length, take, set, length-take, length-drop, length-set}
 use Rattle.lexer.specs.Lines.{linesOf}
 use Rattle.monitor.specs.Decision.{decision}
 use Rattle.session.specs.Printed.{next, decisionLine, epochLines}
-use Rattle.session.specs.Owed.{current, Good, Seen, seeByte, TracksIn, Took, counted, Pushed, room, full, decidedBy, LineEnded}
+use Rattle.session.specs.Owed.{current, Good, Seen, seeByte, TracksIn, Took, oneMoreHeld, Pushed, room, full, decidedBy, LineEnded}
 use Rattle.session.specs.declared.state.Phase.{Phase}
 use Rattle.session.specs.declared.state.State.{State}
 use Rattle.session.proofs.EpochLaws.{epoch-ends, full-line}
@@ -45,25 +45,25 @@ module _ (s : State) (held image out : List ℕ) (g : Good s held image out) (t 
     held-stays 1025 (x .tail) (current s held) line b (omega (arith, line-length)) ∙ ap (λ (y : Seen). take 1025 (y .tail)) (sym (see-other x b n)),
   )
 
-  epoch-counted : (b : ℕ) → s .count < 1025 → (b ≡ 10 → ⊥) → Took s held image out (b ∷ []) (counted s) (set held (s .count) b) image out
+  epoch-counted : (b : ℕ) → s .count < 1025 → (b ≡ 10 → ⊥) → Took s held image out (b ∷ []) (oneMoreHeld s) (set held (s .count) b) image out
   unfolding TracksIn
   epoch-counted b h n =
       let k : s .count < length held = rw (g .heldLong) (omega arith) in
       let more = held-more held (s .start) (s .count) b (g .ordered) k in
       record {
         owes = λ rest.
-            owed-epochs (counted s) (set held (s .count) b) image out rest t
+            owed-epochs (oneMoreHeld s) (set held (s .count) b) image out rest t
             ∙ ap (λ (x : List ℕ). take (s .used) out ++ epochLines (take (s .size) image) (s .epochs) (linesOf x))
             (ap (λ (x : List ℕ). x ++ rest) more ∙ snoc (current s held) rest b)
             ∙ sym (owed-epochs s held image out (b ∷ rest) t);
-        tracks = λ x h'. at-tracks Phase.Epochs (seeByte x b) (counted s) (set held (s .count) b) t (grown-tracks b h n more x (tracks-at Phase.Epochs x s held t h'));
+        tracks = λ x h'. at-tracks Phase.Epochs (seeByte x b) (oneMoreHeld s) (set held (s .count) b) t (grown-tracks b h n more x (tracks-at Phase.Epochs x s held t h'));
         good =
             record {
               heldLong = length-set held (s .count) b ∙ g .heldLong;
               imageLong = g .imageLong;
               outLong = g .outLong;
               ordered = omega (arith, g .ordered);
-              fitting = as-epochs (s .phase) (counted s) t (limits .0, omega arith);
+              fitting = as-epochs (s .phase) (oneMoreHeld s) t (limits .0, omega arith);
               oneLine = rw more (line-more (current s held) b (g .oneLine) n);
               sized = g .sized;
               used = g .used;

@@ -22,18 +22,17 @@ use Rattle.word.specs.Word.{pack, packHeader, wordsOf, bytesOf, between}
 use Rattle.image.specs.Load.{addLiteral, addMember, addComparison, decodeWord, decode, isPrefix, inPart, standsAt, keepIf, lineAt, addLine, afterLine, linesFrom, partLines, wellSized, countsFit, sumsToZero, bodyAnswer, loadWords, load}
 use Rattle.run.specs.Run.{passed, rulePasses, ruleProposes, runRules, constraintPasses, isNever, runConstraints}
 use Rattle.monitor.specs.Decision.{keptBy, yieldedBy, issuedBy, onLine, onImage, decision}
-use Rattle.printer.specs.Printed.{digits, decimal}
-use Rattle.report.specs.Report as Report
-use Rattle.report.specs.Report.{hexDigit, hexDigits, membersFrom, actionName, further, actionList, wordLine, refusalLine, acceptLine, refusedLine}
+use Rattle.output.specs.Number.{digits, decimal, hexDigit, hexDigits}
+use Rattle.report.specs.Report.{membersFrom, actionName, furtherNames, actionNames, actionList, wordLine, refusalLine, acceptLine, refusedLine}
 use Rattle.policy.specs.Yield as Yield
 use Rattle.syntax.specs.Epoch as Epoch
 use Rattle.syntax.specs.Grammar as Grammar
 use Rattle.session.specs.Examples.{sessions, listings, expected, sessionPrinted, textListed}
 use Rattle.session.specs.Listed.{wordLines, listingOf, listed}
-use Rattle.session.specs.Printed.{toText, splitAtRun, ended, textOf, epochsOf, decisionLine, epochLines, answersTo, printedFor, printed}
+use Rattle.session.specs.Printed.{toText, splitAtRun, ended, textPart, epochPart, decisionLine, epochLines, answersTo, printedFor, printed}
 
 pub sessions-hold : map sessionPrinted sessions ≡ map expected sessions
-unfolding sessions Report.joined sessionPrinted expected toText splitAtRun ended textOf epochsOf decisionLine epochLines answersTo printedFor printed literalHolds ruleHolds propose proposed constraintHolds conflict resolve Yield.accepted cancelled comparisonHolds relationHolds operandValue eqZ valueOf greedy keptBelow tryNext isReadingValue testNumber operandInRange comparisonInRange endingInRange inRange crowded repeats repeated headsOf comparisonsOf endingOf all any has insert bytes sameBytes is Epoch.valueOf Epoch.judge toLeft atEquals itemOf itemsOf itemInRange givenBy addItem readEpoch Grammar.comparisonsOf named literalOf actionOf readingOf relationOf orElse operandOf both comparisonOf conditionOf joined ruleAfter constraintAfter after lineFrom prepend pieces linesOf nonEmpty tokensOf decimalFrom isEmpty numberOf positive negative constantOf judge isComment tokensAnswer lineAnswer advance readLine readText policyOf testOpcode testWord operandWords comparisonWords endingWord conditionWords partWords lineWords linesWords sum checkWord checkWords headerWord ruleWords constraintWords contentWords imageWords relationCode pack packHeader keptBy yieldedBy issuedBy onLine onImage decision passed rulePasses ruleProposes runRules constraintPasses isNever runConstraints wordsOf bytesOf between operationFrom relationFrom constantComparison readingComparison knownForm checkCount imageOf addLiteral addMember addComparison decodeWord decode isPrefix inPart standsAt keepIf lineAt addLine afterLine linesFrom partLines wellSized countsFit sumsToZero bodyAnswer loadWords load valid digits decimal hexDigit hexDigits membersFrom actionName further actionList refusalLine acceptLine refusedLine
+unfolding sessions sessionPrinted expected toText splitAtRun ended textPart epochPart decisionLine epochLines answersTo printedFor printed literalHolds ruleHolds propose proposed constraintHolds conflict resolve Yield.accepted cancelled comparisonHolds relationHolds operandValue eqZ valueOf greedy keptBelow tryNext isReadingValue testNumber operandInRange comparisonInRange endingInRange inRange crowded repeats repeated headsOf comparisonsOf endingOf all any has insert bytes sameBytes is Epoch.valueOf Epoch.judge toLeft atEquals itemOf itemsOf itemInRange givenBy addItem readEpoch Grammar.comparisonsOf named literalOf actionOf readingOf relationOf orElse operandOf both comparisonOf conditionOf joined ruleAfter constraintAfter after lineFrom prepend pieces linesOf nonEmpty tokensOf decimalFrom isEmpty numberOf positive negative constantOf judge isComment tokensAnswer lineAnswer advance readLine readText policyOf testOpcode testWord operandWords comparisonWords endingWord conditionWords partWords lineWords linesWords sum checkWord checkWords headerWord ruleWords constraintWords contentWords imageWords relationCode pack packHeader keptBy yieldedBy issuedBy onLine onImage decision passed rulePasses ruleProposes runRules constraintPasses isNever runConstraints wordsOf bytesOf between operationFrom relationFrom constantComparison readingComparison knownForm checkCount imageOf addLiteral addMember addComparison decodeWord decode isPrefix inPart standsAt keepIf lineAt addLine afterLine linesFrom partLines wellSized countsFit sumsToZero bodyAnswer loadWords load valid digits decimal hexDigit hexDigits membersFrom actionName furtherNames actionNames actionList refusalLine acceptLine refusedLine
 sessions-hold = refl
 
 pub listings-hold : map textListed listings ≡ map expected listings

@@ -19,9 +19,9 @@ use Rattle.image.specs.declared.load.Loaded.{Loaded}
 use Rattle.word.specs.Word.{wordsOf, between}
 use Rattle.monitor.specs.Decision.{decision, onImage, onLine, issuedBy, yieldedBy, proposedBy, keptBy, acceptedOf, cancelledOf}
 use Rattle.monitor.specs.declared.decision.Decision.{Decision}
-use Rattle.printer.specs.Printed.{digit, decimal}
-use Rattle.report.proofs.DecimalLaws.{decimal-one, decimal-more}
-use Rattle.report.specs.Report.{membersFrom, actionName, further, joined, actionList, refusalLine, acceptLine, refusedLine}
+use Rattle.output.specs.Number.{digit, decimal}
+use Rattle.output.proofs.DecimalLaws.{decimal-one, decimal-more}
+use Rattle.report.specs.Report.{membersFrom, actionName, furtherNames, actionNames, actionList, refusalLine, acceptLine, refusedLine}
 use Rattle.session.specs.Printed.{decisionLine}
 
 -- ---- numbers
@@ -49,23 +49,23 @@ abbrev Apart : ℕ → ℕ → Type 0
 Apart s t = (n : ℕ) → (has s n && has t n) ≡ false
 
 members-short : (k n s t : ℕ) → n + k ≤ 64 → Apart s t
-    → length (further (membersFrom k n s)) + length (further (membersFrom k n t)) ≤ 4 * k
-unfolding membersFrom further actionName
+    → length (furtherNames (membersFrom k n s)) + length (furtherNames (membersFrom k n t)) ≤ 4 * k
+unfolding membersFrom furtherNames actionName
 members-short zero n s t h a = omega arith
 members-short (suc k) n s t h a = go (has s n) (has t n) (a n) (members-short k (suc n) s t (omega arith) a) (digits-few 1 n (omega arith))
   where
-    go : (b c : Bool) → (b && c) ≡ false → length (further (membersFrom k (suc n) s)) + length (further (membersFrom k (suc n) t)) ≤ 4 * k
+    go : (b c : Bool) → (b && c) ≡ false → length (furtherNames (membersFrom k (suc n) s)) + length (furtherNames (membersFrom k (suc n) t)) ≤ 4 * k
         → length (decimal n) ≤ 2
-        → length (further (cond b (n ∷ []) [] ++ membersFrom k (suc n) s)) + length (further (cond c (n ∷ []) [] ++ membersFrom k (suc n) t)) ≤ 4 * suc k
+        → length (furtherNames (cond b (n ∷ []) [] ++ membersFrom k (suc n) s)) + length (furtherNames (cond c (n ∷ []) [] ++ membersFrom k (suc n) t)) ≤ 4 * suc k
     go true true e more few = let z : _≡_ {A = ℕ} 0 1 = cc in absurd (omega arith)
     go true false e more few = simp length-append (omega arith)
     go false true e more few = simp length-append (omega arith)
     go false false e more few = omega arith
 
-joined-short : (ns : List ℕ) → length (joined ns) ≤ 1 + length (further ns)
-unfolding joined further
-joined-short [] = omega arith
-joined-short (n ∷ ns) = simp length-append (omega arith)
+names-short : (ns : List ℕ) → length (actionNames ns) ≤ 1 + length (furtherNames ns)
+unfolding actionNames furtherNames
+names-short [] = omega arith
+names-short (n ∷ ns) = simp length-append (omega arith)
 
 difference-apart : (s t : ℕ) → Apart t (difference s t)
 difference-apart s t n = rw (has-difference s t n) (go (has t n) (has s n))
@@ -123,8 +123,8 @@ line-short n (Decision.Issued actions) h a =
     (omega (
       arith,
       decimal-short n h,
-      joined-short (membersFrom 64 0 (actions .accepted .0)),
-      joined-short (membersFrom 64 0 (actions .cancelled .0)),
+      names-short (membersFrom 64 0 (actions .accepted .0)),
+      names-short (membersFrom 64 0 (actions .cancelled .0)),
       members-short 64 0 (actions .accepted .0) (actions .cancelled .0) (omega arith) a,
     ))
 

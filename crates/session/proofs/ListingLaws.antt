@@ -14,9 +14,10 @@ use Rattle.syntax.specs.Text.{Progress, reading, stopped, readText}
 use Rattle.image.specs.Layout.{imageOf}
 use Rattle.codegen.specs.Compile.{newestForm, compiled}
 use Rattle.codegen.specs.declared.Compiled.{Compiled}
-use Rattle.report.specs.Buffer.{appended, behind}
-use Rattle.report.specs.Report.{hexDigits, wordLine, refusalLine}
-use Rattle.report.proofs.AppendLaws.{Put, Left, left-turn, left-none}
+use Rattle.output.specs.Buffer.{appended, behind}
+use Rattle.output.specs.Number.{hexDigits}
+use Rattle.report.specs.Report.{wordLine, refusalLine}
+use Rattle.output.proofs.AppendLaws.{Put, Left, left-turn, left-none}
 use Rattle.session.specs.Listed.{wordLines, listingOf, listed}
 use Rattle.session.proofs.CompileLaws.{Read, image-small, compiled-stopped, compiled-read}
 use Rattle.session.proofs.PlaceLaws.{place-small}

@@ -12,15 +12,15 @@ use Rattle.lexer.specs.Byte.{is}
 use Rattle.lexer.specs.Lines.{pieces, linesOf}
 use Rattle.syntax.specs.Text.{readText}
 use Rattle.report.specs.Report.{refusalLine}
-use Rattle.session.specs.Printed.{Session, textOnly, withEpochs, toText, splitAtRun, ended, textOf, epochsOf, answersTo, printedFor}
+use Rattle.session.specs.Printed.{Session, textOnly, withEpochs, toText, splitAtRun, ended, textPart, epochPart, answersTo, printedFor}
 use Rattle.session.specs.Owed.{printedBehind}
 use Rattle.session.proofs.LineLaws.{OneLine, first, others, lines-begun, lines-ended, lines-last}
 use Rattle.session.proofs.RunLaws.{run-long}
 
 by-split : (done rest : List ℕ) (s : Session) → splitAtRun (linesOf rest) ≡ s
-    → printedBehind done rest ≡ printedFor (done ++ textOf rest s) (epochsOf s)
+    → printedBehind done rest ≡ printedFor (done ++ textPart rest s) (epochPart s)
 unfolding printedBehind
-by-split done rest s e = ap (λ (x : Session). printedFor (done ++ textOf rest x) (epochsOf x)) e
+by-split done rest s e = ap (λ (x : Session). printedFor (done ++ textPart rest x) (epochPart x)) e
 
 split-run : (line : List ℕ) (lines : List (List ℕ)) → is "run" line ≡ true → splitAtRun (line ∷ lines) ≡ withEpochs [] lines
 unfolding splitAtRun
@@ -33,7 +33,7 @@ split-other line lines e = rw e
 module _ (done line : List ℕ) (h : OneLine line) where
   -- the text ends before the line
   pub behind-run : (rest : List ℕ) → is "run" line ≡ true → printedBehind done (line ++ 10 ∷ rest) ≡ printedFor done (linesOf rest)
-  unfolding textOf epochsOf ended
+  unfolding textPart epochPart ended
   behind-run rest e =
       by-split done (line ++ 10 ∷ rest) (withEpochs [] (linesOf rest)) (ap splitAtRun (lines-ended line rest h) ∙ split-run line (linesOf rest) e)
       ∙ ap (λ (x : List ℕ). printedFor x (linesOf rest)) (append-nil done)
@@ -44,8 +44,8 @@ module _ (done line : List ℕ) (h : OneLine line) where
   regroup : (x : List ℕ) → done ++ (line ++ 10 ∷ x) ≡ (done ++ line ++ 10 ∷ []) ++ x
   regroup x = simp append-assoc
 
-  text-same : (rest : List ℕ) (s : Session) → printedFor (done ++ textOf (line ++ 10 ∷ rest) (toText line s)) (epochsOf (toText line s)) ≡ printedFor ((done ++ line ++ 10 ∷ []) ++ textOf rest s) (epochsOf s)
-  unfolding textOf epochsOf ended toText
+  text-same : (rest : List ℕ) (s : Session) → printedFor (done ++ textPart (line ++ 10 ∷ rest) (toText line s)) (epochPart (toText line s)) ≡ printedFor ((done ++ line ++ 10 ∷ []) ++ textPart rest s) (epochPart s)
+  unfolding textPart epochPart ended toText
   text-same rest textOnly = ap (λ (x : List ℕ). printedFor x []) (regroup rest)
   text-same rest (withEpochs t es) = ap (λ (x : List ℕ). printedFor x es) (regroup (ended t))
 
@@ -58,14 +58,14 @@ module _ (done line : List ℕ) (h : OneLine line) where
 
 -- the input ends in the line
 pub end-run : (done line : List ℕ) → OneLine line → is "run" line ≡ true → printedBehind done line ≡ printedFor done []
-unfolding textOf epochsOf ended
+unfolding textPart epochPart ended
 end-run done [] h e = let z : _≡_ {A = ℕ} 0 1 = cc (run-long [] (λ (p : 0 ≡ 3). omega arith)) in absurd (omega arith)
 end-run done (b ∷ bs) h e =
     by-split done (b ∷ bs) (withEpochs [] []) (ap splitAtRun (lines-last b bs h) ∙ split-run (b ∷ bs) [] e)
     ∙ ap (λ (x : List ℕ). printedFor x []) (append-nil done)
 
 pub end-text : (done line : List ℕ) → OneLine line → is "run" line ≡ false → printedBehind done line ≡ printedFor (done ++ line) []
-unfolding textOf epochsOf toText splitAtRun linesOf pieces
+unfolding textPart epochPart toText splitAtRun linesOf pieces
 end-text done [] h e = by-split done [] textOnly refl
 end-text done (b ∷ bs) h e =
     by-split done (b ∷ bs) textOnly (ap splitAtRun (lines-last b bs h) ∙ split-other (b ∷ bs) [] e)
@@ -77,8 +77,8 @@ unfolding printedFor answersTo readText
 text-long text epochs h = rw (lt-ltb 32768 (length text) h)
 
 covers : (line rest : List ℕ) → OneLine line → 4 ≤ length line
-    → length line ≤ length (textOf (line ++ rest) (splitAtRun (linesOf (line ++ rest))))
-unfolding textOf toText ended
+    → length line ≤ length (textPart (line ++ rest) (splitAtRun (linesOf (line ++ rest))))
+unfolding textPart toText ended
 covers [] rest h l = absurd (omega arith)
 covers (b ∷ bs) rest h l = go (splitAtRun (others (linesOf rest))) refl
   where
@@ -94,7 +94,7 @@ covers (b ∷ bs) rest h l = go (splitAtRun (others (linesOf rest))) refl
         ∙ split-other whole (others (linesOf rest)) (sym (run-long whole (λ (p : length whole ≡ 3). omega (arith, long)))) ∙ ap (toText whole) q
 
     go : (s : Session) → splitAtRun (others (linesOf rest)) ≡ s
-        → length (b ∷ bs) ≤ length (textOf ((b ∷ bs) ++ rest) (splitAtRun (linesOf ((b ∷ bs) ++ rest))))
+        → length (b ∷ bs) ≤ length (textPart ((b ∷ bs) ++ rest) (splitAtRun (linesOf ((b ∷ bs) ++ rest))))
     go textOnly q = rw (at textOnly q) (omega (arith, length-append (b ∷ bs) rest))
     go (withEpochs t es) q = rw (at (withEpochs t es) q) (omega (arith, long, length-append whole (10 ∷ ended t)))
 
@@ -102,22 +102,22 @@ covers (b ∷ bs) rest h l = go (splitAtRun (others (linesOf rest))) refl
 pub over-text : (done rest : List ℕ) → 32768 < length done → printedBehind done rest ≡ refusalLine Fault.TooLong 0
 over-text done rest l =
     let s : Session = splitAtRun (linesOf rest) in
-    by-split done rest s refl ∙ text-long (done ++ textOf rest s) (epochsOf s) (omega (arith, length-append done (textOf rest s)))
+    by-split done rest s refl ∙ text-long (done ++ textPart rest s) (epochPart s) (omega (arith, length-append done (textPart rest s)))
 
 -- all that is held is full, whatever follows: the line is none of three bytes, or stands behind too many
 pub full-text : (done line rest : List ℕ) → OneLine line → length done + length line ≡ 32773
     → printedBehind done (line ++ rest) ≡ refusalLine Fault.TooLong 0
-full-text done line rest h l = by-split done (line ++ rest) s refl ∙ text-long (done ++ textOf (line ++ rest) s) (epochsOf s) (go (ltb 32768 (length done)) refl)
+full-text done line rest h l = by-split done (line ++ rest) s refl ∙ text-long (done ++ textPart (line ++ rest) s) (epochPart s) (go (ltb 32768 (length done)) refl)
   where
     s : Session
     s = splitAtRun (linesOf (line ++ rest))
 
-    k : length (done ++ textOf (line ++ rest) s) ≡ length done + length (textOf (line ++ rest) s)
-    k = length-append done (textOf (line ++ rest) s)
+    k : length (done ++ textPart (line ++ rest) s) ≡ length done + length (textPart (line ++ rest) s)
+    k = length-append done (textPart (line ++ rest) s)
 
-    go : (b : Bool) → ltb 32768 (length done) ≡ b → 32768 < length (done ++ textOf (line ++ rest) s)
+    go : (b : Bool) → ltb 32768 (length done) ≡ b → 32768 < length (done ++ textPart (line ++ rest) s)
     go true e = omega (arith, k, ltb-true 32768 (length done) e)
     go false e =
         let n : length done ≤ 32768 = ltb-false 32768 (length done) e in
-        let m : length line ≤ length (textOf (line ++ rest) s) = covers line rest h (omega arith) in
+        let m : length line ≤ length (textPart (line ++ rest) s) = covers line rest h (omega arith) in
         omega (arith, k)

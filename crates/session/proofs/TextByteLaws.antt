@@ -9,7 +9,7 @@ use lib.Seq.{length-take-le, take-nil}
 use Rattle.policy.specs.declared.fault.Fault.{Fault}
 use Rattle.lexer.specs.Byte.{is}
 use Rattle.report.specs.Report.{refusalLine}
-use Rattle.session.specs.Owed.{printedBehind, current, Good, Seen, seeByte, TracksIn, Tracks, Took, startingAt, lineBehind, counted, Pushed, room, full, TextEnded}
+use Rattle.session.specs.Owed.{printedBehind, current, Good, Seen, seeByte, TracksIn, Tracks, Took, startingAt, lineBehind, oneMoreHeld, Pushed, room, full, TextEnded}
 use Rattle.session.specs.declared.state.Phase.{Phase}
 use Rattle.session.specs.declared.state.State.{State}
 use Rattle.session.proofs.HeldLaws.{owed-text, fitting-text, as-text, held-more, done-same, done-line, none-left, snoc}
@@ -90,26 +90,26 @@ module _ (s : State) (held image out : List ℕ) (g : Good s held image out) (t 
     first,
   )
 
-  text-counted : (b : ℕ) → s .count < 32773 → (b ≡ 10 → ⊥) → Took s held image out (b ∷ []) (counted s) (set held (s .count) b) image out
+  text-counted : (b : ℕ) → s .count < 32773 → (b ≡ 10 → ⊥) → Took s held image out (b ∷ []) (oneMoreHeld s) (set held (s .count) b) image out
   unfolding TracksIn
   text-counted b h' n =
       let k : s .count < length held = rw (g .heldLong) h' in
       let more = held-more held (s .start) (s .count) b (g .ordered) k in
       record {
         owes = λ rest.
-            owed-text (counted s) (set held (s .count) b) image out rest t
+            owed-text (oneMoreHeld s) (set held (s .count) b) image out rest t
             ∙ ap₂ (λ (d : List ℕ) (x : List ℕ). take (s .used) out ++ printedBehind d x) (done-same held (s .start) (s .count) b (g .ordered) k)
             (ap (λ (x : List ℕ). x ++ rest) more ∙ snoc (current s held) rest b)
             ∙ sym (owed-text s held image out (b ∷ rest) t);
         tracks = λ x h.
-            at-tracks Phase.Text (seeByte x b) (counted s) (set held (s .count) b) t (byte-tracks b h' n more x (tracks-at Phase.Text x s held t h));
+            at-tracks Phase.Text (seeByte x b) (oneMoreHeld s) (set held (s .count) b) t (byte-tracks b h' n more x (tracks-at Phase.Text x s held t h));
         good =
             record {
               heldLong = length-set held (s .count) b ∙ g .heldLong;
               imageLong = g .imageLong;
               outLong = g .outLong;
               ordered = omega (arith, g .ordered);
-              fitting = as-text (s .phase) (counted s) t (omega arith);
+              fitting = as-text (s .phase) (oneMoreHeld s) t (omega arith);
               oneLine = rw more (line-more (current s held) b (g .oneLine) n);
               sized = g .sized;
               used = g .used;

@@ -9,7 +9,7 @@ use borrow.Author.Tests.{leb-true, leb-false}
 use lib.Dec.{leb}
 use lib.ListN.{length, take, length-take}
 use lib.Seq.{take-all}
-use Rattle.report.specs.Buffer.{appended, behind}
+use Rattle.output.specs.Buffer.{appended, behind}
 use Rattle.session.specs.Listed.{listed}
 use Rattle.lexer.specs.Lines.{pieces, linesOf}
 use Rattle.session.specs.Printed.{epochLines, printed}

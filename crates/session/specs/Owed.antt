@@ -9,14 +9,14 @@ use lib.ListN.{length, take, drop, set}
 use Rattle.policy.specs.List.{any}
 use Rattle.lexer.specs.Byte.{is}
 use Rattle.lexer.specs.Lines.{linesOf}
-use Rattle.session.specs.Printed.{Session, splitAtRun, textOf, epochsOf, printedFor, printed, next, decisionLine, epochLines}
+use Rattle.session.specs.Printed.{Session, splitAtRun, textPart, epochPart, printedFor, printed, next, decisionLine, epochLines}
 use Rattle.monitor.specs.Decision.{decision}
 use Rattle.session.specs.declared.state.Phase.{Phase}
 use Rattle.session.specs.declared.state.State.{State}
 
 -- what is printed where the lines of `done` are text, and the rest of the input starts a line
 unfoldable pub printedBehind : List ℕ → List ℕ → List ℕ
-printedBehind done rest = let s : Session = splitAtRun (linesOf rest) in printedFor (done ++ textOf rest s) (epochsOf s)
+printedBehind done rest = let s : Session = splitAtRun (linesOf rest) in printedFor (done ++ textPart rest s) (epochPart s)
 
 -- the part of the current line that is held
 abbrev pub current : State → List ℕ → List ℕ
@@ -131,12 +131,12 @@ startingAt n s = record { phase = s .phase; start = n; count = n; epochs = s .ep
 abbrev pub lineBehind : State → State
 lineBehind s = startingAt (min (s .count) 32769) s
 
-abbrev pub counted : State → State
-counted s = record { phase = s .phase; start = s .start; count = s .count + 1; epochs = s .epochs; size = s .size; used = s .used }
+abbrev pub oneMoreHeld : State → State
+oneMoreHeld s = record { phase = s .phase; start = s .start; count = s .count + 1; epochs = s .epochs; size = s .size; used = s .used }
 
 -- a byte is held where there is room for it
 pub data Pushed (limit : ℕ) (s : State) (byte : ℕ) (held : List ℕ) (r : State) (held' : List ℕ) : Type 0 where
-  room : s .count < limit → r ≡ counted s → held' ≡ set held (s .count) byte → Pushed limit s byte held r held'
+  room : s .count < limit → r ≡ oneMoreHeld s → held' ≡ set held (s .count) byte → Pushed limit s byte held r held'
   full : limit ≤ s .count → r ≡ s → held' ≡ held → Pushed limit s byte held r held'
 
 -- the text is complete; nothing is held

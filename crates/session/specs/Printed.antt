@@ -31,13 +31,13 @@ unfoldable pub ended : List (List ℕ) → List ℕ
 ended [] = []
 ended (line ∷ lines) = line ++ 10 ∷ ended lines
 
-unfoldable pub textOf : List ℕ → Session → List ℕ
-textOf input textOnly = input
-textOf input (withEpochs text epochs) = ended text
+unfoldable pub textPart : List ℕ → Session → List ℕ
+textPart input textOnly = input
+textPart input (withEpochs text epochs) = ended text
 
-unfoldable pub epochsOf : Session → List (List ℕ)
-epochsOf textOnly = []
-epochsOf (withEpochs text epochs) = epochs
+unfoldable pub epochPart : Session → List (List ℕ)
+epochPart textOnly = []
+epochPart (withEpochs text epochs) = epochs
 
 -- ---- one line for each epoch
 
@@ -65,4 +65,4 @@ printedFor text epochs = answersTo (readText text) epochs
 
 -- the whole: all bytes of the input to all bytes of the output
 unfoldable pub printed : List ℕ → List ℕ
-printed input = let s : Session = splitAtRun (linesOf input) in printedFor (textOf input s) (epochsOf s)
+printed input = let s : Session = splitAtRun (linesOf input) in printedFor (textPart input s) (epochPart s)

@@ -2,7 +2,7 @@
 ghost use mathlib.Core.Path.{_≡_};
 ghost use Rattle.io.specs.Counts.{Counts};
 ghost use Rattle.word.specs.Word.{wordsOf};
-ghost use Rattle.report.specs.Buffer.{appended, behind};
+ghost use Rattle.output.specs.Buffer.{appended, behind};
 ghost use Rattle.session.specs.Listed.{wordLines, listed};
 use codegen::Compiled;
 

@@ -1,5 +1,5 @@
 use Rattle.io.proofs.Counting.{counts}
-use Rattle.report.proofs.AppendLaws.{put-within}
+use Rattle.output.proofs.AppendLaws.{put-within}
 use Prim.Native.Nat.{_≤_}
 use mathlib.Core.Path.{_≡_}
 use lib.ListN.{length}

@@ -38,9 +38,6 @@ loop-again c =
 put-byte-requires : tie.Need-put-byte-requires Inv-loop μ-loop
 put-byte-requires c κs = search needs
 
-at-most-requires : tie.Need-at-most-requires Inv-loop μ-loop
-at-most-requires c κs = search needs
-
 same-length : tie.Need-same-length Inv-loop μ-loop
 same-length c = c .before .before .put-byte .kept .0 ∙ c .before .before .before .before .before .before .loop .inv .left .long
 
@@ -52,12 +49,11 @@ returns c =
     (c .before .before .put-byte .ensures)
 
 same-length-2 : tie.Need-same-length-2 Inv-loop μ-loop
-same-length-2 c = c .before .before .before .loop .inv .left .long
+same-length-2 c = c .before .before .loop .inv .left .long
 
 returns-2 : tie.Need-returns-2 Inv-loop μ-loop
 unfolding actionList
-returns-2 c =
-    listing-some (c .before .before .before .loop .inv) (c .before .before .loop-test .left) (c .before .if2 .left) _ (c .at-most .ensures)
+returns-2 c = listing-some (c .before .before .loop .inv) (c .before .loop-test .left) (c .if2 .left)
 
 pub put-actions-spec : {M : Type 1} → statement M
 put-actions-spec =
@@ -71,7 +67,6 @@ put-actions-spec =
     loop-less
     loop-again
     put-byte-requires
-    at-most-requires
     same-length
     returns
     same-length-2

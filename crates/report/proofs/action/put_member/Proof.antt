@@ -1,4 +1,4 @@
-use Rattle.report.proofs.AppendLaws.{put-then}
+use Rattle.output.proofs.AppendLaws.{put-then}
 use borrow.Author.Needs.{needs}
 use Rattle.report.proofs.action.put_member.Statement.{statement}
 use Rattle.report.proofs.action.put_member.Tie as tie

@@ -1,5 +1,5 @@
 use Rattle.report.specs.Report.{actionName}
-use Rattle.report.proofs.AppendLaws.{put-then}
+use Rattle.output.proofs.AppendLaws.{put-then}
 use borrow.Author.Needs.{needs}
 use Rattle.report.proofs.action.put_name.Statement.{statement}
 use Rattle.report.proofs.action.put_name.Tie as tie

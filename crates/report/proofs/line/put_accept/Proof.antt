@@ -1,6 +1,6 @@
 use Rattle.lexer.specs.Byte.{bytes}
 use Rattle.report.specs.Report.{acceptLine}
-use Rattle.report.proofs.AppendLaws.{put-then}
+use Rattle.output.proofs.AppendLaws.{put-then}
 use borrow.Author.Needs.{needs}
 use Rattle.report.proofs.line.put_accept.Statement.{statement}
 use Rattle.report.proofs.line.put_accept.Tie as tie

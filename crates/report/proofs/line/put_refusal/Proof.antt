@@ -1,8 +1,8 @@
 use mathlib.Core.Path.{ap}
 use Rattle.lexer.specs.Byte.{bytes}
-use Rattle.printer.specs.Printed.{decimal}
+use Rattle.output.specs.Number.{decimal}
 use Rattle.report.specs.Report.{refusalLine}
-use Rattle.report.proofs.AppendLaws.{put-same, put-then}
+use Rattle.output.proofs.AppendLaws.{put-same, put-then}
 use borrow.Author.Needs.{needs}
 use Rattle.report.proofs.line.put_refusal.Statement.{statement}
 use Rattle.report.proofs.line.put_refusal.Tie as tie

@@ -1,78 +1,23 @@
-use mathlib.Core.List.{[], _∷_, _++_}
-use mathlib.Core.Path.{_∙_}
-use Prim.Native.Nat.{_≤_}
-use denote.Ref.{now}
-use Rattle.report.specs.Report.{wordLine, hexDigits}
-use Rattle.report.proofs.AppendLaws.{Left, left-start, left-end}
-use Rattle.report.proofs.HexLaws.{left-digit, left-digits}
+use Rattle.output.proofs.AppendLaws.{put-then}
+use Rattle.report.specs.Report.{wordLine}
 use borrow.Author.Needs.{needs}
-use native.Mathlib.Omega.{arith}
 use Rattle.report.proofs.line.put_word_line.Statement.{statement}
 use Rattle.report.proofs.line.put_word_line.Tie as tie
 
-abbrev Inv-loop : tie.InvT-loop
-Inv-loop out₀ at word end₀ digits₀ out end digits =
-    Left out₀ at (wordLine word) out end (hexDigits digits word ++ 10 ∷ []) × (digits ≤ 8)
+put-hex-word-requires : tie.Need-put-hex-word-requires
+put-hex-word-requires c κs = search needs
 
-abbrev μ-loop : tie.MeasureT-loop
-μ-loop out₀ at word end₀ digits₀ out end digits = digits
-
-loop-holds : tie.Need-loop-holds Inv-loop μ-loop
-unfolding wordLine
-loop-holds c = let a = c .before .args in (left-start (now (a .out)) (a .at) (wordLine (a .word)), omega arith)
-
-sub-digits : tie.Need-sub-digits Inv-loop μ-loop
-sub-digits c = search needs
-
-mul-hex-digit : tie.Need-mul-hex-digit Inv-loop μ-loop
-mul-hex-digit c = search needs
-
-shr-hex-digit : tie.Need-shr-hex-digit Inv-loop μ-loop
-shr-hex-digit c = search needs
-
-hex-digit-requires : tie.Need-hex-digit-requires Inv-loop μ-loop
-hex-digit-requires c κs = search needs
-
-put-byte-requires : tie.Need-put-byte-requires Inv-loop μ-loop
+put-byte-requires : tie.Need-put-byte-requires
 put-byte-requires c κs = search needs
 
-loop-less : tie.Need-loop-less Inv-loop μ-loop
-loop-less c = search needs
+same-length : tie.Need-same-length
+same-length c = search needs
 
-loop-again : tie.Need-loop-again Inv-loop μ-loop
-loop-again c =
-    let turn = c .before .before .before .before .before in
-    let l = turn .before .loop in (
-      left-digit _ (10 ∷ []) (l .digits) (turn .loop-test .taken) (l .inv .0) _ (c .before .before .before .hex-digit .ensures) _ _
-          (c .before .before .put-byte .ensures),
-      omega arith,
-    )
-
-put-byte-requires-2 : tie.Need-put-byte-requires-2 Inv-loop μ-loop
-put-byte-requires-2 c κs = search needs
-
-same-length : tie.Need-same-length Inv-loop μ-loop
-same-length c = c .before .before .put-byte2 .kept .0 ∙ c .before .before .before .before .before .loop .inv .0 .long
-
-returns : tie.Need-returns Inv-loop μ-loop
+returns : tie.Need-returns
+unfolding wordLine
 returns c =
-    let l = c .before .before .before .before .before .loop in
-    left-end _ _ (left-digits _ (10 ∷ []) (l .digits) (omega arith) (l .inv .0)) (c .before .before .put-byte2 .ensures)
+    let end = c .before .before in
+    put-then _ _ _ _ _ _ _ _ (end .before .before .before .before .put-hex-word .ensures) (end .put-byte .ensures)
 
 pub put-word-line-spec : {M : Type 1} → statement M
-put-word-line-spec =
-    tie.close
-    (tie.spec
-    Inv-loop
-    μ-loop
-    loop-holds
-    sub-digits
-    mul-hex-digit
-    shr-hex-digit
-    hex-digit-requires
-    put-byte-requires
-    loop-less
-    loop-again
-    put-byte-requires-2
-    same-length
-    returns)
+put-word-line-spec = tie.close (tie.spec put-hex-word-requires put-byte-requires same-length returns)

@@ -1,7 +1,7 @@
 use Prim.Native.Nat.{_-_, _/_, _≤_}
 use lib.ListN.{length, drop}
 use Rattle.word.specs.Word.{wordsOf}
-use Rattle.report.proofs.AppendLaws.{Left, left-start, put-within}
+use Rattle.output.proofs.AppendLaws.{Left, left-start, put-within}
 use Rattle.session.proofs.ListingLaws.{listed-word, listed-all}
 use Rattle.session.specs.Listed.{wordLines}
 use borrow.Author.Needs.{needs}

@@ -1,7 +1,7 @@
 use mathlib.Core.Path.{refl, sym}
 use lib.Seq.{length-take-le}
 use Rattle.io.proofs.Counting.{counts}
-use Rattle.report.proofs.AppendLaws.{put-same, put-within}
+use Rattle.output.proofs.AppendLaws.{put-same, put-within}
 use Rattle.session.proofs.ListingLaws.{lists-refusal, lists-image, image-within}
 use native.Mathlib.Omega.{arith}
 use borrow.Author.Needs.{needs}

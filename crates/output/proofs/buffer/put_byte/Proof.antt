@@ -1,8 +1,8 @@
 use denote.Ref.{now}
-use Rattle.report.proofs.AppendLaws.{put-one, put-out}
+use Rattle.output.proofs.AppendLaws.{put-one, put-out}
 use borrow.Author.Needs.{needs}
-use Rattle.report.proofs.buffer.put_byte.Statement.{statement}
-use Rattle.report.proofs.buffer.put_byte.Tie as tie
+use Rattle.output.proofs.buffer.put_byte.Statement.{statement}
+use Rattle.output.proofs.buffer.put_byte.Tie as tie
 
 slice-write-out : tie.Need-slice-write-out
 slice-write-out c = search needs

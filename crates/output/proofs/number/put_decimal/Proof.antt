@@ -2,11 +2,11 @@ use Prim.Native.Nat.{_-_}
 use mathlib.Core.Path.{_≡_, _∙_}
 use lib.ListN.{length, drop, length-drop}
 use lib.Seq.{take-all}
-use Rattle.report.proofs.AppendLaws.{put-same}
+use Rattle.output.proofs.AppendLaws.{put-same}
 use native.Mathlib.Omega.{arith}
 use borrow.Author.Needs.{needs}
-use Rattle.report.proofs.number.put_decimal.Statement.{statement}
-use Rattle.report.proofs.number.put_decimal.Tie as tie
+use Rattle.output.proofs.number.put_decimal.Statement.{statement}
+use Rattle.output.proofs.number.put_decimal.Tie as tie
 
 slice-aggregate-fill-digits : tie.Need-slice-aggregate-fill-digits
 slice-aggregate-fill-digits c = search needs

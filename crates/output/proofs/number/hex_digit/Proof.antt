@@ -1,8 +1,8 @@
 use borrow.Author.Tests.{lt-ltb, le-ltb}
-use Rattle.report.specs.Report.{hexDigit}
+use Rattle.output.specs.Number.{hexDigit}
 use borrow.Author.Needs.{needs}
-use Rattle.report.proofs.line.hex_digit.Statement.{statement}
-use Rattle.report.proofs.line.hex_digit.Tie as tie
+use Rattle.output.proofs.number.hex_digit.Statement.{statement}
+use Rattle.output.proofs.number.hex_digit.Tie as tie
 
 cast-result : tie.Need-cast-result
 cast-result c = search needs

@@ -1,10 +1,10 @@
 use Prim.Native.Nat.{_-_}
 use lib.ListN.{length, drop, drop-of-length-le}
 use denote.Ref.{now}
-use Rattle.report.proofs.AppendLaws.{Left, left-start, left-byte, left-none}
+use Rattle.output.proofs.AppendLaws.{Left, left-start, left-byte, left-none}
 use borrow.Author.Needs.{needs}
-use Rattle.report.proofs.buffer.put_bytes.Statement.{statement}
-use Rattle.report.proofs.buffer.put_bytes.Tie as tie
+use Rattle.output.proofs.buffer.put_bytes.Statement.{statement}
+use Rattle.output.proofs.buffer.put_bytes.Tie as tie
 
 abbrev Inv-loop : tie.InvT-loop
 Inv-loop out₀ at bytes end₀ i₀ out end i = Left out₀ at bytes out end (drop i bytes)

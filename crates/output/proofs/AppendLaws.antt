@@ -9,7 +9,7 @@ use borrow.Author.Tests.{leb-true, leb-false}
 use lib.Dec.{leb}
 use lib.ListN.{length, set, getD, drop, length-set, length-append}
 use lib.Seq.{set-out, drop-cons}
-use Rattle.report.specs.Buffer.{appended, behind}
+use Rattle.output.specs.Buffer.{appended, behind}
 
 pub append-length : (buffer : List ℕ) (at : ℕ) (bytes : List ℕ) → length (appended buffer at bytes) ≡ length buffer
 unfolding appended

@@ -1,51 +1,14 @@
--- Laws of decimal digits: those of a number are those of its tenth and one more; and the loop that fills a text with them
--- from its end.
+-- The loop that fills a text of twenty bytes with the decimal digits of a number, from its end.
 use Prim.Native.Nat.{ℕ, zero, suc, _-_, _/_, _%_, _^_, _≤_, _<_}
-use mathlib.Core.Bool.{Bool, true, false}
 use mathlib.Core.List.{List, [], _∷_, _++_, append-assoc}
-use mathlib.Core.Path.{_≡_, refl, sym, ap, ap₂, _∙_}
+use mathlib.Core.Path.{_≡_, sym, ap, ap₂, _∙_}
 use native.Mathlib.Omega.{arith}
-use borrow.Author.Tests.{lt-ltb, le-ltb, ltb-true, ltb-false}
-use lib.Dec.{ltb}
 use lib.ListN.{length, set, drop, length-set, drop-of-length-le}
 use lib.Seq.{drop-cons, getD-set-same, drop-set-lt}
-use Rattle.printer.specs.Printed.{digit, digits, decimal}
+use Rattle.output.specs.Number.{digit, decimal}
+use Rattle.output.proofs.DecimalLaws.{decimal-one, decimal-more}
 
-digits-one : (k n : ℕ) → n < 10 → digits k (ltb n 10) n ≡ digit n ∷ []
-unfolding digits
-digits-one zero n h = refl
-digits-one (suc k) n h = rw (lt-ltb n 10 h)
-
-digits-more : (k n : ℕ) → 10 ≤ n → digits (suc k) (ltb n 10) n ≡ digits k (ltb (n / 10) 10) (n / 10) ++ digit (n % 10) ∷ []
-unfolding digits
-digits-more k n h = rw (le-ltb n 10 h)
-
--- enough is enough
-digits-enough : (k j n : ℕ) → n ≤ k → n ≤ j → digits k (ltb n 10) n ≡ digits j (ltb n 10) n
-digits-enough zero j n h l = digits-one zero n (omega arith) ∙ sym (digits-one j n (omega arith))
-digits-enough (suc k) zero n h l = digits-one (suc k) n (omega arith) ∙ sym (digits-one zero n (omega arith))
-digits-enough (suc k) (suc j) n h l = go (ltb n 10) refl (digits-enough k j (n / 10))
-  where
-    go : (b : Bool) → ltb n 10 ≡ b → (n / 10 ≤ k → n / 10 ≤ j → digits k (ltb (n / 10) 10) (n / 10) ≡ digits j (ltb (n / 10) 10) (n / 10))
-        → digits (suc k) (ltb n 10) n ≡ digits (suc j) (ltb n 10) n
-    go true e f = digits-one (suc k) n (ltb-true n 10 e) ∙ sym (digits-one (suc j) n (ltb-true n 10 e))
-    go false e f =
-        let m : 10 ≤ n = ltb-false n 10 e in
-        digits-more k n m ∙ ap (λ (ds : List ℕ). ds ++ digit (n % 10) ∷ []) (f (omega arith) (omega arith)) ∙ sym (digits-more j n m)
-
-pub decimal-one : (n : ℕ) → n < 10 → decimal n ≡ digit n ∷ []
-unfolding decimal
-decimal-one n h = digits-one n n h
-
-pub decimal-more : (n : ℕ) → 10 ≤ n → decimal n ≡ decimal (n / 10) ++ digit (n % 10) ∷ []
-unfolding decimal
-decimal-more zero h = absurd (omega arith)
-decimal-more (suc m) h =
-    digits-more m (suc m) h
-    ∙ ap (λ (ds : List ℕ). ds ++ digit (suc m % 10) ∷ []) (digits-enough m (suc m / 10) (suc m / 10) (omega arith) (omega arith))
-
--- ---- a text of twenty bytes, filled from its end: the digits behind index i are there, those of `rest` are not
-
+-- the digits behind index i are there, those of `rest` are not
 pub record Filled (n : ℕ) (text : List ℕ) (i rest : ℕ) : Type 0 where
   pub long : length text ≡ 20
   pub inside : i < 20

@@ -2,7 +2,7 @@
 ghost use mathlib.Core.Path.{_≡_};
 ghost use mathlib.Core.List.{[], _∷_};
 ghost use Prim.Native.Nat.{min};
-ghost use Rattle.report.specs.Buffer.{appended, behind};
+ghost use Rattle.output.specs.Buffer.{appended, behind};
 
 pub fn put_byte(out: &mut [u8], at: usize, byte: u8) -> usize
     ensures { λ r. ⌜ (r ≡ behind (now (out .entry)) at (byte ∷ [])) × (now (out .exit) ≡ appended (now (out .entry)) at (byte ∷ [])) ⌝ }

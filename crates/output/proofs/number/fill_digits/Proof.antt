@@ -1,11 +1,11 @@
 use mathlib.Core.Path.{sym, _∙_}
 use lib.ListN.{length-set}
 use denote.Ref.{now}
-use Rattle.report.proofs.DecimalLaws.{Filled, filled-start, filled-more, filled-turn, filled-end}
+use Rattle.output.proofs.FillLaws.{Filled, filled-start, filled-more, filled-turn, filled-end}
 use borrow.Author.Needs.{needs}
 use native.Mathlib.Omega.{arith}
-use Rattle.report.proofs.number.fill_digits.Statement.{statement}
-use Rattle.report.proofs.number.fill_digits.Tie as tie
+use Rattle.output.proofs.number.fill_digits.Statement.{statement}
+use Rattle.output.proofs.number.fill_digits.Tie as tie
 
 abbrev Inv-loop : tie.InvT-loop
 Inv-loop text₀ n i₀ rest₀ text i rest = Filled n text i rest

@@ -1,0 +1,5 @@
+pub mod AppendLaws
+pub mod DecimalLaws
+pub mod Examples
+pub mod FillLaws
+pub mod HexLaws
