@@ -61,8 +61,8 @@ decisions-agree text image c lines =
 
 -- ---- the second half
 
--- with any other value in the place of any one word, the decision on every line is refused under one of 7 to 10, at the place
--- 0 and with empty sets
+-- with any other value in the place of any one word, the decision on every line is refused under one of 7 to 10, at the
+-- location 0 and with empty sets
 pub change-refused : (text image : List ℕ) → CompilesTo text image → (i v : ℕ) → i < length (wordsOf image) → v < wordLimit → ¬ (v ≡ wordAt image i)
     → (line : List ℕ) → CheckFailed (decision (changed image i v) line)
 change-refused text image c =

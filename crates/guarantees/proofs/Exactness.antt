@@ -1,4 +1,4 @@
--- "The loader takes exactly the images that some accepted text compiles to", and ground 11.
+-- "The loader takes exactly the images that some accepted text compiles to", and fault 11.
 use Prim.Native.Nat.{ℕ}
 use mathlib.Core.Bool.{true}
 use mathlib.Core.List.{List, [], _∷_}
@@ -68,29 +68,29 @@ taken-exactly bytes bounded = (there, back)
         let t = image-of-text (x .text) bytes (x .compiles) in
         (partsOf newestForm (t .policy), ap load (t .same) ∙ image-taken newestForm newest-known (t .policy) (t .acceptable))
 
--- ground 11 is given exactly if the checks 7 to 10 pass and no accepted text compiles to the bytes
-pub body-exactly : (bytes : List ℕ) → Bytes bytes → ((place : ℕ) × (load bytes ≡ Loaded.Refused Fault.ImageBody place)) ↔ (Checked bytes × ¬ SomeText bytes)
+-- fault 11 is given exactly if the checks 7 to 10 pass and no accepted text compiles to the bytes
+pub body-exactly : (bytes : List ℕ) → Bytes bytes → ((location : ℕ) × (load bytes ≡ Loaded.Refused Fault.ImageBody location)) ↔ (Checked bytes × ¬ SomeText bytes)
 unfolding bodyAnswer load loadWords
 body-exactly bytes bounded = (there, back)
   where
-    image-not : (place : ℕ) (parts : Parts) → load bytes ≡ Loaded.Refused Fault.ImageBody place → load bytes ≡ Loaded.Image parts → ⊥
-    image-not place parts p q = let e : Loaded.Image parts ≡ Loaded.Refused Fault.ImageBody place = sym q ∙ p in let z : _≡_ {A = ℕ} 0 1 = cc in omega arith
+    image-not : (location : ℕ) (parts : Parts) → load bytes ≡ Loaded.Refused Fault.ImageBody location → load bytes ≡ Loaded.Image parts → ⊥
+    image-not location parts p q = let e : Loaded.Image parts ≡ Loaded.Refused Fault.ImageBody location = sym q ∙ p in let z : _≡_ {A = ℕ} 0 1 = cc in omega arith
 
-    checked : (place : ℕ) → load bytes ≡ Loaded.Refused Fault.ImageBody place → Answered bytes → Checked bytes
-    checked place e (late c q) = c
-    checked place e (early r) =
-        let a : Loaded.Refused Fault.ImageBody place ≡ Loaded.Refused (r .ground) 0 = sym e ∙ r .refused in
+    checked : (location : ℕ) → load bytes ≡ Loaded.Refused Fault.ImageBody location → Answered bytes → Checked bytes
+    checked location e (late c q) = c
+    checked location e (early r) =
+        let a : Loaded.Refused Fault.ImageBody location ≡ Loaded.Refused (r .ground) 0 = sym e ∙ r .refused in
         let b : Fault.ImageBody ≡ r .ground = cc in
         absurd (omega (arith, ap faultNumber b, r .upto))
 
     body : (rs cs : Lines) → load bytes ≡ bodyAnswer (formByte (wordsOf bytes)) (ruleCount (wordsOf bytes)) (constraintCount (wordsOf bytes)) rs cs → ¬ SomeText bytes
-        → (place : ℕ) × (load bytes ≡ Loaded.Refused Fault.ImageBody place)
+        → (location : ℕ) × (load bytes ≡ Loaded.Refused Fault.ImageBody location)
     body (whole rs) (whole cs) e n = absurd (n (taken-exactly bytes bounded .0 (_, e)))
     body (whole rs) (fault at) e n = (at, e)
     body (fault at) cs e n = (at, e)
 
-    there : (place : ℕ) × (load bytes ≡ Loaded.Refused Fault.ImageBody place) → Checked bytes × ¬ SomeText bytes
+    there : (location : ℕ) × (load bytes ≡ Loaded.Refused Fault.ImageBody location) → Checked bytes × ¬ SomeText bytes
     there x = (checked (x .0) (x .1) (answered bytes), λ s. let t = taken-exactly bytes bounded .1 s in image-not (x .0) (t .0) (x .1) (t .1))
 
-    back : Checked bytes × ¬ SomeText bytes → (place : ℕ) × (load bytes ≡ Loaded.Refused Fault.ImageBody place)
+    back : Checked bytes × ¬ SomeText bytes → (location : ℕ) × (load bytes ≡ Loaded.Refused Fault.ImageBody location)
     back x = body (ruleLines (wordsOf bytes)) (constraintLines (wordsOf bytes)) (rw (x .0 .size, x .0 .form, x .0 .count, x .0 .check)) (x .1)

@@ -37,7 +37,7 @@ unfolding printedFor answersTo machineLines
 text-lines text epochs = go (readText text) refl
   where
     go : (p : Progress) → readText text ≡ p → answersTo p epochs ≡ machineLines p epochs
-    go (stopped fault place) e = refl
+    go (stopped fault location) e = refl
     go (reading n policy) e = epoch-lines policy (accepted-acceptable text n policy e) 0 epochs
 
 -- for every input, refused texts and refused lines included

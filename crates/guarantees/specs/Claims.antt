@@ -18,7 +18,7 @@ pub record CompilesTo (text image : List ℕ) : Type 0 where
 
 -- a decision in document 01's terms
 abbrev pub answerOf : Decision → Answer
-answerOf d = record { isRefused = isRefused d; number = faultNumberOf d; place = locationOf d; accepts = acceptedOf d; cancels = cancelledOf d }
+answerOf d = record { isRefused = isRefused d; number = faultNumberOf d; location = locationOf d; accepts = acceptedOf d; cancels = cancelledOf d }
 
 -- the decisions on an image, line after line
 unfoldable pub decisions : List ℕ → List (List ℕ) → List Decision

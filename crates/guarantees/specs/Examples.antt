@@ -21,10 +21,10 @@ abbrev setOf : List ℕ → ActionSet
 setOf ns = foldl insertAction noActions (map (λ (n : ℕ). record { 0 = n }) ns)
 
 abbrev decided : List ℕ → List ℕ → Answer
-decided accepts cancels = record { isRefused = false; number = 0; place = 0; accepts = setOf accepts; cancels = setOf cancels }
+decided accepts cancels = record { isRefused = false; number = 0; location = 0; accepts = setOf accepts; cancels = setOf cancels }
 
 abbrev refusal : ℕ → Answer
-refusal n = record { isRefused = true; number = n; place = 0; accepts = noActions; cancels = noActions }
+refusal n = record { isRefused = true; number = n; location = 0; accepts = noActions; cancels = noActions }
 
 abbrev worked : String
 worked = "E1 & !E2 causes A3 if R0 > 40\nE3 causes A4\nnever A3 & A4\n"

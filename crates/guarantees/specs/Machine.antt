@@ -12,17 +12,17 @@ use Rattle.policy.specs.declared.set.ActionSet.{ActionSet}
 use Rattle.syntax.specs.Epoch.{EpochAnswer, refused, accepted, readEpoch}
 use Rattle.syntax.specs.Text.{policyOf}
 
--- whether the line is refused, if it is under which number and at which place, and both sets
+-- whether the line is refused, if it is under which number and at which location (document 01: place), and both sets
 pub record Answer : Type 0 where
   pub isRefused : Bool
   pub number : ℕ
-  pub place : ℕ
+  pub location : ℕ
   pub accepts : ActionSet
   pub cancels : ActionSet
 
 unfoldable pub answer : Policy → EpochAnswer → Answer
-answer p (refused f) = record { isRefused = true; number = faultNumber f; place = 0; accepts = noActions; cancels = noActions }
-answer p (accepted e) = record { isRefused = false; number = 0; place = 0; accepts = Yield.accepted p e; cancels = Yield.cancelled p e }
+answer p (refused f) = record { isRefused = true; number = faultNumber f; location = 0; accepts = noActions; cancels = noActions }
+answer p (accepted e) = record { isRefused = false; number = 0; location = 0; accepts = Yield.accepted p e; cancels = Yield.cancelled p e }
 
 -- "Its step for an epoch line"
 unfoldable pub step : Policy → List ℕ → Answer

@@ -20,7 +20,7 @@ answerLines n [] = []
 answerLines n (a ∷ as′) = answerLine (next n) a ++ answerLines (next n) as′
 
 unfoldable pub machineLines : Progress → List (List ℕ) → List ℕ
-machineLines (stopped fault place) epochs = refusalLine fault place
+machineLines (stopped fault location) epochs = refusalLine fault location
 machineLines (reading n policy) epochs = answerLines 0 (run policy epochs)
 
 -- all bytes of the input to all bytes of the output

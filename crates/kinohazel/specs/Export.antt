@@ -1,4 +1,5 @@
--- The answers of the functions for C, as numbers: the ground's number and place of document 01, 0 where nothing is refused.
+-- The answers of the functions for C, as numbers: the fault's number and location (document 01: ground and place), 0 where
+-- nothing is refused.
 use Rattle.policy.specs.Fault.{faultNumber}
 use Rattle.codegen.specs.declared.Compiled.{Compiled}
 use Rattle.image.specs.declared.load.Loaded.{Loaded}

@@ -39,16 +39,16 @@ module _ (text buffer : List ℕ) (room : length buffer ≡ 13064) where
   unfolding compiled outputOf
   delivered n p r = rw (r, room, le-leb (length (imageOf newestForm p)) 13064 (image-small text n p r))
 
-  pub compiled-stopped : (f : Fault) (place : ℕ) → compiled text buffer .answer ≡ Compiled.Refused f place → readText text ≡ stopped f place
+  pub compiled-stopped : (f : Fault) (location : ℕ) → compiled text buffer .answer ≡ Compiled.Refused f location → readText text ≡ stopped f location
   unfolding compiled outputOf
-  compiled-stopped f place e = go (readText text) refl
+  compiled-stopped f location e = go (readText text) refl
     where
-      go : (s : Progress) → readText text ≡ s → s ≡ stopped f place
+      go : (s : Progress) → readText text ≡ s → s ≡ stopped f location
       go (stopped g line) r =
-          let q : Compiled.Refused g line ≡ Compiled.Refused f place = sym (rw r) ∙ e in
+          let q : Compiled.Refused g line ≡ Compiled.Refused f location = sym (rw r) ∙ e in
           cc
       go (reading n p) r =
-          let q : Compiled.Image (length (imageOf newestForm p)) ≡ Compiled.Refused f place = sym (ap (λ (o : Output). o .answer) (delivered n p r)) ∙ e in
+          let q : Compiled.Image (length (imageOf newestForm p)) ≡ Compiled.Refused f location = sym (ap (λ (o : Output). o .answer) (delivered n p r)) ∙ e in
           let z : _≡_ {A = ℕ} 0 1 = cc in
           absurd (omega arith)
 

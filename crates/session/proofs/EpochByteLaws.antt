@@ -8,7 +8,9 @@ use lib.ListN.{length, take, set, length-take, length-drop, length-set}
 use Rattle.lexer.specs.Lines.{linesOf}
 use Rattle.monitor.specs.Decision.{decision}
 use Rattle.session.specs.Printed.{next, decisionLine, epochLines}
-use Rattle.session.specs.Owed.{current, Good, Seen, seeByte, TracksIn, Took, oneMoreHeld, Pushed, room, full, decidedBy, LineEnded}
+use Rattle.session.specs.Owed.{current, Good, Seen, seeByte, TracksIn, Took}
+use Rattle.session.specs.Steps.Held.{oneMoreHeld, Pushed, room, full}
+use Rattle.session.specs.Steps.Ended.{decidedBy, LineEnded}
 use Rattle.session.specs.declared.state.Phase.{Phase}
 use Rattle.session.specs.declared.state.State.{State}
 use Rattle.session.proofs.EpochLaws.{epoch-ends, full-line}

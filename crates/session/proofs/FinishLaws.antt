@@ -10,7 +10,8 @@ use Rattle.lexer.specs.Byte.{is}
 use Rattle.lexer.specs.Lines.{pieces, linesOf}
 use Rattle.monitor.specs.Decision.{decision}
 use Rattle.session.specs.Printed.{next, decisionLine, epochLines, printedFor}
-use Rattle.session.specs.Owed.{printedBehind, current, owed, Good, Finished, TextEnded, LineEnded}
+use Rattle.session.specs.Owed.{printedBehind, current, owed, Good, Finished}
+use Rattle.session.specs.Steps.Ended.{TextEnded, LineEnded}
 use Rattle.session.specs.declared.state.Phase.{Phase}
 use Rattle.session.specs.declared.state.State.{State}
 use Rattle.session.proofs.EpochByteLaws.{line-length}

@@ -8,7 +8,8 @@ use lib.ListN.{length, take, drop, set, length-take, take-append-drop, drop-of-l
 use lib.Seq.{take-suc-set, take-set-le, drop-append-le, length-take-le, take-take}
 use Rattle.lexer.specs.Lines.{linesOf}
 use Rattle.session.specs.Printed.{epochLines}
-use Rattle.session.specs.Owed.{printedBehind, current, leftIn, owed, Fitting, Good, seeByte, TracksIn, Took, Pushed}
+use Rattle.session.specs.Owed.{printedBehind, current, leftIn, owed, Fitting, Good, seeByte, TracksIn, Took}
+use Rattle.session.specs.Steps.Held.{Pushed}
 use Rattle.session.specs.declared.state.Phase.{Phase}
 use Rattle.session.specs.declared.state.State.{State}
 use Rattle.session.proofs.SeenLaws.{ran-stays, tracks-at, at-tracks}

@@ -111,9 +111,9 @@ fault-small Fault.EpochRange = omega arith
 fault-small Fault.DuplicateReading = omega arith
 fault-small Fault.BufferTooSmall = omega arith
 
-pub refusal-short : (f : Fault) (place : ℕ) → place < 18446744073709551616 → length (refusalLine f place) ≤ 512
+pub refusal-short : (f : Fault) (location : ℕ) → location < 18446744073709551616 → length (refusalLine f location) ≤ 512
 unfolding refusalLine bytes
-refusal-short f place h = simp length-append (omega (arith, decimal-short (faultNumber f) (fault-small f), decimal-short place h))
+refusal-short f location h = simp length-append (omega (arith, decimal-short (faultNumber f) (fault-small f), decimal-short location h))
 
 line-short : (n : ℕ) (d : Decision) → n < 18446744073709551616 → Apart (acceptedOf d .0) (cancelledOf d .0) → length (decisionLine n d) ≤ 512
 unfolding decisionLine acceptLine refusedLine actionList bytes

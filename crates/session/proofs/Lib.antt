@@ -12,7 +12,7 @@ pub mod TextByteLaws
 pub mod EpochByteLaws
 pub mod TookLaws
 pub mod FinishLaws
-pub mod PlaceLaws
+pub mod LocationLaws
 pub mod ListingLaws
 pub mod Whole
 pub mod Examples

@@ -20,7 +20,7 @@ use Rattle.report.specs.Report.{wordLine, refusalLine}
 use Rattle.output.proofs.AppendLaws.{Put, Left, left-turn, left-none}
 use Rattle.session.specs.Listed.{wordLines, listingOf, listed}
 use Rattle.session.proofs.CompileLaws.{Read, image-small, compiled-stopped, compiled-read}
-use Rattle.session.proofs.PlaceLaws.{place-small}
+use Rattle.session.proofs.LocationLaws.{location-small}
 use Rattle.session.proofs.LengthLaws.{refusal-short}
 
 -- ---- the loop over the words of an image
@@ -58,9 +58,9 @@ lines-length (w ∷ ws) = simp (length-append, hex-length 8 w, lines-length ws) 
 
 module _ (text image : List ℕ) (answer : Compiled) (image' : List ℕ) (made : answer ≡ compiled text image .answer)
     (wrote : image' ≡ compiled text image .buffer) (long : length image ≡ 13064) where
-  pub lists-refusal : (f : Fault) (place : ℕ) → answer ≡ Compiled.Refused f place → refusalLine f place ≡ listed text
+  pub lists-refusal : (f : Fault) (location : ℕ) → answer ≡ Compiled.Refused f location → refusalLine f location ≡ listed text
   unfolding listed listingOf
-  lists-refusal f place e = sym (ap listingOf (compiled-stopped text image long f place (sym made ∙ e)))
+  lists-refusal f location e = sym (ap listingOf (compiled-stopped text image long f location (sym made ∙ e)))
 
   pub lists-image : (size : ℕ) → answer ≡ Compiled.Image size → wordLines (wordsOf (take size image')) ≡ listed text
   unfolding listed listingOf
@@ -85,5 +85,5 @@ unfolding listed listingOf
 listed-short text = go (readText text) refl
   where
     go : (p : Progress) → readText text ≡ p → length (listingOf p) ≤ 29394
-    go (stopped f place) e = omega (arith, refusal-short f place (omega (arith, place-small text f place e)))
+    go (stopped f location) e = omega (arith, refusal-short f location (omega (arith, location-small text f location e)))
     go (reading n p) e = image-lines (imageOf newestForm p) (image-small text n p e)

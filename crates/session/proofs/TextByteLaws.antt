@@ -9,7 +9,9 @@ use lib.Seq.{length-take-le, take-nil}
 use Rattle.policy.specs.declared.fault.Fault.{Fault}
 use Rattle.lexer.specs.Byte.{is}
 use Rattle.report.specs.Report.{refusalLine}
-use Rattle.session.specs.Owed.{printedBehind, current, Good, Seen, seeByte, TracksIn, Tracks, Took, startingAt, lineBehind, oneMoreHeld, Pushed, room, full, TextEnded}
+use Rattle.session.specs.Owed.{printedBehind, current, Good, Seen, seeByte, TracksIn, Tracks, Took}
+use Rattle.session.specs.Steps.Held.{startingAt, lineBehind, oneMoreHeld, Pushed, room, full}
+use Rattle.session.specs.Steps.Ended.{TextEnded}
 use Rattle.session.specs.declared.state.Phase.{Phase}
 use Rattle.session.specs.declared.state.State.{State}
 use Rattle.session.proofs.HeldLaws.{owed-text, fitting-text, as-text, held-more, done-same, done-line, none-left, snoc}

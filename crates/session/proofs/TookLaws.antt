@@ -7,7 +7,7 @@ use native.Mathlib.Omega.{arith}
 use lib.ListN.{length, getD, take}
 use lib.Seq.{take-suc}
 use Rattle.session.specs.Printed.{printed}
-use Rattle.session.specs.Owed.{printedBehind, leftIn, owed, Fitting, Good, seeByte, see, nothingSeen, TracksIn, Took, Represents, startState, emptied}
+use Rattle.session.specs.Owed.{printedBehind, leftIn, owed, Fitting, Good, seeByte, see, nothingSeen, TracksIn, Tracks, Took, startState, emptied}
 use Rattle.session.specs.declared.state.Phase.{Phase}
 use Rattle.session.specs.declared.state.State.{State}
 use Rattle.session.proofs.LineLaws.{empty-line}
@@ -38,6 +38,12 @@ has-moved zero used before f h k = let e : used ≡ before = f refl in absurd (o
 has-moved (suc i) used before f h k = omega arith
 
 -- ---- from the start to the end of the input
+
+-- what of the input was consumed and what of the output was handed out, with what a session holds
+pub record Represents (consumed handed : List ℕ) (s : State) (held image out : List ℕ) : Type 0 where
+  pub whole : (rest : List ℕ) → printed (consumed ++ rest) ≡ handed ++ owed s held image out rest
+  pub tracks : Tracks (see nothingSeen consumed) s held
+  pub good : Good s held image out
 
 fitting-same : (p : Phase) (s : State) → Fitting p s → Fitting p (emptied s)
 unfolding Fitting

@@ -13,12 +13,12 @@ use Rattle.output.specs.Buffer.{appended, behind}
 use Rattle.session.specs.Listed.{listed}
 use Rattle.lexer.specs.Lines.{pieces, linesOf}
 use Rattle.session.specs.Printed.{epochLines, printed}
-use Rattle.session.specs.Owed.{leftIn, owed, Good, Seen, see, nothingSeen, TracksIn, Fed, Finished, Represents, Called, begun, fed, handedOut, Reached, startState, emptied}
+use Rattle.session.specs.Owed.{leftIn, owed, Good, Seen, see, nothingSeen, TracksIn, Fed, Finished, Called, begun, fed, handedOut, Reached, startState, emptied}
 use Rattle.session.specs.declared.state.Phase.{Phase}
 use Rattle.session.specs.declared.state.State.{State}
 use Rattle.session.proofs.BufferLaws.{put-take}
 use Rattle.session.proofs.ListingLaws.{listed-short, listed-long}
-use Rattle.session.proofs.TookLaws.{represents-start, represents-took, represents-emptied, represents-all}
+use Rattle.session.proofs.TookLaws.{Represents, represents-start, represents-took, represents-emptied, represents-all}
 
 -- ---- the engine
 

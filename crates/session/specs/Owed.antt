@@ -1,16 +1,15 @@
--- What the functions of this crate keep to: with the bytes that wait in `out`, a state owes what is printed for the input
+-- What the calls of a session keep to: with the bytes that wait in `out`, a state owes what is printed for the input
 -- that is left.
-use Prim.Native.Nat.{ℕ, _+_, _-_, min, _≤_, _<_}
+use Prim.Native.Nat.{ℕ, _-_, _≤_, _<_}
 use mathlib.Core.Bool.{Bool, true, false, _||_, cond}
 use mathlib.Core.List.{List, [], _∷_, _++_, foldl}
 use mathlib.Core.Path.{_≡_}
 use lib.Dec.{eqb}
-use lib.ListN.{length, take, drop, set}
+use lib.ListN.{length, take, drop}
 use Rattle.policy.specs.List.{any}
 use Rattle.lexer.specs.Byte.{is}
 use Rattle.lexer.specs.Lines.{linesOf}
-use Rattle.session.specs.Printed.{Session, splitAtRun, textPart, epochPart, printedFor, printed, next, decisionLine, epochLines}
-use Rattle.monitor.specs.Decision.{decision}
+use Rattle.session.specs.Printed.{Session, splitAtRun, textPart, epochPart, printedFor, epochLines}
 use Rattle.session.specs.declared.state.Phase.{Phase}
 use Rattle.session.specs.declared.state.State.{State}
 
@@ -80,12 +79,6 @@ pub record Took (s : State) (held image out bytes : List ℕ) (r : State) (held'
   pub tracks : (x : Seen) → Tracks x s held → Tracks (see x bytes) r held'
   pub good : Good r held' image' out'
 
--- what of the input was consumed and what of the output was handed out, with what a session holds
-pub record Represents (consumed handed : List ℕ) (s : State) (held image out : List ℕ) : Type 0 where
-  pub whole : (rest : List ℕ) → printed (consumed ++ rest) ≡ handed ++ owed s held image out rest
-  pub tracks : Tracks (see nothingSeen consumed) s held
-  pub good : Good s held image out
-
 abbrev pub startState : State
 startState = record { phase = Phase.Text; start = 0; count = 0; epochs = 0; size = 0; used = 0 }
 
@@ -120,40 +113,3 @@ pub record Reached (s : State) (held image out : List ℕ) : Type 0 where
   pub consumed : List ℕ
   pub handed : List ℕ
   pub calls : Called consumed handed s held image out
-
--- ---- the small functions
-
--- the next line starts behind so many bytes, and nothing of it is held
-abbrev pub startingAt : ℕ → State → State
-startingAt n s = record { phase = s .phase; start = n; count = n; epochs = s .epochs; size = s .size; used = s .used }
-
--- it starts behind what is held, of which 32,769 bytes count
-abbrev pub lineBehind : State → State
-lineBehind s = startingAt (min (s .count) 32769) s
-
-abbrev pub oneMoreHeld : State → State
-oneMoreHeld s = record { phase = s .phase; start = s .start; count = s .count + 1; epochs = s .epochs; size = s .size; used = s .used }
-
--- a byte is held where there is room for it
-pub data Pushed (limit : ℕ) (s : State) (byte : ℕ) (held : List ℕ) (r : State) (held' : List ℕ) : Type 0 where
-  room : s .count < limit → r ≡ oneMoreHeld s → held' ≡ set held (s .count) byte → Pushed limit s byte held r held'
-  full : limit ≤ s .count → r ≡ s → held' ≡ held → Pushed limit s byte held r held'
-
--- the text is complete; nothing is held
-pub record TextEnded (text : List ℕ) (s : State) (out : List ℕ) (r : State) (image' out' : List ℕ) : Type 0 where
-  pub owes : (held rest : List ℕ) → owed r held image' out' rest ≡ take (s .used) out ++ printedFor text (linesOf rest)
-  pub good : (held : List ℕ) → length held ≡ 32773 → Good r held image' out'
-  -- behind its line `run`
-  pub tracks : (held : List ℕ) (x : Seen) → x .ran ≡ true → x .tail ≡ [] → Tracks x r held
-  -- the end of the input adds nothing
-  pub quiet : (held : List ℕ) → leftIn (r .phase) r held image' [] ≡ []
-
-abbrev pub decidedBy : State → ℕ → State
-decidedBy s used = record { phase = s .phase; start = 0; count = 0; epochs = next (s .epochs); size = s .size; used = used }
-
--- the epoch line is complete
-pub record LineEnded (s : State) (held image out : List ℕ) (r : State) (out' : List ℕ) : Type 0 where
-  pub state : r ≡ decidedBy s (r .used)
-  pub prints : take (r .used) out' ≡ take (s .used) out ++ decisionLine (next (s .epochs)) (decision (take (s .size) image) (current s held))
-  pub outLong : length out' ≡ 65536
-  pub used : r .used ≤ 65536

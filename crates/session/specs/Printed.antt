@@ -57,7 +57,7 @@ epochLines image n (line ∷ lines) = decisionLine (next n) (decision image line
 -- ---- "A refused text prints its refusal line and nothing else."
 
 unfoldable pub answersTo : Progress → List (List ℕ) → List ℕ
-answersTo (stopped fault place) epochs = refusalLine fault place
+answersTo (stopped fault location) epochs = refusalLine fault location
 answersTo (reading n policy) epochs = epochLines (imageOf newestForm policy) 0 epochs
 
 unfoldable pub printedFor : List ℕ → List (List ℕ) → List ℕ

@@ -2,7 +2,7 @@
 ghost use mathlib.Core.Path.{_≡_};
 ghost use Prim.Native.Nat.{_≤_};
 ghost use lib.ListN.{length};
-ghost use Rattle.session.specs.Owed.{Pushed};
+ghost use Rattle.session.specs.Steps.Held.{Pushed};
 
 // What is being read: the text, epoch lines, or, once the text is refused, nothing that counts.
 pub enum Phase {

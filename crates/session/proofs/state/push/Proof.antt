@@ -1,5 +1,5 @@
 use mathlib.Core.Path.{refl}
-use Rattle.session.specs.Owed.{Pushed}
+use Rattle.session.specs.Steps.Held.{Pushed}
 use borrow.Author.Needs.{needs}
 use Rattle.session.proofs.state.push.Statement.{statement}
 use Rattle.session.proofs.state.push.Tie as tie

@@ -1,0 +1,64 @@
+-- The location of a refused text is not past its last line.
+use Prim.Native.Nat.{ℕ, suc, _+_, _≤_}
+use mathlib.Core.Bool.{Bool, true, false, cond}
+use mathlib.Core.List.{List, [], _∷_, foldl}
+use mathlib.Core.Path.{_≡_, refl, sym, ap, _∙_}
+use native.Mathlib.Omega.{arith}
+use borrow.Author.Tests.{ltb-false}
+use lib.Dec.{eqb, ltb}
+use lib.ListN.{length}
+use Rattle.policy.specs.Limits.{ruleLimit, constraintLimit}
+use Rattle.policy.specs.Line.{rule, constraint}
+use Rattle.policy.specs.Policy.{Policy}
+use Rattle.policy.specs.declared.fault.Fault.{Fault}
+use Rattle.lexer.specs.Lines.{prepend, pieces, linesOf}
+use Rattle.syntax.specs.Text.{LineAnswer, skipped, refused, accepted, lineAnswer, Progress, reading, stopped, withRule, withConstraint, advance, readLine, emptyPolicy, textLimit, readText}
+
+abbrev locationOf : Progress → ℕ
+locationOf (reading n p) = n
+locationOf (stopped f n) = n
+
+room-location : (b : Bool) (n : ℕ) (p : Policy) → locationOf (cond b (reading (suc n) p) (stopped Fault.TooManyLines n)) ≤ suc n
+room-location true n p = omega arith
+room-location false n p = omega arith
+
+advance-location : (n : ℕ) (p : Policy) (a : LineAnswer) → locationOf (advance n p a) ≤ suc n
+unfolding advance
+advance-location n p skipped = omega arith
+advance-location n p (refused f) = omega arith
+advance-location n p (accepted (rule r)) = room-location (ltb (length (p .rules)) ruleLimit) n (withRule p r)
+advance-location n p (accepted (constraint c)) = room-location (ltb (length (p .constraints)) constraintLimit) n (withConstraint p c)
+
+line-location : (s : Progress) (line : List ℕ) → locationOf (readLine s line) ≤ suc (locationOf s)
+unfolding readLine
+line-location (reading n p) line = advance-location n p (lineAnswer line)
+line-location (stopped f n) line = omega arith
+
+lines-location : (s : Progress) (lines : List (List ℕ)) → locationOf (foldl readLine s lines) ≤ locationOf s + length lines
+lines-location s [] = omega arith
+lines-location s (line ∷ lines) = omega (arith, lines-location (readLine s line) lines, line-location s line)
+
+prepend-count : (b : ℕ) (ps : List (List ℕ)) → length (prepend b ps) ≤ suc (length ps)
+unfolding prepend
+prepend-count b [] = omega arith
+prepend-count b (p ∷ ps) = omega arith
+
+pieces-count : (end : ℕ) (s : List ℕ) → length (pieces end s) ≤ length s
+unfolding pieces
+pieces-count end [] = omega arith
+pieces-count end (b ∷ s) = go (eqb b end) (pieces-count end s)
+  where
+    go : (t : Bool) → length (pieces end s) ≤ length s → length (cond t ([] ∷ pieces end s) (prepend b (pieces end s))) ≤ suc (length s)
+    go true h = omega arith
+    go false h = omega (arith, prepend-count b (pieces end s))
+
+pub location-small : (text : List ℕ) (f : Fault) (location : ℕ) → readText text ≡ stopped f location → location ≤ 32769
+unfolding readText linesOf
+location-small text f location e = omega (arith, small (ltb textLimit (length text)) refl, ap locationOf e)
+  where
+    small : (b : Bool) → ltb textLimit (length text) ≡ b → locationOf (readText text) ≤ 32769
+    small true h = rw h (omega arith)
+    small false h =
+        rw h
+        (let k : length text ≤ 32768 = ltb-false 32768 (length text) h in
+        omega (arith, lines-location (reading 1 emptyPolicy) (pieces 10 text), pieces-count 10 text))
