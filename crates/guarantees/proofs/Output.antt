@@ -1,8 +1,7 @@
 -- Demand 3 of the whole program: what the engine prints is what the reference machine says.
 use Prim.Native.Nat.{ℕ}
-use mathlib.Core.Bool.{true, false}
-use mathlib.Core.List.{List, [], _∷_, _++_, map}
-use mathlib.Core.Path.{_≡_, refl, sym, ap, ap₂, _∙_}
+use mathlib.Core.List.{List, [], _∷_, _++_}
+use mathlib.Core.Path.{_≡_, refl, ap, ap₂, _∙_}
 use Rattle.policy.specs.Limits.{Acceptable}
 use Rattle.policy.specs.Policy.{Policy}
 use Rattle.lexer.specs.Lines.{linesOf}
@@ -15,7 +14,7 @@ use Rattle.monitor.specs.declared.decision.Decision.{Decision}
 use Rattle.report.specs.Report.{refusedLine}
 use Rattle.session.specs.Printed.{Session, splitAtRun, textPart, epochPart, next, decisionLine, epochLines, answersTo, printedFor, printed}
 use Rattle.guarantees.specs.Claims.{answerOf}
-use Rattle.guarantees.specs.Machine.{Answer, step, run}
+use Rattle.guarantees.specs.Machine.{run}
 use Rattle.guarantees.specs.Output.{answerLine, answerLines, machineLines, machinePrints}
 use Rattle.guarantees.proofs.Demand3.{same-answer}
 

@@ -7,7 +7,7 @@ use mathlib.Core.Path.{_≡_, refl, sym, ap, _∙_}
 use native.Mathlib.Omega.{arith}
 use borrow.Author.Tests.{lt-ltb, le-ltb, ltb-true, ltb-false}
 use lib.Dec.{ltb}
-use lib.ListN.{length, length-append}
+use lib.ListN.{length, getD, length-append}
 use Rattle.output.specs.Number.{digit, digits, decimal, valueIn, digitValue}
 
 digits-one : (k n : ℕ) → n < 10 → digits k (ltb n 10) n ≡ digit n ∷ []
@@ -73,28 +73,13 @@ decimal-value =
     decimal-by (λ n ds. valueIn 10 digitValue ds ≡ n) (λ n h. omega arith)
     (λ n h ds e. value-snoc 0 ds (digit (n % 10)) ∙ rw e (omega arith))
 
--- they do not start with 0, unless the number is 0
-pub record Leading (ds : List ℕ) : Type 0 where
-  pub first : ℕ
-  pub others : List ℕ
-  pub same : ds ≡ first ∷ others
-  pub nonzero : first ≡ code "0" → ⊥
-
-pub decimal-lead : (n : ℕ) → 0 < n → Leading (decimal n)
-decimal-lead = decimal-by (λ n ds. 0 < n → Leading ds) alone longer
+-- the first is not 0, unless the number is 0
+pub decimal-lead : (n : ℕ) → 0 < n → ¬ (getD (decimal n) 0 (code "0") ≡ code "0")
+decimal-lead = decimal-by (λ n ds. 0 < n → ¬ (getD ds 0 48 ≡ 48)) (λ n h l q. omega arith) longer
   where
-    alone : (n : ℕ) → n < 10 → 0 < n → Leading (digit n ∷ [])
-    alone n h l = record { first = digit n; others = []; same = refl; nonzero = λ q. omega arith }
-
-    longer : (n : ℕ) → 10 ≤ n → (ds : List ℕ) → (0 < n / 10 → Leading ds) → 0 < n → Leading (ds ++ digit (n % 10) ∷ [])
-    longer n h ds f l =
-        let r : Leading ds = f (omega arith) in
-        record {
-          first = r .first;
-          others = r .others ++ digit (n % 10) ∷ [];
-          same = ap (λ (s : List ℕ). s ++ digit (n % 10) ∷ []) (r .same);
-          nonzero = r .nonzero;
-        }
+    longer : (n : ℕ) → 10 ≤ n → (ds : List ℕ) → (0 < n / 10 → ¬ (getD ds 0 48 ≡ 48)) → 0 < n → ¬ (getD (ds ++ digit (n % 10) ∷ []) 0 48 ≡ 48)
+    longer n h [] f l q = f (omega arith) refl
+    longer n h (d ∷ ds) f l q = f (omega arith) q
 
 -- ---- how many there are
 

@@ -8,13 +8,14 @@ use native.Mathlib.Omega.{arith}
 use borrow.Author.Tests.{le-leb, ne-eqb}
 use lib.Dec.{eqb}
 use lib.IntN.{ℤ, pos, negsuc}
+use lib.ListN.{getD}
 use Rattle.policy.proofs.ListLaws.{true-false, and-in, and-out, all-append}
 use Rattle.policy.specs.List.{all}
 use Rattle.lexer.specs.Byte.{isDigit}
 use Rattle.lexer.specs.Token.{named}
 use Rattle.lexer.specs.Number.{decimalFrom, isEmpty, numberOf, positive, negative, constantOf}
 use Rattle.output.specs.Number.{digit, digits, decimal, digitValue}
-use Rattle.output.proofs.DecimalLaws.{decimal-by, decimal-value, Leading, decimal-lead}
+use Rattle.output.proofs.DecimalLaws.{decimal-by, decimal-value, decimal-lead}
 use Rattle.printer.specs.Printed.{constantToken}
 
 -- ---- the digits are those of the number
@@ -41,13 +42,10 @@ decimal-some = decimal-by (λ n ds. isEmpty ds ≡ false) (λ n h. refl) (λ n h
     go [] d = refl
     go (b ∷ ds) d = refl
 
--- they do not start with 0, unless the number is 0
-led-read : (ds : List ℕ) → Leading ds → all isDigit ds ≡ true → numberOf ds ≡ some (decimalFrom 0 ds)
+led-read : (ds : List ℕ) → ¬ (getD ds 0 48 ≡ 48) → all isDigit ds ≡ true → numberOf ds ≡ some (decimalFrom 0 ds)
 unfolding numberOf
-led-read ds r h = rw (r .same) (led (r .first) (r .others) (sym (ap (all isDigit) (r .same)) ∙ h) (r .nonzero))
-  where
-    led : (d : ℕ) (s : List ℕ) → all isDigit (d ∷ s) ≡ true → (d ≡ 48 → ⊥) → numberOf (d ∷ s) ≡ some (decimalFrom 0 (d ∷ s))
-    led d s k z = rw (k, ne-eqb d 48 z, or-true (isEmpty s))
+led-read [] z h = absurd (z refl)
+led-read (d ∷ ds) z h = rw (h, ne-eqb d 48 z, or-true (isEmpty ds))
 
 zero-read : numberOf (decimal 0) ≡ some 0
 unfolding decimal digits numberOf all decimalFrom isEmpty

@@ -1,6 +1,5 @@
 -- What a compilation into a buffer with room for every image says of the text.
 use Prim.Native.Nat.{ℕ, _≤_}
-use mathlib.Core.Bool.{true}
 use mathlib.Core.List.{List, _++_}
 use mathlib.Core.Path.{_≡_, refl, sym, ap, _∙_}
 use native.Mathlib.Omega.{arith}

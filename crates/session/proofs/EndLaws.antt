@@ -1,6 +1,6 @@
 -- Laws of the functions that end a text or an epoch line.
 use Prim.Native.Nat.{ℕ, _+_, _-_, _≤_, _<_}
-use mathlib.Core.List.{List, [], _∷_, _++_, append-nil}
+use mathlib.Core.List.{List, _++_, append-nil}
 use mathlib.Core.Path.{_≡_, refl, sym, ap, ap₂, _∙_}
 use native.Mathlib.Omega.{arith}
 use lib.ListN.{length, take, drop}
@@ -8,7 +8,7 @@ use lib.Seq.{take-add, drop-at, length-take-le}
 use Rattle.policy.specs.List.{any}
 use Rattle.policy.specs.declared.fault.Fault.{Fault}
 use Rattle.lexer.specs.Lines.{pieces, linesOf}
-use Rattle.syntax.specs.Text.{Progress, readText}
+use Rattle.syntax.specs.Text.{Progress}
 use Rattle.codegen.specs.Compile.{compiled}
 use Rattle.codegen.specs.declared.Compiled.{Compiled}
 use Rattle.monitor.specs.Decision.{decision}
@@ -16,7 +16,7 @@ use Rattle.monitor.specs.declared.decision.Decision.{Decision}
 use Rattle.report.specs.Report.{refusalLine}
 use Rattle.output.proofs.AppendLaws.{Put, put-length}
 use Rattle.session.specs.Printed.{next, decisionLine, epochLines, answersTo, printedFor}
-use Rattle.session.specs.Owed.{current, leftIn, owed, Fitting, Good, Room, TracksIn}
+use Rattle.session.specs.Owed.{current, leftIn, owed, Fitting, Room, TracksIn}
 use Rattle.session.specs.Steps.Ended.{TextEnded, LineEnded}
 use Rattle.session.specs.declared.state.Phase.{Phase}
 use Rattle.session.specs.declared.state.State.{State}

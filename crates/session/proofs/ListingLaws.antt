@@ -1,11 +1,11 @@
 -- Laws of the compiler's listing.
-use Prim.Native.Nat.{ℕ, zero, suc, _+_, _*_, _/_, min, _≤_, _<_}
-use mathlib.Core.List.{List, [], _∷_, _++_}
+use Prim.Native.Nat.{ℕ, zero, suc, _+_, _*_, _/_, _≤_, _<_}
+use mathlib.Core.List.{List, [], _∷_}
 use mathlib.Core.Path.{_≡_, refl, sym, ap, _∙_}
 use native.Mathlib.Numerals.{add-one}
 use native.Mathlib.Omega.{arith}
 use borrow.Author.Tests.{lt-ltb}
-use lib.ListN.{length, getD, take, drop, length-append, drop-of-length-le}
+use lib.ListN.{length, take, drop, length-append, drop-of-length-le}
 use lib.Seq.{drop-cons}
 use Rattle.policy.specs.declared.fault.Fault.{Fault}
 use Rattle.word.specs.Word.{wordsOf, wordAt}
@@ -14,7 +14,6 @@ use Rattle.syntax.specs.Text.{Progress, reading, stopped, readText}
 use Rattle.image.specs.Layout.{imageOf}
 use Rattle.codegen.specs.Compile.{newestForm, compiled}
 use Rattle.codegen.specs.declared.Compiled.{Compiled}
-use Rattle.output.specs.Buffer.{appended, behind}
 use Rattle.output.specs.Number.{hexDigits}
 use Rattle.report.specs.Report.{wordLine, refusalLine}
 use Rattle.output.proofs.AppendLaws.{Put, Left, left-turn, left-none}

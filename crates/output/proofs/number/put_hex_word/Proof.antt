@@ -1,4 +1,3 @@
-use mathlib.Core.Path.{_∙_}
 use Prim.Native.Nat.{_≤_}
 use denote.Ref.{now}
 use Rattle.output.specs.Number.{hexWord, hexDigits}
