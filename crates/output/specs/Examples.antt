@@ -26,8 +26,8 @@ examples =
     ∷ row (hexWord 4294967295) ("F" ∷ "F" ∷ "F" ∷ "F" ∷ "F" ∷ "F" ∷ "F" ∷ "F" ∷ [])
     ∷ []
 
-unfoldable pub written : Example → List ℕ
-written x = x .number
+unfoldable pub computedDigits : Example → List ℕ
+computedDigits x = x .number
 
 unfoldable pub expected : Example → List ℕ
 expected x = map code (x .characters)

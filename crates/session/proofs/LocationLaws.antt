@@ -14,27 +14,27 @@ use Rattle.policy.specs.declared.fault.Fault.{Fault}
 use Rattle.lexer.specs.Lines.{prepend, pieces, linesOf}
 use Rattle.syntax.specs.Text.{LineAnswer, skipped, refused, accepted, lineAnswer, Progress, reading, stopped, withRule, withConstraint, advance, readLine, emptyPolicy, textLimit, readText}
 
-abbrev locationOf : Progress → ℕ
-locationOf (reading n p) = n
-locationOf (stopped f n) = n
+abbrev reachedLine : Progress → ℕ
+reachedLine (reading n p) = n
+reachedLine (stopped f n) = n
 
-room-location : (b : Bool) (n : ℕ) (p : Policy) → locationOf (cond b (reading (suc n) p) (stopped Fault.TooManyLines n)) ≤ suc n
+room-location : (b : Bool) (n : ℕ) (p : Policy) → reachedLine (cond b (reading (suc n) p) (stopped Fault.TooManyLines n)) ≤ suc n
 room-location true n p = omega arith
 room-location false n p = omega arith
 
-advance-location : (n : ℕ) (p : Policy) (a : LineAnswer) → locationOf (advance n p a) ≤ suc n
+advance-location : (n : ℕ) (p : Policy) (a : LineAnswer) → reachedLine (advance n p a) ≤ suc n
 unfolding advance
 advance-location n p skipped = omega arith
 advance-location n p (refused f) = omega arith
 advance-location n p (accepted (rule r)) = room-location (ltb (length (p .rules)) ruleLimit) n (withRule p r)
 advance-location n p (accepted (constraint c)) = room-location (ltb (length (p .constraints)) constraintLimit) n (withConstraint p c)
 
-line-location : (s : Progress) (line : List ℕ) → locationOf (readLine s line) ≤ suc (locationOf s)
+line-location : (s : Progress) (line : List ℕ) → reachedLine (readLine s line) ≤ suc (reachedLine s)
 unfolding readLine
 line-location (reading n p) line = advance-location n p (lineAnswer line)
 line-location (stopped f n) line = omega arith
 
-lines-location : (s : Progress) (lines : List (List ℕ)) → locationOf (foldl readLine s lines) ≤ locationOf s + length lines
+lines-location : (s : Progress) (lines : List (List ℕ)) → reachedLine (foldl readLine s lines) ≤ reachedLine s + length lines
 lines-location s [] = omega arith
 lines-location s (line ∷ lines) = omega (arith, lines-location (readLine s line) lines, line-location s line)
 
@@ -54,9 +54,9 @@ pieces-count end (b ∷ s) = go (eqb b end) (pieces-count end s)
 
 pub location-small : (text : List ℕ) (f : Fault) (location : ℕ) → readText text ≡ stopped f location → location ≤ 32769
 unfolding readText linesOf
-location-small text f location e = omega (arith, small (ltb textLimit (length text)) refl, ap locationOf e)
+location-small text f location e = omega (arith, small (ltb textLimit (length text)) refl, ap reachedLine e)
   where
-    small : (b : Bool) → ltb textLimit (length text) ≡ b → locationOf (readText text) ≤ 32769
+    small : (b : Bool) → ltb textLimit (length text) ≡ b → reachedLine (readText text) ≤ 32769
     small true h = rw h (omega arith)
     small false h =
         rw h
