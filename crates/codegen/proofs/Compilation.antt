@@ -11,37 +11,21 @@ use lib.Dec.{leb}
 use lib.ListN.{length, take, drop}
 use lib.Seq.{take-append-seam, drop-append-seam}
 use Rattle.policy.proofs.ListLaws.{and-out}
-use Rattle.policy.specs.Limits.{Acceptable}
+use Rattle.policy.specs.Fault.{refusal}
 use Rattle.policy.specs.Policy.{Policy}
 use Rattle.policy.specs.declared.fault.Fault.{Fault}
-use Rattle.image.proofs.Exact.{partsOf, image-taken, image-holds, image-size}
+use Rattle.policy.specs.declared.fault.Refusal.{Refusal}
+use Rattle.exactness.proofs.Exact.{image-taken, image-holds, image-size}
 use Rattle.image.specs.Layout.{imageOf, sizeLimit}
-use Rattle.image.specs.Load.{wellSized, load, policyIn}
-use Rattle.image.specs.declared.load.Loaded.{Loaded}
-use Rattle.syntax.proofs.Accepted.{accepted-acceptable}
+use Rattle.image.specs.Load.{load}
+use Rattle.image.specs.Check.{wellSized}
+use Rattle.image.specs.Held.{policyIn}
+use Rattle.acceptance.proofs.Accepted.{accepted-acceptable}
 use Rattle.syntax.specs.Text.{Progress, reading, stopped, readText, policyOf}
 use Rattle.codegen.proofs.AcceptedLaws.{newest-known}
 use Rattle.codegen.specs.Compile.{newestForm, Output, outputOf, compiled}
+use Rattle.codegen.specs.Written.{writtenIn, Written}
 use Rattle.codegen.specs.declared.Compiled.{Compiled}
-
--- the bytes that a compilation of so many bytes wrote
-abbrev pub writtenIn : ℕ → List ℕ → List ℕ → List ℕ
-writtenIn size text buffer = take size (compiled text buffer .buffer)
-
--- a compilation of so many bytes
-pub record Written (text buffer : List ℕ) (size : ℕ) : Type 0 where
-  -- the text has a policy, and the bytes are its image
-  pub policy : Policy
-  pub read : policyOf text ≡ some policy
-  pub acceptable : Acceptable policy
-  pub image : writtenIn size text buffer ≡ imageOf newestForm policy
-  -- what lies behind the image is as it was
-  pub behind : drop size (compiled text buffer .buffer) ≡ drop size buffer
-  pub largest : size ≤ sizeLimit
-  -- the loader takes the bytes and holds the policy, which compiles to them again
-  pub taken : load (writtenIn size text buffer) ≡ Loaded.Image (partsOf newestForm policy)
-  pub holds : policyIn (writtenIn size text buffer) ≡ policy
-  pub again : imageOf newestForm (policyIn (writtenIn size text buffer)) ≡ writtenIn size text buffer
 
 module _ (text buffer : List ℕ) where
   written-by : (n : ℕ) (p : Policy) → readText text ≡ reading n p → length (imageOf newestForm p) ≤ length buffer → Written text buffer (length (imageOf newestForm p))
@@ -57,6 +41,7 @@ module _ (text buffer : List ℕ) where
         read = rw r;
         acceptable = ok;
         image = w;
+        long = ap length w;
         behind = ap (drop (length bytes)) e ∙ drop-append-seam bytes (drop (length bytes) buffer);
         largest = leb-true (length bytes) sizeLimit (sized .1);
         taken = ap load w ∙ image-taken newestForm newest-known p ok;
@@ -75,23 +60,23 @@ module _ (text buffer : List ℕ) where
           let m : length (imageOf newestForm p) ≡ size = cc in
           rw (← m) (written-by n p r (leb-true (length (imageOf newestForm p)) (length buffer) h))
       room n p false r h k =
-          let s : Compiled.Refused Fault.BufferTooSmall 0 ≡ Compiled.Image size = sym (rw h) ∙ k in
+          let s : Compiled.Refused (refusal Fault.BufferTooSmall 0) ≡ Compiled.Image size = sym (rw h) ∙ k in
           let w : _≡_ {A = ℕ} 0 1 = cc in absurd (omega arith)
 
       go : (s : Progress) → readText text ≡ s → outputOf s buffer .answer ≡ Compiled.Image size → Written text buffer size
       go (reading n p) r k = room n p (leb (length (imageOf newestForm p)) (length buffer)) r refl k
-      go (stopped f n) r k = let w : _≡_ {A = ℕ} 0 1 = cc in absurd (omega arith)
+      go (stopped x) r k = let w : _≡_ {A = ℕ} 0 1 = cc in absurd (omega arith)
 
   -- ---- when it is refused, and that a refusal changes no byte of the buffer
 
   -- 1 to 6, at the line, whatever room there is
-  pub text-refused : (f : Fault) (line : ℕ) → readText text ≡ stopped f line → compiled text buffer .answer ≡ Compiled.Refused f line
+  pub text-refused : (r : Refusal) → readText text ≡ stopped r → compiled text buffer .answer ≡ Compiled.Refused r
   unfolding compiled outputOf
-  text-refused f line r = rw r
+  text-refused r e = rw e
 
   module _ (n : ℕ) (p : Policy) (r : readText text ≡ reading n p) where
     -- 15 where the image has more bytes than the buffer
-    pub room-refused : length buffer < length (imageOf newestForm p) → compiled text buffer .answer ≡ Compiled.Refused Fault.BufferTooSmall 0
+    pub room-refused : length buffer < length (imageOf newestForm p) → compiled text buffer .answer ≡ Compiled.Refused (refusal Fault.BufferTooSmall 0)
     unfolding compiled outputOf
     room-refused h = rw (r, lt-leb (length (imageOf newestForm p)) (length buffer) h)
 
@@ -100,17 +85,17 @@ module _ (text buffer : List ℕ) where
     unfolding compiled outputOf
     text-compiled h = rw (r, le-leb (length (imageOf newestForm p)) (length buffer) h)
 
-  pub refused-unchanged : (f : Fault) (place : ℕ) → compiled text buffer .answer ≡ Compiled.Refused f place → compiled text buffer .buffer ≡ buffer
+  pub refused-unchanged : (r : Refusal) → compiled text buffer .answer ≡ Compiled.Refused r → compiled text buffer .buffer ≡ buffer
   unfolding compiled outputOf
-  refused-unchanged f place e = go (readText text) e
+  refused-unchanged r e = go (readText text) e
     where
-      delivered : (b : Bool) (full : Output) (size : ℕ) → full .answer ≡ Compiled.Image size → cond b full (record { answer = Compiled.Refused Fault.BufferTooSmall 0; buffer = buffer }) .answer ≡ Compiled.Refused f place → cond b full (record { answer = Compiled.Refused Fault.BufferTooSmall 0; buffer = buffer }) .buffer ≡ buffer
+      delivered : (b : Bool) (full : Output) (size : ℕ) → full .answer ≡ Compiled.Image size → cond b full (record { answer = Compiled.Refused (refusal Fault.BufferTooSmall 0); buffer = buffer }) .answer ≡ Compiled.Refused r → cond b full (record { answer = Compiled.Refused (refusal Fault.BufferTooSmall 0); buffer = buffer }) .buffer ≡ buffer
       delivered true full size q k = let w : _≡_ {A = ℕ} 0 1 = cc in absurd (omega arith)
       delivered false full size q k = refl
 
-      go : (s : Progress) → outputOf s buffer .answer ≡ Compiled.Refused f place → outputOf s buffer .buffer ≡ buffer
+      go : (s : Progress) → outputOf s buffer .answer ≡ Compiled.Refused r → outputOf s buffer .buffer ≡ buffer
       go (reading n p) k = delivered (leb (length (imageOf newestForm p)) (length buffer)) _ (length (imageOf newestForm p)) refl k
-      go (stopped g n) k = refl
+      go (stopped x) k = refl
 
 -- ---- what an image keeps of a text: its rules in their order and its constraints in theirs, and nothing else
 

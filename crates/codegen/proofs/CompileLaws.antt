@@ -9,14 +9,16 @@ use lib.ListN.{length, take, drop, length-append}
 use lib.Seq.{take-at}
 use Rattle.policy.specs.Line.{PolicyLine, rule, constraint, endingOf}
 use Rattle.policy.specs.Policy.{Policy, Rule, Constraint}
+use Rattle.policy.specs.Fault.{refusal}
 use Rattle.policy.specs.declared.fault.Fault.{Fault}
-use Rattle.image.proofs.Exact.{content-below, image-length}
+use Rattle.policy.specs.declared.fault.Refusal.{Refusal}
+use Rattle.exactness.proofs.Exact.{content-below, image-length}
 use Rattle.word.proofs.WordLaws.{words-append, bytes-length}
 use Rattle.word.proofs.WriteLaws.{put-in, put-length, put-append, put-none, put-swap}
-use Rattle.image.specs.Layout.{lineWords, linesWords, ruleWords, constraintWords, headerWord, contentWords, checkWords, imageWords, imageOf}
-use Rattle.image.specs.Load.{rulesIn, constraintsIn}
+use Rattle.word.specs.Steps.Write.{putBytes, putWords}
 use Rattle.word.specs.Word.{bytesOf, wordsOf, packHeader}
-use Rattle.word.specs.Write.{putBytes, putWords}
+use Rattle.image.specs.Held.{rulesIn, constraintsIn}
+use Rattle.image.specs.Layout.{lineWords, linesWords, ruleWords, constraintWords, headerWord, contentWords, checkWords, imageWords, imageOf}
 use Rattle.syntax.specs.Answers.{textReadOf, textRead}
 use Rattle.lexer.specs.Lines.{linesOf}
 use Rattle.syntax.specs.Text.{Progress, reading, stopped, readText}
@@ -24,7 +26,7 @@ use Rattle.syntax.specs.declared.text.TextCounts.{TextCounts}
 use Rattle.syntax.specs.declared.text.TextRead.{TextRead}
 use Rattle.codegen.proofs.AcceptedLaws.{newest-known, AcceptedText}
 use Rattle.codegen.specs.Compile.{newestForm, outputOf, compiled}
-use Rattle.codegen.specs.Put.{placeFor, placesAfter, acceptedLines, putLines, putContent, putImage}
+use Rattle.codegen.specs.Steps.Put.{wordCount, cursorFor, cursorsAfter, acceptedLines, putLines, putContent, putImage}
 use Rattle.codegen.specs.declared.Compiled.{Compiled}
 
 -- ---- the lines, one after another, are the two parts
@@ -37,7 +39,7 @@ constraintPart ls = linesWords (map constraint (constraintsIn ls))
 
 lines-put : (ls : List PolicyLine) (i j : ℕ) (buffer : List ℕ) → i + length (rulePart ls) ≤ j → j + length (constraintPart ls) ≤ length buffer / 4
     → putLines ls (record { rules = i; constraints = j }) buffer ≡ putWords (putWords buffer i (rulePart ls)) j (constraintPart ls)
-unfolding putLines rulesIn constraintsIn linesWords placesAfter placeFor endingOf
+unfolding putLines rulesIn constraintsIn linesWords cursorsAfter cursorFor endingOf
 lines-put [] i j buffer h k = sym (put-none (putWords buffer i []) j ∙ put-none buffer i)
 lines-put (rule r ∷ ls) i j buffer h k =
     let w : List ℕ = lineWords (rule r) in
@@ -118,28 +120,29 @@ module _ (text : List ℕ) (counts : TextCounts) (t : AcceptedText text counts) 
 
   -- ---- what the compiler answers
 
-  abbrev size : ℕ
-  size = (counts .«rule_words» + counts .«constraint_words» + 2) * 4
+  module _ (rules constraints : ℕ) (r : rules ≡ wordCount (counts .rules)) (k : constraints ≡ wordCount (counts .constraints)) where
+    abbrev size : ℕ
+    size = (rules + constraints + 2) * 4
 
-  size-is : size ≡ length image
-  size-is = omega (arith, image-bytes, t .rule-count, t .constraint-count)
+    size-is : size ≡ length image
+    size-is = omega (arith, image-bytes, t .rule-count, t .constraint-count)
 
-  pub compiled-short : length buffer < size → (Compiled.Refused Fault.BufferTooSmall 0 ≡ compiled text buffer .answer) × (buffer ≡ compiled text buffer .buffer)
-  unfolding compiled outputOf
-  compiled-short h = rw (t .read, lt-leb (length image) (length buffer) (omega (arith, size-is))) (refl, refl)
+    pub compiled-short : (x : Refusal) → x ≡ refusal Fault.BufferTooSmall 0 → length buffer < size → (Compiled.Refused x ≡ compiled text buffer .answer) × (buffer ≡ compiled text buffer .buffer)
+    unfolding compiled outputOf
+    compiled-short x e h = rw (e, t .read, lt-leb (length image) (length buffer) (omega (arith, size-is))) (refl, refl)
 
-  pub compiled-image : size ≤ length buffer → (after : List ℕ) → after ≡ putImage (acceptedLines (linesOf text)) (counts .«rule_words») (counts .«constraint_words») buffer
-      → (Compiled.Image size ≡ compiled text buffer .answer) × (after ≡ compiled text buffer .buffer)
-  unfolding compiled outputOf
-  compiled-image h after e =
-      let room : length image ≤ length buffer = omega (arith, size-is) in
-      let done : after ≡ image ++ drop (length image) buffer = e ∙ ap₂ (λ (m n : ℕ). putImage (acceptedLines (linesOf text)) m n buffer) (t .rule-count) (t .constraint-count) ∙ image-written room in
-      rw (t .read, le-leb (length image) (length buffer) room) (ap Compiled.Image size-is, done)
+    pub compiled-image : size ≤ length buffer → (after : List ℕ) → after ≡ putImage (acceptedLines (linesOf text)) rules constraints buffer
+        → (Compiled.Image size ≡ compiled text buffer .answer) × (after ≡ compiled text buffer .buffer)
+    unfolding compiled outputOf
+    compiled-image h after e =
+        let room : length image ≤ length buffer = omega (arith, size-is) in
+        let done : after ≡ image ++ drop (length image) buffer = e ∙ ap₂ (λ (m n : ℕ). putImage (acceptedLines (linesOf text)) m n buffer) (r ∙ t .rule-count) (k ∙ t .constraint-count) ∙ image-written room in
+        rw (t .read, le-leb (length image) (length buffer) room) (ap Compiled.Image size-is, done)
 
-pub compiled-refused : (text buffer : List ℕ) (f : Fault) (n : ℕ) → textRead text ≡ TextRead.Refused f n → (Compiled.Refused f n ≡ compiled text buffer .answer) × (buffer ≡ compiled text buffer .buffer)
+pub compiled-refused : (text buffer : List ℕ) (r : Refusal) → textRead text ≡ TextRead.Refused r → (Compiled.Refused r ≡ compiled text buffer .answer) × (buffer ≡ compiled text buffer .buffer)
 unfolding textRead textReadOf compiled outputOf
-compiled-refused text buffer f n e = go (readText text) e
+compiled-refused text buffer r e = go (readText text) e
   where
-    go : (s : Progress) → textReadOf s ≡ TextRead.Refused f n → (Compiled.Refused f n ≡ outputOf s buffer .answer) × (buffer ≡ outputOf s buffer .buffer)
+    go : (s : Progress) → textReadOf s ≡ TextRead.Refused r → (Compiled.Refused r ≡ outputOf s buffer .answer) × (buffer ≡ outputOf s buffer .buffer)
     go (reading m p) k = let w : _≡_ {A = ℕ} 0 1 = cc in absurd (omega arith)
-    go (stopped g m) k = let a : Compiled.Refused f n ≡ Compiled.Refused g m = cc in (a, refl)
+    go (stopped x) k = let a : Compiled.Refused r ≡ Compiled.Refused x = cc in (a, refl)

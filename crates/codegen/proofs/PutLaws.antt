@@ -6,29 +6,30 @@ use mathlib.Core.Path.{_≡_, refl, sym, ap, ap₂, _∙_}
 use native.Mathlib.Omega.{arith}
 use lib.ListN.{length, take, drop, drop-of-length-le}
 use Rattle.policy.specs.Limits.{valid}
-use Rattle.policy.specs.Line.{PolicyLine, lineOf, lineValue, endingOf}
+use Rattle.policy.specs.Line.{PolicyLine, endingOf}
+use Rattle.policy.specs.Value.{lineOf, lineValue}
 use Rattle.policy.specs.declared.fault.Fault.{Fault}
 use Rattle.policy.specs.declared.line.Ending.{Ending}
 use Rattle.policy.specs.declared.line.Line.{Line}
 use Rattle.policy.specs.declared.number.Action.{Action}
 use Rattle.image.proofs.LayoutLaws.{value-words}
-use Rattle.image.proofs.PartLines.{line-limit}
+use Rattle.image.specs.Layout.{lineWords, checkWords}
+use Rattle.image.specs.Steps.Value.{valueWords}
+use Rattle.exactness.proofs.PartLines.{line-limit}
 use Rattle.policy.proofs.ValidLaws.{valid-out}
 use Rattle.word.proofs.WriteLaws.{put-length}
-use Rattle.image.specs.Layout.{lineWords, valueWords, checkWords}
+use Rattle.word.specs.Steps.Write.{putWords}
 use Rattle.word.specs.Word.{wordsOf, packHeader}
-use Rattle.word.specs.Write.{putWords}
-use Rattle.syntax.proofs.Accepted.{accepted-valid}
+use Rattle.acceptance.proofs.Accepted.{accepted-valid}
 use Rattle.syntax.proofs.TextLaws.{lines-here, next-later}
 use Rattle.syntax.specs.Answers.{lineReadOf, lineRead, behindLine}
-use Rattle.lexer.specs.Lines.{pieces, linesOf}
-use Rattle.lexer.specs.Scan.{lineAt, lineEnd}
+use Rattle.lexer.specs.Lines.{pieces, linesOf, restOfLine, lineEnd}
 use Rattle.syntax.specs.Text.{LineAnswer, skipped, refused, accepted, lineAnswer}
 use Rattle.syntax.specs.declared.line.LineRead.{LineRead}
 use Rattle.syntax.specs.declared.line.LineStatus.{LineStatus}
 use Rattle.codegen.specs.Compile.{newestForm}
-use Rattle.codegen.specs.Put.{placeFor, placesAfter, Near, acceptedLine, acceptedLines, putLines, putContent, putImage}
-use Rattle.codegen.specs.declared.Places.{Places}
+use Rattle.codegen.specs.Steps.Put.{cursorFor, cursorsAfter, Near, acceptedLine, acceptedLines, putLines, putContent, putImage}
+use Rattle.codegen.specs.declared.Cursors.{Cursors}
 
 abbrev pub acceptedFrom : List ℕ → ℕ → List PolicyLine
 acceptedFrom text at = acceptedLines (linesOf (drop at text))
@@ -42,18 +43,18 @@ data Turn (text : List ℕ) (at : ℕ) (r : LineRead) : Type 0 where
 
 turn : (text : List ℕ) (at : ℕ) → at < length text → (r : LineRead) → r ≡ lineRead text at → Turn text at r
 unfolding lineRead lineReadOf acceptedLine acceptedLines
-turn text at h r q = rw q (go (lineAnswer (lineAt text at)) refl)
+turn text at h r q = rw q (go (lineAnswer (restOfLine text at)) refl)
   where
     behind : ℕ
     behind = behindLine text (lineEnd text at)
 
-    here : (a : LineAnswer) → lineAnswer (lineAt text at) ≡ a → acceptedFrom text at ≡ acceptedLine a (acceptedFrom text behind)
+    here : (a : LineAnswer) → lineAnswer (restOfLine text at) ≡ a → acceptedFrom text at ≡ acceptedLine a (acceptedFrom text behind)
     here a e = ap acceptedLines (lines-here text at h) ∙ ap (λ (x : LineAnswer). acceptedLine x (acceptedFrom text behind)) e
 
-    go : (a : LineAnswer) → lineAnswer (lineAt text at) ≡ a → Turn text at (lineReadOf behind a)
+    go : (a : LineAnswer) → lineAnswer (restOfLine text at) ≡ a → Turn text at (lineReadOf behind a)
     go skipped e = skips refl (next-later text at h) (here skipped e)
     go (refused f) e = stops f refl (here (refused f) e)
-    go (accepted l) e = takes l (accepted-valid (lineAt text at) l e) refl refl (next-later text at h) (here (accepted l) e)
+    go (accepted l) e = takes l (accepted-valid (restOfLine text at) l e) refl refl (next-later text at h) (here (accepted l) e)
 
 -- the value of a valid line has its words
 record Whole (l : PolicyLine) : Type 0 where
@@ -65,66 +66,66 @@ whole : (l : PolicyLine) → valid l ≡ true → Whole l
 unfolding lineValue lineOf
 whole l v = let p = valid-out l v in record { words = value-words l (p .few-tests) (p .few-comparisons); small = line-limit l v; ends = refl }
 
-rules-after : (e : Ending) (p : Places) (n : ℕ) → n ≤ 17 → placesAfter e p n .rules ≤ p .rules + 17
-unfolding placesAfter
+rules-after : (e : Ending) (p : Cursors) (n : ℕ) → n ≤ 17 → cursorsAfter e p n .rules ≤ p .rules + 17
+unfolding cursorsAfter
 rules-after (Ending.Causes a) p n h = omega arith
 rules-after Ending.Never p n h = omega arith
 
-constraints-after : (e : Ending) (p : Places) (n : ℕ) → n ≤ 17 → placesAfter e p n .constraints ≤ p .constraints + 17
-unfolding placesAfter
+constraints-after : (e : Ending) (p : Cursors) (n : ℕ) → n ≤ 17 → cursorsAfter e p n .constraints ≤ p .constraints + 17
+unfolding cursorsAfter
 constraints-after (Ending.Causes a) p n h = omega arith
 constraints-after Ending.Never p n h = omega arith
 
 -- a line of either kind put in, as its ending says
-module _ (p : Places) (buffer buffer′ ws : List ℕ) (n : ℕ) (e : n ≡ length ws) where
-  pub put-rule : (x : Ending) (a : Action) → x ≡ Ending.Causes a → buffer′ ≡ putWords buffer (p .rules) ws → (record { rules = p .rules + n; constraints = p .constraints } ≡ placesAfter x p (length ws)) × (buffer′ ≡ putWords buffer (placeFor x p) ws)
-  unfolding placesAfter placeFor
+module _ (p : Cursors) (buffer buffer′ ws : List ℕ) (n : ℕ) (e : n ≡ length ws) where
+  pub put-rule : (x : Ending) (a : Action) → x ≡ Ending.Causes a → buffer′ ≡ putWords buffer (p .rules) ws → (record { rules = p .rules + n; constraints = p .constraints } ≡ cursorsAfter x p (length ws)) × (buffer′ ≡ putWords buffer (cursorFor x p) ws)
+  unfolding cursorsAfter cursorFor
   put-rule x a q g = rw (q, ← e) (refl, g)
 
-  pub put-constraint : (x : Ending) → x ≡ Ending.Never → buffer′ ≡ putWords buffer (p .constraints) ws → (record { rules = p .rules; constraints = p .constraints + n } ≡ placesAfter x p (length ws)) × (buffer′ ≡ putWords buffer (placeFor x p) ws)
-  unfolding placesAfter placeFor
+  pub put-constraint : (x : Ending) → x ≡ Ending.Never → buffer′ ≡ putWords buffer (p .constraints) ws → (record { rules = p .rules; constraints = p .constraints + n } ≡ cursorsAfter x p (length ws)) × (buffer′ ≡ putWords buffer (cursorFor x p) ws)
+  unfolding cursorsAfter cursorFor
   put-constraint x q g = rw (q, ← e) (refl, g)
 
 -- ---- what is left to put at a position
 
-pub record Putting (text buffer₀ : List ℕ) (start : Places) (buffer : List ℕ) (places : Places) (at : ℕ) : Type 0 where
+pub record Putting (text buffer₀ : List ℕ) (start : Cursors) (buffer : List ℕ) (cursors : Cursors) (at : ℕ) : Type 0 where
   pub long : length buffer ≡ length buffer₀
-  pub rules : places .rules ≤ start .rules + 17 * at
-  pub constraints : places .constraints ≤ start .constraints + 17 * at
-  pub same : putLines (acceptedFrom text at) places buffer ≡ putLines (acceptedLines (linesOf text)) start buffer₀
+  pub rules : cursors .rules ≤ start .rules + 17 * at
+  pub constraints : cursors .constraints ≤ start .constraints + 17 * at
+  pub same : putLines (acceptedFrom text at) cursors buffer ≡ putLines (acceptedLines (linesOf text)) start buffer₀
 
-module _ (text buffer₀ : List ℕ) (start : Places) where
+module _ (text buffer₀ : List ℕ) (start : Cursors) where
   pub putting-none : Putting text buffer₀ start buffer₀ start 0
   putting-none = record { long = refl; rules = omega arith; constraints = omega arith; same = refl }
 
-  module _ (buffer : List ℕ) (places : Places) (at : ℕ) (p : Putting text buffer₀ start buffer places at) where
-    pub putting-near : start .rules ≤ 4096 → start .constraints ≤ 4096 → length text ≤ 32768 → at < length text → Near places
+  module _ (buffer : List ℕ) (cursors : Cursors) (at : ℕ) (p : Putting text buffer₀ start buffer cursors at) where
+    pub putting-near : start .rules ≤ 4096 → start .constraints ≤ 4096 → length text ≤ 32768 → at < length text → Near cursors
     putting-near a b h l = record { rules = omega (arith, p .rules); constraints = omega (arith, p .constraints) }
 
     pub putting-all : length text ≤ at → buffer ≡ putLines (acceptedLines (linesOf text)) start buffer₀
     unfolding acceptedLines linesOf pieces putLines
-    putting-all h = let e : drop at text ≡ [] = drop-of-length-le text {i = at} h in sym (ap (λ (s : List ℕ). putLines (acceptedLines (linesOf s)) places buffer) e) ∙ p .same
+    putting-all h = let e : drop at text ≡ [] = drop-of-length-le text {i = at} h in sym (ap (λ (s : List ℕ). putLines (acceptedLines (linesOf s)) cursors buffer) e) ∙ p .same
 
     -- a line put in, where the rest of the text starts at `next`
-    after : (k : PolicyLine) (next : ℕ) (buffer′ : List ℕ) (places′ : Places) → at < next → acceptedFrom text at ≡ k ∷ acceptedFrom text next → length (lineWords k) ≤ 17
-        → places′ ≡ placesAfter (endingOf k) places (length (lineWords k)) → buffer′ ≡ putWords buffer (placeFor (endingOf k) places) (lineWords k) → Putting text buffer₀ start buffer′ places′ next
+    after : (k : PolicyLine) (next : ℕ) (buffer′ : List ℕ) (cursors′ : Cursors) → at < next → acceptedFrom text at ≡ k ∷ acceptedFrom text next → length (lineWords k) ≤ 17
+        → cursors′ ≡ cursorsAfter (endingOf k) cursors (length (lineWords k)) → buffer′ ≡ putWords buffer (cursorFor (endingOf k) cursors) (lineWords k) → Putting text buffer₀ start buffer′ cursors′ next
     unfolding putLines
-    after k next buffer′ places′ n e small f g =
-        let a : places′ .rules ≤ places .rules + 17 = rw f (rules-after (endingOf k) places (length (lineWords k)) small) in
-        let b : places′ .constraints ≤ places .constraints + 17 = rw f (constraints-after (endingOf k) places (length (lineWords k)) small) in
+    after k next buffer′ cursors′ n e small f g =
+        let a : cursors′ .rules ≤ cursors .rules + 17 = rw f (rules-after (endingOf k) cursors (length (lineWords k)) small) in
+        let b : cursors′ .constraints ≤ cursors .constraints + 17 = rw f (constraints-after (endingOf k) cursors (length (lineWords k)) small) in
         record {
-          long = ap length g ∙ put-length buffer (placeFor (endingOf k) places) (lineWords k) ∙ p .long;
+          long = ap length g ∙ put-length buffer (cursorFor (endingOf k) cursors) (lineWords k) ∙ p .long;
           rules = omega (arith, p .rules);
           constraints = omega (arith, p .constraints);
-          same = ap₂ (putLines (acceptedFrom text next)) f g ∙ ap (λ (ls : List PolicyLine). putLines ls places buffer) (sym e) ∙ p .same;
+          same = ap₂ (putLines (acceptedFrom text next)) f g ∙ ap (λ (ls : List PolicyLine). putLines ls cursors buffer) (sym e) ∙ p .same;
         }
 
     module _ (l : at < length text) (r : LineRead) (q : r ≡ lineRead text at) where
-      pub putting-skip : r .status ≡ LineStatus.Skipped → (at < r .next) × Putting text buffer₀ start buffer places (r .next)
+      pub putting-skip : r .status ≡ LineStatus.Skipped → (at < r .next) × Putting text buffer₀ start buffer cursors (r .next)
       putting-skip s = go (turn text at l r q)
         where
-          go : Turn text at r → (at < r .next) × Putting text buffer₀ start buffer places (r .next)
-          go (skips t n e) = (n, record { long = p .long; rules = omega (arith, p .rules); constraints = omega (arith, p .constraints); same = ap (λ (ls : List PolicyLine). putLines ls places buffer) (sym e) ∙ p .same })
+          go : Turn text at r → (at < r .next) × Putting text buffer₀ start buffer cursors (r .next)
+          go (skips t n e) = (n, record { long = p .long; rules = omega (arith, p .rules); constraints = omega (arith, p .constraints); same = ap (λ (ls : List PolicyLine). putLines ls cursors buffer) (sym e) ∙ p .same })
           go (stops f t e) = let w : _≡_ {A = ℕ} 0 1 = cc in absurd (omega arith)
           go (takes k v t m n e) = let w : _≡_ {A = ℕ} 0 1 = cc in absurd (omega arith)
 
@@ -134,15 +135,15 @@ module _ (text buffer₀ : List ℕ) (start : Places) where
         where
           go : Turn text at r → buffer ≡ putLines (acceptedLines (linesOf text)) start buffer₀
           go (skips t n e) = let w : _≡_ {A = ℕ} 0 1 = cc in absurd (omega arith)
-          go (stops g t e) = sym (ap (λ (ls : List PolicyLine). putLines ls places buffer) e) ∙ p .same
+          go (stops g t e) = sym (ap (λ (ls : List PolicyLine). putLines ls cursors buffer) e) ∙ p .same
           go (takes k v t m n e) = let w : _≡_ {A = ℕ} 0 1 = cc in absurd (omega arith)
 
       -- an accepted line: how long it is, and what is left after it
       pub record Taking : Type 0 where
         pub small : length (valueWords (r .line)) ≤ 17
         pub later : at < r .next
-        pub next : (buffer′ : List ℕ) (places′ : Places) → places′ ≡ placesAfter (r .line .ending) places (length (valueWords (r .line)))
-            → buffer′ ≡ putWords buffer (placeFor (r .line .ending) places) (valueWords (r .line)) → Putting text buffer₀ start buffer′ places′ (r .next)
+        pub next : (buffer′ : List ℕ) (cursors′ : Cursors) → cursors′ ≡ cursorsAfter (r .line .ending) cursors (length (valueWords (r .line)))
+            → buffer′ ≡ putWords buffer (cursorFor (r .line .ending) cursors) (valueWords (r .line)) → Putting text buffer₀ start buffer′ cursors′ (r .next)
 
       pub putting-take : r .status ≡ LineStatus.Accepted → Taking
       putting-take s = go (turn text at l r q)
@@ -157,8 +158,8 @@ module _ (text buffer₀ : List ℕ) (start : Places) where
               record {
                 small = rw words (w .small);
                 later = n;
-                next = λ b ps f g. after k (r .next) b ps n e (w .small) (f ∙ ap₂ (λ (x : Ending) (ws : List ℕ). placesAfter x places (length ws)) ends words)
-                    (g ∙ ap₂ (λ (x : Ending) (ws : List ℕ). putWords buffer (placeFor x places) ws) ends words);
+                next = λ b ps f g. after k (r .next) b ps n e (w .small) (f ∙ ap₂ (λ (x : Ending) (ws : List ℕ). cursorsAfter x cursors (length ws)) ends words)
+                    (g ∙ ap₂ (λ (x : Ending) (ws : List ℕ). putWords buffer (cursorFor x cursors) ws) ends words);
               }
 
 -- ---- the whole image

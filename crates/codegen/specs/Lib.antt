@@ -1,3 +1,4 @@
--- What a reader must believe of this layer: `Compile`.
+-- What a reader must believe of this layer: `Compile`, then `Written`. `Steps` needs not be read.
 pub mod Compile
-pub mod Put
+pub mod Written
+pub mod Steps

@@ -2,17 +2,19 @@
 ghost use mathlib.Core.Path.{_≡_};
 ghost use Prim.Native.Nat.{_≤_};
 ghost use lib.ListN.{length};
-ghost use Rattle.image.specs.Layout.{valueWords};
-ghost use Rattle.word.specs.Write.{putWords};
+ghost use Rattle.word.specs.Steps.Write.{putWords};
+ghost use Rattle.image.specs.Steps.Value.{valueWords};
 ghost use Rattle.lexer.specs.Lines.{linesOf};
 ghost use Rattle.codegen.specs.Compile.{compiled};
-ghost use Rattle.codegen.specs.Put.{placeFor, placesAfter, acceptedLines, putLines, putImage, Near};
+ghost use Rattle.codegen.specs.Steps.Put.{wordCount, cursorFor, cursorsAfter, acceptedLines, putLines, putImage, Near};
 use image::header;
 use image::put_check_words;
 use image::put_line;
 use policy::Ending;
 use policy::Fault;
 use policy::Line;
+use policy::Refusal;
+use syntax::LineCounts;
 use syntax::LineStatus;
 use syntax::TextRead;
 use syntax::read_line;
@@ -22,48 +24,55 @@ use word::put_word;
 const FORM: u8 = 1;
 
 pub enum Compiled {
-    // The fault, and the line that has it, counted from 1; 0 where it is no line's.
-    Refused(Fault, usize),
+    Refused(Refusal),
     // How many bytes the image has.
     Image(usize),
 }
 
+// How many words lines take.
+fn words(counts: LineCounts) -> usize
+    requires { ⌜ wordCount counts ≤ 4096 ⌝ }
+    ensures { λ r. ⌜ r ≡ wordCount counts ⌝ }
+{
+    counts.lines + counts.heads + counts.comparisons + counts.constants
+}
+
 // The words at which the next rule and the next constraint go.
-pub struct Places {
+pub struct Cursors {
     pub rules: usize,
     pub constraints: usize,
 }
 
 // A line put in behind those of its kind.
-fn put_next(out: &mut [u8], places: Places, line: Line) -> Places
-    requires { ⌜ Near places × (length (valueWords line) ≤ 17) ⌝ }
-    ensures { λ r. ⌜ (r ≡ placesAfter (line .ending) places (length (valueWords line))) × (now (out .exit) ≡ putWords (now (out .entry)) (placeFor (line .ending) places) (valueWords line)) ⌝ }
+fn put_next(out: &mut [u8], cursors: Cursors, line: Line) -> Cursors
+    requires { ⌜ Near cursors × (length (valueWords line) ≤ 17) ⌝ }
+    ensures { λ r. ⌜ (r ≡ cursorsAfter (line .ending) cursors (length (valueWords line))) × (now (out .exit) ≡ putWords (now (out .entry)) (cursorFor (line .ending) cursors) (valueWords line)) ⌝ }
 {
     let ending = line.ending;
     match ending {
         Ending::Causes(_) => {
-            let words = put_line(out, places.rules, line);
-            Places {
-                rules: places.rules + words,
-                constraints: places.constraints,
+            let words = put_line(out, cursors.rules, line);
+            Cursors {
+                rules: cursors.rules + words,
+                constraints: cursors.constraints,
             }
         }
         Ending::Never => {
-            let words = put_line(out, places.constraints, line);
-            Places {
-                rules: places.rules,
-                constraints: places.constraints + words,
+            let words = put_line(out, cursors.constraints, line);
+            Cursors {
+                rules: cursors.rules,
+                constraints: cursors.constraints + words,
             }
         }
     }
 }
 
 // The lines of a text, up to the first that is refused.
-fn put_lines(out: &mut [u8], text: &[u8], start: Places)
+fn put_lines(out: &mut [u8], text: &[u8], start: Cursors)
     requires { ⌜ (start .rules ≤ 4096) × (start .constraints ≤ 4096) × (length (now text) ≤ 32768) ⌝ }
     ensures { λ _. ⌜ now (out .exit) ≡ putLines (acceptedLines (linesOf (now (text .entry)))) start (now (out .entry)) ⌝ }
 {
-    let mut places = start;
+    let mut cursors = start;
     let mut at = 0;
     while at < text.len() {
         let read = read_line(text, at);
@@ -71,7 +80,7 @@ fn put_lines(out: &mut [u8], text: &[u8], start: Places)
         let line = read.line;
         match status {
             LineStatus::Accepted => {
-                places = put_next(out, places, line);
+                cursors = put_next(out, cursors, line);
             }
             LineStatus::Skipped => {}
             LineStatus::Refused(_) => {
@@ -92,7 +101,7 @@ fn put_image(out: &mut [u8], text: &[u8], rule_words: usize, constraint_words: u
     put_lines(
         out,
         text,
-        Places {
+        Cursors {
             rules: 1,
             constraints: middle,
         },
@@ -106,13 +115,15 @@ pub fn compile(text: &[u8], out: &mut [u8]) -> Compiled
 {
     let read = read_text(text);
     match read {
-        TextRead::Refused(fault, line) => Compiled::Refused(fault, line),
+        TextRead::Refused(refusal) => Compiled::Refused(refusal),
         TextRead::Accepted(counts) => {
-            let size = (counts.rule_words + counts.constraint_words + 2) * 4;
+            let rule_words = words(counts.rules);
+            let constraint_words = words(counts.constraints);
+            let size = (rule_words + constraint_words + 2) * 4;
             if out.len() < size {
-                return Compiled::Refused(Fault::BufferTooSmall, 0);
+                return Compiled::Refused(Fault::BufferTooSmall.at(0));
             }
-            put_image(out, text, counts.rule_words, counts.constraint_words);
+            put_image(out, text, rule_words, constraint_words);
             Compiled::Image(size)
         }
     }

@@ -11,17 +11,20 @@ use Rattle.policy.specs.Limits.{Acceptable}
 use Rattle.policy.specs.Policy.{Policy}
 use Rattle.syntax.specs.Epoch.{EpochAnswer, refused, accepted, readEpoch}
 use Rattle.syntax.specs.Text.{policyOf}
-use Rattle.image.proofs.Exact.{changed, changed-words, changed-length}
+use Rattle.exactness.proofs.Exact.{changed-words, changed-length}
+use Rattle.exactness.specs.Exact.{changed}
 use Rattle.word.proofs.WordLaws.{bytes-length, bytes-below}
-use Rattle.image.specs.Layout.{imageWords, imageOf}
 use Rattle.word.specs.Word.{wordLimit, bytesOf, wordsOf, wordAt}
+use Rattle.image.specs.Layout.{imageWords, imageOf}
 use Rattle.codegen.proofs.AcceptedLaws.{newest-known}
 use Rattle.codegen.proofs.Compilation.{image-written}
 use Rattle.codegen.specs.Compile.{newestForm}
-use Rattle.monitor.proofs.Decisions.{written-refuses, written-yields, written-obeys, written-changed}
-use Rattle.monitor.specs.Decision.{decision, CheckFailed, Obeys}
-use Rattle.guarantees.specs.Claims.{CompilesTo, answerOf, decisions}
-use Rattle.guarantees.specs.Machine.{Answer, answer, step, run, machine}
+use Rattle.pdl.specs.Answer.{Answer}
+use Rattle.guarantees.proofs.Decisions.{written-refuses, written-yields, written-obeys, written-changed}
+use Rattle.monitor.specs.Decision.{decision, answerOf}
+use Rattle.guarantees.specs.Decisions.{CheckFailed, Obeys}
+use Rattle.guarantees.specs.Claims.{CompilesTo, answers}
+use Rattle.guarantees.specs.Machine.{answer, step, steps, machine}
 
 -- the image is that of the text's policy
 pub record ImageOfText (text image : List ℕ) : Type 0 where
@@ -41,10 +44,11 @@ module _ (p : Policy) (ok : Acceptable p) where
   same-answer line = go (readEpoch line) refl
     where
       go : (a : EpochAnswer) → readEpoch line ≡ a → answerOf (decision (imageOf newestForm p) line) ≡ answer p a
-      go (refused f) e = ap answerOf (written-refuses newestForm newest-known p ok line f e)
-      go (accepted x) e = ap answerOf (written-yields newestForm newest-known p ok line x e)
+      go (refused f) e = written-refuses newestForm newest-known p ok line f e
+      go (accepted x) e = written-yields newestForm newest-known p ok line x e
 
-  same-answers : (lines : List (List ℕ)) → map answerOf (map (decision (imageOf newestForm p)) lines) ≡ map (step p) lines
+  same-answers : (lines : List (List ℕ)) → answers (imageOf newestForm p) lines ≡ steps p lines
+  unfolding answers steps
   same-answers [] = refl
   same-answers (l ∷ ls) = ap₂ (λ (a : Answer) (rest : List Answer). a ∷ rest) (same-answer l) (same-answers ls)
 
@@ -52,22 +56,22 @@ module _ (p : Policy) (ok : Acceptable p) where
 
 -- on the bytes that the compiler wrote for a text, the answers for every list of epoch lines, refused ones included, are those
 -- of the reference machine on the text: as many, and each the same in every field
-pub decisions-agree : (text image : List ℕ) → CompilesTo text image → (lines : List (List ℕ)) → some (map answerOf (decisions image lines)) ≡ machine text lines
-unfolding decisions machine run
+pub decisions-agree : (text image : List ℕ) → CompilesTo text image → (lines : List (List ℕ)) → some (answers image lines) ≡ machine text lines
+unfolding machine
 decisions-agree text image c lines =
     let t = image-of-text text image c in
-    ap some (ap (λ (i : List ℕ). map answerOf (map (decision i) lines)) (t .same) ∙ same-answers (t .policy) (t .acceptable) lines)
-    ∙ sym (ap (Option·map (λ (p : Policy). map (step p) lines)) (t .read))
+    ap some (ap (λ (i : List ℕ). answers i lines) (t .same) ∙ same-answers (t .policy) (t .acceptable) lines)
+    ∙ sym (ap (Option·map (λ (p : Policy). steps p lines)) (t .read))
 
 -- ---- the second half
 
 -- with any other value in the place of any one word, the decision on every line is refused under one of 7 to 10, at the
 -- location 0 and with empty sets
 pub change-refused : (text image : List ℕ) → CompilesTo text image → (i v : ℕ) → i < length (wordsOf image) → v < wordLimit → ¬ (v ≡ wordAt image i)
-    → (line : List ℕ) → CheckFailed (decision (changed image i v) line)
+    → (line : List ℕ) → CheckFailed (answerOf (decision (changed image i v) line))
 change-refused text image c =
     let t = image-of-text text image c in
-    subst⁻¹ (λ (x : List ℕ). (i v : ℕ) → i < length (wordsOf x) → v < wordLimit → ¬ (v ≡ wordAt x i) → (line : List ℕ) → CheckFailed (decision (changed x i v) line))
+    subst⁻¹ (λ (x : List ℕ). (i v : ℕ) → i < length (wordsOf x) → v < wordLimit → ¬ (v ≡ wordAt x i) → (line : List ℕ) → CheckFailed (answerOf (decision (changed x i v) line)))
     (t .same) (written-changed newestForm newest-known (t .policy) (t .acceptable))
 
 -- the changed bytes are as many, and their words are those of the image but for that one
@@ -82,10 +86,10 @@ change-only text image c i v h =
 -- ---- demand 2 on the image of a text
 
 -- a decision that is not refused is a maximal action cancellation of what the text's rules propose
-pub decision-obeys : (text image : List ℕ) → CompilesTo text image → (p : Policy) → policyOf text ≡ some p → (line : List ℕ) (e : Epoch) → readEpoch line ≡ accepted e → Obeys p e (decision image line)
+pub decision-obeys : (text image : List ℕ) → CompilesTo text image → (p : Policy) → policyOf text ≡ some p → (line : List ℕ) (e : Epoch) → readEpoch line ≡ accepted e → Obeys p e (answerOf (decision image line))
 decision-obeys text image c p q line e r =
     let t = image-of-text text image c in
     let k : some p ≡ some (t .policy) = sym q ∙ t .read in
     let same : p ≡ t .policy = cc in
-    subst⁻¹ (λ (x : List ℕ). Obeys p e (decision x line)) (t .same)
-    (subst⁻¹ (λ (x : Policy). Obeys x e (decision (imageOf newestForm (t .policy)) line)) same (written-obeys newestForm newest-known (t .policy) (t .acceptable) line e r))
+    subst⁻¹ (λ (x : List ℕ). Obeys p e (answerOf (decision x line))) (t .same)
+    (subst⁻¹ (λ (x : Policy). Obeys x e (answerOf (decision (imageOf newestForm (t .policy)) line))) same (written-obeys newestForm newest-known (t .policy) (t .acceptable) line e r))

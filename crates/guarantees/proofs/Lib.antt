@@ -1,3 +1,4 @@
+pub mod Decisions
 pub mod Demand3
 pub mod Exactness
 pub mod Output

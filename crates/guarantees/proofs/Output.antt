@@ -5,26 +5,25 @@ use mathlib.Core.Path.{_≡_, refl, ap, ap₂, _∙_}
 use Rattle.policy.specs.Limits.{Acceptable}
 use Rattle.policy.specs.Policy.{Policy}
 use Rattle.lexer.specs.Lines.{linesOf}
-use Rattle.syntax.proofs.Accepted.{accepted-acceptable}
+use Rattle.acceptance.proofs.Accepted.{accepted-acceptable}
 use Rattle.syntax.specs.Text.{Progress, reading, stopped, readText}
 use Rattle.image.specs.Layout.{imageOf}
 use Rattle.codegen.specs.Compile.{newestForm}
-use Rattle.monitor.specs.Decision.{decision}
+use Rattle.monitor.specs.Decision.{decision, answerOf}
 use Rattle.monitor.specs.declared.decision.Decision.{Decision}
 use Rattle.report.specs.Report.{refusedLine}
 use Rattle.session.specs.Printed.{Session, splitAtRun, textPart, epochPart, next, decisionLine, epochLines, answersTo, printedFor, printed}
-use Rattle.guarantees.specs.Claims.{answerOf}
-use Rattle.guarantees.specs.Machine.{run}
+use Rattle.guarantees.specs.Machine.{step, steps}
 use Rattle.guarantees.specs.Output.{answerLine, answerLines, machineLines, machinePrints}
 use Rattle.guarantees.proofs.Demand3.{same-answer}
 
 decision-line : (n : ℕ) (d : Decision) → decisionLine n d ≡ answerLine n (answerOf d)
 unfolding decisionLine answerLine refusedLine
-decision-line n (Decision.Refused fault at) = refl
+decision-line n (Decision.Refused r) = refl
 decision-line n (Decision.Issued actions) = refl
 
-epoch-lines : (p : Policy) → Acceptable p → (n : ℕ) (lines : List (List ℕ)) → epochLines (imageOf newestForm p) n lines ≡ answerLines n (run p lines)
-unfolding epochLines answerLines run
+epoch-lines : (p : Policy) → Acceptable p → (n : ℕ) (lines : List (List ℕ)) → epochLines (imageOf newestForm p) n lines ≡ answerLines n (steps p lines)
+unfolding epochLines answerLines steps
 epoch-lines p ok n [] = refl
 epoch-lines p ok n (line ∷ lines) =
     ap₂ (λ (x y : List ℕ). x ++ y)
@@ -36,7 +35,7 @@ unfolding printedFor answersTo machineLines
 text-lines text epochs = go (readText text) refl
   where
     go : (p : Progress) → readText text ≡ p → answersTo p epochs ≡ machineLines p epochs
-    go (stopped fault location) e = refl
+    go (stopped r) e = refl
     go (reading n policy) e = epoch-lines policy (accepted-acceptable text n policy e) 0 epochs
 
 -- for every input, refused texts and refused lines included

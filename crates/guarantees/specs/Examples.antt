@@ -2,29 +2,26 @@
 -- with the words of its image.
 use Prim.Native.Nat.{ℕ}
 use Prim.Native.String.{String}
-use mathlib.Core.Bool.{true, false}
-use mathlib.Core.List.{List, [], _∷_, map, foldl}
+use mathlib.Core.Bool.{true}
+use mathlib.Core.List.{List, [], _∷_, map}
 use mathlib.Core.Option.{Option, some, Option·map}
-use Rattle.policy.specs.Set.{noActions, insertAction}
-use Rattle.policy.specs.declared.set.ActionSet.{ActionSet}
+use Rattle.policy.specs.Set.{noActions, actionsFrom}
+use Rattle.pdl.specs.Answer.{Answer, issues}
 use Rattle.lexer.specs.Byte.{bytes}
 use Rattle.syntax.specs.Text.{policyOf}
 use Rattle.image.specs.Layout.{imageWords}
 use Rattle.codegen.specs.Compile.{newestForm}
-use Rattle.guarantees.specs.Machine.{Answer, machine}
+use Rattle.guarantees.specs.Machine.{machine}
 
 pub data Example : Type 0 where
   answers : String → List String → Option (List Answer) → Example
   words : String → Option (List ℕ) → Example
 
-abbrev setOf : List ℕ → ActionSet
-setOf ns = foldl insertAction noActions (map (λ (n : ℕ). record { 0 = n }) ns)
-
 abbrev decided : List ℕ → List ℕ → Answer
-decided accepts cancels = record { isRefused = false; number = 0; location = 0; accepts = setOf accepts; cancels = setOf cancels }
+decided accepted cancelled = issues (actionsFrom accepted) (actionsFrom cancelled)
 
-abbrev refusal : ℕ → Answer
-refusal n = record { isRefused = true; number = n; location = 0; accepts = noActions; cancels = noActions }
+abbrev refusedUnder : ℕ → Answer
+refusedUnder n = record { isRefused = true; number = n; location = 0; accepted = noActions; cancelled = noActions }
 
 abbrev worked : String
 worked = "E1 & !E2 causes A3 if R0 > 40\nE3 causes A4\nnever A3 & A4\n"
@@ -33,7 +30,7 @@ unfoldable pub examples : List Example
 examples =
     -- the five epochs
     answers worked ("E1 E3 R0=41" ∷ "E1 E3 R0=40" ∷ "E1 E2 E3 R0=41" ∷ "" ∷ "E64" ∷ [])
-    (some (decided (3 ∷ []) (4 ∷ []) ∷ decided (4 ∷ []) [] ∷ decided (4 ∷ []) [] ∷ decided [] [] ∷ refusal 13 ∷ []))
+    (some (decided (3 ∷ []) (4 ∷ []) ∷ decided (4 ∷ []) [] ∷ decided (4 ∷ []) [] ∷ decided [] [] ∷ refusedUnder 13 ∷ []))
     -- the empty text: 01000000, FF000000
     ∷ words "" (some (16777216 ∷ 4278190080 ∷ []))
     -- never A1 & A2, never A2 & A3, all three proposed
@@ -46,7 +43,7 @@ examples =
     ∷ answers "E1 causes A1\nE1 causes A2\nnever A1 & A2 if R0 >= 100\n" ("E1 R0=99" ∷ "E1 R0=100" ∷ [])
     (some (decided (1 ∷ 2 ∷ []) [] ∷ decided (1 ∷ []) (2 ∷ []) ∷ []))
     -- a reading given twice; an event named twice
-    ∷ answers worked ("R0=1 R0=1" ∷ "E1 E1 R0=41" ∷ []) (some (refusal 14 ∷ decided (3 ∷ []) [] ∷ []))
+    ∷ answers worked ("R0=1 R0=1" ∷ "E1 E1 R0=41" ∷ []) (some (refusedUnder 14 ∷ decided (3 ∷ []) [] ∷ []))
     -- the worked image, 01007003 to B9FF0FC9
     ∷ words worked
     (some (16805891 ∷ 272629764 ∷ 545259523 ∷ 805339137 ∷ 40 ∷ 1354760192 ∷ 281018369 ∷ 1358954496 ∷ 1623195650 ∷ 1627389953 ∷ 1879048192 ∷ 3120500681 ∷ []))

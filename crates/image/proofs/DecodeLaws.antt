@@ -9,7 +9,8 @@ use borrow.Author.Tests.{ltb-true, eqb-true, eq-eqb}
 use lib.Dec.{eqb}
 use lib.ListN.{length, drop, getD, length-map}
 use Rattle.policy.proofs.ListLaws.{and-in, and-out, true-false}
-use Rattle.policy.specs.Limits.{valid, testNumber, comparisonInRange, endingInRange, comparisonsSize}
+use Rattle.policy.specs.Limits.{valid, testNumber, comparisonInRange, endingInRange}
+use Rattle.image.specs.Steps.Size.{comparisonsSize, conditionSize}
 use Rattle.policy.specs.Line.{PolicyLine, rule, constraint, headsOf, comparisonsOf, endingOf}
 use Rattle.policy.specs.List.{all}
 use Rattle.policy.specs.declared.comparison.Comparison.{Comparison}
@@ -17,12 +18,14 @@ use Rattle.policy.specs.declared.comparison.Literal.{Literal}
 use Rattle.policy.specs.declared.line.Ending.{Ending}
 use Rattle.policy.specs.declared.line.Test.{Test}
 use Rattle.policy.specs.declared.number.Action.{Action}
-use Rattle.image.proofs.CodecLaws.{Written, withConstant, withReading, written, literalOperation, literal-operation, literal-event, member-operation, member-action, causes-operation, causes-action, never-operation}
+use Rattle.word.proofs.PartsLaws.{Written, withConstant, withReading, written, literalOperation, literal-operation, literal-event, member-operation, member-action, causes-operation, causes-action, never-operation}
 use Rattle.image.proofs.LayoutLaws.{condition-length, part-length, condition-size-limit}
 use Rattle.policy.proofs.ValidLaws.{valid-out, testInRange}
-use Rattle.image.specs.Layout.{testWord, comparisonWords, endingWord, conditionWords, partWords, conditionSize, lineWords}
-use Rattle.image.specs.Load.{addLiteral, addMember, addComparison, decodeWord, decode, isPrefix, inPart, standsAt, keepIf, lineAt}
-use Rattle.word.specs.Operation.{Operation, againstConstant, againstReading, proposes, member, never, operationOf, eventFrom}
+use Rattle.word.specs.Parts.{testWord, comparisonWords, endingWord, eventFrom}
+use Rattle.word.specs.Word.{operationOf}
+use Rattle.image.specs.Layout.{conditionWords, partWords, lineWords}
+use Rattle.image.specs.Lines.{Stands, addLiteral, addMember, addComparison, decodeWord, decode, isPrefix, inPart, standsAt, keepIf, lineAt}
+use Rattle.word.specs.declared.operation.Operation.{Operation}
 use Rattle.image.specs.declared.line.Part.{Part}
 
 decode-cons : (w : ℕ) (ws : List ℕ) → decode (w ∷ ws) ≡ decodeWord (operationOf w) w (getD ws 0 0) (decode ws) (decode (drop 1 ws))
@@ -52,9 +55,9 @@ module _ {X : Type 0} (line : List X → List Comparison → PolicyLine) (wrap :
 
       go : decode (tail ++ rest) ≡ some (line [] cs) → Written c (length tail) → decode (comparisonWords c (length tail) ++ tail ++ rest) ≡ some (line [] (c ∷ cs))
       go later (withConstant w v e o s b _ _) =
-          ap (λ (ws : List ℕ). decode (ws ++ tail ++ rest)) e ∙ decode-by w (v ∷ (tail ++ rest)) againstConstant o ∙ ap₂ addComparison b later ∙ front c [] cs
+          ap (λ (ws : List ℕ). decode (ws ++ tail ++ rest)) e ∙ decode-by w (v ∷ (tail ++ rest)) Operation.AgainstConstant o ∙ ap₂ addComparison b later ∙ front c [] cs
       go later (withReading w e o s b _ _) =
-          ap (λ (ws : List ℕ). decode (ws ++ tail ++ rest)) e ∙ decode-by w (tail ++ rest) againstReading o ∙ ap₂ addComparison b later ∙ front c [] cs
+          ap (λ (ws : List ℕ). decode (ws ++ tail ++ rest)) e ∙ decode-by w (tail ++ rest) Operation.AgainstReading o ∙ ap₂ addComparison b later ∙ front c [] cs
 
   part-decoded : (cs : List Comparison) (xs : List X) (rest : List ℕ) → all testInRange (map wrap xs) ≡ true → all comparisonInRange cs ≡ true → length xs + conditionSize cs < 32 → decode (partWords (map wrap xs) cs ending ++ rest) ≡ some (line xs cs)
   unfolding partWords all
@@ -89,14 +92,14 @@ decode-line (rule r) rest v =
     let c = condition-size-limit (r .comparisons) in
     let n : r .action .0 < 64 = ltb-true (r .action .0) 64 (h .ending) in
     part-decoded (λ ls cs. rule (record { literals = ls; action = r .action; comparisons = cs })) Test.Occurs (Ending.Causes (r .action)) (λ c ls cs. refl) (literal-decoded (r .action))
-    (λ ws. decode-by (endingWord (Ending.Causes (r .action))) ws proposes (causes-operation (r .action) n) ∙ ap (λ (a : Action). some (rule (record { literals = []; action = a; comparisons = [] }))) (causes-action (r .action) n))
+    (λ ws. decode-by (endingWord (Ending.Causes (r .action))) ws Operation.Proposes (causes-operation (r .action) n) ∙ ap (λ (a : Action). some (rule (record { literals = []; action = a; comparisons = [] }))) (causes-action (r .action) n))
     (r .comparisons) (r .literals) rest (h .tests) (h .comparisons) (omega (arith, h .few-tests, h .few-comparisons, length-map (r .literals) Test.Occurs))
 decode-line (constraint k) rest v =
     let h = valid-out (constraint k) v in
     let c = condition-size-limit (k .comparisons) in
     part-decoded (λ xs cs. constraint (record { actions = xs; comparisons = cs })) Test.Member Ending.Never (λ c xs cs. refl)
-    (λ a n ws xs cs h b e. decode-by (testWord (Test.Member a) n) ws member (member-operation a n h b) ∙ ap₂ addMember (member-action a n h b) e)
-    (λ ws. decode-by (endingWord Ending.Never) ws never never-operation)
+    (λ a n ws xs cs h b e. decode-by (testWord (Test.Member a) n) ws Operation.Member (member-operation a n h b) ∙ ap₂ addMember (member-action a n h b) e)
+    (λ ws. decode-by (endingWord Ending.Never) ws Operation.Never never-operation)
     (k .comparisons) (k .actions) rest (h .tests) (h .comparisons) (omega (arith, h .few-tests, h .few-comparisons, length-map (k .actions) Test.Member))
 
 -- ---- a line at the start of words
@@ -120,11 +123,6 @@ unfolding lineAt keepIf standsAt
 line-in part l rest i v =
     ap (keepIf (standsAt part (lineWords l ++ rest))) (decode-line l rest v)
     ∙ rw (i, v, prefix-in (lineWords l) rest)
-
-pub record Stands (part : Part) (ws : List ℕ) (l : PolicyLine) : Type 0 where
-  pub kind : inPart part l ≡ true
-  pub sound : valid l ≡ true
-  pub words : ws ≡ lineWords l ++ drop (length (lineWords l)) ws
 
 -- what is found stands there
 pub line-out : (part : Part) (ws : List ℕ) (l : PolicyLine) → lineAt part ws ≡ some l → Stands part ws l

@@ -9,8 +9,9 @@ use borrow.Author.Tests.{ltb-true, ltb-false}
 use lib.Dec.{ltb}
 use lib.ListN.{length, take, drop, getD, length-append, length-drop, drop-of-length-le, List·getD-map, replicate, length-map}
 use lib.Seq.{drop-cons, take-all, getD-take, length-take-le, take-append-seam}
-use Rattle.policy.specs.Limits.{operandSize, comparisonsSize}
-use Rattle.policy.specs.Line.{PolicyLine, headsOf, comparisonsOf, endingOf, held, counted, head, noHead, noComparison, lineOf, lineValue}
+use Rattle.image.specs.Steps.Size.{operandSize, comparisonsSize, conditionSize}
+use Rattle.policy.specs.Line.{PolicyLine, headsOf, comparisonsOf, endingOf}
+use Rattle.policy.specs.Value.{padded, counted, head, noHead, noComparison, lineOf, lineValue}
 use Rattle.policy.specs.declared.comparison.Comparison.{Comparison}
 use Rattle.policy.specs.declared.comparison.Operand.{Operand}
 use Rattle.policy.specs.declared.comparison.Relation.{Relation}
@@ -19,29 +20,21 @@ use Rattle.policy.specs.declared.line.Head.{Head}
 use Rattle.policy.specs.declared.line.Line.{Line}
 use Rattle.policy.specs.declared.line.Test.{Test}
 use Rattle.word.proofs.WriteLaws.{put-append, put-length, put-none}
-use Rattle.image.specs.Layout.{testWord, operandWords, comparisonWords, endingWord, conditionWords, partWords, headWords, conditionSize, testsOf, valueWords, lineWords}
 use Rattle.word.specs.Operation.{relationCode}
-use Rattle.word.specs.Write.{putWords}
-
-pub relation-below : (r : Relation) → relationCode r < 6
-unfolding relationCode
-relation-below Relation.Equal = omega arith
-relation-below Relation.NotEqual = omega arith
-relation-below Relation.Less = omega arith
-relation-below Relation.LessOrEqual = omega arith
-relation-below Relation.Greater = omega arith
-relation-below Relation.GreaterOrEqual = omega arith
+use Rattle.word.specs.Parts.{testWord, operandWord, constantWords, comparisonWord, comparisonWords, endingWord}
+use Rattle.word.specs.Steps.Write.{putWords}
+use Rattle.image.specs.Layout.{conditionWords, partWords, lineWords}
+use Rattle.image.specs.Steps.Value.{headWords, testsOf, valueWords}
 
 -- ---- how many words
 
-operand-length : (o : Operand) (reading relation skip : ℕ) → length (operandWords reading relation o skip) ≡ operandSize o
-unfolding operandWords
-operand-length (Operand.Constant k) reading relation skip = refl
-operand-length (Operand.Reading r) reading relation skip = refl
-
 pub comparison-length : (c : Comparison) (skip : ℕ) → length (comparisonWords c skip) ≡ operandSize (c .operand)
-unfolding comparisonWords
-comparison-length c skip = operand-length (c .operand) (c .reading .0) (relationCode (c .relation)) skip
+unfolding comparisonWords constantWords
+comparison-length c skip = go (c .operand)
+  where
+    go : (o : Operand) → suc (length (constantWords o)) ≡ operandSize o
+    go (Operand.Constant k) = refl
+    go (Operand.Reading r) = refl
 
 operand-size-limit : (o : Operand) → (1 ≤ operandSize o) × (operandSize o ≤ 2)
 operand-size-limit (Operand.Constant k) = omega arith
@@ -356,8 +349,8 @@ module _ (line : Line) (heads-long : length (line .heads) ≡ 8) (comparisons-lo
 -- ---- the value of a line that is not crowded holds all of it
 
 module _ {A : Type 0} (limit : ℕ) (filler : A) (xs : List A) (few : length xs ≤ limit) where
-  all-held : take (counted limit xs) (held limit filler xs) ≡ xs
-  unfolding counted held
+  all-held : take (counted limit xs) (padded limit filler xs) ≡ xs
+  unfolding counted padded
   all-held =
       let n : min (length xs) (suc limit) ≡ length xs = omega arith in
       ap₂ (λ (k : ℕ) (l : List A). take k (l ++ replicate (limit - length xs) filler)) n (take-all limit xs few) ∙ take-append-seam xs (replicate (limit - length xs) filler)

@@ -13,10 +13,10 @@ use Rattle.policy.specs.Set.{insert}
 use Rattle.image.proofs.ScanLaws.{scan-by, Sized, sizedConstant, sizedReading, sizedNone, sized}
 use Rattle.image.proofs.ScanLines.{scan-line}
 use Rattle.image.proofs.SumLaws.{before-at}
-use Rattle.word.proofs.WordLaws.{Below, words-below}
-use Rattle.image.specs.Load.{decode, keepIf, lineAt, lineLength}
-use Rattle.image.specs.Scan.{isEnding, headSound, headCount, comparisonSize, compared}
-use Rattle.word.specs.Word.{wordLimit, wordsOf, wordAt, firstOf, skipOf}
+use Rattle.word.proofs.WordLaws.{words-below}
+use Rattle.word.specs.Word.{wordLimit, wordsOf, wordAt, firstOf, skipOf, Below}
+use Rattle.image.specs.Lines.{decode, keepIf, lineAt, lineLength}
+use Rattle.image.specs.Steps.Scan.{isEnding, headSound, headCount, comparisonLength, comparisonsFill}
 use Rattle.image.specs.declared.line.Part.{Part}
 
 below-drop : (k n : ℕ) (xs : List ℕ) → Below k xs → Below k (drop n xs)
@@ -61,14 +61,14 @@ head-count-limit part (suc n) seen xs =
     go true k h = omega arith
     go false k h = omega arith
 
-compared-agree : (room n : ℕ) (xs ys : List ℕ) → Agree n xs ys → compared room n xs ≡ compared room n ys
-unfolding compared
-compared-agree zero n xs ys h = refl
-compared-agree (suc room) zero xs ys h = refl
-compared-agree (suc room) (suc n) xs ys h =
-    ap (λ (w : ℕ). eqb (suc n) 0 || (not (eqb (comparisonSize w (suc n)) 0) && compared room (suc n - comparisonSize w (suc n)) (drop (comparisonSize w (suc n)) xs))) (h 0 (omega arith))
-    ∙ ap (λ (b : Bool). eqb (suc n) 0 || (not (eqb (comparisonSize (getD ys 0 0) (suc n)) 0) && b))
-    (compared-agree room (suc n - comparisonSize (getD ys 0 0) (suc n)) (drop (comparisonSize (getD ys 0 0) (suc n)) xs) (drop (comparisonSize (getD ys 0 0) (suc n)) ys) (agree-drop (suc n) (comparisonSize (getD ys 0 0) (suc n)) xs ys h))
+fill-agree : (room n : ℕ) (xs ys : List ℕ) → Agree n xs ys → comparisonsFill room n xs ≡ comparisonsFill room n ys
+unfolding comparisonsFill
+fill-agree zero n xs ys h = refl
+fill-agree (suc room) zero xs ys h = refl
+fill-agree (suc room) (suc n) xs ys h =
+    ap (λ (w : ℕ). eqb (suc n) 0 || (not (eqb (comparisonLength w (suc n)) 0) && comparisonsFill room (suc n - comparisonLength w (suc n)) (drop (comparisonLength w (suc n)) xs))) (h 0 (omega arith))
+    ∙ ap (λ (b : Bool). eqb (suc n) 0 || (not (eqb (comparisonLength (getD ys 0 0) (suc n)) 0) && b))
+    (fill-agree room (suc n - comparisonLength (getD ys 0 0) (suc n)) (drop (comparisonLength (getD ys 0 0) (suc n)) xs) (drop (comparisonLength (getD ys 0 0) (suc n)) ys) (agree-drop (suc n) (comparisonLength (getD ys 0 0) (suc n)) xs ys h))
 
 -- ---- heads, one after the other
 
@@ -117,12 +117,12 @@ module _ (part : Part) (words : List ℕ) (at last : ℕ) where
 pub record Comparing (words : List ℕ) (from last room i : ℕ) : Type 0 where
   pub after : from ≤ i
   pub upto : i ≤ last
-  pub same : compared room (last - i) (drop i words) ≡ compared 4 (last - from) (drop from words)
+  pub same : comparisonsFill room (last - i) (drop i words) ≡ comparisonsFill 4 (last - from) (drop from words)
 
-pub size-fits : (w left : ℕ) → w < wordLimit → 0 < left → comparisonSize w left ≤ left
+pub size-fits : (w left : ℕ) → w < wordLimit → 0 < left → comparisonLength w left ≤ left
 size-fits w left l z = go (sized w left l)
   where
-    go : Sized w left → comparisonSize w left ≤ left
+    go : Sized w left → comparisonLength w left ≤ left
     go (sizedConstant k h s p q e) = omega arith
     go (sizedReading h s e) = omega arith
     go (sizedNone e) = omega arith
@@ -131,41 +131,41 @@ module _ (words : List ℕ) (from last : ℕ) where
   pub comparing-none : from ≤ last → Comparing words from last 4 from
   comparing-none h = record { after = omega arith; upto = h; same = refl }
 
-  pub comparing-full : (room i : ℕ) → Comparing words from last room i → i < last → room ≡ 0 → false ≡ compared 4 (last - from) (drop from words)
-  unfolding compared
-  comparing-full room i h l z = sym (ap (λ (k : ℕ). compared k (last - i) (drop i words)) z ∙ ne-eqb (last - i) 0 (λ q. omega arith)) ∙ h .same
+  pub comparing-full : (room i : ℕ) → Comparing words from last room i → i < last → room ≡ 0 → false ≡ comparisonsFill 4 (last - from) (drop from words)
+  unfolding comparisonsFill
+  comparing-full room i h l z = sym (ap (λ (k : ℕ). comparisonsFill k (last - i) (drop i words)) z ∙ ne-eqb (last - i) 0 (λ q. omega arith)) ∙ h .same
 
-  by-size : (room i w left k : ℕ) → i < last → 0 < room → w ≡ getD words i 0 → left ≡ last - i → k ≡ comparisonSize w left
-      → compared room (last - i) (drop i words) ≡ not (eqb k 0) && compared (room - 1) (last - (i + k)) (drop (i + k) words)
-  unfolding compared
+  by-size : (room i w left k : ℕ) → i < last → 0 < room → w ≡ getD words i 0 → left ≡ last - i → k ≡ comparisonLength w left
+      → comparisonsFill room (last - i) (drop i words) ≡ not (eqb k 0) && comparisonsFill (room - 1) (last - (i + k)) (drop (i + k) words)
+  unfolding comparisonsFill
   by-size room i w left k l p e q r =
       let m : room ≡ suc (room - 1) = omega arith in
       let here : getD (drop i words) 0 0 ≡ w = word-here words i ∙ sym e in
-      let s : comparisonSize (getD (drop i words) 0 0) (last - i) ≡ k = ap₂ comparisonSize here (sym q) ∙ sym r in
+      let s : comparisonLength (getD (drop i words) 0 0) (last - i) ≡ k = ap₂ comparisonLength here (sym q) ∙ sym r in
       let n : last - i - k ≡ last - (i + k) = omega arith in
-      ap (λ (x : ℕ). compared x (last - i) (drop i words)) m
-      ∙ ap (λ (x : ℕ). eqb (last - i) 0 || (not (eqb x 0) && compared (room - 1) (last - i - x) (drop x (drop i words)))) s
+      ap (λ (x : ℕ). comparisonsFill x (last - i) (drop i words)) m
+      ∙ ap (λ (x : ℕ). eqb (last - i) 0 || (not (eqb x 0) && comparisonsFill (room - 1) (last - i - x) (drop x (drop i words)))) s
       ∙ rw (ne-eqb (last - i) 0 (λ q. omega arith), n, drop-drop k i words)
 
-  pub comparing-bad : (room i w left k : ℕ) → Comparing words from last room i → i < last → (room ≡ 0 → ⊥) → w ≡ getD words i 0 → left ≡ last - i → k ≡ comparisonSize w left → k ≡ 0 → false ≡ compared 4 (last - from) (drop from words)
+  pub comparing-bad : (room i w left k : ℕ) → Comparing words from last room i → i < last → (room ≡ 0 → ⊥) → w ≡ getD words i 0 → left ≡ last - i → k ≡ comparisonLength w left → k ≡ 0 → false ≡ comparisonsFill 4 (last - from) (drop from words)
   comparing-bad room i w left k h l p e q r z =
-      sym (by-size room i w left k l (omega arith) e q r ∙ ap (λ (x : ℕ). not (eqb x 0) && compared (room - 1) (last - (i + k)) (drop (i + k) words)) z) ∙ h .same
+      sym (by-size room i w left k l (omega arith) e q r ∙ ap (λ (x : ℕ). not (eqb x 0) && comparisonsFill (room - 1) (last - (i + k)) (drop (i + k) words)) z) ∙ h .same
 
-  pub comparing-more : (room i w left k : ℕ) → Comparing words from last room i → i < last → (room ≡ 0 → ⊥) → w ≡ getD words i 0 → left ≡ last - i → k ≡ comparisonSize w left → (k ≡ 0 → ⊥) → w < wordLimit → Comparing words from last (room - 1) (i + k)
+  pub comparing-more : (room i w left k : ℕ) → Comparing words from last room i → i < last → (room ≡ 0 → ⊥) → w ≡ getD words i 0 → left ≡ last - i → k ≡ comparisonLength w left → (k ≡ 0 → ⊥) → w < wordLimit → Comparing words from last (room - 1) (i + k)
   comparing-more room i w left k h l p e q r z b =
       let f = size-fits w left b (omega arith) in
       let a = h .after in
       record {
         after = omega arith;
         upto = omega arith;
-        same = sym (by-size room i w left k l (omega arith) e q r ∙ ap (λ (x : Bool). not x && compared (room - 1) (last - (i + k)) (drop (i + k) words)) (ne-eqb k 0 z)) ∙ h .same;
+        same = sym (by-size room i w left k l (omega arith) e q r ∙ ap (λ (x : Bool). not x && comparisonsFill (room - 1) (last - (i + k)) (drop (i + k) words)) (ne-eqb k 0 z)) ∙ h .same;
       }
 
-  pub comparing-all : (room i : ℕ) → Comparing words from last room i → last ≤ i → true ≡ compared 4 (last - from) (drop from words)
-  unfolding compared
-  comparing-all room i h l = let n : last - i ≡ 0 = omega arith in sym (ap (λ (k : ℕ). compared room k (drop i words)) n ∙ none room) ∙ h .same
+  pub comparing-all : (room i : ℕ) → Comparing words from last room i → last ≤ i → true ≡ comparisonsFill 4 (last - from) (drop from words)
+  unfolding comparisonsFill
+  comparing-all room i h l = let n : last - i ≡ 0 = omega arith in sym (ap (λ (k : ℕ). comparisonsFill room k (drop i words)) n ∙ none room) ∙ h .same
     where
-      none : (k : ℕ) → compared k 0 (drop i words) ≡ true
+      none : (k : ℕ) → comparisonsFill k 0 (drop i words) ≡ true
       none zero = refl
       none (suc k) = refl
 
@@ -188,7 +188,7 @@ module _ (part : Part) (bytes : List ℕ) (end at : ℕ) where
     count = headCount part 0 size (drop at words)
 
     by-scan : lineLength (lineAt part (drop at words))
-        ≡ cond (ltb size (length (drop at words)) && isEnding part (getD (drop at words) size 0) && ltb 0 count && leb count 8 && compared 4 (size - count) (drop count (drop at words))) (size + 1) 0
+        ≡ cond (ltb size (length (drop at words)) && isEnding part (getD (drop at words) size 0) && ltb 0 count && leb count 8 && comparisonsFill 4 (size - count) (drop count (drop at words))) (size + 1) 0
     by-scan =
         sym (scan-line part (drop at words) (below-drop wordLimit at words (below-take wordLimit end (wordsOf bytes) (omega arith) (words-below bytes bounded))))
         ∙ scan-by part (drop at words) size (ap skipOf first ∙ sym skips)
@@ -223,9 +223,9 @@ module _ (part : Part) (bytes : List ℕ) (end at : ℕ) where
         pub not-before : at ≤ middle
         not-before = omega (arith, m)
 
-        by-heads : lineLength (lineAt part (drop at words)) ≡ cond (ltb 0 (middle - at) && leb (middle - at) 8 && compared 4 (size - (middle - at)) (drop (middle - at) (drop at words))) (size + 1) 0
+        by-heads : lineLength (lineAt part (drop at words)) ≡ cond (ltb 0 (middle - at) && leb (middle - at) 8 && comparisonsFill 4 (size - (middle - at)) (drop (middle - at) (drop at words))) (size + 1) 0
         by-heads =
-            by-scan ∙ ap (λ (h : ℕ). cond (ltb size (length (drop at words)) && isEnding part (getD (drop at words) size 0) && ltb 0 h && leb h 8 && compared 4 (size - h) (drop h (drop at words))) (size + 1) 0) heads
+            by-scan ∙ ap (λ (h : ℕ). cond (ltb size (length (drop at words)) && isEnding part (getD (drop at words) size 0) && ltb 0 h && leb h 8 && comparisonsFill 4 (size - h) (drop h (drop at words))) (size + 1) 0) heads
             ∙ rw (within, last-is w e, sym q ∙ f)
 
         pub length-headless : middle ≡ at → 0 ≡ lineLength (lineAt part (drop at words))
@@ -234,14 +234,14 @@ module _ (part : Part) (bytes : List ℕ) (end at : ℕ) where
         pub length-crowded : at + 8 < middle → 0 ≡ lineLength (lineAt part (drop at words))
         length-crowded z = sym (by-heads ∙ rw (lt-ltb 0 (middle - at) (omega arith), lt-leb (middle - at) 8 (omega arith)))
 
-        module _ (some : middle ≡ at → ⊥) (few : middle ≤ at + 8) (r : Bool) (c : r ≡ compared 4 (at + size - middle) (drop middle (wordsOf bytes))) where
+        module _ (some : middle ≡ at → ⊥) (few : middle ≤ at + 8) (r : Bool) (c : r ≡ comparisonsFill 4 (at + size - middle) (drop middle (wordsOf bytes))) where
           by-last : lineLength (lineAt part (drop at words)) ≡ cond r (size + 1) 0
           by-last =
               let n : size - (middle - at) ≡ at + size - middle = omega (arith, not-before) in
               let o : at + (middle - at) ≡ middle = omega (arith, not-before) in
-              let d : compared 4 (size - (middle - at)) (drop (middle - at) (drop at words)) ≡ r =
-              compared-agree 4 (size - (middle - at)) (drop (middle - at) (drop at words)) (drop (middle - at) (drop at (wordsOf bytes))) (agree-drop size (middle - at) (drop at words) (drop at (wordsOf bytes)) agree)
-              ∙ ap₂ (compared 4) n (drop-drop (middle - at) at (wordsOf bytes) ∙ ap (λ (k : ℕ). drop k (wordsOf bytes)) o) ∙ sym c in
+              let d : comparisonsFill 4 (size - (middle - at)) (drop (middle - at) (drop at words)) ≡ r =
+              fill-agree 4 (size - (middle - at)) (drop (middle - at) (drop at words)) (drop (middle - at) (drop at (wordsOf bytes))) (agree-drop size (middle - at) (drop at words) (drop at (wordsOf bytes)) agree)
+              ∙ ap₂ (comparisonsFill 4) n (drop-drop (middle - at) at (wordsOf bytes) ∙ ap (λ (k : ℕ). drop k (wordsOf bytes)) o) ∙ sym c in
               by-heads ∙ rw (lt-ltb 0 (middle - at) (omega (arith, not-before)), le-leb (middle - at) 8 (omega arith), d)
 
           pub length-found : r ≡ true → size + 1 ≡ lineLength (lineAt part (drop at words))

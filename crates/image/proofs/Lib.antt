@@ -1,14 +1,9 @@
-pub mod CodecLaws
 pub mod DecodeLaws
-pub mod Exact
-pub mod Examples
 pub mod FreshLaws
-pub mod ImageLaws
 pub mod LayoutLaws
 pub mod LengthLaws
 pub mod LoadLaws
 pub mod PartLaws
-pub mod PartLines
 pub mod ReadLaws
 pub mod ScanLaws
 pub mod ScanLines

@@ -1,4 +1,4 @@
--- The loader's answer, ground by ground, as the code goes through them.
+-- The loader's answer, fault by fault, as the code goes through them.
 use Prim.Native.Nat.{ℕ, _+_, _/_, _%_, _≤_, _<_}
 use mathlib.Core.Bool.{true, false}
 use mathlib.Core.List.{List}
@@ -9,11 +9,15 @@ use borrow.Author.Tests.{le-leb, lt-leb, eq-eqb, ne-eqb}
 use lib.Dec.{eqb}
 use lib.ListN.{length, take}
 use lib.Seq.{take-all}
+use Rattle.policy.specs.Fault.{refusal}
 use Rattle.policy.specs.declared.fault.Fault.{Fault}
 use Rattle.word.proofs.WordLaws.{words-length}
-use Rattle.image.specs.Layout.{knownForm, checkCount, sum}
-use Rattle.image.specs.Load.{Lines, whole, fault, partAnswer, bodyAnswer, partLines, ruleCount, constraintCount, formByte, wellSized, countsFit, sumsToZero, loadWords, load}
 use Rattle.word.specs.Word.{wordLimit, wordsOf, wordAt, formOf, ruleCountOf, constraintCountOf}
+use Rattle.image.specs.Check.{ruleCount, constraintCount, formByte, wellSized, countsFit, sumsToZero}
+use Rattle.image.specs.Layout.{knownForm, checkCount, sum}
+use Rattle.image.specs.Lines.{Lines, whole, fault, partLines}
+use Rattle.image.specs.Load.{bodyAnswer, loadWords, load}
+use Rattle.image.specs.Steps.Part.{partAnswer}
 use Rattle.image.specs.declared.line.Part.{Part}
 use Rattle.image.specs.declared.load.PartCheck.{PartCheck}
 use Rattle.image.specs.declared.load.Loaded.{Loaded}
@@ -21,16 +25,16 @@ use Rattle.image.specs.declared.load.Loaded.{Loaded}
 -- ---- the answers for the parts
 
 module _ (form ruleWords constraintWords : ℕ) where
-  pub rules-fault : (x y : Lines) (at : ℕ) → partAnswer 0 x ≡ PartCheck.Fault at → Loaded.Refused Fault.ImageBody at ≡ bodyAnswer form ruleWords constraintWords x y
+  pub rules-fault : (x y : Lines) (at : ℕ) → partAnswer 0 x ≡ PartCheck.Fault at → Loaded.Refused (refusal Fault.ImageBody at) ≡ bodyAnswer form ruleWords constraintWords x y
   unfolding partAnswer bodyAnswer
   rules-fault (whole rs) y at e = let z : _≡_ {A = ℕ} 0 1 = cc in absurd (omega arith)
-  rules-fault (fault n) y at e = let z : at ≡ n = cc in ap (Loaded.Refused Fault.ImageBody) z
+  rules-fault (fault n) y at e = let z : at ≡ n = cc in ap (λ (k : ℕ). Loaded.Refused (refusal Fault.ImageBody k)) z
 
-  pub constraints-fault : (x y : Lines) (n at : ℕ) → partAnswer 0 x ≡ PartCheck.Lines n → partAnswer 0 y ≡ PartCheck.Fault at → Loaded.Refused Fault.ImageBody at ≡ bodyAnswer form ruleWords constraintWords x y
+  pub constraints-fault : (x y : Lines) (n at : ℕ) → partAnswer 0 x ≡ PartCheck.Lines n → partAnswer 0 y ≡ PartCheck.Fault at → Loaded.Refused (refusal Fault.ImageBody at) ≡ bodyAnswer form ruleWords constraintWords x y
   unfolding partAnswer bodyAnswer
   constraints-fault (fault m) y n at e q = let z : _≡_ {A = ℕ} 0 1 = cc in absurd (omega arith)
   constraints-fault (whole rs) (whole cs) n at e q = let z : _≡_ {A = ℕ} 0 1 = cc in absurd (omega arith)
-  constraints-fault (whole rs) (fault m) n at e q = let z : at ≡ m = cc in ap (Loaded.Refused Fault.ImageBody) z
+  constraints-fault (whole rs) (fault m) n at e q = let z : at ≡ m = cc in ap (λ (k : ℕ). Loaded.Refused (refusal Fault.ImageBody k)) z
 
   pub both-whole : (x y : Lines) (n m : ℕ) → partAnswer 0 x ≡ PartCheck.Lines n → partAnswer 0 y ≡ PartCheck.Lines m
       → Loaded.Image (record { form = form; «rule_words» = ruleWords; «constraint_words» = constraintWords; rules = n; constraints = m }) ≡ bodyAnswer form ruleWords constraintWords x y
@@ -75,10 +79,10 @@ module _ (ws : List ℕ) where
   unfolding countsFit checkCount
   right-count r c h = rw (le-leb (ruleCount ws) 2176 r, le-leb (constraintCount ws) 1088 c, eq-eqb (length ws) (1 + ruleCount ws + constraintCount ws + 1) h)
 
--- ---- ground by ground
+-- ---- fault by fault
 
 module _ (bytes : List ℕ) where
-  pub load-size : wellSized (length bytes) ≡ false → Loaded.Refused Fault.ImageSize 0 ≡ load bytes
+  pub load-size : wellSized (length bytes) ≡ false → Loaded.Refused (refusal Fault.ImageSize 0) ≡ load bytes
   unfolding load
   load-size e = rw e
 
@@ -90,7 +94,7 @@ module _ (bytes : List ℕ) where
     pub load-form : formOf header ≡ formByte (wordsOf bytes)
     load-form = ap formOf is-header
 
-    pub load-unknown : (form : ℕ) → form ≡ formOf header → (form ≡ 1 → ⊥) → Loaded.Refused Fault.ImageForm 0 ≡ load bytes
+    pub load-unknown : (form : ℕ) → form ≡ formOf header → (form ≡ 1 → ⊥) → Loaded.Refused (refusal Fault.ImageForm 0) ≡ load bytes
     unfolding loadWords knownForm
     load-unknown form e n = sym (by-words ∙ rw (ne-eqb (formByte (wordsOf bytes)) 1 (λ q. n (e ∙ load-form ∙ q))))
 
@@ -105,20 +109,20 @@ module _ (bytes : List ℕ) where
       constraints-are : constraints ≡ constraintCount (wordsOf bytes)
       constraints-are = is-constraints ∙ ap constraintCountOf is-header
 
-      uncounted : countsFit (wordsOf bytes) ≡ false → Loaded.Refused Fault.ImageCount 0 ≡ load bytes
+      uncounted : countsFit (wordsOf bytes) ≡ false → Loaded.Refused (refusal Fault.ImageCount 0) ≡ load bytes
       unfolding loadWords
       uncounted e = sym (by-words ∙ rw (known, e))
 
-      pub load-rules : 2176 < rules → Loaded.Refused Fault.ImageCount 0 ≡ load bytes
+      pub load-rules : 2176 < rules → Loaded.Refused (refusal Fault.ImageCount 0) ≡ load bytes
       load-rules h = uncounted over
         where
           over : countsFit (wordsOf bytes) ≡ false
           over = too-many-rules (wordsOf bytes) (omega (arith, rules-are))
 
-      pub load-constraints : rules ≤ 2176 → 1088 < constraints → Loaded.Refused Fault.ImageCount 0 ≡ load bytes
+      pub load-constraints : rules ≤ 2176 → 1088 < constraints → Loaded.Refused (refusal Fault.ImageCount 0) ≡ load bytes
       load-constraints r h = uncounted (too-many-constraints (wordsOf bytes) (omega (arith, rules-are)) (omega (arith, constraints-are)))
 
-      pub load-count : rules ≤ 2176 → constraints ≤ 1088 → (length bytes / 4 ≡ 1 + rules + constraints + 1 → ⊥) → Loaded.Refused Fault.ImageCount 0 ≡ load bytes
+      pub load-count : rules ≤ 2176 → constraints ≤ 1088 → (length bytes / 4 ≡ 1 + rules + constraints + 1 → ⊥) → Loaded.Refused (refusal Fault.ImageCount 0) ≡ load bytes
       load-count r c h =
           uncounted (wrong-count (wordsOf bytes) (omega (arith, rules-are)) (omega (arith, constraints-are)) (λ q. h (omega (arith, words-length bytes, rules-are, constraints-are))))
 
@@ -129,7 +133,7 @@ module _ (bytes : List ℕ) where
         all-words : take (length bytes / 4) (wordsOf bytes) ≡ wordsOf bytes
         all-words = take-all (length bytes / 4) (wordsOf bytes) (omega (arith, words-length bytes))
 
-        pub load-sum : (total : ℕ) → total ≡ sum (take (length bytes / 4) (wordsOf bytes)) % wordLimit → (total ≡ 0 → ⊥) → Loaded.Refused Fault.ImageSum 0 ≡ load bytes
+        pub load-sum : (total : ℕ) → total ≡ sum (take (length bytes / 4) (wordsOf bytes)) % wordLimit → (total ≡ 0 → ⊥) → Loaded.Refused (refusal Fault.ImageSum 0) ≡ load bytes
         unfolding loadWords sumsToZero
         load-sum total e z =
             sym (by-words ∙ rw (known, counted, ne-eqb (sum (wordsOf bytes) % wordLimit) 0 (λ q. z (e ∙ ap (λ (ws : List ℕ). sum ws % wordLimit) all-words ∙ q))))

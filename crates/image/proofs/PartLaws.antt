@@ -11,9 +11,10 @@ use Rattle.policy.specs.Line.{PolicyLine, headsOf, comparisonsOf, endingOf}
 use Rattle.image.proofs.DecodeLaws.{line-out}
 use Rattle.image.proofs.LayoutLaws.{part-length, condition-size-limit}
 use Rattle.word.proofs.WordLaws.{words-length}
-use Rattle.image.specs.Layout.{lineWords}
-use Rattle.image.specs.Load.{lineAt, lineLength, Lines, whole, fault, addLine, afterLine, linesFrom, partAnswer}
 use Rattle.word.specs.Word.{wordsOf}
+use Rattle.image.specs.Layout.{lineWords}
+use Rattle.image.specs.Lines.{lineAt, lineLength, Lines, whole, fault, addLine, afterLine, linesFrom}
+use Rattle.image.specs.Steps.Part.{partAnswer}
 use Rattle.image.specs.declared.line.Part.{Part}
 use Rattle.image.specs.declared.load.PartCheck.{PartCheck}
 

@@ -21,25 +21,29 @@ use Rattle.policy.specs.declared.comparison.Literal.{Literal}
 use Rattle.policy.specs.declared.line.Ending.{Ending}
 use Rattle.policy.specs.declared.line.Test.{Test}
 use Rattle.policy.specs.declared.number.Action.{Action}
-use Rattle.image.proofs.CodecLaws.{Compares, Written, withConstant, withReading, written, test-skip, test-first, test-opcode, test-low}
+use Rattle.word.proofs.PartsLaws.{Compares, Written, withConstant, withReading, written, test-skip, test-first, test-operation, test-low}
 use Rattle.image.proofs.FreshLaws.{Fresh, fresh-out, fresh-all}
 use Rattle.image.proofs.LayoutLaws.{condition-length, part-length, condition-size-limit}
 use Rattle.policy.proofs.ValidLaws.{ValidParts, valid-out, testInRange}
+use Rattle.word.proofs.OperationLaws.{operation-back}
 use Rattle.word.proofs.WordLaws.{opcode-pack, head-low, head-again}
-use Rattle.image.specs.Layout.{testOpcode, testWord, comparisonWords, endingWord, conditionWords, partWords, lineWords}
-use Rattle.image.specs.Load.{inPart}
-use Rattle.image.specs.Scan.{isHead, isEnding, headOpcodes, headSound, headCount, constantSound, readingSound, comparisonSize, compared, scanLine}
-use Rattle.word.specs.Word.{wordLimit, pack, opcodeOf, firstOf, secondOf, relationOf, skipOf}
+use Rattle.word.specs.Parts.{testOperation, testWord, comparisonWords, endingWord}
+use Rattle.word.specs.Operation.{opcode, operationFrom}
+use Rattle.word.specs.Word.{wordLimit, pack, opcodeOf, operationOf, firstOf, secondOf, relationCodeOf, skipOf}
+use Rattle.word.specs.declared.operation.Operation.{Operation}
+use Rattle.image.specs.Layout.{conditionWords, partWords, lineWords}
+use Rattle.image.specs.Lines.{inPart}
+use Rattle.image.specs.Steps.Scan.{isHead, isEnding, headOpcodes, headSound, headCount, constantSound, readingSound, lengthBy, comparisonLength, comparisonsFill, scanLine}
 use Rattle.image.specs.declared.line.Part.{Part}
 
 -- ---- one word, from facts and to facts
 
-not-head : (part : Part) (n : ℕ) → (n ≡ 3) ⊎ (n ≡ 4) → isHead part n ≡ false
+not-head : (part : Part) (o : Operation) → (o ≡ Operation.AgainstConstant) ⊎ (o ≡ Operation.AgainstReading) → isHead part o ≡ false
 unfolding isHead
-not-head Part.Rules n (inl e) = rw e
-not-head Part.Rules n (inr e) = rw e
-not-head Part.Constraints n (inl e) = rw e
-not-head Part.Constraints n (inr e) = rw e
+not-head Part.Rules o (inl e) = rw e
+not-head Part.Rules o (inr e) = rw e
+not-head Part.Constraints o (inl e) = rw e
+not-head Part.Constraints o (inr e) = rw e
 
 -- a number has no bit past its own
 past : (s k m : ℕ) → s < 2 ^ k → k ≤ m → s / 2 ^ m ≡ 0
@@ -49,12 +53,17 @@ past s k m h l =
     omega (arith, r)
 
 -- the operations of heads as bits
-pub head-bit : (part : Part) (n : ℕ) → has (headOpcodes part) n ≡ isHead part n
-unfolding has headOpcodes isHead
+pub head-bit : (part : Part) (n : ℕ) → has (headOpcodes part) n ≡ isHead part (operationFrom n)
+unfolding has headOpcodes isHead operationFrom
 head-bit Part.Rules zero = refl
 head-bit Part.Rules (suc zero) = refl
 head-bit Part.Rules (suc (suc zero)) = refl
-head-bit Part.Rules (suc (suc (suc n))) = rw (ne-eqb (suc (suc (suc n))) 1 (λ q. omega arith), ne-eqb (suc (suc (suc n))) 2 (λ q. omega arith), past 6 3 (suc (suc (suc n))) (omega arith) (omega arith))
+head-bit Part.Rules (suc (suc (suc zero))) = refl
+head-bit Part.Rules (suc (suc (suc (suc zero)))) = refl
+head-bit Part.Rules (suc (suc (suc (suc (suc zero))))) = refl
+head-bit Part.Rules (suc (suc (suc (suc (suc (suc zero)))))) = refl
+head-bit Part.Rules (suc (suc (suc (suc (suc (suc (suc zero))))))) = refl
+head-bit Part.Rules (suc (suc (suc (suc (suc (suc (suc (suc n)))))))) = rw (past 6 3 (suc (suc (suc (suc (suc (suc (suc (suc n)))))))) (omega arith) (omega arith))
 head-bit Part.Constraints zero = refl
 head-bit Part.Constraints (suc zero) = refl
 head-bit Part.Constraints (suc (suc zero)) = refl
@@ -62,10 +71,11 @@ head-bit Part.Constraints (suc (suc (suc zero))) = refl
 head-bit Part.Constraints (suc (suc (suc (suc zero)))) = refl
 head-bit Part.Constraints (suc (suc (suc (suc (suc zero))))) = refl
 head-bit Part.Constraints (suc (suc (suc (suc (suc (suc zero)))))) = refl
-head-bit Part.Constraints (suc (suc (suc (suc (suc (suc (suc n))))))) = rw (ne-eqb (suc (suc (suc (suc (suc (suc (suc n))))))) 6 (λ q. omega arith), past 64 7 (suc (suc (suc (suc (suc (suc (suc n))))))) (omega arith) (omega arith))
+head-bit Part.Constraints (suc (suc (suc (suc (suc (suc (suc zero))))))) = refl
+head-bit Part.Constraints (suc (suc (suc (suc (suc (suc (suc (suc n)))))))) = rw (past 64 7 (suc (suc (suc (suc (suc (suc (suc (suc n)))))))) (omega arith) (omega arith))
 
 pub record HeadFacts (part : Part) (seen w left : ℕ) : Type 0 where
-  pub operation : isHead part (opcodeOf w) ≡ true
+  pub operation : isHead part (operationOf w) ≡ true
   pub low : w % 2 ^ 22 ≡ left
   pub unseen : has seen (firstOf w) ≡ false
 
@@ -76,87 +86,97 @@ head-in part seen w left h = rw (h .operation, eq-eqb (w % 2 ^ 22) left (h .low)
 pub head-out : (part : Part) (seen w left : ℕ) → headSound part seen w left ≡ true → HeadFacts part seen w left
 unfolding headSound
 head-out part seen w left q =
-    let p = and-out (eqb (w % 2 ^ 22) left && isHead part (opcodeOf w)) (not (has seen (firstOf w))) q in
-    let r = and-out (eqb (w % 2 ^ 22) left) (isHead part (opcodeOf w)) (p .0) in
+    let p = and-out (eqb (w % 2 ^ 22) left && isHead part (operationOf w)) (not (has seen (firstOf w))) q in
+    let r = and-out (eqb (w % 2 ^ 22) left) (isHead part (operationOf w)) (p .0) in
     record { operation = r .1; low = eqb-true (w % 2 ^ 22) left (r .0); unseen = not-true (has seen (firstOf w)) (p .1) }
 
 and-false : (b : Bool) → b && false ≡ false
 and-false true = refl
 and-false false = refl
 
-pub no-head : (part : Part) (seen w left : ℕ) → (opcodeOf w ≡ 3) ⊎ (opcodeOf w ≡ 4) → headSound part seen w left ≡ false
+pub no-head : (part : Part) (seen w left : ℕ) → (operationOf w ≡ Operation.AgainstConstant) ⊎ (operationOf w ≡ Operation.AgainstReading) → headSound part seen w left ≡ false
 unfolding headSound
-no-head part seen w left o = rw (not-head part (opcodeOf w) o, and-false (eqb (w % 2 ^ 22) left))
+no-head part seen w left o = rw (not-head part (operationOf w) o, and-false (eqb (w % 2 ^ 22) left))
 
-pub size-constant : (w k : ℕ) → Compares 3 w k → secondOf w ≡ 0 → 0 < k → comparisonSize w (k + 1) ≡ 2
-unfolding comparisonSize constantSound
+pub length-by : (w left : ℕ) (o : Operation) → operationOf w ≡ o → comparisonLength w left ≡ lengthBy o w left
+unfolding comparisonLength
+length-by w left o q = ap (λ (x : Operation). lengthBy x w left) q
+
+pub size-constant : (w k : ℕ) → Compares Operation.AgainstConstant w k → secondOf w ≡ 0 → 0 < k → comparisonLength w (k + 1) ≡ 2
+unfolding lengthBy constantSound
 size-constant w k h z p =
     let e : w % 2 ^ 13 + 1 ≡ k + 1 = ap (λ (n : ℕ). n + 1) (h .low) in
-    rw (eq-eqb (opcodeOf w) 3 (h .operation), lt-ltb (firstOf w) 16 (h .first), lt-ltb (relationOf w) 6 (h .relation), eq-eqb (secondOf w) 0 z, eq-eqb (w % 2 ^ 13 + 1) (k + 1) e, lt-ltb 1 (k + 1) (omega arith))
+    length-by w (k + 1) Operation.AgainstConstant (h .operation)
+    ∙ rw (lt-ltb (firstOf w) 16 (h .first), lt-ltb (relationCodeOf w) 6 (h .relation), eq-eqb (secondOf w) 0 z, eq-eqb (w % 2 ^ 13 + 1) (k + 1) e, lt-ltb 1 (k + 1) (omega arith))
 
-pub size-reading : (w k : ℕ) → Compares 4 w k → secondOf w < 16 → comparisonSize w k ≡ 1
-unfolding comparisonSize readingSound
+pub size-reading : (w k : ℕ) → Compares Operation.AgainstReading w k → secondOf w < 16 → comparisonLength w k ≡ 1
+unfolding lengthBy readingSound
 size-reading w k h z =
-    let n : eqb (opcodeOf w) 3 ≡ false = ne-eqb (opcodeOf w) 3 (λ q. omega (arith, h .operation)) in
-    rw (n, eq-eqb (opcodeOf w) 4 (h .operation), lt-ltb (firstOf w) 16 (h .first), lt-ltb (relationOf w) 6 (h .relation), lt-ltb (secondOf w) 16 z, eq-eqb (w % 2 ^ 13) k (h .low))
+    length-by w k Operation.AgainstReading (h .operation)
+    ∙ rw (lt-ltb (firstOf w) 16 (h .first), lt-ltb (relationCodeOf w) 6 (h .relation), lt-ltb (secondOf w) 16 z, eq-eqb (w % 2 ^ 13) k (h .low))
 
 -- what a word is, by the size of its comparison
 pub data Sized (w left : ℕ) : Type 0 where
-  sizedConstant : (k : ℕ) → Compares 3 w k → secondOf w ≡ 0 → 0 < k → left ≡ k + 1 → comparisonSize w left ≡ 2 → Sized w left
-  sizedReading : Compares 4 w left → secondOf w < 16 → comparisonSize w left ≡ 1 → Sized w left
-  sizedNone : comparisonSize w left ≡ 0 → Sized w left
+  sizedConstant : (k : ℕ) → Compares Operation.AgainstConstant w k → secondOf w ≡ 0 → 0 < k → left ≡ k + 1 → comparisonLength w left ≡ 2 → Sized w left
+  sizedReading : Compares Operation.AgainstReading w left → secondOf w < 16 → comparisonLength w left ≡ 1 → Sized w left
+  sizedNone : comparisonLength w left ≡ 0 → Sized w left
 
 pub sized : (w left : ℕ) → w < wordLimit → Sized w left
-unfolding comparisonSize constantSound readingSound
-sized w left limit = go (eqb (opcodeOf w) 3) (eqb (opcodeOf w) 4) refl refl
+unfolding lengthBy constantSound readingSound
+sized w left limit = go (operationOf w) refl
   where
-    constant : opcodeOf w ≡ 3 → (b : Bool) → constantSound w left ≡ b → Sized w left
+    constant : operationOf w ≡ Operation.AgainstConstant → (b : Bool) → constantSound w left ≡ b → Sized w left
     constant o true q =
-        let r = and-out (ltb (firstOf w) 16 && ltb (relationOf w) 6 && eqb (secondOf w) 0 && eqb (w % 2 ^ 13 + 1) left) (ltb 1 left) q in
-        let u = and-out (ltb (firstOf w) 16 && ltb (relationOf w) 6 && eqb (secondOf w) 0) (eqb (w % 2 ^ 13 + 1) left) (r .0) in
-        let v = and-out (ltb (firstOf w) 16 && ltb (relationOf w) 6) (eqb (secondOf w) 0) (u .0) in
-        let x = and-out (ltb (firstOf w) 16) (ltb (relationOf w) 6) (v .0) in
+        let r = and-out (ltb (firstOf w) 16 && ltb (relationCodeOf w) 6 && eqb (secondOf w) 0 && eqb (w % 2 ^ 13 + 1) left) (ltb 1 left) q in
+        let u = and-out (ltb (firstOf w) 16 && ltb (relationCodeOf w) 6 && eqb (secondOf w) 0) (eqb (w % 2 ^ 13 + 1) left) (r .0) in
+        let v = and-out (ltb (firstOf w) 16 && ltb (relationCodeOf w) 6) (eqb (secondOf w) 0) (u .0) in
+        let x = and-out (ltb (firstOf w) 16) (ltb (relationCodeOf w) 6) (v .0) in
         let l : w % 2 ^ 13 + 1 ≡ left = eqb-true (w % 2 ^ 13 + 1) left (u .1) in
         let n : 1 < left = ltb-true 1 left (r .1) in
         sizedConstant (w % 2 ^ 13)
-        (record { limit = limit; operation = o; first = ltb-true (firstOf w) 16 (x .0); relation = ltb-true (relationOf w) 6 (x .1); low = refl })
-        (eqb-true (secondOf w) 0 (v .1)) (omega arith) (sym l) (rw (eq-eqb (opcodeOf w) 3 o, q))
-    constant o false q = sizedNone (rw (eq-eqb (opcodeOf w) 3 o, q))
+        (record { limit = limit; operation = o; first = ltb-true (firstOf w) 16 (x .0); relation = ltb-true (relationCodeOf w) 6 (x .1); low = refl })
+        (eqb-true (secondOf w) 0 (v .1)) (omega arith) (sym l) (length-by w left Operation.AgainstConstant o ∙ rw q)
+    constant o false q = sizedNone (length-by w left Operation.AgainstConstant o ∙ rw q)
 
-    reading : eqb (opcodeOf w) 3 ≡ false → opcodeOf w ≡ 4 → (b : Bool) → readingSound w left ≡ b → Sized w left
-    reading n o true q =
-        let u = and-out (ltb (firstOf w) 16 && ltb (relationOf w) 6 && ltb (secondOf w) 16) (eqb (w % 2 ^ 13) left) q in
-        let v = and-out (ltb (firstOf w) 16 && ltb (relationOf w) 6) (ltb (secondOf w) 16) (u .0) in
-        let x = and-out (ltb (firstOf w) 16) (ltb (relationOf w) 6) (v .0) in
+    reading : operationOf w ≡ Operation.AgainstReading → (b : Bool) → readingSound w left ≡ b → Sized w left
+    reading o true q =
+        let u = and-out (ltb (firstOf w) 16 && ltb (relationCodeOf w) 6 && ltb (secondOf w) 16) (eqb (w % 2 ^ 13) left) q in
+        let v = and-out (ltb (firstOf w) 16 && ltb (relationCodeOf w) 6) (ltb (secondOf w) 16) (u .0) in
+        let x = and-out (ltb (firstOf w) 16) (ltb (relationCodeOf w) 6) (v .0) in
         sizedReading
-        (record { limit = limit; operation = o; first = ltb-true (firstOf w) 16 (x .0); relation = ltb-true (relationOf w) 6 (x .1); low = eqb-true (w % 2 ^ 13) left (u .1) })
-        (ltb-true (secondOf w) 16 (v .1)) (rw (n, eq-eqb (opcodeOf w) 4 o, q))
-    reading n o false q = sizedNone (rw (n, eq-eqb (opcodeOf w) 4 o, q))
+        (record { limit = limit; operation = o; first = ltb-true (firstOf w) 16 (x .0); relation = ltb-true (relationCodeOf w) 6 (x .1); low = eqb-true (w % 2 ^ 13) left (u .1) })
+        (ltb-true (secondOf w) 16 (v .1)) (length-by w left Operation.AgainstReading o ∙ rw q)
+    reading o false q = sizedNone (length-by w left Operation.AgainstReading o ∙ rw q)
 
-    go : (a b : Bool) → eqb (opcodeOf w) 3 ≡ a → eqb (opcodeOf w) 4 ≡ b → Sized w left
-    go true b p q = constant (eqb-true (opcodeOf w) 3 p) (constantSound w left) refl
-    go false true p q = reading p (eqb-true (opcodeOf w) 4 q) (readingSound w left) refl
-    go false false p q = sizedNone (rw (p, q))
+    go : (o : Operation) → operationOf w ≡ o → Sized w left
+    go Operation.AgainstConstant q = constant q (constantSound w left) refl
+    go Operation.AgainstReading q = reading q (readingSound w left) refl
+    go Operation.Present q = sizedNone (length-by w left Operation.Present q)
+    go Operation.Absent q = sizedNone (length-by w left Operation.Absent q)
+    go Operation.Proposes q = sizedNone (length-by w left Operation.Proposes q)
+    go Operation.Member q = sizedNone (length-by w left Operation.Member q)
+    go Operation.Never q = sizedNone (length-by w left Operation.Never q)
+    go Operation.Unknown q = sizedNone (length-by w left Operation.Unknown q)
 
 -- one comparison more, of so many words
-pub compared-step : (n room k w : ℕ) (ws : List ℕ) → comparisonSize w (suc n) ≡ k → 0 < k → compared (suc room) (suc n) (w ∷ ws) ≡ compared room (suc n - k) (drop k (w ∷ ws))
-unfolding compared
-compared-step n room k w ws e p = rw (ne-eqb (suc n) 0 (λ q. omega arith), e, ne-eqb k 0 (λ q. omega arith))
+pub fill-step : (n room k w : ℕ) (ws : List ℕ) → comparisonLength w (suc n) ≡ k → 0 < k → comparisonsFill (suc room) (suc n) (w ∷ ws) ≡ comparisonsFill room (suc n - k) (drop k (w ∷ ws))
+unfolding comparisonsFill
+fill-step n room k w ws e p = rw (ne-eqb (suc n) 0 (λ q. omega arith), e, ne-eqb k 0 (λ q. omega arith))
 
-pub compared-none : (n room w : ℕ) (ws : List ℕ) → comparisonSize w (suc n) ≡ 0 → compared (suc room) (suc n) (w ∷ ws) ≡ false
-unfolding compared
-compared-none n room w ws e = rw (ne-eqb (suc n) 0 (λ q. omega arith), e)
+pub fill-none : (n room w : ℕ) (ws : List ℕ) → comparisonLength w (suc n) ≡ 0 → comparisonsFill (suc room) (suc n) (w ∷ ws) ≡ false
+unfolding comparisonsFill
+fill-none n room w ws e = rw (ne-eqb (suc n) 0 (λ q. omega arith), e)
 
 -- ---- the words of a valid line pass
 
 module _ (part : Part) (e : Ending) (rest : List ℕ) where
-  condition-compared : (cs : List Comparison) (room m : ℕ) → length cs ≤ room → length cs ≤ 4 → all comparisonInRange cs ≡ true → length (conditionWords cs e) ≡ suc m
-      → compared room m (conditionWords cs e ++ rest) ≡ true
-  unfolding conditionWords compared all
-  condition-compared [] zero m f g r l = let z : m ≡ 0 = omega arith in rw z
-  condition-compared [] (suc room) m f g r l = let z : m ≡ 0 = omega arith in rw z
-  condition-compared (c ∷ cs) zero m f g r l = absurd (omega arith)
-  condition-compared (c ∷ cs) (suc room) m f g r l = go m (written c (length tail) (p .0) small) size (λ m′ j. condition-compared cs room m′ (omega arith) (omega arith) (p .1) j)
+  condition-fills : (cs : List Comparison) (room m : ℕ) → length cs ≤ room → length cs ≤ 4 → all comparisonInRange cs ≡ true → length (conditionWords cs e) ≡ suc m
+      → comparisonsFill room m (conditionWords cs e ++ rest) ≡ true
+  unfolding conditionWords comparisonsFill all
+  condition-fills [] zero m f g r l = let z : m ≡ 0 = omega arith in rw z
+  condition-fills [] (suc room) m f g r l = let z : m ≡ 0 = omega arith in rw z
+  condition-fills (c ∷ cs) zero m f g r l = absurd (omega arith)
+  condition-fills (c ∷ cs) (suc room) m f g r l = go m (written c (length tail) (p .0) small) size (λ m′ j. condition-fills cs room m′ (omega arith) (omega arith) (p .1) j)
     where
       tail : List ℕ
       tail = conditionWords cs e
@@ -174,21 +194,21 @@ module _ (part : Part) (e : Ending) (rest : List ℕ) where
       size = sym (length-append (comparisonWords c (length tail)) tail) ∙ l
 
       Later : Type 0
-      Later = (m′ : ℕ) → length tail ≡ suc m′ → compared room m′ (tail ++ rest) ≡ true
+      Later = (m′ : ℕ) → length tail ≡ suc m′ → comparisonsFill room m′ (tail ++ rest) ≡ true
 
-      go : (n : ℕ) → Written c (length tail) → length (comparisonWords c (length tail)) + length tail ≡ suc n → Later → compared (suc room) n (comparisonWords c (length tail) ++ tail ++ rest) ≡ true
+      go : (n : ℕ) → Written c (length tail) → length (comparisonWords c (length tail)) + length tail ≡ suc n → Later → comparisonsFill (suc room) n (comparisonWords c (length tail) ++ tail ++ rest) ≡ true
       go zero (withConstant w v q o k b h z) l′ later = absurd (omega (arith, ap length q))
       go (suc n) (withConstant w v q o k b h z) l′ later =
           let j : length tail ≡ suc (suc n - 2) = omega (arith, ap length q, some-tail) in
           let left : suc n ≡ length tail + 1 = omega (arith, ap length q) in
-          let s : comparisonSize w (suc n) ≡ 2 = ap (comparisonSize w) left ∙ size-constant w (length tail) h (z .0) some-tail in
-          ap (λ (x : List ℕ). compared (suc room) (suc n) (x ++ tail ++ rest)) q ∙ compared-step n room 2 w (v ∷ tail ++ rest) s (omega arith) ∙ later (suc n - 2) j
+          let s : comparisonLength w (suc n) ≡ 2 = ap (comparisonLength w) left ∙ size-constant w (length tail) h (z .0) some-tail in
+          ap (λ (x : List ℕ). comparisonsFill (suc room) (suc n) (x ++ tail ++ rest)) q ∙ fill-step n room 2 w (v ∷ tail ++ rest) s (omega arith) ∙ later (suc n - 2) j
       go zero (withReading w q o k b h z) l′ later = absurd (omega (arith, ap length q, some-tail))
       go (suc n) (withReading w q o k b h z) l′ later =
           let j : length tail ≡ suc (suc n - 1) = omega (arith, ap length q, some-tail) in
           let left : suc n ≡ length tail = omega (arith, ap length q) in
-          let s : comparisonSize w (suc n) ≡ 1 = ap (comparisonSize w) left ∙ size-reading w (length tail) h z in
-          ap (λ (x : List ℕ). compared (suc room) (suc n) (x ++ tail ++ rest)) q ∙ compared-step n room 1 w (tail ++ rest) s (omega arith) ∙ later (suc n - 1) j
+          let s : comparisonLength w (suc n) ≡ 1 = ap (comparisonLength w) left ∙ size-reading w (length tail) h z in
+          ap (λ (x : List ℕ). comparisonsFill (suc room) (suc n) (x ++ tail ++ rest)) q ∙ fill-step n room 1 w (tail ++ rest) s (omega arith) ∙ later (suc n - 1) j
 
   -- no head stands where the comparisons begin
   condition-headless : (cs : List Comparison) (seen m : ℕ) → length cs ≤ 4 → all comparisonInRange cs ≡ true → length (conditionWords cs e) ≡ suc m → headCount part seen m (conditionWords cs e ++ rest) ≡ 0
@@ -208,14 +228,14 @@ module _ (part : Part) (e : Ending) (rest : List ℕ) where
       go (withReading w q o k b h z) = rw (q, no-head part seen w (suc m) (inr (h .operation)))
 
   heads-counted : (cs : List Comparison) → length cs ≤ 4 → all comparisonInRange cs ≡ true → (ts : List Test) (seen m : ℕ) → length ts ≤ 8
-      → Fresh seen (map testNumber ts) → all testInRange ts ≡ true → all (λ (t : Test). isHead part (testOpcode t)) ts ≡ true → length (partWords ts cs e) ≡ suc m
+      → Fresh seen (map testNumber ts) → all testInRange ts ≡ true → all (λ (t : Test). isHead part (testOperation t)) ts ≡ true → length (partWords ts cs e) ≡ suc m
       → headCount part seen m (partWords ts cs e ++ rest) ≡ length ts
   unfolding partWords headCount all
   heads-counted cs f r [] seen m h u k o l = condition-headless cs seen m f r l
   heads-counted cs f r (x ∷ xs) seen zero h u k o l = absurd (omega (arith, part-length xs cs e, condition-size-limit cs))
   heads-counted cs f r (x ∷ xs) seen (suc m) h u k o l =
       let p = and-out (testInRange x) (all testInRange xs) k in
-      let q = and-out (isHead part (testOpcode x)) (all (λ (t : Test). isHead part (testOpcode t)) xs) o in
+      let q = and-out (isHead part (testOperation x)) (all (λ (t : Test). isHead part (testOperation t)) xs) o in
       let n : testNumber x < 64 = ltb-true (testNumber x) 64 (p .0) in
       let j : length tail ≡ suc m = omega arith in
       let b : length tail < 32 = omega (arith, part-length xs cs e, condition-size-limit cs) in
@@ -224,7 +244,7 @@ module _ (part : Part) (e : Ending) (rest : List ℕ) where
       let first = test-first x (length tail) n b in
       let facts : HeadFacts part seen w (suc m) =
       record {
-        operation = ap (isHead part) (test-opcode x (length tail) n b) ∙ q .0;
+        operation = ap (isHead part) (test-operation x (length tail) n b) ∙ q .0;
         low = test-low x (length tail) n b ∙ j;
         unseen = ap (has seen) first ∙ v .0;
       } in
@@ -264,49 +284,49 @@ last-word ts cs e rest m l =
 
 -- ---- the kinds of lines
 
-kind-heads : (part : Part) (l : PolicyLine) → inPart part l ≡ true → all (λ (t : Test). isHead part (testOpcode t)) (headsOf l) ≡ true
-unfolding inPart headsOf isHead testOpcode all
+kind-heads : (part : Part) (l : PolicyLine) → inPart part l ≡ true → all (λ (t : Test). isHead part (testOperation t)) (headsOf l) ≡ true
+unfolding inPart headsOf isHead testOperation all
 kind-heads Part.Rules (rule r) k = each (r .literals)
   where
-    one : (b : Bool) → eqb (cond b 2 1) 1 || eqb (cond b 2 1) 2 ≡ true
+    one : (b : Bool) → isHead Part.Rules (cond b Operation.Absent Operation.Present) ≡ true
     one true = refl
     one false = refl
 
-    each : (ls : List Literal) → all (λ (t : Test). isHead Part.Rules (testOpcode t)) (map Test.Occurs ls) ≡ true
+    each : (ls : List Literal) → all (λ (t : Test). isHead Part.Rules (testOperation t)) (map Test.Occurs ls) ≡ true
     each [] = refl
     each (l ∷ ls) = and-in (one (l .negated)) (each ls)
 kind-heads Part.Rules (constraint c) k = absurd (true-false k refl)
 kind-heads Part.Constraints (rule r) k = absurd (true-false k refl)
 kind-heads Part.Constraints (constraint c) k = each (c .actions)
   where
-    each : (as′ : List Action) → all (λ (t : Test). isHead Part.Constraints (testOpcode t)) (map Test.Member as′) ≡ true
+    each : (as′ : List Action) → all (λ (t : Test). isHead Part.Constraints (testOperation t)) (map Test.Member as′) ≡ true
     each [] = refl
     each (a ∷ rest) = each rest
 
 kind-ending : (part : Part) (l : PolicyLine) → inPart part l ≡ true → endingInRange (endingOf l) ≡ true → isEnding part (endingWord (endingOf l)) ≡ true
-unfolding inPart endingOf isEnding endingWord endingInRange pack
+unfolding inPart endingOf isEnding endingWord endingInRange
 kind-ending Part.Rules (rule r) k e =
     let h = ltb-true (r .action .0) 64 e in
-    and-in (eq-eqb (opcodeOf (pack 5 (r .action .0) 0 0 0)) 5 (opcode-pack 5 (r .action .0) 0 0 0 (record { opcode-below = omega arith; first-below = h; second-below = omega arith; relation-below = omega arith; skip-below = omega arith })))
-    (eq-eqb (pack 5 (r .action .0) 0 0 0 % 2 ^ 22) 0 (head-low 5 (r .action .0) 0 (omega arith)))
+    and-in (eq-eqb (opcodeOf (pack Operation.Proposes (r .action .0) 0 0 0)) (opcode Operation.Proposes) (opcode-pack Operation.Proposes (r .action .0) 0 0 0 (record { first-below = h; second-below = omega arith; relation-below = omega arith; skip-below = omega arith })))
+    (eq-eqb (pack Operation.Proposes (r .action .0) 0 0 0 % 2 ^ 22) 0 (head-low Operation.Proposes (r .action .0) 0 (omega arith)))
 kind-ending Part.Rules (constraint c) k e = absurd (true-false k refl)
 kind-ending Part.Constraints (rule r) k e = absurd (true-false k refl)
-kind-ending Part.Constraints (constraint c) k e = refl
+kind-ending Part.Constraints (constraint c) k e = eq-eqb (endingWord Ending.Never) (endingWord Ending.Never) refl
 
 -- ---- a valid line at the start is found
 
 pub scan-by : (part : Part) (ws : List ℕ) (n : ℕ) → skipOf (getD ws 0 0) ≡ n
-    → scanLine part ws ≡ cond (ltb n (length ws) && isEnding part (getD ws n 0) && ltb 0 (headCount part 0 n ws) && leb (headCount part 0 n ws) 8 && compared 4 (n - headCount part 0 n ws) (drop (headCount part 0 n ws) ws)) (n + 1) 0
+    → scanLine part ws ≡ cond (ltb n (length ws) && isEnding part (getD ws n 0) && ltb 0 (headCount part 0 n ws) && leb (headCount part 0 n ws) 8 && comparisonsFill 4 (n - headCount part 0 n ws) (drop (headCount part 0 n ws) ws)) (n + 1) 0
 unfolding scanLine
-scan-by part ws n e = ap (λ (k : ℕ). cond (ltb k (length ws) && isEnding part (getD ws k 0) && ltb 0 (headCount part 0 k ws) && leb (headCount part 0 k ws) 8 && compared 4 (k - headCount part 0 k ws) (drop (headCount part 0 k ws) ws)) (k + 1) 0) e
+scan-by part ws n e = ap (λ (k : ℕ). cond (ltb k (length ws) && isEnding part (getD ws k 0) && ltb 0 (headCount part 0 k ws) && leb (headCount part 0 k ws) 8 && comparisonsFill 4 (k - headCount part 0 k ws) (drop (headCount part 0 k ws) ws)) (k + 1) 0) e
 
-parts-found : (part : Part) (ts : List Test) (cs : List Comparison) (e : Ending) (rest : List ℕ) → ValidParts ts cs e → all (λ (t : Test). isHead part (testOpcode t)) ts ≡ true → isEnding part (endingWord e) ≡ true
+parts-found : (part : Part) (ts : List Test) (cs : List Comparison) (e : Ending) (rest : List ℕ) → ValidParts ts cs e → all (λ (t : Test). isHead part (testOperation t)) ts ≡ true → isEnding part (endingWord e) ≡ true
     → scanLine part (partWords ts cs e ++ rest) ≡ length (partWords ts cs e)
 unfolding partWords all
 parts-found part [] cs e rest v k n = absurd (omega (arith, v .some))
 parts-found part (t ∷ ts) cs e rest v k n =
     scan-by part ws m skip
-    ∙ rw (counted, lt-ltb m (length ws) within, ending ∙ n, lt-ltb 0 (suc (length ts)) (omega arith), le-leb (suc (length ts)) 8 (v .few-tests), heads-dropped part e rest ts cs, condition-compared part e rest cs 4 (m - suc (length ts)) (v .few-comparisons) (v .few-comparisons) (v .comparisons) left) one
+    ∙ rw (counted, lt-ltb m (length ws) within, ending ∙ n, lt-ltb 0 (suc (length ts)) (omega arith), le-leb (suc (length ts)) 8 (v .few-tests), heads-dropped part e rest ts cs, condition-fills part e rest cs 4 (m - suc (length ts)) (v .few-comparisons) (v .few-comparisons) (v .comparisons) left) one
   where
     m : ℕ
     m = length (partWords ts cs e)
@@ -341,10 +361,6 @@ line-found part l rest k v =
     let h = valid-out l v in
     parts-found part (headsOf l) (comparisonsOf l) (endingOf l) rest h (kind-heads part l k) (kind-ending part l k (h .ending))
 
-seven : pack 7 0 0 0 0 ≡ 7 * 2 ^ 28
-unfolding pack
-seven = refl
-
 -- ---- one part more in front of a line
 
 pub record HeadOn (part : Part) (w : ℕ) (l : PolicyLine) : Type 0 where
@@ -355,15 +371,16 @@ pub record HeadOn (part : Part) (w : ℕ) (l : PolicyLine) : Type 0 where
   pub heads : headsOf line ≡ test ∷ headsOf l
   pub comparisons : comparisonsOf line ≡ comparisonsOf l
   pub ending : endingOf line ≡ endingOf l
-  pub opcode : testOpcode test ≡ opcodeOf w
+  pub operation : operationOf w ≡ testOperation test
+  pub known : 0 < opcode (testOperation test)
   pub number : testNumber test ≡ firstOf w
 
-pub add-head : (part : Part) (w : ℕ) (l : PolicyLine) → isHead part (opcodeOf w) ≡ true → inPart part l ≡ true → HeadOn part w l
-unfolding isHead inPart lineWords headsOf comparisonsOf endingOf partWords testOpcode testNumber
-add-head Part.Rules w (rule r) h k = go (eqb (opcodeOf w) 1) refl h
+pub add-head : (part : Part) (w : ℕ) (l : PolicyLine) → isHead part (operationOf w) ≡ true → inPart part l ≡ true → HeadOn part w l
+unfolding isHead inPart lineWords headsOf comparisonsOf endingOf partWords testOperation testNumber
+add-head Part.Rules w (rule r) h k = go (operationOf w) refl h
   where
-    made : (b : Bool) → cond b 2 1 ≡ opcodeOf w → HeadOn Part.Rules w (rule r)
-    made b e =
+    made : (b : Bool) → operationOf w ≡ cond b Operation.Absent Operation.Present → 0 < opcode (cond b Operation.Absent Operation.Present) → HeadOn Part.Rules w (rule r)
+    made b e n =
         record {
           line = rule (record { literals = record { event = record { 0 = firstOf w }; negated = b } ∷ r .literals; action = r .action; comparisons = r .comparisons });
           test = Test.Occurs (record { event = record { 0 = firstOf w }; negated = b });
@@ -372,27 +389,48 @@ add-head Part.Rules w (rule r) h k = go (eqb (opcodeOf w) 1) refl h
           heads = refl;
           comparisons = refl;
           ending = refl;
-          opcode = e;
+          operation = e;
+          known = n;
           number = refl;
         }
 
-    go : (b : Bool) → eqb (opcodeOf w) 1 ≡ b → b || eqb (opcodeOf w) 2 ≡ true → HeadOn Part.Rules w (rule r)
-    go true q e = made false (sym (eqb-true (opcodeOf w) 1 q))
-    go false q e = made true (sym (eqb-true (opcodeOf w) 2 e))
+    go : (o : Operation) → operationOf w ≡ o → isHead Part.Rules o ≡ true → HeadOn Part.Rules w (rule r)
+    go Operation.Present q e = made false q (omega arith)
+    go Operation.Absent q e = made true q (omega arith)
+    go Operation.AgainstConstant q e = absurd (true-false e refl)
+    go Operation.AgainstReading q e = absurd (true-false e refl)
+    go Operation.Proposes q e = absurd (true-false e refl)
+    go Operation.Member q e = absurd (true-false e refl)
+    go Operation.Never q e = absurd (true-false e refl)
+    go Operation.Unknown q e = absurd (true-false e refl)
 add-head Part.Rules w (constraint c) h k = absurd (true-false k refl)
 add-head Part.Constraints w (rule r) h k = absurd (true-false k refl)
-add-head Part.Constraints w (constraint c) h k =
-    record {
-      line = constraint (record { actions = record { 0 = firstOf w } ∷ c .actions; comparisons = c .comparisons });
-      test = Test.Member (record { 0 = firstOf w });
-      kind = refl;
-      words = λ n q. rw q;
-      heads = refl;
-      comparisons = refl;
-      ending = refl;
-      opcode = sym (eqb-true (opcodeOf w) 6 h);
-      number = refl;
-    }
+add-head Part.Constraints w (constraint c) h k = go (operationOf w) refl h
+  where
+    made : operationOf w ≡ Operation.Member → HeadOn Part.Constraints w (constraint c)
+    made e =
+        record {
+          line = constraint (record { actions = record { 0 = firstOf w } ∷ c .actions; comparisons = c .comparisons });
+          test = Test.Member (record { 0 = firstOf w });
+          kind = refl;
+          words = λ n q. rw q;
+          heads = refl;
+          comparisons = refl;
+          ending = refl;
+          operation = e;
+          known = omega arith;
+          number = refl;
+        }
+
+    go : (o : Operation) → operationOf w ≡ o → isHead Part.Constraints o ≡ true → HeadOn Part.Constraints w (constraint c)
+    go Operation.Member q e = made q
+    go Operation.Present q e = absurd (true-false e refl)
+    go Operation.Absent q e = absurd (true-false e refl)
+    go Operation.AgainstConstant q e = absurd (true-false e refl)
+    go Operation.AgainstReading q e = absurd (true-false e refl)
+    go Operation.Proposes q e = absurd (true-false e refl)
+    go Operation.Never q e = absurd (true-false e refl)
+    go Operation.Unknown q e = absurd (true-false e refl)
 
 pub record ComparisonOn (part : Part) (c : Comparison) (l : PolicyLine) : Type 0 where
   pub line : PolicyLine
@@ -424,8 +462,9 @@ pub record EndOn (part : Part) (w : ℕ) : Type 0 where
 pub end-line : (part : Part) (w : ℕ) → isEnding part w ≡ true → w < wordLimit → EndOn part w
 unfolding isEnding inPart lineWords headsOf comparisonsOf endingOf partWords conditionWords endingWord endingInRange
 end-line Part.Rules w h l =
-    let p = and-out (eqb (opcodeOf w) 5) (eqb (w % 2 ^ 22) 0) h in
-    let e : pack 5 (firstOf w) 0 0 0 ≡ w = ap (λ (o : ℕ). pack o (firstOf w) 0 0 0) (sym (eqb-true (opcodeOf w) 5 (p .0))) ∙ head-again w 0 l (eqb-true (w % 2 ^ 22) 0 (p .1)) in
+    let p = and-out (eqb (opcodeOf w) (opcode Operation.Proposes)) (eqb (w % 2 ^ 22) 0) h in
+    let o : operationOf w ≡ Operation.Proposes = ap operationFrom (eqb-true (opcodeOf w) (opcode Operation.Proposes) (p .0)) ∙ operation-back Operation.Proposes in
+    let e : pack Operation.Proposes (firstOf w) 0 0 0 ≡ w = head-again Operation.Proposes w (omega arith) l o 0 (eqb-true (w % 2 ^ 22) 0 (p .1)) in
     record {
       line = rule (record { literals = []; action = record { 0 = firstOf w }; comparisons = [] });
       kind = refl;
@@ -438,7 +477,7 @@ end-line Part.Constraints w h l =
     record {
       line = constraint (record { actions = []; comparisons = [] });
       kind = refl;
-      words = ap (λ (x : ℕ). x ∷ []) (seven ∙ sym (eqb-true w (7 * 2 ^ 28) h));
+      words = ap (λ (x : ℕ). x ∷ []) (sym (eqb-true w (endingWord Ending.Never) h));
       heads = refl;
       comparisons = refl;
       ending = refl;

@@ -15,17 +15,17 @@ use Rattle.policy.specs.List.{all}
 use Rattle.policy.specs.Set.{insert}
 use Rattle.policy.specs.declared.comparison.Comparison.{Comparison}
 use Rattle.policy.specs.declared.line.Test.{Test}
-use Rattle.image.proofs.CodecLaws.{Compares, test-again, constant-in-range, constant-again, reading-in-range, reading-again}
+use Rattle.word.proofs.PartsLaws.{Compares, test-again, constant-in-range, constant-again, reading-in-range, reading-again}
 use Rattle.image.proofs.DecodeLaws.{line-out, line-none}
 use Rattle.image.proofs.FreshLaws.{Fresh, fresh-in, fresh-none}
-use Rattle.image.proofs.ScanLaws.{HeadFacts, head-out, Sized, sizedConstant, sizedReading, sizedNone, sized, compared-step, compared-none, line-found, scan-by, add-head, add-comparison, comparison-on-words, end-line}
+use Rattle.image.proofs.ScanLaws.{HeadFacts, head-out, Sized, sizedConstant, sizedReading, sizedNone, sized, fill-step, fill-none, line-found, scan-by, add-head, add-comparison, comparison-on-words, end-line}
 use Rattle.policy.proofs.ValidLaws.{ValidParts, valid-in, testInRange}
-use Rattle.word.proofs.WordLaws.{Below}
-use Rattle.image.specs.Layout.{testWord, comparisonWords, lineWords}
-use Rattle.image.specs.Load.{inPart, lineAt, lineLength}
-use Rattle.word.specs.Operation.{constantComparison, readingComparison}
-use Rattle.image.specs.Scan.{isEnding, headSound, headCount, comparisonSize, compared, scanLine}
-use Rattle.word.specs.Word.{wordLimit, firstOf, secondOf, skipOf}
+use Rattle.word.specs.Parts.{testWord, comparisonWords, constantComparison, readingComparison}
+use Rattle.word.specs.Word.{wordLimit, firstOf, secondOf, skipOf, Below}
+use Rattle.word.specs.declared.operation.Operation.{Operation}
+use Rattle.image.specs.Layout.{lineWords}
+use Rattle.image.specs.Lines.{inPart, lineAt, lineLength}
+use Rattle.image.specs.Steps.Scan.{isEnding, headSound, headCount, comparisonLength, comparisonsFill, scanLine}
 use Rattle.image.specs.declared.line.Part.{Part}
 
 -- ---- comparisons and the ending word: m words and one
@@ -77,7 +77,7 @@ condition-more part room m n c ws rest t i e size same =
 
 -- what comparisons that fill m words say
 abbrev Filled : Part → ℕ → ℕ → List ℕ → Type 0
-Filled part room m ws = m < length ws → Below wordLimit ws → isEnding part (getD ws m 0) ≡ true → compared room m ws ≡ true → Condition part room m ws
+Filled part room m ws = m < length ws → Below wordLimit ws → isEnding part (getD ws m 0) ≡ true → comparisonsFill room m ws ≡ true → Condition part room m ws
 
 two : (k : ℕ) → 2 + suc k ≡ suc (suc (suc k))
 two k = omega arith
@@ -85,30 +85,30 @@ two k = omega arith
 one : (k : ℕ) → 1 + suc k ≡ suc (suc k)
 one k = omega arith
 
-filled-constant : (part : Part) (room m w k : ℕ) (ws : List ℕ) → Compares 3 w k → secondOf w ≡ 0 → 0 < k → suc m ≡ k + 1 → comparisonSize w (suc m) ≡ 2 → ((m′ : ℕ) (xs : List ℕ) → Filled part room m′ xs)
+filled-constant : (part : Part) (room m w k : ℕ) (ws : List ℕ) → Compares Operation.AgainstConstant w k → secondOf w ≡ 0 → 0 < k → suc m ≡ k + 1 → comparisonLength w (suc m) ≡ 2 → ((m′ : ℕ) (xs : List ℕ) → Filled part room m′ xs)
     → Filled part (suc room) (suc m) (w ∷ ws)
 filled-constant part room zero w k ws h z p q s later l b n e = absurd (omega arith)
 filled-constant part room (suc m) w k [] h z p q s later l b n e = absurd (omega arith)
 filled-constant part room (suc m) w k (v ∷ ws) h z p q s later l b n e =
     let same : k ≡ suc m = omega arith in
-    let f : Compares 3 w (suc m) = subst (Compares 3 w) same h in
+    let f : Compares Operation.AgainstConstant w (suc m) = subst (Compares Operation.AgainstConstant w) same h in
     let again = constant-again w v (suc m) f z (b 1) in
     let left : suc (suc m) - 2 ≡ m = omega arith in
     condition-more part room m (suc (suc m)) (constantComparison w v) (w ∷ v ∷ ws) ws
-    (later m ws (omega arith) (λ j. b (suc (suc j))) n (ap (λ (x : ℕ). compared room x ws) (sym left) ∙ sym (compared-step (suc m) room 2 w (v ∷ ws) s (omega arith)) ∙ e))
+    (later m ws (omega arith) (λ j. b (suc (suc j))) n (ap (λ (x : ℕ). comparisonsFill room x ws) (sym left) ∙ sym (fill-step (suc m) room 2 w (v ∷ ws) s (omega arith)) ∙ e))
     (constant-in-range w v (suc m) f (b 1)) (ap (λ (x : List ℕ). x ++ ws) again) (ap (λ (x : List ℕ). length x + suc m) again ∙ two m) refl
 
-filled-reading : (part : Part) (room m w : ℕ) (ws : List ℕ) → Compares 4 w (suc m) → secondOf w < 16 → comparisonSize w (suc m) ≡ 1 → ((m′ : ℕ) (xs : List ℕ) → Filled part room m′ xs)
+filled-reading : (part : Part) (room m w : ℕ) (ws : List ℕ) → Compares Operation.AgainstReading w (suc m) → secondOf w < 16 → comparisonLength w (suc m) ≡ 1 → ((m′ : ℕ) (xs : List ℕ) → Filled part room m′ xs)
     → Filled part (suc room) (suc m) (w ∷ ws)
 filled-reading part room m w ws h z s later l b n e =
     let again = reading-again w (suc m) h in
     let left : suc m - 1 ≡ m = omega arith in
     condition-more part room m (suc m) (readingComparison w) (w ∷ ws) ws
-    (later m ws (omega arith) (λ j. b (suc j)) n (ap (λ (x : ℕ). compared room x ws) (sym left) ∙ sym (compared-step m room 1 w ws s (omega arith)) ∙ e))
+    (later m ws (omega arith) (λ j. b (suc j)) n (ap (λ (x : ℕ). comparisonsFill room x ws) (sym left) ∙ sym (fill-step m room 1 w ws s (omega arith)) ∙ e))
     (reading-in-range w (suc m) h z) (ap (λ (x : List ℕ). x ++ ws) again) (ap (λ (x : List ℕ). length x + suc m) again ∙ one m) refl
 
 filled : (part : Part) (room m : ℕ) (ws : List ℕ) → Filled part room m ws
-unfolding compared
+unfolding comparisonsFill
 filled part zero zero [] l b n e = absurd (omega arith)
 filled part zero zero (w ∷ ws) l b n e = condition-end part zero w ws n (b 0)
 filled part zero (suc m) ws l b n e = absurd (true-false e (ne-eqb (suc m) 0 (λ q. omega arith)))
@@ -120,7 +120,7 @@ filled part (suc room) (suc m) (w ∷ ws) l b n e = go (sized w (suc m) (b 0)) (
     go : Sized w (suc m) → ((m′ : ℕ) (xs : List ℕ) → Filled part room m′ xs) → Condition part (suc room) (suc m) (w ∷ ws)
     go (sizedConstant k h z p q s) later = filled-constant part room m w k ws h z p q s later l b n e
     go (sizedReading h z s) later = filled-reading part room m w ws h z s later l b n e
-    go (sizedNone s) later = absurd (true-false e (compared-none m room w ws s))
+    go (sizedNone s) later = absurd (true-false e (fill-none m room w ws s))
 
 -- ---- heads before them
 
@@ -158,7 +158,7 @@ unfolding all
 tail-head part seen m w ws l h q t =
     let r = add-head part w (t .line) (h .operation) (t .kind) in
     let size : suc m ≡ length (lineWords (t .line)) = sym (t .size) in
-    let again : testWord (r .test) (suc m) ≡ w = test-again (r .test) w (suc m) l (h .low) (r .opcode) (r .number) in
+    let again : testWord (r .test) (suc m) ≡ w = test-again (r .test) w (suc m) (r .known) l (h .low) (r .operation) (r .number) in
     let first : firstOf w < 64 = omega arith in
     record {
       line = r .line;
@@ -174,7 +174,7 @@ tail-head part seen m w ws l h q t =
     }
 
 scan-tail : (part : Part) (m seen : ℕ) (ws : List ℕ) → m < length ws → Below wordLimit ws → isEnding part (getD ws m 0) ≡ true
-    → compared 4 (m - headCount part seen m ws) (drop (headCount part seen m ws) ws) ≡ true → Tail part seen m ws
+    → comparisonsFill 4 (m - headCount part seen m ws) (drop (headCount part seen m ws) ws) ≡ true → Tail part seen m ws
 unfolding headCount
 scan-tail part zero seen ws l b n e = tail-headless part seen zero ws refl (filled part 4 zero ws l b n e)
 scan-tail part (suc m) seen [] l b n e = absurd (omega arith)
@@ -193,12 +193,12 @@ scan-tail part (suc m) seen (w ∷ ws) l b n e =
     count : (x : Bool) → headSound part seen w (suc m) ≡ x → headCount part seen (suc m) (w ∷ ws) ≡ cond x (suc next) 0
     count x q = ap (λ (y : Bool). cond y (suc next) 0) q
 
-    by : (h : ℕ) → headCount part seen (suc m) (w ∷ ws) ≡ h → compared 4 (suc m - h) (drop h (w ∷ ws)) ≡ true
-    by h q = ap (λ (k : ℕ). compared 4 (suc m - k) (drop k (w ∷ ws))) (sym q) ∙ e
+    by : (h : ℕ) → headCount part seen (suc m) (w ∷ ws) ≡ h → comparisonsFill 4 (suc m - h) (drop h (w ∷ ws)) ≡ true
+    by h q = ap (λ (k : ℕ). comparisonsFill 4 (suc m - k) (drop k (w ∷ ws))) (sym q) ∙ e
 
-    go : (x : Bool) → headSound part seen w (suc m) ≡ x → (compared 4 (m - next) (drop next ws) ≡ true → Tail part (insert seen (firstOf w)) m ws) → Tail part seen (suc m) (w ∷ ws)
-    go true q later = tail-head part seen m w ws (b 0) (head-out part seen w (suc m) q) (count true q) (later (ap (λ (k : ℕ). compared 4 k (drop next ws)) (sym fewer) ∙ by (suc next) (count true q)))
-    go false q later = tail-headless part seen (suc m) (w ∷ ws) (count false q) (filled part 4 (suc m) (w ∷ ws) l b n (ap (λ (k : ℕ). compared 4 k (w ∷ ws)) (sym whole) ∙ by 0 (count false q)))
+    go : (x : Bool) → headSound part seen w (suc m) ≡ x → (comparisonsFill 4 (m - next) (drop next ws) ≡ true → Tail part (insert seen (firstOf w)) m ws) → Tail part seen (suc m) (w ∷ ws)
+    go true q later = tail-head part seen m w ws (b 0) (head-out part seen w (suc m) q) (count true q) (later (ap (λ (k : ℕ). comparisonsFill 4 k (drop next ws)) (sym fewer) ∙ by (suc next) (count true q)))
+    go false q later = tail-headless part seen (suc m) (w ∷ ws) (count false q) (filled part 4 (suc m) (w ∷ ws) l b n (ap (λ (k : ℕ). comparisonsFill 4 k (w ∷ ws)) (sym whole) ∙ by 0 (count false q)))
 
 -- ---- the scan finds what `lineAt` finds
 
@@ -212,10 +212,10 @@ scan-line part ws b = go (lineAt part ws) refl
     h : ℕ
     h = headCount part 0 m ws
 
-    unscanned : lineAt part ws ≡ none → (c : Bool) → ltb m (length ws) && isEnding part (getD ws m 0) && ltb 0 h && leb h 8 && compared 4 (m - h) (drop h ws) ≡ c → cond c (m + 1) 0 ≡ 0
+    unscanned : lineAt part ws ≡ none → (c : Bool) → ltb m (length ws) && isEnding part (getD ws m 0) && ltb 0 h && leb h 8 && comparisonsFill 4 (m - h) (drop h ws) ≡ c → cond c (m + 1) 0 ≡ 0
     unscanned q false e = refl
     unscanned q true e =
-        let p = and-out (ltb m (length ws) && isEnding part (getD ws m 0) && ltb 0 h && leb h 8) (compared 4 (m - h) (drop h ws)) e in
+        let p = and-out (ltb m (length ws) && isEnding part (getD ws m 0) && ltb 0 h && leb h 8) (comparisonsFill 4 (m - h) (drop h ws)) e in
         let r = and-out (ltb m (length ws) && isEnding part (getD ws m 0) && ltb 0 h) (leb h 8) (p .0) in
         let s = and-out (ltb m (length ws) && isEnding part (getD ws m 0)) (ltb 0 h) (r .0) in
         let u = and-out (ltb m (length ws)) (isEnding part (getD ws m 0)) (s .0) in
@@ -233,5 +233,5 @@ scan-line part ws b = go (lineAt part ws) refl
         absurd (line-none part ws q (x .line) (drop (suc m) ws) (x .kind) (valid-in (x .line) parts) (x .words))
 
     go : (o : Option PolicyLine) → lineAt part ws ≡ o → scanLine part ws ≡ lineLength o
-    go none q = scan-by part ws m refl ∙ unscanned q (ltb m (length ws) && isEnding part (getD ws m 0) && ltb 0 h && leb h 8 && compared 4 (m - h) (drop h ws)) refl
+    go none q = scan-by part ws m refl ∙ unscanned q (ltb m (length ws) && isEnding part (getD ws m 0) && ltb 0 h && leb h 8 && comparisonsFill 4 (m - h) (drop h ws)) refl
     go (some l) q = let h = line-out part ws l q in ap (scanLine part) (h .words) ∙ line-found part l (drop (length (lineWords l)) ws) (h .kind) (h .sound)

@@ -7,8 +7,8 @@ use native.Mathlib.Omega.{arith}
 use lib.ListN.{length, take, drop, set, getD, length-take, drop-of-length-le}
 use lib.Seq.{drop-cons, getD-take}
 use Rattle.word.proofs.WordLaws.{words-length}
-use Rattle.image.specs.Layout.{sum, checkWord}
 use Rattle.word.specs.Word.{wordLimit, wordsOf}
+use Rattle.image.specs.Layout.{sum, checkWord}
 
 -- ---- one after the other
 

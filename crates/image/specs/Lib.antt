@@ -1,5 +1,9 @@
--- What a reader must believe of this layer. Start with `Layout`: the image of a policy.
+-- What a reader must believe of this layer, in this order: `Layout`, the image of a policy; `Check`, the checks of size, form,
+-- counts and sum; `Lines`, the lines of an image; `Load`, the loader's answer; `Held`, the policy that an image holds.
+-- `Steps` need not be read.
 pub mod Layout
+pub mod Check
+pub mod Lines
 pub mod Load
-pub mod Scan
-pub mod Examples
+pub mod Held
+pub mod Steps

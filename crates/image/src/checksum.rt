@@ -4,7 +4,7 @@ ghost use Prim.Native.Nat.{_%_};
 ghost use lib.ListN.{take};
 ghost use Rattle.word.specs.Word.{wordLimit, wordsOf};
 ghost use Rattle.image.specs.Layout.{sum, checkWords, checkCount};
-ghost use Rattle.word.specs.Write.{fits, putWords};
+ghost use Rattle.word.specs.Steps.Write.{fits, putWords};
 use word::at_most;
 use word::put_word;
 use word::word_at;

@@ -2,83 +2,23 @@
 ghost use mathlib.Core.Path.{_≡_};
 ghost use Prim.Native.Nat.{_+_, _/_, _%_, _<_, _≤_};
 ghost use lib.ListN.{length, take};
-ghost use mir.Syntax.{w32};
-ghost use mir.Val.{ofZ};
-ghost use Rattle.policy.specs.Limits.{operandSize};
-ghost use Rattle.word.specs.Word.{pack, packHeader};
-ghost use Rattle.word.specs.Operation.{relationCode};
-ghost use Rattle.image.specs.Layout.{testWord, comparisonWords, endingWord, conditionWords, conditionSize};
-ghost use Rattle.image.specs.Layout.{headWords, testsOf, valueWords};
-ghost use Rattle.word.specs.Write.{putWords};
+ghost use Rattle.word.specs.Parts.{comparisonWords};
+ghost use Rattle.word.specs.Word.{packHeader};
+ghost use Rattle.word.specs.Steps.Write.{putWords};
+ghost use Rattle.image.specs.Layout.{conditionWords};
+ghost use Rattle.image.specs.Steps.Size.{operandSize, conditionSize};
+ghost use Rattle.image.specs.Steps.Value.{headWords, testsOf, valueWords};
 use policy::Comparison;
 use policy::Ending;
 use policy::Head;
 use policy::Line;
 use policy::Operand;
-use policy::Relation;
-use policy::Test;
 use word::at_most;
+use word::comparison_word;
+use word::constant_word;
+use word::ending_word;
 use word::put_word;
-
-fn pack_word(opcode: u32, first: u8, second: u8, relation: u32, skip: u32) -> u32
-    requires { ⌜ (opcode < 8) × (relation < 8) × (skip < 32) ⌝ }
-    ensures { λ r. ⌜ r ≡ pack opcode first second relation skip ⌝ }
-{
-    opcode * 0x1000_0000
-        + (first as u32) * 0x0040_0000
-        + (second as u32) * 0x0001_0000
-        + relation * 0x2000
-        + skip
-}
-
-fn relation_code(relation: Relation) -> u32
-    ensures { λ r. ⌜ r ≡ relationCode relation ⌝ }
-{
-    match relation {
-        Relation::Equal => 0,
-        Relation::NotEqual => 1,
-        Relation::Less => 2,
-        Relation::LessOrEqual => 3,
-        Relation::Greater => 4,
-        Relation::GreaterOrEqual => 5,
-    }
-}
-
-// Two's complement.
-fn constant_word(k: i32) -> u32
-    ensures { λ r. ⌜ r ≡ ofZ w32 k ⌝ }
-{
-    if k < 0 {
-        ((k - (-2147483648)) as u32) + 0x8000_0000
-    } else {
-        k as u32
-    }
-}
-
-fn test_word(test: Test, skip: u32) -> u32
-    requires { ⌜ skip < 32 ⌝ }
-    ensures { λ r. ⌜ r ≡ testWord test skip ⌝ }
-{
-    match test {
-        Test::Occurs(literal) => {
-            if literal.negated {
-                pack_word(2, literal.event.0, 0, 0, skip)
-            } else {
-                pack_word(1, literal.event.0, 0, 0, skip)
-            }
-        }
-        Test::Member(action) => pack_word(6, action.0, 0, 0, skip),
-    }
-}
-
-fn ending_word(ending: Ending) -> u32
-    ensures { λ r. ⌜ r ≡ endingWord ending ⌝ }
-{
-    match ending {
-        Ending::Causes(action) => pack_word(5, action.0, 0, 0, 0),
-        Ending::Never => pack_word(7, 0, 0, 0, 0),
-    }
-}
+use word::test_word;
 
 fn comparison_size(comparison: Comparison) -> usize
     ensures { λ r. ⌜ r ≡ operandSize (comparison .operand) ⌝ }
@@ -105,16 +45,14 @@ fn put_comparison(buffer: &mut [u8], index: usize, comparison: Comparison, skip:
     ensures { λ _. ⌜ now (buffer .exit) ≡ putWords (now (buffer .entry)) index (comparisonWords comparison skip) ⌝ }
 {
     let operand = comparison.operand;
-    let reading = comparison.reading;
-    let relation = comparison.relation;
-    let code = relation_code(relation);
+    let word = comparison_word(comparison, skip);
     match operand {
         Operand::Constant(k) => {
-            put_word(buffer, index, pack_word(3, reading.0, 0, code, skip));
+            put_word(buffer, index, word);
             put_word(buffer, index + 1, constant_word(k));
         }
-        Operand::Reading(other) => {
-            put_word(buffer, index, pack_word(4, reading.0, other.0, code, skip));
+        Operand::Reading(_) => {
+            put_word(buffer, index, word);
         }
     }
 }

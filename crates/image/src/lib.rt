@@ -7,14 +7,12 @@ mod load;
 mod walker;
 
 pub use checksum::put_check_words;
-pub use checksum::sum_words;
 pub use layout::header;
 pub use layout::put_line;
 pub use line::LineAt;
 pub use line::Part;
 pub use line::line_at;
-pub use line::line_length;
+pub use load::Contents;
 pub use load::Loaded;
-pub use load::Parts;
 pub use load::load_image;
 pub use walker::Walker;

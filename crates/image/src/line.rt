@@ -4,23 +4,26 @@ ghost use mathlib.Core.Bool.{false};
 ghost use mathlib.Core.List.{[]};
 ghost use Prim.Native.Nat.{_+_, _-_, _/_, _<_, _≤_};
 ghost use lib.ListN.{length, drop};
-ghost use Rattle.policy.specs.Line.{lineOf};
+ghost use Rattle.policy.specs.Value.{lineOf};
 ghost use Rattle.policy.specs.Set.{has, insert};
 ghost use Rattle.word.specs.Word.{wordsOf, between};
-ghost use Rattle.image.specs.Load.{lineAt, lineLength, lineAnswer};
-ghost use Rattle.image.specs.Scan.{isHead, isEnding, headOpcodes, headSound, headCount, constantSound, readingSound, comparisonSize, compared, readFrom};
+ghost use Rattle.image.specs.Lines.{lineAt, lineLength, lineAnswer};
+ghost use Rattle.image.specs.Steps.Scan.{isHead, isEnding, headOpcodes, headSound, headCount, constantSound, readingSound, comparisonLength, comparisonsFill, valueFrom};
+ghost use Rattle.word.specs.Operation.{operationFrom};
 use policy::Action;
 use policy::Ending;
 use policy::Event;
 use policy::Line;
 use policy::Literal;
 use policy::Test;
+use word::Operation;
 use word::at_most;
 use word::constant_comparison;
+use word::ending_word;
 use word::first;
 use word::opcode;
 use word::reading_comparison;
-use word::relation;
+use word::relation_code_of;
 use word::second;
 use word::skip;
 use word::word_at;
@@ -38,19 +41,20 @@ pub struct LineAt {
     pub next: usize,
 }
 
-// Bit n of the number is 1 where a head of the part may have the operation n.
+// Bit n of the number is 1 where a head of the part may have the operation of number n.
 fn head_opcodes(part: Part) -> u32
     ensures { λ r. ⌜ r ≡ headOpcodes part ⌝ }
 {
     match part {
-        Part::Rules => 6,
-        Part::Constraints => 64,
+        Part::Rules => (1 << Operation::Present.opcode()) + (1 << Operation::Absent.opcode()),
+        Part::Constraints => 1 << Operation::Member.opcode(),
     }
 }
 
+// A test of one bit, which is faster than one of each operation.
 fn is_head(part: Part, opcode: u32) -> bool
     requires { ⌜ opcode < 16 ⌝ }
-    ensures { λ r. ⌜ r ≡ isHead part opcode ⌝ }
+    ensures { λ r. ⌜ r ≡ isHead part (operationFrom opcode) ⌝ }
 {
     (head_opcodes(part) >> opcode) % 2 == 1
 }
@@ -60,12 +64,12 @@ fn is_ending(part: Part, word: u32) -> bool
 {
     match part {
         Part::Rules => {
-            if opcode(word) != 5 {
+            if opcode(word) != Operation::Proposes.opcode() {
                 return false;
             }
             word % 0x0040_0000 == 0
         }
-        Part::Constraints => word == 0x7000_0000,
+        Part::Constraints => word == ending_word(Ending::Never),
     }
 }
 
@@ -97,14 +101,15 @@ fn head_sound(part: Part, seen: u64, word: u32, left: u32) -> bool
     !is_seen(seen, first(word))
 }
 
-// Whether operation 3 may stand here, with `left` words of the line behind it: its constant, and at least one more.
+// Whether a comparison with a constant may stand here, with `left` words of the line behind its first: its constant, and at least
+// one more.
 fn constant_sound(word: u32, left: u32) -> bool
     ensures { λ r. ⌜ r ≡ constantSound word left ⌝ }
 {
     if first(word) >= 16 {
         return false;
     }
-    if relation(word) >= 6 {
+    if relation_code_of(word) >= 6 {
         return false;
     }
     if second(word) != 0 {
@@ -116,14 +121,14 @@ fn constant_sound(word: u32, left: u32) -> bool
     1 < left
 }
 
-// Whether operation 4 may stand here, with `left` words of the line behind it.
+// Whether a comparison with a reading may stand here, with `left` words of the line behind it.
 fn reading_sound(word: u32, left: u32) -> bool
     ensures { λ r. ⌜ r ≡ readingSound word left ⌝ }
 {
     if first(word) >= 16 {
         return false;
     }
-    if relation(word) >= 6 {
+    if relation_code_of(word) >= 6 {
         return false;
     }
     if second(word) >= 16 {
@@ -133,12 +138,13 @@ fn reading_sound(word: u32, left: u32) -> bool
 }
 
 // How many words the comparison has that the word begins, with `left` words of the line behind it: 0 where none may stand.
-fn comparison_size(word: u32, left: u32) -> usize
-    ensures { λ r. ⌜ r ≡ comparisonSize word left ⌝ }
+fn comparison_length(word: u32, left: u32) -> usize
+    ensures { λ r. ⌜ r ≡ comparisonLength word left ⌝ }
 {
-    match opcode(word) {
-        3 => { if constant_sound(word, left) { 2 } else { 0 } }
-        4 => { if reading_sound(word, left) { 1 } else { 0 } }
+    let operation = Operation::of(word);
+    match operation {
+        Operation::AgainstConstant => { if constant_sound(word, left) { 2 } else { 0 } }
+        Operation::AgainstReading => { if reading_sound(word, left) { 1 } else { 0 } }
         _ => 0,
     }
 }
@@ -164,7 +170,7 @@ fn heads_end(image: &[u8], part: Part, at: usize, last: usize) -> usize
 // Whether comparisons, at most four, stand from `from` up to the ending word `last`.
 fn comparisons_sound(image: &[u8], from: usize, last: usize) -> bool
     requires { ⌜ (from ≤ last) × (last < from + 32) × (last ≤ length (now image) / 4) ⌝ }
-    ensures { λ r. ⌜ r ≡ compared 4 (last - from) (drop from (wordsOf (now (image .entry)))) ⌝ }
+    ensures { λ r. ⌜ r ≡ comparisonsFill 4 (last - from) (drop from (wordsOf (now (image .entry)))) ⌝ }
 {
     let mut room: usize = 4;
     let mut i = from;
@@ -172,7 +178,7 @@ fn comparisons_sound(image: &[u8], from: usize, last: usize) -> bool
         if room == 0 {
             return false;
         }
-        let words = comparison_size(word_in(image, i), (last - i) as u32);
+        let words = comparison_length(word_in(image, i), (last - i) as u32);
         if words == 0 {
             return false;
         }
@@ -215,7 +221,7 @@ pub fn line_length(image: &[u8], part: Part, at: usize, end: usize) -> usize
 // The value of the line whose words stand from `start` up to `end`.
 fn read_line(image: &[u8], start: usize, end: usize) -> Line
     requires { ⌜ (start ≤ end) × (end ≤ length (now image) / 4) ⌝ }
-    ensures { λ r. ⌜ r ≡ readFrom (lineOf [] [] Ending.Never) (end - start) false (drop start (wordsOf (now (image .entry)))) ⌝ }
+    ensures { λ r. ⌜ r ≡ valueFrom (lineOf [] [] Ending.Never) (end - start) false (drop start (wordsOf (now (image .entry)))) ⌝ }
 {
     let mut line = Line::new();
     let mut at = start;
@@ -223,36 +229,37 @@ fn read_line(image: &[u8], start: usize, end: usize) -> Line
         let word = word_at(image, at);
         let number = first(word) as u8;
         at += 1;
-        match opcode(word) {
-            1 => {
+        let operation = Operation::of(word);
+        match operation {
+            Operation::Present => {
                 line = line.with_head(Test::Occurs(Literal {
                     event: Event(number),
                     negated: false,
                 }));
             }
-            2 => {
+            Operation::Absent => {
                 line = line.with_head(Test::Occurs(Literal {
                     event: Event(number),
                     negated: true,
                 }));
             }
-            3 => {
+            Operation::AgainstConstant => {
                 line = line.with_comparison(constant_comparison(word, word_at(image, at)));
                 at += 1;
             }
-            4 => {
+            Operation::AgainstReading => {
                 line = line.with_comparison(reading_comparison(word));
             }
-            5 => {
+            Operation::Proposes => {
                 line = line.ended(Ending::Causes(Action(number)));
             }
-            6 => {
+            Operation::Member => {
                 line = line.with_head(Test::Member(Action(number)));
             }
-            7 => {
+            Operation::Never => {
                 line = line.ended(Ending::Never);
             }
-            _ => {}
+            Operation::Unknown => {}
         }
     }
     line

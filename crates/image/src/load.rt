@@ -3,11 +3,15 @@ ghost use mathlib.Core.Path.{_≡_};
 ghost use Prim.Native.Nat.{_+_, _/_, _≤_};
 ghost use lib.ListN.{length};
 ghost use Rattle.word.specs.Word.{wordsOf, between, formOf, ruleCountOf, constraintCountOf};
-ghost use Rattle.image.specs.Load.{load, linesFrom, partAnswer, bodyAnswer, partLines, wellSized};
+ghost use Rattle.image.specs.Check.{wellSized};
+ghost use Rattle.image.specs.Lines.{linesFrom, partLines};
+ghost use Rattle.image.specs.Load.{bodyAnswer, load};
+ghost use Rattle.image.specs.Steps.Part.{partAnswer};
 use crate::checksum::sum_words;
 use crate::line::Part;
 use crate::walker::Walker;
 use policy::Fault;
+use policy::Refusal;
 use word::word_at;
 
 const SIZE_LIMIT: usize = 13064;
@@ -26,8 +30,8 @@ pub enum PartCheck {
     Fault(usize),
 }
 
-// The counts of an image that the loader took.
-pub struct Parts {
+// What stands in an image that the loader took: its form, and how many words and lines each part has.
+pub struct Contents {
     pub form: u32,
     pub rule_words: usize,
     pub constraint_words: usize,
@@ -35,9 +39,10 @@ pub struct Parts {
     pub constraints: usize,
 }
 
+// The loader's answer.
 pub enum Loaded {
-    Refused(Fault, usize),
-    Image(Parts),
+    Refused(Refusal),
+    Image(Contents),
 }
 
 fn well_sized(size: usize) -> bool
@@ -99,7 +104,7 @@ fn load_body(image: &[u8], form: u32, rule_words: usize, constraint_words: usize
     let middle = 1 + rule_words;
     let rules = part_lines(image, Part::Rules, 1, middle, RULE_LIMIT);
     match rules {
-        PartCheck::Fault(at) => Loaded::Refused(Fault::ImageBody, at),
+        PartCheck::Fault(location) => Loaded::Refused(Fault::ImageBody.at(location)),
         PartCheck::Lines(rule_count) => {
             let constraints = part_lines(
                 image,
@@ -109,8 +114,8 @@ fn load_body(image: &[u8], form: u32, rule_words: usize, constraint_words: usize
                 CONSTRAINT_LIMIT,
             );
             match constraints {
-                PartCheck::Fault(at) => Loaded::Refused(Fault::ImageBody, at),
-                PartCheck::Lines(constraint_count) => Loaded::Image(Parts {
+                PartCheck::Fault(word) => Loaded::Refused(Fault::ImageBody.at(word)),
+                PartCheck::Lines(constraint_count) => Loaded::Image(Contents {
                     form,
                     rule_words,
                     constraint_words,
@@ -128,26 +133,26 @@ pub fn load_image(image: &[u8]) -> Loaded
 {
     let size = image.len();
     if !well_sized(size) {
-        return Loaded::Refused(Fault::ImageSize, 0);
+        return Loaded::Refused(Fault::ImageSize.at(0));
     }
     let header = word_at(image, 0);
     let form = form_of(header);
     if form != 1 {
-        return Loaded::Refused(Fault::ImageForm, 0);
+        return Loaded::Refused(Fault::ImageForm.at(0));
     }
     let rule_words = rule_words_of(header) as usize;
     let constraint_words = constraint_words_of(header) as usize;
     if RULE_WORD_LIMIT < rule_words {
-        return Loaded::Refused(Fault::ImageCount, 0);
+        return Loaded::Refused(Fault::ImageCount.at(0));
     }
     if CONSTRAINT_WORD_LIMIT < constraint_words {
-        return Loaded::Refused(Fault::ImageCount, 0);
+        return Loaded::Refused(Fault::ImageCount.at(0));
     }
     if size / 4 != 1 + rule_words + constraint_words + 1 {
-        return Loaded::Refused(Fault::ImageCount, 0);
+        return Loaded::Refused(Fault::ImageCount.at(0));
     }
     if sum_words(image, size / 4) != 0 {
-        return Loaded::Refused(Fault::ImageSum, 0);
+        return Loaded::Refused(Fault::ImageSum.at(0));
     }
     load_body(image, form, rule_words, constraint_words)
 }

@@ -1,13 +1,12 @@
-// A walker over an image: it refers to the lent bytes and keeps a place in them, the index of a word. What it answers is
+// A walker over an image: it refers to the lent bytes and stands at one of their words, given by its index. What it answers is
 // answered by the functions on the bytes and the index.
 ghost use mathlib.Core.Path.{_≡_};
 ghost use Prim.Native.Nat.{_+_, _/_, min};
 ghost use lib.ListN.{length};
-ghost use Rattle.word.specs.Word.{wordAt, wordsOf, between};
-ghost use Rattle.image.specs.Load.{lineAt, lineLength};
+ghost use Rattle.word.specs.Word.{wordsOf, between};
+ghost use Rattle.image.specs.Lines.{lineAt, lineLength};
 use crate::line::Part;
 use crate::line::line_length;
-use word::word_at;
 
 pub struct Walker<'a> {
     pub image: &'a [u8],
@@ -34,12 +33,6 @@ impl<'a> Walker<'a> {
         ensures { λ r. ⌜ r ≡ record { image = image .entry; at = at } ⌝ }
     {
         Walker { image, at }
-    }
-
-    pub fn word(self) -> u32
-        ensures { λ r. ⌜ r ≡ wordAt (now (self .entry .image)) (self .entry .at) ⌝ }
-    {
-        word_at(self.image, self.at)
     }
 
     // How many words the line has that starts here and ends before the word `end`: 0 where none does.

@@ -15,21 +15,22 @@ fn write_number(n: usize) {
 fn show_case(case: &[u8]) {
     let loaded = image::load_image(case);
     match loaded {
-        Loaded::Refused(fault, place) => {
+        Loaded::Refused(refusal) => {
+            let fault = refusal.fault;
             write(b"refused ");
             write_number(fault.number() as usize);
             write(b" place ");
-            write_number(place);
+            write_number(refusal.location);
         }
-        Loaded::Image(parts) => {
+        Loaded::Image(contents) => {
             write(b"image rules ");
-            write_number(parts.rules);
+            write_number(contents.rules);
             write(b" constraints ");
-            write_number(parts.constraints);
+            write_number(contents.constraints);
             write(b" words ");
-            write_number(parts.rule_words);
+            write_number(contents.rule_words);
             write(b" ");
-            write_number(parts.constraint_words);
+            write_number(contents.constraint_words);
         }
     }
     write(b"\n");

@@ -9,13 +9,13 @@ use Rattle.kinohazel.specs.declared.ImageCheck.{ImageCheck}
 use Rattle.kinohazel.specs.declared.EpochDecision.{EpochDecision}
 
 unfoldable pub compilationOf : Compiled → Compilation
-compilationOf (Compiled.Refused f line) = record { fault = faultNumber f; line = line; size = 0 }
+compilationOf (Compiled.Refused r) = record { fault = faultNumber (r .fault); line = r .location; size = 0 }
 compilationOf (Compiled.Image size) = record { fault = 0; line = 0; size = size }
 
 unfoldable pub checkOf : Loaded → ImageCheck
-checkOf (Loaded.Refused f word) = record { fault = faultNumber f; word = word; rules = 0; constraints = 0 }
-checkOf (Loaded.Image parts) = record { fault = 0; word = 0; rules = parts .rules; constraints = parts .constraints }
+checkOf (Loaded.Refused r) = record { fault = faultNumber (r .fault); word = r .location; rules = 0; constraints = 0 }
+checkOf (Loaded.Image contents) = record { fault = 0; word = 0; rules = contents .rules; constraints = contents .constraints }
 
 unfoldable pub decisionOf : Decision → EpochDecision
-decisionOf (Decision.Refused f word) = record { fault = faultNumber f; word = word; accepted = 0; cancelled = 0 }
+decisionOf (Decision.Refused r) = record { fault = faultNumber (r .fault); word = r .location; accepted = 0; cancelled = 0 }
 decisionOf (Decision.Issued actions) = record { fault = 0; word = 0; accepted = actions .accepted .0; cancelled = actions .cancelled .0 }

@@ -2,6 +2,7 @@
 // specs/Export.antt; include/kinohazel.h is the C side. A slice is never null, not even an empty one: the functions of the header
 // take null pointers and call these.
 ghost use mathlib.Core.Path.{_≡_};
+ghost use Rattle.policy.specs.Fault.{faultNumber};
 ghost use Rattle.codegen.specs.Compile.{compiled};
 ghost use Rattle.image.specs.Load.{load};
 ghost use Rattle.monitor.specs.Decision.{decision};
@@ -9,6 +10,7 @@ ghost use Rattle.kinohazel.specs.Export.{compilationOf, checkOf, decisio
 use codegen::Compiled;
 use image::Loaded;
 use monitor::Decision;
+use policy::Refusal;
 
 // The fault's number, or 0; its line; how many bytes were written.
 #[repr(C)]
@@ -36,15 +38,22 @@ pub struct EpochDecision {
     pub cancelled: u64,
 }
 
+fn fault_number(refusal: Refusal) -> u64
+    ensures { λ r. ⌜ r ≡ faultNumber (refusal .fault) ⌝ }
+{
+    let fault = refusal.fault;
+    fault.number() as u64
+}
+
 #[no_mangle]
 pub extern "C" fn kinohazel_compile_nonnull(text: &[u8], out: &mut [u8]) -> Compilation
     ensures { λ r. ⌜ (r ≡ compilationOf (compiled (now (text .entry)) (now (out .entry)) .answer)) × (now (out .exit) ≡ compiled (now (text .entry)) (now (out .entry)) .buffer) ⌝ }
 {
     let answer = codegen::compile(text, out);
     match answer {
-        Compiled::Refused(fault, line) => Compilation {
-            fault: fault.number() as u64,
-            line: line as u64,
+        Compiled::Refused(refusal) => Compilation {
+            fault: fault_number(refusal),
+            line: refusal.location as u64,
             size: 0,
         },
         Compiled::Image(size) => Compilation {
@@ -61,17 +70,17 @@ pub extern "C" fn kinohazel_check_nonnull(image: &[u8]) -> ImageCheck
 {
     let answer = image::load_image(image);
     match answer {
-        Loaded::Refused(fault, word) => ImageCheck {
-            fault: fault.number() as u64,
-            word: word as u64,
+        Loaded::Refused(refusal) => ImageCheck {
+            fault: fault_number(refusal),
+            word: refusal.location as u64,
             rules: 0,
             constraints: 0,
         },
-        Loaded::Image(parts) => ImageCheck {
+        Loaded::Image(contents) => ImageCheck {
             fault: 0,
             word: 0,
-            rules: parts.rules as u64,
-            constraints: parts.constraints as u64,
+            rules: contents.rules as u64,
+            constraints: contents.constraints as u64,
         },
     }
 }
@@ -82,9 +91,9 @@ pub extern "C" fn kinohazel_decide_nonnull(image: &[u8], line: &[u8]) -> EpochDe
 {
     let answer = monitor::decide(image, line);
     match answer {
-        Decision::Refused(fault, word) => EpochDecision {
-            fault: fault.number() as u64,
-            word: word as u64,
+        Decision::Refused(refusal) => EpochDecision {
+            fault: fault_number(refusal),
+            word: refusal.location as u64,
             accepted: 0,
             cancelled: 0,
         },

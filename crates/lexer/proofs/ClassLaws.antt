@@ -1,28 +1,37 @@
 -- What the class of a byte says of it.
-use Prim.Native.Nat.{ℕ, _≤_}
-use mathlib.Core.Bool.{Bool, true, false, _||_, cond, or-false}
-use mathlib.Core.Path.{_≡_, refl, sym}
+use Prim.Native.Nat.{ℕ, _+_, _≤_}
+use mathlib.Core.Bool.{Bool, true, false, _||_, cond}
+use mathlib.Core.List.{List, [], _∷_}
+use mathlib.Core.Logic.{_⊎_, inl, inr, ⊎-elim}
+use mathlib.Core.Path.{_≡_, refl, sym, ap, _∙_}
 use native.Mathlib.Omega.{arith}
-use borrow.Author.Tests.{leb-true, ne-eqb}
+use borrow.Author.Tests.{leb-true, ne-eqb, eqb-true, eqb-false}
+use denote.Enum.Declared.{tagOf}
+use types.Run.{OneOf}
 use lib.Dec.{eqb, leb, ltb}
 use Rattle.policy.proofs.ListLaws.{and-out, true-false}
+use Rattle.lexer.proofs.class.Class.{the-type}
 use Rattle.lexer.specs.declared.class.Class.{Class}
 use Rattle.policy.specs.List.{any}
-use Rattle.lexer.specs.Byte.{bytes, isSpace, isLineEnd, endsToken, isDigit, isLetter, isSign, classOf, classCode}
+use Rattle.lexer.specs.Byte.{bytes, isSpace, isLineEnd, endsToken, isDigit, isLetter, isSign, classOf}
 
 pub digit-bounds : (b : ℕ) → isDigit b ≡ true → (48 ≤ b) × (b ≤ 57)
 digit-bounds b e = let p = and-out (leb 48 b) (leb b 57) e in (leb-true 48 b (p .0), leb-true b 57 (p .1))
+
+-- the number that a `match` on a class tests
+abbrev pub classTag : Class → ℕ
+classTag c = tagOf the-type c
 
 -- a digit is neither a space nor a line end
 pub digit-apart : (b k : ℕ) → k ≤ 32 → isDigit b ≡ true → eqb b k ≡ false
 digit-apart b k h e = ne-eqb b k (λ q. omega (arith, digit-bounds b e))
 
 module _ (b : ℕ) where
-  pub class-space : eqb (classCode (classOf b)) 0 ≡ isSpace b
+  pub class-space : eqb (classTag (classOf b)) 0 ≡ isSpace b
   unfolding classOf
   class-space = go (isSpace b) (isLineEnd b) (isDigit b) (isLetter b) (isSign b)
     where
-      go : (s e d l g : Bool) → eqb (classCode (cond s Class.Space (cond e Class.LineEnd (cond d Class.Digit (cond l Class.Letter (cond g Class.Sign Class.Other)))))) 0 ≡ s
+      go : (s e d l g : Bool) → eqb (classTag (cond s Class.Space (cond e Class.LineEnd (cond d Class.Digit (cond l Class.Letter (cond g Class.Sign Class.Other)))))) 0 ≡ s
       go true e d l g = refl
       go false true d l g = refl
       go false false true l g = refl
@@ -30,11 +39,11 @@ module _ (b : ℕ) where
       go false false false false true = refl
       go false false false false false = refl
 
-  pub class-ends : ltb (classCode (classOf b)) 2 ≡ endsToken b
+  pub class-ends : ltb (classTag (classOf b)) 2 ≡ endsToken b
   unfolding classOf
   class-ends = go (isSpace b) (isLineEnd b) (isDigit b) (isLetter b) (isSign b)
     where
-      go : (s e d l g : Bool) → ltb (classCode (cond s Class.Space (cond e Class.LineEnd (cond d Class.Digit (cond l Class.Letter (cond g Class.Sign Class.Other)))))) 2 ≡ (s || e)
+      go : (s e d l g : Bool) → ltb (classTag (cond s Class.Space (cond e Class.LineEnd (cond d Class.Digit (cond l Class.Letter (cond g Class.Sign Class.Other)))))) 2 ≡ (s || e)
       go true e d l g = refl
       go false true d l g = refl
       go false false true l g = refl
@@ -42,11 +51,11 @@ module _ (b : ℕ) where
       go false false false false true = refl
       go false false false false false = refl
 
-  pub class-digit : eqb (classCode (classOf b)) 2 ≡ isDigit b
+  pub class-digit : eqb (classTag (classOf b)) 2 ≡ isDigit b
   unfolding classOf
   class-digit = go (isSpace b) (isLineEnd b) (isDigit b) (isLetter b) (isSign b) (digit-apart b 32 (omega arith)) (digit-apart b 10 (omega arith))
     where
-      go : (s e d l g : Bool) → (d ≡ true → s ≡ false) → (d ≡ true → e ≡ false) → eqb (classCode (cond s Class.Space (cond e Class.LineEnd (cond d Class.Digit (cond l Class.Letter (cond g Class.Sign Class.Other)))))) 2 ≡ d
+      go : (s e d l g : Bool) → (d ≡ true → s ≡ false) → (d ≡ true → e ≡ false) → eqb (classTag (cond s Class.Space (cond e Class.LineEnd (cond d Class.Digit (cond l Class.Letter (cond g Class.Sign Class.Other)))))) 2 ≡ d
       go true e true l g p q = absurd (true-false refl (p refl))
       go true e false l g p q = refl
       go false true true l g p q = absurd (true-false refl (q refl))
@@ -56,7 +65,54 @@ module _ (b : ℕ) where
       go false false false false true p q = refl
       go false false false false false p q = refl
 
-pub sign-last : (b : ℕ) → (b ≡ 38 → ⊥) → (b ≡ 33 → ⊥) → (b ≡ 44 → ⊥) → (b ≡ 61 → ⊥) → (b ≡ 60 → ⊥) → (b ≡ 62 → ⊥) → (b ≡ 45 → ⊥) → eqb b 35 ≡ isSign b
+-- a test that answers the same for each key of an arm
+AllSame : (ℕ → Bool) → Bool → List ℕ → Type 0
+AllSame f v [] = Unit {0}
+AllSame f v (k ∷ ks) = (f k ≡ v) × AllSame f v ks
+
+one-of : (f : ℕ → Bool) (v : Bool) (k : ℕ) (ks : List ℕ) (x : ℕ) → AllSame f v (k ∷ ks) → OneOf (k ∷ ks) x → f x ≡ v
+unfolding AllSame
+one-of f v k [] x h e = ap f e ∙ h .0
+one-of f v k (j ∷ ks) x h m = ⊎-elim (λ e. ap f e ∙ h .0) (λ n. one-of f v j ks x (h .1) n) m
+
+-- the same where the class is tested by a `match`
+module _ (b : ℕ) (c : Class) (e : c ≡ classOf b) where
+  pub space-class : c ≡ Class.Space → true ≡ isSpace b
+  space-class q = ap (λ (x : Class). eqb (classTag x) 0) (sym q ∙ e) ∙ class-space b
+
+  pub no-space-class : OneOf (1 ∷ 2 ∷ 3 ∷ 4 ∷ 5 ∷ []) (classTag c) → false ≡ isSpace b
+  unfolding AllSame
+  no-space-class m = sym (one-of (λ (t : ℕ). eqb t 0) false 1 (2 ∷ 3 ∷ 4 ∷ 5 ∷ []) (classTag c) (refl, (refl, (refl, (refl, (refl, tt))))) m) ∙ ap (λ (x : Class). eqb (classTag x) 0) e ∙ class-space b
+
+  pub digit-class : c ≡ Class.Digit → true ≡ isDigit b
+  digit-class q = ap (λ (x : Class). eqb (classTag x) 2) (sym q ∙ e) ∙ class-digit b
+
+  pub no-digit-class : OneOf (0 ∷ 1 ∷ 3 ∷ 4 ∷ 5 ∷ []) (classTag c) → false ≡ isDigit b
+  unfolding AllSame
+  no-digit-class m = sym (one-of (λ (t : ℕ). eqb t 2) false 0 (1 ∷ 3 ∷ 4 ∷ 5 ∷ []) (classTag c) (refl, (refl, (refl, (refl, (refl, tt))))) m) ∙ ap (λ (x : Class). eqb (classTag x) 2) e ∙ class-digit b
+
+  pub end-class : OneOf (0 ∷ 1 ∷ []) (classTag c) → true ≡ endsToken b
+  unfolding AllSame
+  end-class m = sym (one-of (λ (t : ℕ). ltb t 2) true 0 (1 ∷ []) (classTag c) (refl, (refl, tt)) m) ∙ ap (λ (x : Class). ltb (classTag x) 2) e ∙ class-ends b
+
+  pub no-end-class : OneOf (2 ∷ 3 ∷ 4 ∷ 5 ∷ []) (classTag c) → false ≡ endsToken b
+  unfolding AllSame
+  no-end-class m = sym (one-of (λ (t : ℕ). ltb t 2) false 2 (3 ∷ 4 ∷ 5 ∷ []) (classTag c) (refl, (refl, (refl, (refl, tt)))) m) ∙ ap (λ (x : Class). ltb (classTag x) 2) e ∙ class-ends b
+
+-- ---- signs
+
+pub sign-none : (b : ℕ) → (b ≡ 38 → ⊥) → (b ≡ 33 → ⊥) → (b ≡ 44 → ⊥) → (b ≡ 61 → ⊥) → (b ≡ 60 → ⊥) → (b ≡ 62 → ⊥) → (b ≡ 45 → ⊥) → (b ≡ 35 → ⊥) → false ≡ isSign b
 unfolding any bytes
-sign-last b p q r s t u v =
-    rw (ne-eqb b 38 p, ne-eqb b 33 q, ne-eqb b 44 r, ne-eqb b 61 s, ne-eqb b 60 t, ne-eqb b 62 u, ne-eqb b 45 v) (sym (or-false (eqb b 35)))
+sign-none b p q r s t u v w =
+    rw (ne-eqb b 38 p, ne-eqb b 33 q, ne-eqb b 44 r, ne-eqb b 61 s, ne-eqb b 60 t, ne-eqb b 62 u, ne-eqb b 45 v, ne-eqb b 35 w)
+
+pub sign-here : (b k : ℕ) → b ≡ k → true ≡ isSign k → true ≡ isSign b
+sign-here b k e h = rw e h
+
+-- a number is the lower end of a range, or above it
+pub from-end : (b k : ℕ) → k ≤ b → (b ≡ k) ⊎ (k + 1 ≤ b)
+from-end b k h = go (eqb b k) refl
+  where
+    go : (x : Bool) → eqb b k ≡ x → (b ≡ k) ⊎ (k + 1 ≤ b)
+    go true e = inl (eqb-true b k e)
+    go false e = let n = eqb-false b k e in inr (omega (arith, n))

@@ -13,11 +13,12 @@ use mir.Syntax.{w32}
 use mir.Val.{SFits, ofZ, toZ}
 use mir.Facts.{toZ-ofZ}
 use Rattle.policy.specs.Limits.{isReadingValue}
-use Rattle.lexer.proofs.RunLaws.{skip-past}
-use Rattle.lexer.proofs.WordLaws.{token-end, token-here, token-past}
+use Rattle.lexer.proofs.WhileLaws.{skip-past}
+use Rattle.lexer.proofs.KeywordLaws.{token-end, token-here, token-past}
 use Rattle.lexer.specs.Number.{numberOf, positive, negative, constantOf}
-use Rattle.lexer.specs.Parts.{constantEnding, positiveAt, negativeAt, constantAt}
-use Rattle.lexer.specs.Scan.{skip, inToken, tokenAt, clip, numberEnding, numberAt}
+use Rattle.lexer.specs.Steps.PartAt.{constantEnding, positiveAt, negativeAt, constantAt}
+use Rattle.lexer.specs.Steps.Scan.{inToken, tokenAt, clip, numberEnding, numberAt}
+use Rattle.lexer.specs.Lines.{skipWhile}
 use Rattle.lexer.specs.declared.scan.NumberAt.{NumberAt}
 use Rattle.lexer.specs.declared.token.ConstantAt.{ConstantAt}
 
@@ -128,12 +129,12 @@ module _ (text : List ℕ) (at : ℕ) where
   unfolding constantAt numberAt constantOf
   constant-minus h q =
       let i : inToken (getD text at 0) ≡ true = ap inToken q in
-      negative-clipped (skip inToken text (at + 1)) (numberOf (tokenAt text (at + 1)))
+      negative-clipped (skipWhile inToken text (at + 1)) (numberOf (tokenAt text (at + 1)))
       ∙ sym (ap₂ constantEnding (skip-past inToken text at h i) (ap constantOf (token-past text at h i) ∙ rw (eq-eqb (getD text at 0) 45 q)))
 
   pub constant-plain : at < length text → (getD text at 0 ≡ 45 → ⊥) → positiveAt (numberAt text at) ≡ constantAt text at
   unfolding constantAt numberAt constantOf numberOf positive
-  constant-plain h q = positive-clipped (skip inToken text at) (numberOf (tokenAt text at)) ∙ ap (constantEnding (skip inToken text at)) (go (inToken (getD text at 0)) refl)
+  constant-plain h q = positive-clipped (skipWhile inToken text at) (numberOf (tokenAt text at)) ∙ ap (constantEnding (skipWhile inToken text at)) (go (inToken (getD text at 0)) refl)
     where
       go : (b : Bool) → inToken (getD text at 0) ≡ b → positive (numberOf (tokenAt text at)) ≡ constantOf (tokenAt text at)
       go true e = rw (token-past text at h e, ne-eqb (getD text at 0) 45 q)

@@ -11,12 +11,13 @@ use lib.ListN.{length, getD, drop}
 use Rattle.policy.proofs.ListLaws.{true-false, and-in}
 use Rattle.policy.specs.List.{all}
 use Rattle.lexer.proofs.ClassLaws.{digit-apart}
-use Rattle.lexer.proofs.RunLaws.{run-end, run-here, run-past, skip-past, drop-skip}
-use Rattle.lexer.proofs.WordLaws.{token-end, token-here, token-past}
+use Rattle.lexer.proofs.WhileLaws.{while-end, while-here, while-past, skip-past, drop-skip}
+use Rattle.lexer.proofs.KeywordLaws.{token-end, token-here, token-past}
 use Rattle.lexer.specs.Byte.{isDigit}
 use Rattle.lexer.specs.Token.{named}
 use Rattle.lexer.specs.Number.{decimalFrom, isEmpty, numberOf}
-use Rattle.lexer.specs.Scan.{run, skip, inToken, tokenAt, clip, clipLimit, numberEnding, digitRun, digitsAt, numberAt, nameAt}
+use Rattle.lexer.specs.Steps.Scan.{inToken, tokenAt, clip, clipLimit, numberEnding, leadingDigits, digitsAt, numberAt, nameAt}
+use Rattle.lexer.specs.Lines.{takeWhile, skipWhile}
 use Rattle.lexer.specs.declared.scan.Digits.{Digits}
 use Rattle.lexer.specs.declared.scan.NumberAt.{NumberAt}
 
@@ -33,71 +34,71 @@ clip-decimal v w (d ∷ ds) e =
     (sym (clip-shift v (d - 48)) ∙ ap (λ (x : ℕ). clip (x * 10 + (d - 48))) e ∙ clip-shift w (d - 48))
 
 -- the value of the digits from a position on, after a value
-pub digits-past : (text : List ℕ) (i v w : ℕ) → i < length text → isDigit (getD text i 0) ≡ true → w ≡ clip (v * 10 + (getD text i 0 - 48)) → clip (decimalFrom v (run isDigit (drop i text))) ≡ clip (decimalFrom w (run isDigit (drop (i + 1) text)))
+pub digits-past : (text : List ℕ) (i v w : ℕ) → i < length text → isDigit (getD text i 0) ≡ true → w ≡ clip (v * 10 + (getD text i 0 - 48)) → clip (decimalFrom v (takeWhile isDigit (drop i text))) ≡ clip (decimalFrom w (takeWhile isDigit (drop (i + 1) text)))
 unfolding decimalFrom
 digits-past text i v w h e q =
-    ap (λ (l : List ℕ). clip (decimalFrom v l)) (run-past isDigit text i h e)
-    ∙ clip-decimal (v * 10 + (getD text i 0 - 48)) w (run isDigit (drop (i + 1) text)) (sym (ap clip q ∙ twice (v * 10 + (getD text i 0 - 48))))
+    ap (λ (l : List ℕ). clip (decimalFrom v l)) (while-past isDigit text i h e)
+    ∙ clip-decimal (v * 10 + (getD text i 0 - 48)) w (takeWhile isDigit (drop (i + 1) text)) (sym (ap clip q ∙ twice (v * 10 + (getD text i 0 - 48))))
   where
     twice : (n : ℕ) → clip (clip n) ≡ clip n
     twice n = omega arith
 
-pub digits-here : (text : List ℕ) (i v : ℕ) → v ≤ clipLimit → i < length text → isDigit (getD text i 0) ≡ false → clip (decimalFrom v (run isDigit (drop i text))) ≡ v
+pub digits-here : (text : List ℕ) (i v : ℕ) → v ≤ clipLimit → i < length text → isDigit (getD text i 0) ≡ false → clip (decimalFrom v (takeWhile isDigit (drop i text))) ≡ v
 unfolding decimalFrom
-digits-here text i v l h e = ap (λ (s : List ℕ). clip (decimalFrom v s)) (run-here isDigit text i h e) ∙ fits
+digits-here text i v l h e = ap (λ (s : List ℕ). clip (decimalFrom v s)) (while-here isDigit text i h e) ∙ fits
   where
     fits : clip v ≡ v
     fits = omega arith
 
-pub digits-end : (text : List ℕ) (i v : ℕ) → v ≤ clipLimit → length text ≤ i → clip (decimalFrom v (run isDigit (drop i text))) ≡ v
+pub digits-end : (text : List ℕ) (i v : ℕ) → v ≤ clipLimit → length text ≤ i → clip (decimalFrom v (takeWhile isDigit (drop i text))) ≡ v
 unfolding decimalFrom
-digits-end text i v l h = ap (λ (s : List ℕ). clip (decimalFrom v s)) (run-end isDigit text i h) ∙ fits
+digits-end text i v l h = ap (λ (s : List ℕ). clip (decimalFrom v s)) (while-end isDigit text i h) ∙ fits
   where
     fits : clip v ≡ v
     fits = omega arith
 
 -- ---- whether the digits are a number
 
-all-run : (p : ℕ → Bool) (s : List ℕ) → all p (run p s) ≡ true
-unfolding all run
+all-run : (p : ℕ → Bool) (s : List ℕ) → all p (takeWhile p s) ≡ true
+unfolding all takeWhile
 all-run p [] = refl
 all-run p (b ∷ s) = go (p b) refl (all-run p s)
   where
-    go : (x : Bool) → p b ≡ x → all p (run p s) ≡ true → all p (cond x (b ∷ run p s) []) ≡ true
+    go : (x : Bool) → p b ≡ x → all p (takeWhile p s) ≡ true → all p (cond x (b ∷ takeWhile p s) []) ≡ true
     go true e h = and-in e h
     go false e h = refl
 
 module _ (text : List ℕ) (at : ℕ) where
-  pub digits-none : skip isDigit text at ≤ at → numberOf (run isDigit (drop at text)) ≡ none
-  unfolding skip numberOf
-  digits-none h = go (run isDigit (drop at text)) (omega arith)
+  pub digits-none : skipWhile isDigit text at ≤ at → numberOf (takeWhile isDigit (drop at text)) ≡ none
+  unfolding skipWhile numberOf
+  digits-none h = go (takeWhile isDigit (drop at text)) (omega arith)
     where
       go : (l : List ℕ) → length l ≤ 0 → numberOf l ≡ none
       go [] k = refl
       go (d ∷ ds) k = absurd (omega arith)
 
-  pub digits-inside : at < skip isDigit text at → at < length text
-  unfolding skip
+  pub digits-inside : at < skipWhile isDigit text at → at < length text
+  unfolding skipWhile
   digits-inside h = go (ltb at (length text)) refl
     where
       go : (b : Bool) → ltb at (length text) ≡ b → at < length text
       go true e = ltb-true at (length text) e
-      go false e = absurd (omega (arith, ap length (run-end isDigit text at (ltb-false at (length text) e))))
+      go false e = absurd (omega (arith, ap length (while-end isDigit text at (ltb-false at (length text) e))))
 
-  first : at < skip isDigit text at → run isDigit (drop at text) ≡ getD text at 0 ∷ run isDigit (drop (at + 1) text)
-  unfolding skip
+  first : at < skipWhile isDigit text at → takeWhile isDigit (drop at text) ≡ getD text at 0 ∷ takeWhile isDigit (drop (at + 1) text)
+  unfolding skipWhile
   first h = go (isDigit (getD text at 0)) refl
     where
-      go : (b : Bool) → isDigit (getD text at 0) ≡ b → run isDigit (drop at text) ≡ getD text at 0 ∷ run isDigit (drop (at + 1) text)
-      go true e = run-past isDigit text at (digits-inside h) e
-      go false e = absurd (omega (arith, ap length (run-here isDigit text at (digits-inside h) e)))
+      go : (b : Bool) → isDigit (getD text at 0) ≡ b → takeWhile isDigit (drop at text) ≡ getD text at 0 ∷ takeWhile isDigit (drop (at + 1) text)
+      go true e = while-past isDigit text at (digits-inside h) e
+      go false e = absurd (omega (arith, ap length (while-here isDigit text at (digits-inside h) e)))
 
   -- more than one digit, the first 0
-  pub digits-zero : at < skip isDigit text at → (skip isDigit text at - at ≡ 1 → ⊥) → getD text at 0 ≡ 48 → numberOf (run isDigit (drop at text)) ≡ none
-  unfolding numberOf isEmpty skip
-  digits-zero h k z = ap numberOf (first h) ∙ go (run isDigit (drop (at + 1) text)) refl
+  pub digits-zero : at < skipWhile isDigit text at → (skipWhile isDigit text at - at ≡ 1 → ⊥) → getD text at 0 ≡ 48 → numberOf (takeWhile isDigit (drop at text)) ≡ none
+  unfolding numberOf isEmpty skipWhile
+  digits-zero h k z = ap numberOf (first h) ∙ go (takeWhile isDigit (drop (at + 1) text)) refl
     where
-      go : (l : List ℕ) → run isDigit (drop (at + 1) text) ≡ l → numberOf (getD text at 0 ∷ l) ≡ none
+      go : (l : List ℕ) → takeWhile isDigit (drop (at + 1) text) ≡ l → numberOf (getD text at 0 ∷ l) ≡ none
       go [] e = absurd (k (omega (arith, ap length (first h), ap length e)))
       go (d ∷ ds) e = rw (eq-eqb (getD text at 0) 48 z) (none-of (all isDigit (getD text at 0 ∷ d ∷ ds)))
         where
@@ -105,45 +106,45 @@ module _ (text : List ℕ) (at : ℕ) where
           none-of true = refl
           none-of false = refl
 
-  number-of : (b : ℕ) (l : List ℕ) → run isDigit (drop at text) ≡ b ∷ l → isEmpty l || not (eqb b 48) ≡ true → numberOf (run isDigit (drop at text)) ≡ some (decimalFrom 0 (run isDigit (drop at text)))
+  number-of : (b : ℕ) (l : List ℕ) → takeWhile isDigit (drop at text) ≡ b ∷ l → isEmpty l || not (eqb b 48) ≡ true → numberOf (takeWhile isDigit (drop at text)) ≡ some (decimalFrom 0 (takeWhile isDigit (drop at text)))
   unfolding numberOf
   number-of b l e q = ap numberOf e ∙ rw (sym (ap (all isDigit) e) ∙ all-run isDigit (drop at text), q) (ap (λ (s : List ℕ). some (decimalFrom 0 s)) (sym e))
 
-  pub digits-one : at < skip isDigit text at → skip isDigit text at - at ≡ 1 → numberOf (run isDigit (drop at text)) ≡ some (decimalFrom 0 (run isDigit (drop at text)))
-  unfolding skip isEmpty
-  digits-one h k = go (run isDigit (drop (at + 1) text)) refl
+  pub digits-one : at < skipWhile isDigit text at → skipWhile isDigit text at - at ≡ 1 → numberOf (takeWhile isDigit (drop at text)) ≡ some (decimalFrom 0 (takeWhile isDigit (drop at text)))
+  unfolding skipWhile isEmpty
+  digits-one h k = go (takeWhile isDigit (drop (at + 1) text)) refl
     where
-      go : (l : List ℕ) → run isDigit (drop (at + 1) text) ≡ l → numberOf (run isDigit (drop at text)) ≡ some (decimalFrom 0 (run isDigit (drop at text)))
+      go : (l : List ℕ) → takeWhile isDigit (drop (at + 1) text) ≡ l → numberOf (takeWhile isDigit (drop at text)) ≡ some (decimalFrom 0 (takeWhile isDigit (drop at text)))
       go [] e = number-of (getD text at 0) [] (first h ∙ ap (λ (s : List ℕ). getD text at 0 ∷ s) e) refl
       go (d ∷ ds) e = absurd (omega (arith, ap length (first h), ap length e))
 
-  pub digits-more : at < skip isDigit text at → (getD text at 0 ≡ 48 → ⊥) → numberOf (run isDigit (drop at text)) ≡ some (decimalFrom 0 (run isDigit (drop at text)))
-  digits-more h z = number-of (getD text at 0) (run isDigit (drop (at + 1) text)) (first h) (rw (ne-eqb (getD text at 0) 48 z) (or-true (isEmpty (run isDigit (drop (at + 1) text)))))
+  pub digits-more : at < skipWhile isDigit text at → (getD text at 0 ≡ 48 → ⊥) → numberOf (takeWhile isDigit (drop at text)) ≡ some (decimalFrom 0 (takeWhile isDigit (drop at text)))
+  digits-more h z = number-of (getD text at 0) (takeWhile isDigit (drop (at + 1) text)) (first h) (rw (ne-eqb (getD text at 0) 48 z) (or-true (isEmpty (takeWhile isDigit (drop (at + 1) text)))))
 
 -- ---- the digits at the start of a token against the token
 
 pub digit-inside : (b : ℕ) → isDigit b ≡ true → inToken b ≡ true
 digit-inside b e = rw (digit-apart b 32 (omega arith) e, digit-apart b 10 (omega arith) e)
 
-split-token : (s : List ℕ) → run inToken s ≡ run isDigit s ++ run inToken (drop (length (run isDigit s)) s)
-unfolding run
+split-token : (s : List ℕ) → takeWhile inToken s ≡ takeWhile isDigit s ++ takeWhile inToken (drop (length (takeWhile isDigit s)) s)
+unfolding takeWhile
 split-token [] = refl
 split-token (b ∷ s) = go (isDigit b) refl (split-token s)
   where
-    go : (d : Bool) → isDigit b ≡ d → run inToken s ≡ run isDigit s ++ run inToken (drop (length (run isDigit s)) s) → run inToken (b ∷ s) ≡ cond d (b ∷ run isDigit s) [] ++ run inToken (drop (length (cond d (b ∷ run isDigit s) [])) (b ∷ s))
+    go : (d : Bool) → isDigit b ≡ d → takeWhile inToken s ≡ takeWhile isDigit s ++ takeWhile inToken (drop (length (takeWhile isDigit s)) s) → takeWhile inToken (b ∷ s) ≡ cond d (b ∷ takeWhile isDigit s) [] ++ takeWhile inToken (drop (length (cond d (b ∷ takeWhile isDigit s) [])) (b ∷ s))
     go true e h = rw (digit-inside b e) (ap (λ (l : List ℕ). b ∷ l) h)
     go false e h = refl
 
-next-no-digit : (s : List ℕ) (c : ℕ) (q : List ℕ) → run inToken (drop (length (run isDigit s)) s) ≡ c ∷ q → isDigit c ≡ false
-unfolding run
+next-no-digit : (s : List ℕ) (c : ℕ) (q : List ℕ) → takeWhile inToken (drop (length (takeWhile isDigit s)) s) ≡ c ∷ q → isDigit c ≡ false
+unfolding takeWhile
 next-no-digit [] c q e = let w : _≡_ {A = ℕ} 0 1 = cc in absurd (omega arith)
 next-no-digit (b ∷ s) c q e = go (isDigit b) refl (next-no-digit s c q) e
   where
-    here : (i : Bool) → cond i (b ∷ run inToken s) [] ≡ c ∷ q → b ≡ c
+    here : (i : Bool) → cond i (b ∷ takeWhile inToken s) [] ≡ c ∷ q → b ≡ c
     here true k = cc
     here false k = let w : _≡_ {A = ℕ} 0 1 = cc in absurd (omega arith)
 
-    go : (d : Bool) → isDigit b ≡ d → (run inToken (drop (length (run isDigit s)) s) ≡ c ∷ q → isDigit c ≡ false) → run inToken (drop (length (cond d (b ∷ run isDigit s) [])) (b ∷ s)) ≡ c ∷ q → isDigit c ≡ false
+    go : (d : Bool) → isDigit b ≡ d → (takeWhile inToken (drop (length (takeWhile isDigit s)) s) ≡ c ∷ q → isDigit c ≡ false) → takeWhile inToken (drop (length (cond d (b ∷ takeWhile isDigit s) [])) (b ∷ s)) ≡ c ∷ q → isDigit c ≡ false
     go true p h k = h k
     go false p h k = ap isDigit (sym (here (inToken b) k)) ∙ p
 
@@ -158,21 +159,21 @@ number-broken [] c q e = rw (all-broken [] c q e)
 number-broken (d ∷ ds) c q e = rw (all-broken (d ∷ ds) c q e)
 
 -- a token that begins with digits: if it ends behind them they are the whole of it, otherwise it is no number
-whole-number : (s : List ℕ) → isEmpty (run inToken (drop (length (run isDigit s)) s)) ≡ true → run inToken s ≡ run isDigit s
+whole-number : (s : List ℕ) → isEmpty (takeWhile inToken (drop (length (takeWhile isDigit s)) s)) ≡ true → takeWhile inToken s ≡ takeWhile isDigit s
 unfolding isEmpty
-whole-number s h = split-token s ∙ go (run inToken (drop (length (run isDigit s)) s)) h
+whole-number s h = split-token s ∙ go (takeWhile inToken (drop (length (takeWhile isDigit s)) s)) h
   where
-    go : (q : List ℕ) → isEmpty q ≡ true → run isDigit s ++ q ≡ run isDigit s
-    go [] e = append-nil (run isDigit s)
+    go : (q : List ℕ) → isEmpty q ≡ true → takeWhile isDigit s ++ q ≡ takeWhile isDigit s
+    go [] e = append-nil (takeWhile isDigit s)
     go (c ∷ q) e = absurd (true-false e refl)
 
-broken-number : (s : List ℕ) → isEmpty (run inToken (drop (length (run isDigit s)) s)) ≡ false → numberOf (run inToken s) ≡ none
+broken-number : (s : List ℕ) → isEmpty (takeWhile inToken (drop (length (takeWhile isDigit s)) s)) ≡ false → numberOf (takeWhile inToken s) ≡ none
 unfolding isEmpty
-broken-number s h = ap numberOf (split-token s) ∙ go (run inToken (drop (length (run isDigit s)) s)) refl h
+broken-number s h = ap numberOf (split-token s) ∙ go (takeWhile inToken (drop (length (takeWhile isDigit s)) s)) refl h
   where
-    go : (q : List ℕ) → run inToken (drop (length (run isDigit s)) s) ≡ q → isEmpty q ≡ false → numberOf (run isDigit s ++ q) ≡ none
+    go : (q : List ℕ) → takeWhile inToken (drop (length (takeWhile isDigit s)) s) ≡ q → isEmpty q ≡ false → numberOf (takeWhile isDigit s ++ q) ≡ none
     go [] e k = absurd (true-false refl k)
-    go (c ∷ q) e k = number-broken (run isDigit s) c q (next-no-digit s c q e)
+    go (c ∷ q) e k = number-broken (takeWhile isDigit s) c q (next-no-digit s c q e)
 
 -- ---- the answers
 
@@ -182,31 +183,31 @@ ending-none e none k = refl
 ending-none e (some n) k = let w : _≡_ {A = ℕ} 0 1 = cc in absurd (omega arith)
 
 module _ (text : List ℕ) (at : ℕ) where
-  pub digits-malformed : numberOf (run isDigit (drop at text)) ≡ none → NumberAt.Malformed ≡ digitsAt text at
+  pub digits-malformed : numberOf (takeWhile isDigit (drop at text)) ≡ none → NumberAt.Malformed ≡ digitsAt text at
   unfolding digitsAt numberEnding
   digits-malformed e = rw e
 
-  pub digits-number : (d : Digits) → d ≡ digitRun text at → numberOf (run isDigit (drop at text)) ≡ some (decimalFrom 0 (run isDigit (drop at text))) → NumberAt.Number (d .value) (d .end) ≡ digitsAt text at
-  unfolding digitsAt digitRun numberEnding
+  pub digits-number : (d : Digits) → d ≡ leadingDigits text at → numberOf (takeWhile isDigit (drop at text)) ≡ some (decimalFrom 0 (takeWhile isDigit (drop at text))) → NumberAt.Number (d .value) (d .end) ≡ digitsAt text at
+  unfolding digitsAt leadingDigits numberEnding
   digits-number d q e = rw (e, q)
 
-  behind : tokenAt text (skip isDigit text at) ≡ run inToken (drop (length (run isDigit (drop at text))) (drop at text))
+  behind : tokenAt text (skipWhile isDigit text at) ≡ takeWhile inToken (drop (length (takeWhile isDigit (drop at text))) (drop at text))
   unfolding tokenAt
-  behind = ap (run inToken) (drop-skip isDigit text at)
+  behind = ap (takeWhile inToken) (drop-skip isDigit text at)
 
-  whole-token : isEmpty (tokenAt text (skip isDigit text at)) ≡ true → tokenAt text at ≡ run isDigit (drop at text)
+  whole-token : isEmpty (tokenAt text (skipWhile isDigit text at)) ≡ true → tokenAt text at ≡ takeWhile isDigit (drop at text)
   unfolding tokenAt
   whole-token h = whole-number (drop at text) (sym (ap isEmpty behind) ∙ h)
 
-  same-end : tokenAt text at ≡ run isDigit (drop at text) → skip inToken text at ≡ skip isDigit text at
-  unfolding tokenAt skip
+  same-end : tokenAt text at ≡ takeWhile isDigit (drop at text) → skipWhile inToken text at ≡ skipWhile isDigit text at
+  unfolding tokenAt skipWhile
   same-end e = ap (λ (l : List ℕ). at + length l) e
 
-  pub number-end : (v e : ℕ) → digitsAt text at ≡ NumberAt.Number v e → skip isDigit text at ≡ e
+  pub number-end : (v e : ℕ) → digitsAt text at ≡ NumberAt.Number v e → skipWhile isDigit text at ≡ e
   unfolding digitsAt numberEnding
-  number-end v e = go (numberOf (run isDigit (drop at text)))
+  number-end v e = go (numberOf (takeWhile isDigit (drop at text)))
     where
-      go : (o : Option ℕ) → numberEnding (skip isDigit text at) o ≡ NumberAt.Number v e → skip isDigit text at ≡ e
+      go : (o : Option ℕ) → numberEnding (skipWhile isDigit text at) o ≡ NumberAt.Number v e → skipWhile isDigit text at ≡ e
       go none k = let w : _≡_ {A = ℕ} 0 1 = cc in absurd (omega arith)
       go (some n) k = cc
 
@@ -214,10 +215,10 @@ module _ (text : List ℕ) (at : ℕ) where
   pub token-number : (v e : ℕ) → digitsAt text at ≡ NumberAt.Number v e → isEmpty (tokenAt text e) ≡ true → NumberAt.Number v e ≡ numberAt text at
   unfolding digitsAt numberAt
   token-number v e q h =
-      let w : tokenAt text at ≡ run isDigit (drop at text) = whole-token (ap (λ (k : ℕ). isEmpty (tokenAt text k)) (number-end v e q) ∙ h) in
+      let w : tokenAt text at ≡ takeWhile isDigit (drop at text) = whole-token (ap (λ (k : ℕ). isEmpty (tokenAt text k)) (number-end v e q) ∙ h) in
       sym (ap₂ numberEnding (same-end w) (ap numberOf w) ∙ q)
 
-  broken : isEmpty (tokenAt text (skip isDigit text at)) ≡ false → numberOf (tokenAt text at) ≡ none
+  broken : isEmpty (tokenAt text (skipWhile isDigit text at)) ≡ false → numberOf (tokenAt text at) ≡ none
   unfolding tokenAt
   broken h = broken-number (drop at text) (sym (ap isEmpty behind) ∙ h)
 
@@ -227,10 +228,10 @@ module _ (text : List ℕ) (at : ℕ) where
 
   pub token-malformed : digitsAt text at ≡ NumberAt.Malformed → NumberAt.Malformed ≡ numberAt text at
   unfolding digitsAt numberAt numberEnding
-  token-malformed q = go (isEmpty (tokenAt text (skip isDigit text at))) refl
+  token-malformed q = go (isEmpty (tokenAt text (skipWhile isDigit text at))) refl
     where
-      go : (b : Bool) → isEmpty (tokenAt text (skip isDigit text at)) ≡ b → NumberAt.Malformed ≡ numberEnding (skip inToken text at) (numberOf (tokenAt text at))
-      go true h = rw (ap numberOf (whole-token h) ∙ ending-none (skip isDigit text at) (numberOf (run isDigit (drop at text))) q)
+      go : (b : Bool) → isEmpty (tokenAt text (skipWhile isDigit text at)) ≡ b → NumberAt.Malformed ≡ numberEnding (skipWhile inToken text at) (numberOf (tokenAt text at))
+      go true h = rw (ap numberOf (whole-token h) ∙ ending-none (skipWhile isDigit text at) (numberOf (takeWhile isDigit (drop at text))) q)
       go false h = rw (broken h)
 
 -- ---- a letter and a number

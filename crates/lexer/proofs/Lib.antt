@@ -2,7 +2,7 @@ pub mod ClassLaws
 pub mod ConstantLaws
 pub mod DigitLaws
 pub mod PartLaws
-pub mod RunLaws
+pub mod WhileLaws
 pub mod SymbolLaws
 pub mod TokenLaws
-pub mod WordLaws
+pub mod KeywordLaws

@@ -11,8 +11,8 @@ use lib.Dec.{ltb}
 use lib.IntN.{ℤ, pos}
 use lib.ListN.{getD}
 use Rattle.policy.specs.Limits.{isReadingValue, testNumber, operandInRange, comparisonInRange}
-use Rattle.policy.specs.Line.{noComparison}
-use Rattle.policy.specs.Number as Number
+use Rattle.policy.specs.Value.{noComparison}
+use Rattle.policy.specs.Number.{checkEvent, checkAction, checkReading}
 use Rattle.policy.specs.declared.comparison.Comparison.{Comparison}
 use Rattle.policy.specs.declared.comparison.Operand.{Operand}
 use Rattle.policy.specs.declared.comparison.Relation.{Relation}
@@ -24,12 +24,13 @@ use Rattle.policy.specs.declared.number.EventCheck.{EventCheck}
 use Rattle.policy.specs.declared.number.Reading.{Reading}
 use Rattle.policy.specs.declared.number.ReadingCheck.{ReadingCheck}
 use Rattle.lexer.proofs.DigitLaws.{ending-none}
-use Rattle.lexer.proofs.WordLaws.{token-none, token-first, skip-first}
+use Rattle.lexer.proofs.KeywordLaws.{token-none, token-first, skip-first}
 use Rattle.lexer.specs.Byte.{isSpace}
 use Rattle.lexer.specs.Token.{Token, compare, named, literalAs, literalOf, actionOf, readingOf, relationOf, orElse, operandOf, both, comparisonOf}
 use Rattle.lexer.specs.Number.{isEmpty, constantOf}
-use Rattle.lexer.specs.Parts.{constantEnding, constantAt, relationEnding, relationAt, operandEnding, operandAt, testInRange, smallTest, testOf, headEnding, literalHead, actionHead, headAt, smallComparison, comparisonEnding, compared, nextAt, comparisonAt}
-use Rattle.lexer.specs.Scan.{skip, inToken, tokenAt, clip, clipLimit, numberEnding, nameAt}
+use Rattle.lexer.specs.Steps.PartAt.{constantEnding, constantAt, relationEnding, relationAt, operandEnding, operandAt, testInRange, smallTest, testOf, headEnding, literalHead, actionHead, headAt, smallComparison, comparisonEnding, comparisonFrom, nextAt, comparisonAt}
+use Rattle.lexer.specs.Steps.Scan.{inToken, tokenAt, clip, clipLimit, numberEnding, nameAt}
+use Rattle.lexer.specs.Lines.{skipWhile}
 use Rattle.lexer.specs.declared.scan.NumberAt.{NumberAt}
 use Rattle.lexer.specs.declared.token.ComparisonAt.{ComparisonAt}
 use Rattle.lexer.specs.declared.token.ConstantAt.{ConstantAt}
@@ -64,20 +65,20 @@ pub record Named (letter : ℕ) (text : List ℕ) (at v e : ℕ) : Type 0 where
   pub number : ℕ
   pub is : named letter (tokenAt text at) ≡ some number
   pub clipped : v ≡ clip number
-  pub behind : e ≡ skip inToken text at
+  pub behind : e ≡ skipWhile inToken text at
 
 module _ (letter : ℕ) (text : List ℕ) (at : ℕ) where
   pub name-some : (v e : ℕ) → nameAt text at letter ≡ NumberAt.Number v e → Named letter text at v e
   unfolding nameAt numberEnding
   name-some v e = go (named letter (tokenAt text at)) refl
     where
-      go : (o : Option ℕ) → named letter (tokenAt text at) ≡ o → numberEnding (skip inToken text at) o ≡ NumberAt.Number v e → Named letter text at v e
+      go : (o : Option ℕ) → named letter (tokenAt text at) ≡ o → numberEnding (skipWhile inToken text at) o ≡ NumberAt.Number v e → Named letter text at v e
       go none p q = let w : _≡_ {A = ℕ} 0 1 = cc in absurd (omega arith)
       go (some n) p q = record { number = n; is = p; clipped = cc; behind = cc }
 
   pub name-none : nameAt text at letter ≡ NumberAt.Malformed → named letter (tokenAt text at) ≡ none
   unfolding nameAt
-  name-none q = ending-none (skip inToken text at) (named letter (tokenAt text at)) q
+  name-none q = ending-none (skipWhile inToken text at) (named letter (tokenAt text at)) q
 
 -- ---- checked numbers
 
@@ -115,38 +116,38 @@ asAction : ActionCheck → Option Action
 asAction (ActionCheck.Valid a) = some a
 asAction ActionCheck.OutOfRange = none
 
-pub reading-valid : (n : ℕ) (r : Reading) → Number.readingOf n ≡ ReadingCheck.Valid r → (ltb n 16 ≡ true) × (r ≡ record { 0 = n })
+pub reading-valid : (n : ℕ) (r : Reading) → checkReading n ≡ ReadingCheck.Valid r → (ltb n 16 ≡ true) × (r ≡ record { 0 = n })
 unfolding asReading
 reading-valid n r q = check-valid asReading (ltb n 16) (record { 0 = n }) (ReadingCheck.Valid (record { 0 = n })) ReadingCheck.OutOfRange refl refl r (ap asReading q)
 
-pub reading-outside : (n : ℕ) → Number.readingOf n ≡ ReadingCheck.OutOfRange → ltb n 16 ≡ false
+pub reading-outside : (n : ℕ) → checkReading n ≡ ReadingCheck.OutOfRange → ltb n 16 ≡ false
 unfolding asReading
 reading-outside n q = check-outside asReading (ltb n 16) (record { 0 = n }) (ReadingCheck.Valid (record { 0 = n })) ReadingCheck.OutOfRange refl refl (ap asReading q)
 
-pub event-valid : (n : ℕ) (e : Event) → Number.eventOf n ≡ EventCheck.Valid e → (ltb n 64 ≡ true) × (e ≡ record { 0 = n })
+pub event-valid : (n : ℕ) (e : Event) → checkEvent n ≡ EventCheck.Valid e → (ltb n 64 ≡ true) × (e ≡ record { 0 = n })
 unfolding asEvent
 event-valid n e q = check-valid asEvent (ltb n 64) (record { 0 = n }) (EventCheck.Valid (record { 0 = n })) EventCheck.OutOfRange refl refl e (ap asEvent q)
 
-pub event-outside : (n : ℕ) → Number.eventOf n ≡ EventCheck.OutOfRange → ltb n 64 ≡ false
+pub event-outside : (n : ℕ) → checkEvent n ≡ EventCheck.OutOfRange → ltb n 64 ≡ false
 unfolding asEvent
 event-outside n q = check-outside asEvent (ltb n 64) (record { 0 = n }) (EventCheck.Valid (record { 0 = n })) EventCheck.OutOfRange refl refl (ap asEvent q)
 
-pub action-valid : (n : ℕ) (a : Action) → Number.actionOf n ≡ ActionCheck.Valid a → (ltb n 64 ≡ true) × (a ≡ record { 0 = n })
+pub action-valid : (n : ℕ) (a : Action) → checkAction n ≡ ActionCheck.Valid a → (ltb n 64 ≡ true) × (a ≡ record { 0 = n })
 unfolding asAction
 action-valid n a q = check-valid asAction (ltb n 64) (record { 0 = n }) (ActionCheck.Valid (record { 0 = n })) ActionCheck.OutOfRange refl refl a (ap asAction q)
 
-pub action-outside : (n : ℕ) → Number.actionOf n ≡ ActionCheck.OutOfRange → ltb n 64 ≡ false
+pub action-outside : (n : ℕ) → checkAction n ≡ ActionCheck.OutOfRange → ltb n 64 ≡ false
 unfolding asAction
 action-outside n q = check-outside asAction (ltb n 64) (record { 0 = n }) (ActionCheck.Valid (record { 0 = n })) ActionCheck.OutOfRange refl refl (ap asAction q)
 
 -- ---- operands
 
 module _ (n e : ℕ) where
-  pub operand-valid : (r : Reading) → Number.readingOf n ≡ ReadingCheck.Valid r → OperandAt.Operand (Operand.Reading r) true e ≡ operandEnding e (some (Operand.Reading (record { 0 = n })))
+  pub operand-valid : (r : Reading) → checkReading n ≡ ReadingCheck.Valid r → OperandAt.Operand (Operand.Reading r) true e ≡ operandEnding e (some (Operand.Reading (record { 0 = n })))
   unfolding operandEnding operandInRange
   operand-valid r q = let p = reading-valid n r q in rw (p .0, p .1)
 
-  pub operand-outside : Number.readingOf n ≡ ReadingCheck.OutOfRange → OperandAt.Operand (Operand.Constant (pos 0)) false e ≡ operandEnding e (some (Operand.Reading (record { 0 = n })))
+  pub operand-outside : checkReading n ≡ ReadingCheck.OutOfRange → OperandAt.Operand (Operand.Constant (pos 0)) false e ≡ operandEnding e (some (Operand.Reading (record { 0 = n })))
   unfolding operandEnding operandInRange
   operand-outside q = rw (reading-outside n q)
 
@@ -166,11 +167,11 @@ constant-operand e (some k) = go (isReadingValue k)
     go false = refl
 
 module _ (text : List ℕ) (at : ℕ) where
-  operand-named : (n : ℕ) → named 82 (tokenAt text at) ≡ some n → operandEnding (skip inToken text at) (some (Operand.Reading (record { 0 = clip n }))) ≡ operandAt text at
+  operand-named : (n : ℕ) → named 82 (tokenAt text at) ≡ some n → operandEnding (skipWhile inToken text at) (some (Operand.Reading (record { 0 = clip n }))) ≡ operandAt text at
   unfolding operandAt operandOf readingOf orElse operandEnding operandInRange
   operand-named n p =
       rw p
-      (ap₂ (λ (o : Operand) (b : Bool). OperandAt.Operand o b (skip inToken text at))
+      (ap₂ (λ (o : Operand) (b : Bool). OperandAt.Operand o b (skipWhile inToken text at))
       (clip-made 16 n (omega arith) (λ (k : ℕ). Operand.Reading (record { 0 = k })) (Operand.Constant (pos 0)))
       (clip-below 16 n (omega arith)))
 
@@ -182,7 +183,7 @@ module _ (text : List ℕ) (at : ℕ) where
   operand-constant : nameAt text at 82 ≡ NumberAt.Malformed → (r : ConstantAt) → constantAt text at ≡ r → asOperand r ≡ operandAt text at
   unfolding operandAt operandOf readingOf orElse constantAt
   operand-constant m r q =
-      ap asOperand (sym q) ∙ constant-operand (skip inToken text at) (constantOf (tokenAt text at)) ∙ rw (name-none 82 text at m)
+      ap asOperand (sym q) ∙ constant-operand (skipWhile inToken text at) (constantOf (tokenAt text at)) ∙ rw (name-none 82 text at m)
 
   pub operand-value : nameAt text at 82 ≡ NumberAt.Malformed → (k : ℤ) (e : ℕ) → constantAt text at ≡ ConstantAt.Value k e → OperandAt.Operand (Operand.Constant k) true e ≡ operandAt text at
   unfolding asOperand
@@ -199,20 +200,20 @@ module _ (text : List ℕ) (at : ℕ) where
 -- ---- literals and actions
 
 module _ (n e : ℕ) (negated : Bool) where
-  pub literal-valid : (x : Event) → Number.eventOf n ≡ EventCheck.Valid x → HeadAt.Head (Test.Occurs (record { event = x; negated = negated })) true e ≡ literalHead (NumberAt.Number n e) negated
+  pub literal-valid : (x : Event) → checkEvent n ≡ EventCheck.Valid x → HeadAt.Head (Test.Occurs (record { event = x; negated = negated })) true e ≡ literalHead (NumberAt.Number n e) negated
   unfolding literalHead headEnding smallTest testInRange testNumber
   literal-valid x q = let p = event-valid n x q in rw (p .0, p .1)
 
-  pub literal-outside : Number.eventOf n ≡ EventCheck.OutOfRange → HeadAt.Head (Test.Member (record { 0 = 0 })) false e ≡ literalHead (NumberAt.Number n e) negated
+  pub literal-outside : checkEvent n ≡ EventCheck.OutOfRange → HeadAt.Head (Test.Member (record { 0 = 0 })) false e ≡ literalHead (NumberAt.Number n e) negated
   unfolding literalHead headEnding smallTest testInRange testNumber
   literal-outside q = rw (event-outside n q)
 
 module _ (n e : ℕ) where
-  pub member-valid : (a : Action) → Number.actionOf n ≡ ActionCheck.Valid a → HeadAt.Head (Test.Member a) true e ≡ actionHead (NumberAt.Number n e)
+  pub member-valid : (a : Action) → checkAction n ≡ ActionCheck.Valid a → HeadAt.Head (Test.Member a) true e ≡ actionHead (NumberAt.Number n e)
   unfolding actionHead headEnding smallTest testInRange testNumber
   member-valid a q = let p = action-valid n a q in rw (p .0, p .1)
 
-  pub member-outside : Number.actionOf n ≡ ActionCheck.OutOfRange → HeadAt.Head (Test.Member (record { 0 = 0 })) false e ≡ actionHead (NumberAt.Number n e)
+  pub member-outside : checkAction n ≡ ActionCheck.OutOfRange → HeadAt.Head (Test.Member (record { 0 = 0 })) false e ≡ actionHead (NumberAt.Number n e)
   unfolding actionHead headEnding smallTest testInRange testNumber
   member-outside q = rw (action-outside n q)
 
@@ -238,8 +239,8 @@ module _ (text : List ℕ) (at : ℕ) where
   pub head-action : actionHead (nameAt text at 65) ≡ headAt text at true
   unfolding nameAt headAt testOf actionOf actionHead testNumber
   head-action =
-      head-clipped (skip inToken text at) (named 65 (tokenAt text at)) (λ (n : ℕ). Test.Member (record { 0 = n })) (λ n. refl) actionHead (λ n k. refl) refl
-      ∙ ap (headEnding (skip inToken text at)) (sym (map-map (λ (n : ℕ). record { 0 = n }) Test.Member (named 65 (tokenAt text at))))
+      head-clipped (skipWhile inToken text at) (named 65 (tokenAt text at)) (λ (n : ℕ). Test.Member (record { 0 = n })) (λ n. refl) actionHead (λ n k. refl) refl
+      ∙ ap (headEnding (skipWhile inToken text at)) (sym (map-map (λ (n : ℕ). record { 0 = n }) Test.Member (named 65 (tokenAt text at))))
 
   pub head-none : isEmpty (tokenAt text at) ≡ true → HeadAt.Malformed ≡ headAt text at false
   unfolding headAt testOf literalOf headEnding
@@ -249,38 +250,38 @@ module _ (text : List ℕ) (at : ℕ) where
     pub head-negated : getD text at 0 ≡ 33 → literalHead (nameAt text (at + 1) 69) true ≡ headAt text at false
     unfolding nameAt headAt testOf literalOf
     head-negated q =
-        literal-clipped (skip inToken text (at + 1)) (named 69 (tokenAt text (at + 1))) true
+        literal-clipped (skipWhile inToken text (at + 1)) (named 69 (tokenAt text (at + 1))) true
         ∙ sym (ap₂ headEnding (skip-first text at h)
         (ap (λ (t : Token). Option·map Test.Occurs (literalOf t)) (token-first text at h) ∙ rw (eq-eqb (getD text at 0) 33 q) (map-map (literalAs true) Test.Occurs (named 69 (tokenAt text (at + 1))))))
 
     pub head-plain : (getD text at 0 ≡ 33 → ⊥) → literalHead (nameAt text at 69) false ≡ headAt text at false
     unfolding nameAt headAt testOf literalOf
     head-plain q =
-        literal-clipped (skip inToken text at) (named 69 (tokenAt text at)) false
-        ∙ ap (headEnding (skip inToken text at))
+        literal-clipped (skipWhile inToken text at) (named 69 (tokenAt text at)) false
+        ∙ ap (headEnding (skipWhile inToken text at))
         (rw (token-first text at h, ne-eqb (getD text at 0) 33 q) (sym (map-map (literalAs false) Test.Occurs (named 69 (getD text at 0 ∷ tokenAt text (at + 1))))))
 
 -- ---- comparisons
 
 module _ (n e : ℕ) (relation : Relation) (operand : Operand) where
-  pub compared-valid : (r : Reading) → Number.readingOf n ≡ ReadingCheck.Valid r → (ok : Bool) → ok ≡ true → ComparisonAt.Comparison (record { reading = r; relation = relation; operand = operand }) true e ≡ compared n relation operand ok e
-  unfolding compared
-  compared-valid r q ok k = let p = reading-valid n r q in rw (k, p .0, p .1)
+  pub from-reading-valid : (r : Reading) → checkReading n ≡ ReadingCheck.Valid r → (ok : Bool) → ok ≡ true → ComparisonAt.Comparison (record { reading = r; relation = relation; operand = operand }) true e ≡ comparisonFrom n relation operand ok e
+  unfolding comparisonFrom
+  from-reading-valid r q ok k = let p = reading-valid n r q in rw (k, p .0, p .1)
 
-  pub compared-past : (r : Reading) → Number.readingOf n ≡ ReadingCheck.Valid r → (ok : Bool) → ok ≡ false → ComparisonAt.Comparison noComparison false e ≡ compared n relation operand ok e
-  unfolding compared
-  compared-past r q ok k = let p = reading-valid n r q in rw (k, p .0)
+  pub from-reading-past : (r : Reading) → checkReading n ≡ ReadingCheck.Valid r → (ok : Bool) → ok ≡ false → ComparisonAt.Comparison noComparison false e ≡ comparisonFrom n relation operand ok e
+  unfolding comparisonFrom
+  from-reading-past r q ok k = let p = reading-valid n r q in rw (k, p .0)
 
-  pub compared-outside : Number.readingOf n ≡ ReadingCheck.OutOfRange → (ok : Bool) → ComparisonAt.Comparison noComparison false e ≡ compared n relation operand ok e
-  unfolding compared
-  compared-outside q ok = rw (reading-outside n q)
+  pub from-reading-outside : checkReading n ≡ ReadingCheck.OutOfRange → (ok : Bool) → ComparisonAt.Comparison noComparison false e ≡ comparisonFrom n relation operand ok e
+  unfolding comparisonFrom
+  from-reading-outside q ok = rw (reading-outside n q)
 
 module _ (text : List ℕ) (at : ℕ) where
-  relation-some : (r : Relation) (e : ℕ) → relationAt text at ≡ RelationAt.Relation r e → (relationOf (tokenAt text at) ≡ some r) × (e ≡ skip inToken text at)
+  relation-some : (r : Relation) (e : ℕ) → relationAt text at ≡ RelationAt.Relation r e → (relationOf (tokenAt text at) ≡ some r) × (e ≡ skipWhile inToken text at)
   unfolding relationAt relationEnding
   relation-some r e = go (relationOf (tokenAt text at))
     where
-      go : (o : Option Relation) → relationEnding (skip inToken text at) o ≡ RelationAt.Relation r e → (o ≡ some r) × (e ≡ skip inToken text at)
+      go : (o : Option Relation) → relationEnding (skipWhile inToken text at) o ≡ RelationAt.Relation r e → (o ≡ some r) × (e ≡ skipWhile inToken text at)
       go none q = let w : _≡_ {A = ℕ} 0 1 = cc in absurd (omega arith)
       go (some x) q = (cc, cc)
 
@@ -288,7 +289,7 @@ module _ (text : List ℕ) (at : ℕ) where
   unfolding relationAt relationEnding
   relation-none = go (relationOf (tokenAt text at))
     where
-      go : (o : Option Relation) → relationEnding (skip inToken text at) o ≡ RelationAt.Malformed → o ≡ none
+      go : (o : Option Relation) → relationEnding (skipWhile inToken text at) o ≡ RelationAt.Malformed → o ≡ none
       go none q = refl
       go (some x) q = let w : _≡_ {A = ℕ} 0 1 = cc in absurd (omega arith)
 
@@ -296,7 +297,7 @@ module _ (text : List ℕ) (at : ℕ) where
   unfolding operandAt operandEnding
   operand-none = go (operandOf (tokenAt text at))
     where
-      go : (o : Option Operand) → operandEnding (skip inToken text at) o ≡ OperandAt.Malformed → o ≡ none
+      go : (o : Option Operand) → operandEnding (skipWhile inToken text at) o ≡ OperandAt.Malformed → o ≡ none
       go none q = refl
       go (some x) q = let w : _≡_ {A = ℕ} 0 1 = cc in absurd (omega arith)
 
@@ -305,13 +306,13 @@ pub record Operands (text : List ℕ) (at : ℕ) (o : Operand) (ok : Bool) (e : 
   pub is : operandOf (tokenAt text at) ≡ some operand
   pub small : o ≡ cond (operandInRange operand) operand (Operand.Constant (pos 0))
   pub range : ok ≡ operandInRange operand
-  pub behind : e ≡ skip inToken text at
+  pub behind : e ≡ skipWhile inToken text at
 
 operand-some : (text : List ℕ) (at : ℕ) (o : Operand) (ok : Bool) (e : ℕ) → operandAt text at ≡ OperandAt.Operand o ok e → Operands text at o ok e
 unfolding operandAt operandEnding
 operand-some text at o ok e = go (operandOf (tokenAt text at)) refl
   where
-    go : (x : Option Operand) → operandOf (tokenAt text at) ≡ x → operandEnding (skip inToken text at) x ≡ OperandAt.Operand o ok e → Operands text at o ok e
+    go : (x : Option Operand) → operandOf (tokenAt text at) ≡ x → operandEnding (skipWhile inToken text at) x ≡ OperandAt.Operand o ok e → Operands text at o ok e
     go none p q = let w : _≡_ {A = ℕ} 0 1 = cc in absurd (omega arith)
     go (some x) p q = record { operand = x; is = p; small = cc; range = cc; behind = cc }
 
@@ -327,31 +328,31 @@ module _ (text : List ℕ) (at : ℕ) where
   comparison-no-reading q = rw (name-none 82 text at q)
 
   module _ (v e : ℕ) (p : nameAt text at 82 ≡ NumberAt.Number v e) where
-    second : skip isSpace text e ≡ nextAt text at
+    second : skipWhile isSpace text e ≡ nextAt text at
     unfolding nextAt
-    second = ap (skip isSpace text) (name-some 82 text at v e p .behind)
+    second = ap (skipWhile isSpace text) (name-some 82 text at v e p .behind)
 
-    pub comparison-no-relation : relationAt text (skip isSpace text e) ≡ RelationAt.Malformed → ComparisonAt.Malformed ≡ comparisonAt text at
+    pub comparison-no-relation : relationAt text (skipWhile isSpace text e) ≡ RelationAt.Malformed → ComparisonAt.Malformed ≡ comparisonAt text at
     unfolding comparisonAt comparisonOf both comparisonEnding
     comparison-no-relation q =
         rw (relation-none text (nextAt text at) (sym (ap (relationAt text) second) ∙ q), both-none compare (readingOf (tokenAt text at)))
 
-    module _ (r : Relation) (k : ℕ) (q : relationAt text (skip isSpace text e) ≡ RelationAt.Relation r k) where
-      related : (relationOf (tokenAt text (nextAt text at)) ≡ some r) × (k ≡ skip inToken text (nextAt text at))
+    module _ (r : Relation) (k : ℕ) (q : relationAt text (skipWhile isSpace text e) ≡ RelationAt.Relation r k) where
+      related : (relationOf (tokenAt text (nextAt text at)) ≡ some r) × (k ≡ skipWhile inToken text (nextAt text at))
       related = relation-some text (nextAt text at) r k (sym (ap (relationAt text) second) ∙ q)
 
-      third : skip isSpace text k ≡ nextAt text (nextAt text at)
+      third : skipWhile isSpace text k ≡ nextAt text (nextAt text at)
       unfolding nextAt
-      third = ap (skip isSpace text) (related .1)
+      third = ap (skipWhile isSpace text) (related .1)
 
-      pub comparison-no-operand : operandAt text (skip isSpace text k) ≡ OperandAt.Malformed → ComparisonAt.Malformed ≡ comparisonAt text at
+      pub comparison-no-operand : operandAt text (skipWhile isSpace text k) ≡ OperandAt.Malformed → ComparisonAt.Malformed ≡ comparisonAt text at
       unfolding comparisonAt comparisonOf comparisonEnding
       comparison-no-operand h =
           rw (operand-none text (nextAt text (nextAt text at)) (sym (ap (operandAt text) third) ∙ h), both-none (λ (f : Operand → Comparison) (x : Operand). f x) (both compare (readingOf (tokenAt text at)) (relationOf (tokenAt text (nextAt text at)))))
 
-      compared-clipped : (n l : ℕ) (x : Operand) → compared (clip n) r (cond (operandInRange x) x (Operand.Constant (pos 0))) (operandInRange x) l ≡ comparisonEnding l (some (compare (record { 0 = n }) r x))
-      unfolding compared comparisonEnding smallComparison comparisonInRange
-      compared-clipped n l x = rw (clip-below 16 n (omega arith)) (go (ltb n 16) refl (operandInRange x))
+      from-clipped : (n l : ℕ) (x : Operand) → comparisonFrom (clip n) r (cond (operandInRange x) x (Operand.Constant (pos 0))) (operandInRange x) l ≡ comparisonEnding l (some (compare (record { 0 = n }) r x))
+      unfolding comparisonFrom comparisonEnding smallComparison comparisonInRange
+      from-clipped n l x = rw (clip-below 16 n (omega arith)) (go (ltb n 16) refl (operandInRange x))
         where
           go : (b : Bool) → ltb n 16 ≡ b → (ok : Bool) → cond (b && ok) (ComparisonAt.Comparison (compare (record { 0 = clip n }) r (cond ok x (Operand.Constant (pos 0)))) true l) (ComparisonAt.Comparison noComparison false l) ≡ ComparisonAt.Comparison (cond (b && ok) (compare (record { 0 = n }) r x) noComparison) (b && ok) l
           go true h true = ap (λ (m : ℕ). ComparisonAt.Comparison (compare (record { 0 = m }) r x) true l) (clip-same 16 n (omega arith) h)
@@ -362,14 +363,14 @@ module _ (text : List ℕ) (at : ℕ) where
       unfolding comparisonOf readingOf both
       comparison-read n x a b = rw (a, related .0, b)
 
-      pub comparison-some : (o : Operand) (ok : Bool) (l : ℕ) → operandAt text (skip isSpace text k) ≡ OperandAt.Operand o ok l → compared v r o ok l ≡ comparisonAt text at
+      pub comparison-some : (o : Operand) (ok : Bool) (l : ℕ) → operandAt text (skipWhile isSpace text k) ≡ OperandAt.Operand o ok l → comparisonFrom v r o ok l ≡ comparisonAt text at
       unfolding comparisonAt
       comparison-some o ok l h =
           let a = name-some 82 text at v e p in
           let b = operand-some text (nextAt text (nextAt text at)) o ok l (sym (ap (operandAt text) third) ∙ h) in
-          compared-of a b
-          ∙ compared-clipped (a .number) (skip inToken text (nextAt text (nextAt text at))) (b .operand)
-          ∙ ap (comparisonEnding (skip inToken text (nextAt text (nextAt text at)))) (sym (comparison-read (a .number) (b .operand) (a .is) (b .is)))
+          from-parts a b
+          ∙ from-clipped (a .number) (skipWhile inToken text (nextAt text (nextAt text at))) (b .operand)
+          ∙ ap (comparisonEnding (skipWhile inToken text (nextAt text (nextAt text at)))) (sym (comparison-read (a .number) (b .operand) (a .is) (b .is)))
         where
-          compared-of : (a : Named 82 text at v e) (b : Operands text (nextAt text (nextAt text at)) o ok l) → compared v r o ok l ≡ compared (clip (a .number)) r (cond (operandInRange (b .operand)) (b .operand) (Operand.Constant (pos 0))) (operandInRange (b .operand)) (skip inToken text (nextAt text (nextAt text at)))
-          compared-of a b = cc (a .clipped, b .small, b .range, b .behind)
+          from-parts : (a : Named 82 text at v e) (b : Operands text (nextAt text (nextAt text at)) o ok l) → comparisonFrom v r o ok l ≡ comparisonFrom (clip (a .number)) r (cond (operandInRange (b .operand)) (b .operand) (Operand.Constant (pos 0))) (operandInRange (b .operand)) (skipWhile inToken text (nextAt text (nextAt text at)))
+          from-parts a b = cc (a .clipped, b .small, b .range, b .behind)

@@ -7,12 +7,12 @@ use mathlib.Core.Path.{_≡_, refl, sym, ap, ap₂, _∙_}
 use borrow.Author.Tests.{ne-eqb}
 use lib.Dec.{eqb}
 use lib.ListN.{getD}
-use Rattle.lexer.proofs.WordLaws.{token-none, skip-none, token-first, skip-first}
+use Rattle.lexer.proofs.KeywordLaws.{token-none, skip-none, token-first, skip-first}
 use Rattle.lexer.specs.Byte.{bytes, sameBytes, is}
 use Rattle.lexer.specs.Token.{relationOf}
 use Rattle.lexer.specs.Number.{isEmpty}
-use Rattle.lexer.specs.Parts.{relationEnding, relationAt}
-use Rattle.lexer.specs.Scan.{tokenAt}
+use Rattle.lexer.specs.Steps.PartAt.{relationEnding, relationAt}
+use Rattle.lexer.specs.Steps.Scan.{tokenAt}
 use Rattle.lexer.specs.declared.token.RelationAt.{RelationAt}
 
 pub one-unknown : (b : ℕ) → (b ≡ 61 → ⊥) → (b ≡ 60 → ⊥) → (b ≡ 62 → ⊥) → relationOf (b ∷ []) ≡ none

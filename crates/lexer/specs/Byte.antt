@@ -20,9 +20,9 @@ sameBytes [] (y ∷ ys) = false
 sameBytes (x ∷ xs) [] = false
 sameBytes (x ∷ xs) (y ∷ ys) = eqb x y && sameBytes xs ys
 
--- the bytes are those of the word
+-- the bytes are those of the keyword
 unfoldable pub is : String → List ℕ → Bool
-is word t = sameBytes t (bytes word)
+is keyword t = sameBytes t (bytes keyword)
 
 abbrev pub isSpace : ℕ → Bool
 isSpace b = eqb b (code " ")
@@ -50,12 +50,3 @@ classOf b =
     (cond (isDigit b) Class.Digit
     (cond (isLetter b) Class.Letter
     (cond (isSign b) Class.Sign Class.Other))))
-
--- the classes in the order above
-abbrev pub classCode : Class → ℕ
-classCode Class.Space = 0
-classCode Class.LineEnd = 1
-classCode Class.Digit = 2
-classCode Class.Letter = 3
-classCode Class.Sign = 4
-classCode Class.Other = 5

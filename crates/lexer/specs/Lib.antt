@@ -1,7 +1,6 @@
--- What a reader must believe of this layer. Start with `Lines` and `Token`.
+-- What a reader must believe of this layer, in the order in which to read it. `Steps` needs not be read.
 pub mod Byte
-pub mod Number
 pub mod Lines
+pub mod Number
 pub mod Token
-pub mod Scan
-pub mod Parts
+pub mod Steps

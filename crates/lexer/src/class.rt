@@ -2,7 +2,7 @@
 ghost use mathlib.Core.Path.{_≡_};
 ghost use mathlib.Core.Bool.{_&&_};
 ghost use lib.Dec.{leb};
-ghost use Rattle.lexer.specs.Byte.{classOf, classCode, isSpace, endsToken, isDigit, isSign};
+ghost use Rattle.lexer.specs.Byte.{classOf, isSpace, endsToken, isDigit, isLetter, isSign};
 
 pub enum Class {
     Space,
@@ -13,37 +13,25 @@ pub enum Class {
     Other,
 }
 
-fn between(b: u8, low: u8, high: u8) -> bool
+fn within(b: u8, low: u8, high: u8) -> bool
     ensures { λ r. ⌜ r ≡ leb low b && leb b high ⌝ }
 {
-    if low <= b { b <= high } else { false }
+    low <= b && b <= high
+}
+
+fn is_letter(b: u8) -> bool
+    ensures { λ r. ⌜ r ≡ isLetter b ⌝ }
+{
+    within(b, b'A', b'Z') || within(b, b'a', b'z')
 }
 
 fn is_sign(b: u8) -> bool
     ensures { λ r. ⌜ r ≡ isSign b ⌝ }
 {
-    if b == b'&' {
-        return true;
+    match b {
+        b'&' | b'!' | b',' | b'=' | b'<' | b'>' | b'-' | b'#' => true,
+        _ => false,
     }
-    if b == b'!' {
-        return true;
-    }
-    if b == b',' {
-        return true;
-    }
-    if b == b'=' {
-        return true;
-    }
-    if b == b'<' {
-        return true;
-    }
-    if b == b'>' {
-        return true;
-    }
-    if b == b'-' {
-        return true;
-    }
-    b == b'#'
 }
 
 pub fn class_of(b: u8) -> Class
@@ -53,11 +41,9 @@ pub fn class_of(b: u8) -> Class
         Class::Space
     } else if b == b'\n' {
         Class::LineEnd
-    } else if between(b, b'0', b'9') {
+    } else if within(b, b'0', b'9') {
         Class::Digit
-    } else if between(b, b'A', b'Z') {
-        Class::Letter
-    } else if between(b, b'a', b'z') {
+    } else if is_letter(b) {
         Class::Letter
     } else if is_sign(b) {
         Class::Sign
@@ -66,36 +52,33 @@ pub fn class_of(b: u8) -> Class
     }
 }
 
-impl Class {
-    fn code(self) -> u8
-        ensures { λ r. ⌜ r ≡ classCode self ⌝ }
-    {
-        match self {
-            Class::Space => 0,
-            Class::LineEnd => 1,
-            Class::Digit => 2,
-            Class::Letter => 3,
-            Class::Sign => 4,
-            Class::Other => 5,
-        }
-    }
-}
-
 pub(crate) fn is_space(b: u8) -> bool
     ensures { λ r. ⌜ r ≡ isSpace b ⌝ }
 {
-    class_of(b).code() == 0
+    let class = class_of(b);
+    match class {
+        Class::Space => true,
+        _ => false,
+    }
 }
 
 pub(crate) fn is_digit(b: u8) -> bool
     ensures { λ r. ⌜ r ≡ isDigit b ⌝ }
 {
-    class_of(b).code() == 2
+    let class = class_of(b);
+    match class {
+        Class::Digit => true,
+        _ => false,
+    }
 }
 
 // A space or a line end: what stands behind a token.
 pub(crate) fn ends_token(b: u8) -> bool
     ensures { λ r. ⌜ r ≡ endsToken b ⌝ }
 {
-    class_of(b).code() < 2
+    let class = class_of(b);
+    match class {
+        Class::Space | Class::LineEnd => true,
+        _ => false,
+    }
 }

@@ -1,4 +1,4 @@
-// The tokens of rule texts and epoch lines: byte classes, words, numbers, and the parts of a line that are one token or
+// The tokens of rule texts and epoch lines: byte classes, keywords, numbers, and the parts of a line that are one token or
 // three. Start with specs/Lines.antt (lines and tokens) and specs/Token.antt (what a token is read as).
 mod class;
 mod scan;
@@ -6,8 +6,8 @@ mod token;
 
 pub use class::Class;
 pub use class::class_of;
+pub use scan::KeywordAt;
 pub use scan::NumberAt;
-pub use scan::WordAt;
 pub use scan::action_at;
 pub use scan::ampersand_at;
 pub use scan::at_token_end;

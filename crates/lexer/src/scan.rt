@@ -1,4 +1,4 @@
-// What stands at a position of a text: spaces, words and numbers. A token ends at a space, a line end or the end of the
+// What stands at a position of a text: spaces, keywords and numbers. A token ends at a space, a line end or the end of the
 // text.
 ghost use mathlib.Core.Path.{_≡_};
 ghost use mathlib.Core.Bool.{true};
@@ -6,13 +6,14 @@ ghost use Prim.Native.Nat.{_+_, _*_, _-_, _≤_};
 ghost use Rattle.policy.specs.List.{all};
 ghost use Rattle.lexer.specs.Byte.{bytes, isSpace, isDigit};
 ghost use Rattle.lexer.specs.Number.{isEmpty};
-ghost use Rattle.lexer.specs.Scan.{skip, tokenAt, wordAt, inToken, clip, clipLimit, digitRun, digitsAt, numberAt, nameAt, eventAt, actionAt};
+ghost use Rattle.lexer.specs.Steps.Scan.{tokenAt, keywordAt, inToken, clip, clipLimit, leadingDigits, digitsAt, numberAt, nameAt, eventAt, actionAt};
+ghost use Rattle.lexer.specs.Lines.{skipWhile};
 use crate::class::ends_token;
 use crate::class::is_digit;
 use crate::class::is_space;
 
-pub enum WordAt {
-    // The position behind the word.
+pub enum KeywordAt {
+    // The position behind the keyword.
     Found(usize),
     Absent,
 }
@@ -25,7 +26,7 @@ pub enum NumberAt {
 
 // The first position from `at` on that holds no space.
 pub fn skip_spaces(text: &[u8], at: usize) -> usize
-    ensures { λ r. ⌜ r ≡ skip isSpace (now (text .entry)) at ⌝ }
+    ensures { λ r. ⌜ r ≡ skipWhile isSpace (now (text .entry)) at ⌝ }
 {
     let mut i = at;
     while i < text.len() {
@@ -49,58 +50,58 @@ pub fn at_token_end(text: &[u8], at: usize) -> bool
     }
 }
 
-// Whether the token at the position is the word, in which no token ends.
-pub(crate) fn word_at(text: &[u8], at: usize, word: &[u8]) -> WordAt
-    requires { ⌜ all inToken (now word) ≡ true ⌝ }
-    ensures { λ r. ⌜ r ≡ wordAt (now (text .entry)) at (now (word .entry)) ⌝ }
+// Whether the token at the position is the keyword, in which no token ends.
+pub(crate) fn keyword_at(text: &[u8], at: usize, keyword: &[u8]) -> KeywordAt
+    requires { ⌜ all inToken (now keyword) ≡ true ⌝ }
+    ensures { λ r. ⌜ r ≡ keywordAt (now (text .entry)) at (now (keyword .entry)) ⌝ }
 {
     let mut i = at;
     let mut k = 0;
-    while k < word.len() {
+    while k < keyword.len() {
         if text.len() <= i {
-            return WordAt::Absent;
+            return KeywordAt::Absent;
         }
-        if text[i] != word[k] {
-            return WordAt::Absent;
+        if text[i] != keyword[k] {
+            return KeywordAt::Absent;
         }
         i += 1;
         k += 1;
     }
     if at_token_end(text, i) {
-        WordAt::Found(i)
+        KeywordAt::Found(i)
     } else {
-        WordAt::Absent
+        KeywordAt::Absent
     }
 }
 
-pub fn ampersand_at(text: &[u8], at: usize) -> WordAt
-    ensures { λ r. ⌜ r ≡ wordAt (now (text .entry)) at (bytes "&") ⌝ }
+pub fn ampersand_at(text: &[u8], at: usize) -> KeywordAt
+    ensures { λ r. ⌜ r ≡ keywordAt (now (text .entry)) at (bytes "&") ⌝ }
 {
-    word_at(text, at, b"&")
+    keyword_at(text, at, b"&")
 }
 
-pub fn comma_at(text: &[u8], at: usize) -> WordAt
-    ensures { λ r. ⌜ r ≡ wordAt (now (text .entry)) at (bytes ",") ⌝ }
+pub fn comma_at(text: &[u8], at: usize) -> KeywordAt
+    ensures { λ r. ⌜ r ≡ keywordAt (now (text .entry)) at (bytes ",") ⌝ }
 {
-    word_at(text, at, b",")
+    keyword_at(text, at, b",")
 }
 
-pub fn if_at(text: &[u8], at: usize) -> WordAt
-    ensures { λ r. ⌜ r ≡ wordAt (now (text .entry)) at (bytes "if") ⌝ }
+pub fn if_at(text: &[u8], at: usize) -> KeywordAt
+    ensures { λ r. ⌜ r ≡ keywordAt (now (text .entry)) at (bytes "if") ⌝ }
 {
-    word_at(text, at, b"if")
+    keyword_at(text, at, b"if")
 }
 
-pub fn causes_at(text: &[u8], at: usize) -> WordAt
-    ensures { λ r. ⌜ r ≡ wordAt (now (text .entry)) at (bytes "causes") ⌝ }
+pub fn causes_at(text: &[u8], at: usize) -> KeywordAt
+    ensures { λ r. ⌜ r ≡ keywordAt (now (text .entry)) at (bytes "causes") ⌝ }
 {
-    word_at(text, at, b"causes")
+    keyword_at(text, at, b"causes")
 }
 
-pub fn never_at(text: &[u8], at: usize) -> WordAt
-    ensures { λ r. ⌜ r ≡ wordAt (now (text .entry)) at (bytes "never") ⌝ }
+pub fn never_at(text: &[u8], at: usize) -> KeywordAt
+    ensures { λ r. ⌜ r ≡ keywordAt (now (text .entry)) at (bytes "never") ⌝ }
 {
-    word_at(text, at, b"never")
+    keyword_at(text, at, b"never")
 }
 
 // One digit more.
@@ -121,8 +122,8 @@ pub struct Digits {
     pub end: usize,
 }
 
-fn digit_run(text: &[u8], at: usize) -> Digits
-    ensures { λ r. ⌜ r ≡ digitRun (now (text .entry)) at ⌝ }
+fn leading_digits(text: &[u8], at: usize) -> Digits
+    ensures { λ r. ⌜ r ≡ leadingDigits (now (text .entry)) at ⌝ }
 {
     let mut i = at;
     let mut value = 0;
@@ -142,7 +143,7 @@ fn digit_run(text: &[u8], at: usize) -> Digits
 pub fn digits_at(text: &[u8], at: usize) -> NumberAt
     ensures { λ r. ⌜ r ≡ digitsAt (now (text .entry)) at ⌝ }
 {
-    let digits = digit_run(text, at);
+    let digits = leading_digits(text, at);
     let end = digits.end;
     if end <= at {
         return NumberAt::Malformed;

@@ -1,9 +1,7 @@
 // The parts of a line, each one token: constants, relations, operands, literals and actions. A part out of range is read
 // as a filler, and flagged.
 ghost use mathlib.Core.Path.{_≡_};
-ghost use Rattle.lexer.specs.Parts.{positiveAt, negativeAt, constantAt, relationEnding, relationAt};
-ghost use Rattle.lexer.specs.Parts.{operandEnding, operandAt, literalHead, actionHead, headAt};
-ghost use Rattle.lexer.specs.Parts.{compared, comparisonAt};
+ghost use Rattle.lexer.specs.Steps.PartAt.{positiveAt, negativeAt, constantAt, relationEnding, relationAt, operandEnding, operandAt, literalHead, actionHead, headAt, comparisonFrom, comparisonAt};
 ghost use mathlib.Core.Option.{some};
 ghost use Rattle.lexer.specs.Token.{relationOf};
 ghost use mathlib.Core.List.{[], _∷_};
@@ -219,14 +217,14 @@ pub enum ComparisonAt {
     Malformed,
 }
 
-fn compared(
+fn comparison_from(
     n: u32,
     relation: Relation,
     operand: Operand,
     in_range: bool,
     end: usize,
 ) -> ComparisonAt
-    ensures { λ r. ⌜ r ≡ compared n relation operand «in_range» end ⌝ }
+    ensures { λ r. ⌜ r ≡ comparisonFrom n relation operand «in_range» end ⌝ }
 {
     let check = Reading::new(n);
     if let ReadingCheck::Valid(reading) = check {
@@ -262,5 +260,5 @@ pub fn comparison_at(text: &[u8], at: usize) -> ComparisonAt
     let OperandAt::Operand(operand, in_range, end) = operand_at(text, third) else {
         return ComparisonAt::Malformed;
     };
-    compared(n, relation, operand, in_range, end)
+    comparison_from(n, relation, operand, in_range, end)
 }

@@ -1,28 +1,34 @@
 -- Each row of the table of decisions is as document 01 says.
 use mathlib.Core.List.{map}
 use mathlib.Core.Path.{_≡_, refl}
-use Rattle.policy.specs.Comparison.{comparisonHolds, relationHolds, operandValue, eqZ}
-use Rattle.policy.specs.Epoch.{valueOf}
-use Rattle.policy.specs.Greedy.{greedy, keptBelow, tryNext}
-use Rattle.policy.specs.Limits.{valid, inRange, crowded, repeated, repeats, testNumber, operandInRange, comparisonInRange, endingInRange, isReadingValue}
-use Rattle.policy.specs.Line.{headsOf, comparisonsOf, endingOf}
 use Rattle.policy.specs.List.{all, any}
-use Rattle.policy.specs.Set.{has, insert}
-use Rattle.lexer.specs.Byte.{bytes, sameBytes, is}
-use Rattle.syntax.specs.Epoch as Epoch
-use Rattle.syntax.specs.Epoch.{toLeft, atEquals, itemOf, itemsOf, itemInRange, givenBy, addItem, judge, readEpoch}
-use Rattle.lexer.specs.Token.{named, orElse, both}
-use Rattle.lexer.specs.Lines.{prepend, pieces, nonEmpty, tokensOf}
+use Rattle.policy.specs.Set.{has, insert, below}
+use Rattle.policy.specs.Epoch.{readingValue}
+use Rattle.policy.specs.Comparison.{eqZ, relationHolds, operandValue, comparisonHolds}
+use Rattle.policy.specs.Line.{headsOf, comparisonsOf, endingOf, constantCount}
+use Rattle.policy.specs.Limits.{isReadingValue, testNumber, operandInRange, comparisonInRange, endingInRange, inRange, crowded, repeats, repeated, valid}
+use Rattle.pdl.specs.Greedy.{tryNext, keptBelow, greedy}
+use Rattle.pdl.specs.Yield.{literalHolds, ruleHolds, propose, proposals, constraintHolds, conflict, resolve, accepted, cancelled}
+use Rattle.lexer.specs.Byte.{bytes, sameBytes, is, classOf}
 use Rattle.lexer.specs.Number.{decimalFrom, isEmpty, numberOf, positive, negative, constantOf}
-use Rattle.image.specs.Examples.{worked}
-use Rattle.image.specs.Layout.{testOpcode, testWord, operandWords, comparisonWords, endingWord, conditionWords, partWords, lineWords, linesWords, knownForm, checkCount, sum, checkWord, checkWords, headerWord, ruleWords, constraintWords, contentWords, imageWords, imageOf}
-use Rattle.image.specs.Load.{addLiteral, addMember, addComparison, decodeWord, decode, isPrefix, inPart, standsAt, keepIf, lineAt, addLine, afterLine, linesFrom, partLines, wellSized, countsFit, sumsToZero, bodyAnswer, loadWords, load}
-use Rattle.word.specs.Operation.{operationFrom, relationCode, relationFrom, constantComparison, readingComparison}
+use Rattle.lexer.specs.Lines.{prepend, pieces, linesOf, nonEmpty, tokensOf, takeWhile, skipWhile, restOfLine, lineEnd}
+use Rattle.lexer.specs.Token.{named, literalOf, actionOf, readingOf, relationOf, orElse, operandOf, both, comparisonOf}
+use Rattle.syntax.specs.Grammar.{comparisonsFrom, conditionFrom, joined, ruleAfter, constraintAfter, after, lineFrom}
+use Rattle.syntax.specs.Text.{judgeLine, isComment, tokensAnswer, lineAnswer, advance, readLine, readText, policyOf}
+use Rattle.syntax.specs.Epoch.{toLeft, atEquals, assignmentOf, itemOf, itemsOf, itemInRange, givenBy, addItem, judgeEpoch, readEpoch}
+use Rattle.word.specs.Operation.{operationFrom, relationFrom}
 use Rattle.word.specs.Word.{wordsOf, bytesOf, between, pack, packHeader}
-use Rattle.run.specs.Run.{passed, rulePasses, ruleProposes, runRules, constraintPasses, isNever, runConstraints}
+use Rattle.word.specs.Parts.{testOperation, testWord, operandWord, constantWords, comparisonWord, comparisonWords, constantComparison, readingComparison, endingWord}
+use Rattle.image.specs.Layout.{conditionWords, partWords, lineWords, linesWords, knownForm, checkCount, sum, checkWord, checkWords, headerWord, ruleWords, constraintWords, contentWords, imageWords, imageOf}
+use Rattle.image.specs.Check.{wellSized, countsFit, sumsToZero}
+use Rattle.image.specs.Lines.{addLiteral, addMember, addComparison, decodeWord, decode, isPrefix, inPart, standsAt, keepIf, lineAt, lineLength, addLine, afterLine, linesFrom, partLines}
+use Rattle.image.specs.Lines as ImageLines
+use Rattle.image.specs.Load.{bodyAnswer, loadWords, load}
+use Rattle.run.specs.Run.{ran, comparisonTest, ruleTest, constraintTest, proposesAt, runRules, isNever, runConstraints}
 use Rattle.monitor.specs.Decision.{keptBy, yieldedBy, issuedBy, onLine, onImage, decision}
+use Rattle.exactness.specs.Examples.{worked, nothing, policies, images, imageFor}
 use Rattle.monitor.specs.Examples.{decisions, decided}
 
 pub decisions-hold : map decided decisions ≡ decisions
-unfolding decisions decided keptBy yieldedBy issuedBy onLine onImage decision passed rulePasses ruleProposes runRules constraintPasses isNever runConstraints worked testNumber pack packHeader wordsOf bytesOf between operationFrom relationCode relationFrom constantComparison readingComparison testOpcode testWord operandWords comparisonWords endingWord conditionWords partWords lineWords linesWords knownForm checkCount sum checkWord checkWords headerWord ruleWords constraintWords contentWords imageWords imageOf addLiteral addMember addComparison decodeWord decode isPrefix inPart standsAt keepIf lineAt addLine afterLine linesFrom partLines wellSized countsFit sumsToZero bodyAnswer loadWords load valid inRange crowded repeated repeats operandInRange comparisonInRange endingInRange isReadingValue headsOf comparisonsOf endingOf all any comparisonHolds relationHolds operandValue eqZ valueOf has insert greedy keptBelow tryNext bytes sameBytes is named orElse both prepend pieces nonEmpty tokensOf decimalFrom isEmpty numberOf positive negative constantOf toLeft atEquals Epoch.valueOf itemOf itemsOf itemInRange givenBy addItem judge readEpoch
+unfolding all any has insert below readingValue eqZ relationHolds operandValue comparisonHolds headsOf comparisonsOf endingOf constantCount isReadingValue testNumber operandInRange comparisonInRange endingInRange inRange crowded repeats repeated valid tryNext keptBelow greedy literalHolds ruleHolds propose proposals constraintHolds conflict resolve accepted cancelled bytes sameBytes is classOf decimalFrom isEmpty numberOf positive negative constantOf prepend pieces linesOf nonEmpty tokensOf takeWhile skipWhile restOfLine lineEnd named literalOf actionOf readingOf relationOf orElse operandOf both comparisonOf comparisonsFrom conditionFrom joined ruleAfter constraintAfter after lineFrom judgeLine isComment tokensAnswer lineAnswer advance readLine readText policyOf toLeft atEquals assignmentOf itemOf itemsOf itemInRange givenBy addItem judgeEpoch readEpoch operationFrom relationFrom wordsOf bytesOf between pack packHeader testOperation testWord operandWord constantWords comparisonWord comparisonWords constantComparison readingComparison endingWord conditionWords partWords lineWords linesWords knownForm checkCount sum checkWord checkWords headerWord ruleWords constraintWords contentWords imageWords imageOf wellSized countsFit sumsToZero addLiteral addMember addComparison decodeWord decode isPrefix inPart standsAt keepIf lineAt lineLength addLine afterLine linesFrom partLines ImageLines.lineAnswer bodyAnswer loadWords load ran comparisonTest ruleTest constraintTest proposesAt runRules isNever runConstraints keptBy yieldedBy issuedBy onLine onImage decision worked nothing policies images imageFor decisions decided
 decisions-hold = refl

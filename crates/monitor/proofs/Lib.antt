@@ -1,4 +1,3 @@
 pub mod DecideLaws
-pub mod Decisions
 pub mod Examples
 pub mod ResolveLaws

@@ -11,7 +11,7 @@ use borrow.Author.Tests.{eq-eqb, ne-eqb, eqb-true, eqb-false}
 use lib.Dec.{eqb}
 use lib.Pow.{pow-pos, shr-shr}
 use Rattle.policy.specs.Epoch.{Readings}
-use Rattle.policy.specs.Greedy.{tryNext, keptBelow, greedy}
+use Rattle.pdl.specs.Greedy.{tryNext, keptBelow, greedy}
 use Rattle.policy.specs.Set.{has, insert, insertAction}
 use Rattle.policy.specs.declared.set.ActionSet.{ActionSet}
 use Rattle.run.specs.Run.{runConstraints}
@@ -100,12 +100,12 @@ module _ (words : List ℕ) (rs : Readings) where
 
     -- the trial of n says b
     pub trial-turn : left % 2 ≡ 1 → (more : ActionSet) → more ≡ insertAction kept (record { 0 = n })
-        → (b violated : Bool) → violated ≡ runConstraints rs more 0 words → violated ≡ b
+        → (b violated : Bool) → violated ≡ runConstraints rs more words → violated ≡ b
         → (kept′ : ActionSet) → kept′ ≡ cond b kept more → Tried bad candidates (kept′ .0) (left / 2) (n + 1)
     trial-turn q more m b violated r v kept′ e = rw kept-is (tried-one bad candidates (kept .0) left n t h q)
       where
         says : b ≡ bad (insert (kept .0) n)
-        says = sym v ∙ r ∙ ap (λ (s : ActionSet). runConstraints rs s 0 words) m
+        says = sym v ∙ r ∙ ap (λ (s : ActionSet). runConstraints rs s words) m
 
         inside : (x : Bool) → cond x kept (insertAction kept (record { 0 = n })) .0 ≡ cond x (kept .0) (insert (kept .0) n)
         inside true = refl

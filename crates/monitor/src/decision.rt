@@ -3,14 +3,14 @@ ghost use mathlib.Core.Path.{_≡_};
 ghost use Prim.Native.Nat.{_<_};
 ghost use Rattle.word.specs.Word.{wordsOf, between};
 ghost use Rattle.monitor.specs.Decision.{keptBy, issuedBy, decision};
+use image::Contents;
 use image::Loaded;
-use image::Parts;
 use image::load_image;
 use policy::Action;
 use policy::ActionSet;
 use policy::EventSet;
-use policy::Fault;
 use policy::ReadingSet;
+use policy::Refusal;
 use run::run_constraints;
 use run::run_rules;
 use syntax::EpochStatus;
@@ -23,8 +23,7 @@ pub struct Actions {
 }
 
 pub enum Decision {
-    // The fault and its location.
-    Refused(Fault, usize),
+    Refused(Refusal),
     Issued(Actions),
 }
 
@@ -58,16 +57,22 @@ fn resolve(
 }
 
 // The words of an image that the loader took, run on an epoch.
-fn issue(image: &[u8], parts: Parts, events: EventSet, given: ReadingSet, values: &[i32]) -> Actions
-    requires { ⌜ parts .«rule_words» < 4096 ⌝ ∗ ⌜ parts .«constraint_words» < 4096 ⌝ }
-    ensures { λ r. ⌜ r ≡ issuedBy parts (wordsOf (now (image .entry))) (record { events = events; readings = record { given = given; values = now (values .entry) } }) ⌝ }
+fn issue(
+    image: &[u8],
+    contents: Contents,
+    events: EventSet,
+    given: ReadingSet,
+    values: &[i32],
+) -> Actions
+    requires { ⌜ contents .«rule_words» < 4096 ⌝ ∗ ⌜ contents .«constraint_words» < 4096 ⌝ }
+    ensures { λ r. ⌜ r ≡ issuedBy contents (wordsOf (now (image .entry))) (record { events = events; readings = record { given = given; values = now (values .entry) } }) ⌝ }
 {
-    let middle = 1 + parts.rule_words;
-    let proposed = run_rules(image, 1, middle, events, given, values);
+    let middle = 1 + contents.rule_words;
+    let proposed = run_rules(image, 1, middle, events.all(), given, values);
     let accepted = resolve(
         image,
         middle,
-        middle + parts.constraint_words,
+        middle + contents.constraint_words,
         proposed,
         given,
         values,
@@ -84,15 +89,15 @@ pub fn decide(image: &[u8], line: &[u8]) -> Decision
 {
     let loaded = load_image(image);
     match loaded {
-        Loaded::Refused(fault, at) => Decision::Refused(fault, at),
-        Loaded::Image(parts) => {
+        Loaded::Refused(refusal) => Decision::Refused(refusal),
+        Loaded::Image(contents) => {
             let epoch = read_epoch(line);
             let status = epoch.status;
             match status {
-                EpochStatus::Refused(fault) => Decision::Refused(fault, 0),
+                EpochStatus::Refused(fault) => Decision::Refused(fault.at(0)),
                 EpochStatus::Accepted => {
                     let values = epoch.values;
-                    Decision::Issued(issue(image, parts, epoch.events, epoch.given, &values))
+                    Decision::Issued(issue(image, contents, epoch.events, epoch.given, &values))
                 }
             }
         }

@@ -1,12 +1,7 @@
-pub mod Examples
 pub mod FaultLaws
-pub mod GreedyLaws
 pub mod LineLaws
 pub mod ListLaws
-pub mod Monitor
-pub mod Proposals
 pub mod RelationLaws
-pub mod Resolution
 pub mod SeenLaws
 pub mod SetLaws
 pub mod SignLaws

@@ -8,7 +8,9 @@ use borrow.Author.Tests.{ltb-true, ltb-false, le-ltb}
 use lib.Dec.{ltb}
 use lib.ListN.{length, set, replicate, length-append}
 use lib.Seq.{take-all, take-append-le, set-at, append-snoc}
-use Rattle.policy.specs.Line.{held, counted, lineOf, pushItem, pushCount, pushHead, pushComparison, endLine, head, headLimit, comparisonLimit, noHead, noComparison}
+use Rattle.policy.specs.Steps.Push.{pushItem, pushCount, pushHead, pushComparison, endLine}
+use Rattle.policy.specs.Value.{padded, counted, lineOf, head, noHead, noComparison}
+use Rattle.policy.specs.Limits.{headLimit, comparisonLimit}
 use Rattle.policy.specs.declared.comparison.Comparison.{Comparison}
 use Rattle.policy.specs.declared.line.Ending.{Ending}
 use Rattle.policy.specs.declared.line.Test.{Test}
@@ -17,9 +19,9 @@ module _ {A : Type 0} (limit : ℕ) (filler : A) (xs : List A) (x : A) where
   length-snoc : length (xs ++ x ∷ []) ≡ length xs + 1
   length-snoc = length-append xs (x ∷ [])
 
-  held-room : (k : ℕ) → limit - length xs ≡ suc k → length xs < limit → set (held limit filler xs) (length xs) x ≡ held limit filler (xs ++ x ∷ [])
-  unfolding held
-  held-room k e h =
+  padded-room : (k : ℕ) → limit - length xs ≡ suc k → length xs < limit → set (padded limit filler xs) (length xs) x ≡ padded limit filler (xs ++ x ∷ [])
+  unfolding padded
+  padded-room k e h =
       let room : k ≡ limit - length (xs ++ x ∷ []) = omega (arith, length-snoc) in
       ap (λ (l : List A). set (l ++ replicate (limit - length xs) filler) (length xs) x) (take-all limit xs (omega arith))
       ∙ ap (λ (n : ℕ). set (xs ++ replicate n filler) (length xs) x) e
@@ -27,9 +29,9 @@ module _ {A : Type 0} (limit : ℕ) (filler : A) (xs : List A) (x : A) where
       ∙ sym (append-snoc xs x (replicate k filler))
       ∙ ap₂ (λ (l : List A) (n : ℕ). l ++ replicate n filler) (sym (take-all limit (xs ++ x ∷ []) (omega (arith, length-snoc)))) room
 
-  held-full : limit ≤ length xs → held limit filler xs ≡ held limit filler (xs ++ x ∷ [])
-  unfolding held
-  held-full h =
+  padded-full : limit ≤ length xs → padded limit filler xs ≡ padded limit filler (xs ++ x ∷ [])
+  unfolding padded
+  padded-full h =
       let room : limit - length xs ≡ limit - length (xs ++ x ∷ []) = omega (arith, length-snoc) in
       ap₂ (λ (l : List A) (n : ℕ). l ++ replicate n filler) (sym (take-append-le limit xs (x ∷ []) h)) room
 
@@ -45,16 +47,16 @@ module _ {A : Type 0} (limit : ℕ) (filler : A) (xs : List A) (x : A) where
   unfolding counted
   counted-past h = omega arith
 
-  pub push-item : pushItem limit (held limit filler xs) (counted limit xs) x ≡ held limit filler (xs ++ x ∷ [])
+  pub push-item : pushItem limit (padded limit filler xs) (counted limit xs) x ≡ padded limit filler (xs ++ x ∷ [])
   push-item = go (ltb (length xs) limit) refl
     where
-      go : (b : Bool) → ltb (length xs) limit ≡ b → pushItem limit (held limit filler xs) (counted limit xs) x ≡ held limit filler (xs ++ x ∷ [])
+      go : (b : Bool) → ltb (length xs) limit ≡ b → pushItem limit (padded limit filler xs) (counted limit xs) x ≡ padded limit filler (xs ++ x ∷ [])
       go true e =
           let h : length xs < limit = ltb-true (length xs) limit e in
-          rw (counted-room (omega arith), e) (held-room (limit - suc (length xs)) (omega arith) h)
+          rw (counted-room (omega arith), e) (padded-room (limit - suc (length xs)) (omega arith) h)
       go false e =
           let h : limit ≤ length xs = ltb-false (length xs) limit e in
-          rw (le-ltb (counted limit xs) limit (counted-past h)) (held-full h)
+          rw (le-ltb (counted limit xs) limit (counted-past h)) (padded-full h)
 
   pub push-count : pushCount limit (counted limit xs) ≡ counted limit (xs ++ x ∷ [])
   unfolding counted

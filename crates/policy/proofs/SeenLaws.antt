@@ -1,4 +1,4 @@
--- Laws of going over the parts of a line: repeats by the numbers seen so far, and the size in words.
+-- Laws of going over the parts of a line: repeats by the numbers seen so far, and how many constants there are.
 use Prim.Native.Nat.{ℕ, _+_, _<_, _≤_}
 use mathlib.Core.Bool.{Bool, true, false, _||_}
 use mathlib.Core.List.{List, [], _∷_, map}
@@ -11,7 +11,9 @@ use lib.ListN.{length, getD, take, drop, length-map, length-take, drop-of-length
 use lib.Seq.{drop-cons, getD-take}
 use Rattle.policy.proofs.ListLaws.{and-out}
 use Rattle.policy.proofs.SetLaws.{has-empty, has-insert-same, has-insert-other}
-use Rattle.policy.specs.Limits.{repeats, seenIn, operandSize, comparisonsSize}
+use Rattle.policy.specs.Limits.{repeats}
+use Rattle.policy.specs.Line.{operandConstants, constantCount}
+use Rattle.policy.specs.Steps.Seen.{seenIn}
 use Rattle.policy.specs.List.{all, any}
 use Rattle.policy.specs.Number.{setLimit}
 use Rattle.policy.specs.Set.{has, insert}
@@ -91,16 +93,16 @@ seen-all s (n ∷ ns) h =
 pub seen-repeats : (ns : List ℕ) → all (λ (n : ℕ). ltb n setLimit) ns ≡ true → seenIn 0 ns ≡ repeats ns
 seen-repeats ns h = seen-all 0 ns h ∙ rw (none-in-empty ns)
 
--- ---- sizes
+-- ---- constants
 
-pub size-none : (cs : List Comparison) → cs ≡ [] → comparisonsSize cs ≡ 0
-unfolding comparisonsSize
-size-none cs e = rw e
+pub constants-none : (cs : List Comparison) → cs ≡ [] → constantCount cs ≡ 0
+unfolding constantCount
+constants-none cs e = rw e
 
-pub size-past : (cs ds : List Comparison) (c : Comparison) → cs ≡ c ∷ ds → comparisonsSize cs ≡ operandSize (c .operand) + comparisonsSize ds
-unfolding comparisonsSize
-size-past cs ds c e = rw e
+pub constants-past : (cs ds : List Comparison) (c : Comparison) → cs ≡ c ∷ ds → constantCount cs ≡ operandConstants (c .operand) + constantCount ds
+unfolding constantCount
+constants-past cs ds c e = rw e
 
-pub operand-small : (o : Operand) (n : ℕ) → n ≡ operandSize o → n ≤ 2
-operand-small (Operand.Constant k) n e = omega arith
-operand-small (Operand.Reading r) n e = omega arith
+pub one-constant : (o : Operand) (n : ℕ) → n ≡ operandConstants o → n ≤ 1
+one-constant (Operand.Constant k) n e = omega arith
+one-constant (Operand.Reading r) n e = omega arith

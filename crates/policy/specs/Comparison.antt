@@ -2,7 +2,7 @@
 use mathlib.Core.Bool.{Bool, not, _&&_}
 use lib.IntN.{ℤ}
 use lib.Signed.{ltZ, leZ}
-use Rattle.policy.specs.Epoch.{Readings, valueOf}
+use Rattle.policy.specs.Epoch.{Readings, readingValue}
 use Rattle.policy.specs.declared.comparison.Comparison.{Comparison}
 use Rattle.policy.specs.declared.comparison.Operand.{Operand}
 use Rattle.policy.specs.declared.comparison.Relation.{Relation}
@@ -22,7 +22,7 @@ relationHolds GreaterOrEqual a b = leZ b a
 -- a constant, or the value of another reading
 unfoldable pub operandValue : Readings → Operand → ℤ
 operandValue rs (Operand.Constant k) = k
-operandValue rs (Operand.Reading r) = valueOf rs r
+operandValue rs (Operand.Reading r) = readingValue rs r
 
 unfoldable pub comparisonHolds : Readings → Comparison → Bool
-comparisonHolds rs c = relationHolds (c .relation) (valueOf rs (c .reading)) (operandValue rs (c .operand))
+comparisonHolds rs c = relationHolds (c .relation) (readingValue rs (c .reading)) (operandValue rs (c .operand))

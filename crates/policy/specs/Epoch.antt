@@ -19,5 +19,5 @@ pub record Epoch : Type 0 where
   pub readings : Readings
 
 -- "A reading that an epoch does not give is 0."
-unfoldable pub valueOf : Readings → Reading → ℤ
-valueOf rs r = cond (hasReading (rs .given) r) (getD (rs .values) (r .0) (pos 0)) (pos 0)
+unfoldable pub readingValue : Readings → Reading → ℤ
+readingValue rs r = cond (hasReading (rs .given) r) (getD (rs .values) (r .0) (pos 0)) (pos 0)

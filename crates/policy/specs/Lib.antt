@@ -1,14 +1,12 @@
--- What a reader must believe of this layer. Start with `Yield`: what an epoch yields under a policy.
-pub mod List
+-- What a reader must believe of this layer, in the order in which to read it. `Steps` needs not be read.
 pub mod Number
 pub mod Set
 pub mod Epoch
 pub mod Comparison
 pub mod Policy
 pub mod Line
+pub mod List
 pub mod Limits
-pub mod Greedy
-pub mod Yield
-pub mod Pdl
+pub mod Value
 pub mod Fault
-pub mod Examples
+pub mod Steps

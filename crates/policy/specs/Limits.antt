@@ -7,17 +7,24 @@ use lib.Dec.{eqb, ltb}
 use lib.IntN.{ℤ, pos, negsuc}
 use lib.ListN.{length}
 use lib.Signed.{leZ}
-use Rattle.policy.specs.Line.{PolicyLine, rule, constraint, headsOf, comparisonsOf, endingOf, headLimit, comparisonLimit}
+use Rattle.policy.specs.Line.{PolicyLine, rule, constraint, headsOf, comparisonsOf, endingOf}
 use Rattle.policy.specs.List.{all, any}
 use Rattle.policy.specs.Number.{setLimit, readingLimit}
 use Rattle.policy.specs.Policy.{Policy}
-use Rattle.policy.specs.Set.{has, insert}
 use Rattle.policy.specs.declared.comparison.Comparison.{Comparison}
 use Rattle.policy.specs.declared.comparison.Operand.{Operand}
 use Rattle.policy.specs.declared.line.Ending.{Ending}
 use Rattle.policy.specs.declared.line.Head.{Head}
 use Rattle.policy.specs.declared.line.Test.{Test}
 
+-- of literals or actions, and of comparisons, in a line
+abbrev pub headLimit : ℕ
+headLimit = 8
+
+abbrev pub comparisonLimit : ℕ
+comparisonLimit = 4
+
+-- of rules, and of constraints, in a text
 abbrev pub ruleLimit : ℕ
 ruleLimit = 128
 
@@ -61,11 +68,6 @@ unfoldable pub repeats : List ℕ → Bool
 repeats [] = false
 repeats (n ∷ ns) = any (eqb n) ns || repeats ns
 
--- the same, by the set of those that came before
-unfoldable pub seenIn : ℕ → List ℕ → Bool
-seenIn s [] = false
-seenIn s (n ∷ ns) = has s n || seenIn (insert s n) ns
-
 -- the same event twice, negated or not, or the same action twice among those of a constraint
 unfoldable pub repeated : PolicyLine → Bool
 repeated l = repeats (map testNumber (headsOf l))
@@ -80,17 +82,3 @@ pub record Acceptable (p : Policy) : Type 0 where
   pub constraints-valid : all valid (map constraint (p .constraints)) ≡ true
   pub few-rules : length (p .rules) ≤ ruleLimit
   pub few-constraints : length (p .constraints) ≤ constraintLimit
-
--- ---- the size of a line: how many words it takes in an image
-
--- a comparison with a constant takes two
-abbrev pub operandSize : Operand → ℕ
-operandSize (Operand.Constant k) = 2
-operandSize (Operand.Reading r) = 1
-
-unfoldable pub comparisonsSize : List Comparison → ℕ
-comparisonsSize [] = 0
-comparisonsSize (c ∷ cs) = operandSize (c .operand) + comparisonsSize cs
-
-unfoldable pub lineSize : PolicyLine → ℕ
-lineSize l = length (headsOf l) + 1 + comparisonsSize (comparisonsOf l)

@@ -13,11 +13,11 @@ setLimit = 64
 abbrev pub readingLimit : ℕ
 readingLimit = 16
 
-abbrev pub eventOf : ℕ → EventCheck
-eventOf n = cond (ltb n setLimit) (EventCheck.Valid (record { 0 = n })) EventCheck.OutOfRange
+abbrev pub checkEvent : ℕ → EventCheck
+checkEvent n = cond (ltb n setLimit) (EventCheck.Valid (record { 0 = n })) EventCheck.OutOfRange
 
-abbrev pub actionOf : ℕ → ActionCheck
-actionOf n = cond (ltb n setLimit) (ActionCheck.Valid (record { 0 = n })) ActionCheck.OutOfRange
+abbrev pub checkAction : ℕ → ActionCheck
+checkAction n = cond (ltb n setLimit) (ActionCheck.Valid (record { 0 = n })) ActionCheck.OutOfRange
 
-abbrev pub readingOf : ℕ → ReadingCheck
-readingOf n = cond (ltb n readingLimit) (ReadingCheck.Valid (record { 0 = n })) ReadingCheck.OutOfRange
+abbrev pub checkReading : ℕ → ReadingCheck
+checkReading n = cond (ltb n readingLimit) (ReadingCheck.Valid (record { 0 = n })) ReadingCheck.OutOfRange

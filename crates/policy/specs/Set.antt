@@ -1,6 +1,7 @@
 -- Sets of numbers below 64. A set is a number whose bit n says whether n is in it.
 use Prim.Native.Nat.{ℕ, _/_, _%_, _^_}
 use mathlib.Core.Bool.{Bool, cond}
+use mathlib.Core.List.{List, map, foldl}
 use lib.Dec.{ltb, eqb}
 use lib.Bits.{bitAnd, bitOr, bitXor}
 use Rattle.policy.specs.Number.{setLimit}
@@ -8,6 +9,7 @@ use Rattle.policy.specs.declared.number.Event.{Event}
 use Rattle.policy.specs.declared.number.Action.{Action}
 use Rattle.policy.specs.declared.number.Reading.{Reading}
 use Rattle.policy.specs.declared.set.EventSet.{EventSet}
+use Rattle.policy.specs.declared.set.Events.{Events}
 use Rattle.policy.specs.declared.set.ActionSet.{ActionSet}
 use Rattle.policy.specs.declared.set.ReadingSet.{ReadingSet}
 
@@ -41,6 +43,10 @@ hasEvent s e = has (s .0) (e .0)
 abbrev pub insertEvent : EventSet → Event → EventSet
 insertEvent s e = record { 0 = insert (s .0) (e .0) }
 
+-- which events the literals of a rule look at, where none of an epoch's events is left out
+abbrev pub allEvents : EventSet → Events
+allEvents s = record { present = s; occurred = s }
+
 abbrev pub noActions : ActionSet
 noActions = record { 0 = 0 }
 
@@ -58,6 +64,10 @@ actionsWithout s t = record { 0 = difference (s .0) (t .0) }
 
 abbrev pub actionsBelow : ActionSet → Action → ActionSet
 actionsBelow s a = record { 0 = below (s .0) (a .0) }
+
+-- the set of the actions with these numbers
+abbrev pub actionsFrom : List ℕ → ActionSet
+actionsFrom ns = foldl insertAction noActions (map (λ (n : ℕ). record { 0 = n }) ns)
 
 abbrev pub noReadings : ReadingSet
 noReadings = record { 0 = 0 }

@@ -1,6 +1,6 @@
 // The parts of a rule: event literals, and comparisons of readings.
 ghost use mathlib.Core.Path.{_≡_};
-ghost use Rattle.policy.specs.Epoch.{valueOf};
+ghost use Rattle.policy.specs.Epoch.{readingValue};
 ghost use Rattle.policy.specs.Comparison.{relationHolds, operandValue, comparisonHolds};
 use crate::number::Event;
 use crate::number::Reading;
@@ -51,7 +51,7 @@ impl Relation {
 impl Reading {
     // 0 where the epoch does not give the reading.
     pub fn value(self, given: ReadingSet, values: &[i32]) -> i32
-        ensures { λ r. ⌜ r ≡ valueOf (record { given = given; values = now (values .entry) }) self ⌝ }
+        ensures { λ r. ⌜ r ≡ readingValue (record { given = given; values = now (values .entry) }) self ⌝ }
     {
         let at = self.0 as usize;
         if given.has(self) {

@@ -24,4 +24,5 @@ pub use number::Reading;
 pub use number::ReadingCheck;
 pub use set::ActionSet;
 pub use set::EventSet;
+pub use set::Events;
 pub use set::ReadingSet;

@@ -1,10 +1,13 @@
 // A line of a rule text by value: a rule or a constraint, with its parts in text order.
 ghost use mathlib.Core.Path.{_≡_};
 ghost use mathlib.Core.List.{[], map};
-ghost use Prim.Native.Nat.{_+_, _≤_, min};
+ghost use Prim.Native.Nat.{_≤_};
 ghost use lib.ListN.{take};
-ghost use Rattle.policy.specs.Limits.{testNumber, headNumber, seenIn, operandSize, comparisonsSize};
-ghost use Rattle.policy.specs.Line.{lineOf, pushHead, pushComparison, endLine};
+ghost use Rattle.policy.specs.Limits.{testNumber, headNumber};
+ghost use Rattle.policy.specs.Line.{operandConstants, constantCount};
+ghost use Rattle.policy.specs.Steps.Push.{pushHead, pushComparison, endLine};
+ghost use Rattle.policy.specs.Steps.Seen.{seenIn};
+ghost use Rattle.policy.specs.Value.{lineOf};
 use crate::comparison::Comparison;
 use crate::comparison::Literal;
 use crate::comparison::Operand;
@@ -50,21 +53,14 @@ impl Test {
 }
 
 impl Operand {
-    // How many words a comparison with the operand takes in an image.
-    fn words(self) -> usize
-        ensures { λ r. ⌜ r ≡ operandSize self ⌝ }
+    fn constants(self) -> usize
+        ensures { λ r. ⌜ r ≡ operandConstants self ⌝ }
     {
         match self {
-            Operand::Constant(_) => 2,
-            Operand::Reading(_) => 1,
+            Operand::Constant(_) => 1,
+            Operand::Reading(_) => 0,
         }
     }
-}
-
-fn at_most_nine(n: usize) -> usize
-    ensures { λ r. ⌜ r ≡ min n 9 ⌝ }
-{
-    if n < 9 { n } else { 9 }
 }
 
 impl Line {
@@ -92,25 +88,25 @@ impl Line {
         false
     }
 
-    // How many words the line takes in an image.
-    pub fn words(self) -> usize
-        ensures { λ r. ⌜ r ≡ min (self .«head_count») 9 + 1 + comparisonsSize (take (self .«comparison_count») (self .comparisons)) ⌝ }
-        ensures { λ r. ⌜ r ≤ 18 ⌝ }
+    // How many of the comparisons that the line holds have a constant.
+    pub fn constants(self) -> usize
+        ensures { λ r. ⌜ r ≡ constantCount (take (self .«comparison_count») (self .comparisons)) ⌝ }
+        ensures { λ r. ⌜ r ≤ 4 ⌝ }
     {
         let comparisons = self.comparisons;
         let count = self.comparison_count;
-        let mut words = at_most_nine(self.head_count) + 1;
+        let mut constants = 0;
         let mut i = 0;
         while i < 4 {
             if count <= i {
-                return words;
+                return constants;
             }
             let comparison = comparisons[i];
             let operand = comparison.operand;
-            words += operand.words();
+            constants += operand.constants();
             i += 1;
         }
-        words
+        constants
     }
 
     // A line with no part yet.

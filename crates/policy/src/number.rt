@@ -1,6 +1,6 @@
 // Event, action and reading numbers. Each is a type of its own: an event cannot be handed over as an action.
 ghost use mathlib.Core.Path.{_≡_};
-ghost use Rattle.policy.specs.Number.{eventOf, actionOf, readingOf};
+ghost use Rattle.policy.specs.Number.{checkEvent, checkAction, checkReading};
 
 const EVENTS: u32 = 64;
 
@@ -34,7 +34,7 @@ pub enum ReadingCheck {
 
 impl Event {
     pub fn new(n: u32) -> EventCheck
-        ensures { λ r. ⌜ r ≡ eventOf n ⌝ }
+        ensures { λ r. ⌜ r ≡ checkEvent n ⌝ }
     {
         if n < EVENTS {
             EventCheck::Valid(Event(n as u8))
@@ -46,7 +46,7 @@ impl Event {
 
 impl Action {
     pub fn new(n: u32) -> ActionCheck
-        ensures { λ r. ⌜ r ≡ actionOf n ⌝ }
+        ensures { λ r. ⌜ r ≡ checkAction n ⌝ }
     {
         if n < ACTIONS {
             ActionCheck::Valid(Action(n as u8))
@@ -58,7 +58,7 @@ impl Action {
 
 impl Reading {
     pub fn new(n: u32) -> ReadingCheck
-        ensures { λ r. ⌜ r ≡ readingOf n ⌝ }
+        ensures { λ r. ⌜ r ≡ checkReading n ⌝ }
     {
         if n < READINGS {
             ReadingCheck::Valid(Reading(n as u8))

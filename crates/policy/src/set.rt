@@ -1,7 +1,6 @@
 // Sets of events, of actions and of readings, one bit a member. Each kind is a type of its own over the same bits.
 ghost use mathlib.Core.Path.{_≡_};
-ghost use Rattle.policy.specs.Set.{has, insert, hasEvent, insertEvent, hasAction, insertAction};
-ghost use Rattle.policy.specs.Set.{actionsWithout, hasReading, insertReading};
+ghost use Rattle.policy.specs.Set.{has, insert, hasEvent, insertEvent, hasAction, insertAction, actionsWithout, hasReading, insertReading, allEvents};
 use crate::number::Action;
 use crate::number::Event;
 use crate::number::Reading;
@@ -62,6 +61,25 @@ impl ActionSet {
         ensures { λ r. ⌜ r ≡ actionsWithout self other ⌝ }
     {
         ActionSet(self.0 ^ (self.0 & other.0))
+    }
+}
+
+// The events that the literals of a rule look at: `E1` holds where E1 is in `present`, `!E1` where it is not in `occurred`. Both are
+// the epoch's events, unless events of the epoch are left out: these occurred and are not present.
+pub struct Events {
+    pub present: EventSet,
+    pub occurred: EventSet,
+}
+
+impl EventSet {
+    // All events of an epoch, none left out.
+    pub fn all(self) -> Events
+        ensures { λ r. ⌜ r ≡ allEvents self ⌝ }
+    {
+        Events {
+            present: self,
+            occurred: self,
+        }
     }
 }
 

@@ -19,8 +19,8 @@ use Rattle.policy.specs.declared.number.Action.{Action}
 use Rattle.policy.specs.declared.number.Reading.{Reading}
 use Rattle.lexer.specs.Byte.{bytes, sameBytes, is}
 use Rattle.lexer.specs.Token.{Token, named, literalOf, actionOf, readingOf, relationOf, orElse, operandOf, both, comparisonOf}
-use Rattle.syntax.specs.Grammar.{comparisonsOf, conditionOf, joined, causes, never, ruleAfter, constraintAfter, after, lineFrom}
-use Rattle.syntax.specs.Text.{accepted, judge, isComment, tokensAnswer, lineAnswer}
+use Rattle.syntax.specs.Grammar.{comparisonsFrom, conditionFrom, joined, causes, never, ruleAfter, constraintAfter, after, lineFrom}
+use Rattle.syntax.specs.Text.{accepted, judgeLine, isComment, tokensAnswer, lineAnswer}
 use Rattle.printer.proofs.DecimalLaws.{decimal-all, number-read, digits-unnamed, constant-read}
 use Rattle.printer.proofs.SplitLaws.{line-tokens}
 use Rattle.policy.proofs.ValidLaws.{valid-tests}
@@ -70,13 +70,13 @@ comparison-read c = rw (reading-read (c .reading), relation-read (c .relation), 
 
 -- ---- the condition
 
-comparisons-read : (c : Comparison) (cs : List Comparison) → comparisonsOf (joinedBy (bytes ",") (map comparisonTokens (c ∷ cs))) ≡ some (c ∷ cs)
-unfolding comparisonsOf joinedBy comparisonTokens both is bytes sameBytes
+comparisons-read : (c : Comparison) (cs : List Comparison) → comparisonsFrom (joinedBy (bytes ",") (map comparisonTokens (c ∷ cs))) ≡ some (c ∷ cs)
+unfolding comparisonsFrom joinedBy comparisonTokens both is bytes sameBytes
 comparisons-read c [] = rw (comparison-read c)
 comparisons-read c (d ∷ ds) = rw (comparison-read c, comparisons-read d ds)
 
-condition-read : (cs : List Comparison) → conditionOf (conditionTokens cs) ≡ some cs
-unfolding conditionOf conditionTokens is bytes sameBytes
+condition-read : (cs : List Comparison) → conditionFrom (conditionTokens cs) ≡ some cs
+unfolding conditionFrom conditionTokens is bytes sameBytes
 condition-read [] = refl
 condition-read (c ∷ cs) = comparisons-read c cs
 
@@ -130,13 +130,13 @@ module _ (l : Literal) where
       go false = refl
 
 rule-answer : (t : Token) (ts : List Token) → isComment t ≡ false → is "never" t ≡ false
-    → tokensAnswer (t ∷ ts) ≡ judge (after ruleAfter (joined literalOf (t ∷ ts)))
+    → tokensAnswer (t ∷ ts) ≡ judgeLine (after ruleAfter (joined literalOf (t ∷ ts)))
 unfolding tokensAnswer lineFrom
 rule-answer t ts h k = rw (h, k)
 
 -- a line is judged by what its tokens are read as
 abbrev Answered : PolicyLine → Type 0
-Answered l = tokensAnswer (lineTokens l) ≡ judge (some l)
+Answered l = tokensAnswer (lineTokens l) ≡ judgeLine (some l)
 
 module _ (cs : List Comparison) where
   rule-read : (a : Action) (x : Literal) (xs : List Literal) → Answered (causes (x ∷ xs) a cs)
@@ -146,7 +146,7 @@ module _ (cs : List Comparison) where
       let first = heads-first literalToken literalOf literal-read x xs rest in
       ap tokensAnswer first
       ∙ rule-answer (literalToken x) (behind literalToken literalOf literal-read xs rest) (no-comment x) (no-constraint x)
-      ∙ ap (λ (ts : List Token). judge (after ruleAfter (joined literalOf ts))) (sym first)
+      ∙ ap (λ (ts : List Token). judgeLine (after ruleAfter (joined literalOf ts))) (sym first)
       ∙ rw (heads-read literalToken literalOf literal-read x xs rest refl, action-read a, condition-read cs)
 
   constraint-read : (x : Action) (xs : List Action) → Answered (never (x ∷ xs) cs)
@@ -166,8 +166,8 @@ line-judged (constraint c) = go (c .actions)
     go [] h = absurd (omega arith)
     go (x ∷ xs) h = constraint-read (c .comparisons) x xs
 
-judge-valid : (l : PolicyLine) → inRange l ≡ true → crowded l ≡ false → repeated l ≡ false → judge (some l) ≡ accepted l
-unfolding judge
+judge-valid : (l : PolicyLine) → inRange l ≡ true → crowded l ≡ false → repeated l ≡ false → judgeLine (some l) ≡ accepted l
+unfolding judgeLine
 judge-valid l h k m = rw (h, k, m)
 
 -- a valid line is read back from its bytes

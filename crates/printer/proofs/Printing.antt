@@ -14,7 +14,7 @@ use Rattle.policy.specs.Limits.{valid, ruleLimit, constraintLimit, Acceptable}
 use Rattle.policy.specs.Line.{PolicyLine, rule, constraint}
 use Rattle.policy.specs.List.{all}
 use Rattle.policy.specs.Policy.{Policy, Rule, Constraint}
-use Rattle.syntax.proofs.Accepted.{accepted-acceptable}
+use Rattle.acceptance.proofs.Accepted.{accepted-acceptable}
 use Rattle.syntax.specs.Text.{accepted, Progress, reading, advance, readLine, emptyPolicy, textLimit, readText, policyOf}
 use Rattle.printer.proofs.LengthLaws.{line-length}
 use Rattle.printer.proofs.ParseLaws.{line-read}

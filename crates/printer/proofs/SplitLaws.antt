@@ -20,7 +20,7 @@ use Rattle.lexer.specs.Byte.{bytes, isDigit}
 use Rattle.lexer.specs.Token.{Token}
 use Rattle.lexer.specs.Lines.{prepend, pieces, linesOf, nonEmpty, tokensOf}
 use Rattle.lexer.specs.Number.{isEmpty}
-use Rattle.lexer.specs.Scan.{inToken}
+use Rattle.lexer.specs.Steps.Scan.{inToken}
 use Rattle.printer.proofs.DecimalLaws.{decimal-all, decimal-some, digit-not}
 use Rattle.output.specs.Number.{decimal}
 use Rattle.printer.specs.Printed.{constantToken, literalToken, actionToken, readingToken, relationToken, operandToken, comparisonTokens, joinedBy, headTokens, conditionTokens, lineTokens, lineBytes, linesText}

@@ -1,11 +1,10 @@
 -- The lines that document 01 prints, and some more, one row each.
 use Prim.Native.Nat.{ℕ}
 use Prim.Native.String.{String}
-use mathlib.Core.List.{List, [], _∷_, map, foldl}
-use Rattle.policy.specs.Set.{noActions, insertAction}
+use mathlib.Core.List.{List, [], _∷_}
+use Rattle.policy.specs.Fault.{refusal}
+use Rattle.policy.specs.Set.{actionsFrom}
 use Rattle.policy.specs.declared.fault.Fault.{Fault}
-use Rattle.policy.specs.declared.number.Action.{Action}
-use Rattle.policy.specs.declared.set.ActionSet.{ActionSet}
 use Rattle.lexer.specs.Byte.{bytes}
 use Rattle.report.specs.Report.{wordLine, refusalLine, acceptLine, refusedLine}
 
@@ -15,12 +14,6 @@ pub record Example : Type 0 where
 
 abbrev row : List ℕ → String → Example
 row line printed = record { line = line; printed = printed }
-
-abbrev action : ℕ → Action
-action n = record { 0 = n }
-
-abbrev setOf : List ℕ → ActionSet
-setOf ns = foldl insertAction noActions (map action ns)
 
 unfoldable pub examples : List Example
 examples =
@@ -36,14 +29,14 @@ examples =
     ∷ row (wordLine 1627389953) "61000001\n"
     ∷ row (wordLine 1879048192) "70000000\n"
     ∷ row (wordLine 3120500681) "B9FF0FC9\n"
-    ∷ row (refusalLine Fault.Syntax 3) "refused 2 line 3\n"
-    ∷ row (refusalLine Fault.BufferTooSmall 0) "refused 15 line 0\n"
-    ∷ row (acceptLine 1 (setOf (3 ∷ [])) (setOf (4 ∷ []))) "1 accept A3 cancel A4\n"
-    ∷ row (acceptLine 2 (setOf (4 ∷ [])) (setOf [])) "2 accept A4 cancel -\n"
-    ∷ row (acceptLine 3 (setOf (4 ∷ [])) (setOf [])) "3 accept A4 cancel -\n"
-    ∷ row (acceptLine 4 (setOf []) (setOf [])) "4 accept - cancel -\n"
+    ∷ row (refusalLine (refusal Fault.Syntax 3)) "refused 2 line 3\n"
+    ∷ row (refusalLine (refusal Fault.BufferTooSmall 0)) "refused 15 line 0\n"
+    ∷ row (acceptLine 1 (actionsFrom (3 ∷ [])) (actionsFrom (4 ∷ []))) "1 accept A3 cancel A4\n"
+    ∷ row (acceptLine 2 (actionsFrom (4 ∷ [])) (actionsFrom [])) "2 accept A4 cancel -\n"
+    ∷ row (acceptLine 3 (actionsFrom (4 ∷ [])) (actionsFrom [])) "3 accept A4 cancel -\n"
+    ∷ row (acceptLine 4 (actionsFrom []) (actionsFrom [])) "4 accept - cancel -\n"
     ∷ row (refusedLine 5 Fault.EpochRange) "5 refused 13\n"
-    ∷ row (acceptLine 100 (setOf (63 ∷ 0 ∷ 10 ∷ [])) (setOf (2 ∷ 1 ∷ []))) "100 accept A0,A10,A63 cancel A1,A2\n"
+    ∷ row (acceptLine 100 (actionsFrom (63 ∷ 0 ∷ 10 ∷ [])) (actionsFrom (2 ∷ 1 ∷ []))) "100 accept A0,A10,A63 cancel A1,A2\n"
     ∷ []
 
 unfoldable pub printedLine : Example → List ℕ

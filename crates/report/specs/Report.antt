@@ -9,6 +9,7 @@ use Rattle.policy.specs.Fault.{faultNumber}
 use Rattle.policy.specs.Number.{setLimit}
 use Rattle.policy.specs.Set.{has}
 use Rattle.policy.specs.declared.fault.Fault.{Fault}
+use Rattle.policy.specs.declared.fault.Refusal.{Refusal}
 use Rattle.policy.specs.declared.set.ActionSet.{ActionSet}
 
 -- ---- actions
@@ -43,9 +44,9 @@ unfoldable pub wordLine : ℕ → List ℕ
 wordLine w = hexWord w ++ newline
 
 -- a refused text, with the location (document 01: the place)
-unfoldable pub refusalLine : Fault → ℕ → List ℕ
-refusalLine fault location =
-    bytes "refused " ++ decimal (faultNumber fault) ++ bytes " line " ++ decimal location ++ newline
+unfoldable pub refusalLine : Refusal → List ℕ
+refusalLine r =
+    bytes "refused " ++ decimal (faultNumber (r .fault)) ++ bytes " line " ++ decimal (r .location) ++ newline
 
 -- the epoch of that number, decided
 unfoldable pub acceptLine : ℕ → ActionSet → ActionSet → List ℕ

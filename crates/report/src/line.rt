@@ -9,6 +9,7 @@ use output::put_decimal;
 use output::put_hex_word;
 use policy::ActionSet;
 use policy::Fault;
+use policy::Refusal;
 
 // A word of the image.
 pub fn put_word_line(out: &mut [u8], at: usize, word: u32) -> usize
@@ -19,14 +20,15 @@ pub fn put_word_line(out: &mut [u8], at: usize, word: u32) -> usize
 }
 
 // A refused text, and where the fault is.
-pub fn put_refusal(out: &mut [u8], at: usize, fault: Fault, line: usize) -> usize
-    ensures { λ r. ⌜ (r ≡ behind (now (out .entry)) at (refusalLine fault line)) × (now (out .exit) ≡ appended (now (out .entry)) at (refusalLine fault line)) ⌝ }
+pub fn put_refusal(out: &mut [u8], at: usize, refusal: Refusal) -> usize
+    ensures { λ r. ⌜ (r ≡ behind (now (out .entry)) at (refusalLine refusal)) × (now (out .exit) ≡ appended (now (out .entry)) at (refusalLine refusal)) ⌝ }
 {
+    let fault = refusal.fault;
     let number = fault.number() as u64;
     let start = put_bytes(out, at, b"refused ");
     let middle = put_decimal(out, start, number);
     let location = put_bytes(out, middle, b" line ");
-    let end = put_decimal(out, location, line as u64);
+    let end = put_decimal(out, location, refusal.location as u64);
     put_byte(out, end, b'\n')
 }
 

@@ -1,4 +1,2 @@
-pub mod Examples
-pub mod Meaning
+pub mod OperationLaws
 pub mod RunLaws
-pub mod Taken

@@ -1,72 +1,110 @@
 -- Document 01, "Image": what words do when they are run, by their operations and skips. Any words can be run.
-use Prim.Native.Nat.{ℕ, zero, suc}
+use Prim.Native.Nat.{ℕ, zero, suc, _+_}
 use mathlib.Core.Bool.{Bool, true, false, not, cond}
-use mathlib.Core.List.{List, [], _∷_}
+use mathlib.Core.List.{List, [], _∷_, foldl}
 use lib.ListN.{getD}
 use Rattle.policy.specs.Comparison.{comparisonHolds}
-use Rattle.policy.specs.Epoch.{Epoch, Readings}
-use Rattle.policy.specs.Set.{hasEvent, hasAction, insertAction}
+use Rattle.policy.specs.Epoch.{Readings}
+use Rattle.policy.specs.List.{any}
+use Rattle.policy.specs.Set.{hasEvent, noActions, hasAction, insertAction}
 use Rattle.policy.specs.declared.set.ActionSet.{ActionSet}
-use Rattle.word.specs.Word.{skipOf}
-use Rattle.word.specs.Operation.{Operation, present, absent, againstConstant, againstReading, proposes, member, never, unknown, operationOf, eventFrom, actionFrom, constantComparison, readingComparison}
+use Rattle.policy.specs.declared.set.Events.{Events}
+use Rattle.word.specs.Parts.{eventFrom, actionFrom, constantComparison, readingComparison}
+use Rattle.word.specs.Word.{skipOf, operationOf}
+use Rattle.word.specs.declared.operation.Operation.{Operation}
 
--- a test that fails passes over `skip` further words
-unfoldable pub passed : Bool → ℕ → ℕ
-passed holds w = cond holds 0 (skipOf w)
+-- ---- which words are run
 
--- ---- the rule part, on an epoch
+-- a comparison with a constant has it in the word behind
+abbrev pub constantCount : Operation → ℕ
+constantCount Operation.AgainstConstant = 1
+constantCount Operation.AgainstReading = 0
+constantCount Operation.Present = 0
+constantCount Operation.Absent = 0
+constantCount Operation.Proposes = 0
+constantCount Operation.Member = 0
+constantCount Operation.Never = 0
+constantCount Operation.Unknown = 0
 
--- how many of the words after w are passed over, with the word that follows w; a constant always is
-unfoldable pub rulePasses : Epoch → Operation → ℕ → ℕ → ℕ
-rulePasses e present w k = passed (hasEvent (e .events) (eventFrom w)) w
-rulePasses e absent w k = passed (not (hasEvent (e .events) (eventFrom w))) w
-rulePasses e againstConstant w k = suc (passed (comparisonHolds (e .readings) (constantComparison w k)) w)
-rulePasses e againstReading w k = passed (comparisonHolds (e .readings) (readingComparison w)) w
-rulePasses e proposes w k = 0
-rulePasses e member w k = 0
-rulePasses e never w k = 0
-rulePasses e unknown w k = 0
+-- how many of the words behind a word are passed over: its constant always; "a test that fails passes over `skip` further words"
+abbrev pub passes : Bool → Operation → ℕ → ℕ
+passes holds op w = constantCount op + cond holds 0 (skipOf w)
 
-unfoldable pub ruleProposes : Operation → ℕ → ActionSet → ActionSet
-ruleProposes proposes w s = insertAction s (actionFrom w)
-ruleProposes present w s = s
-ruleProposes absent w s = s
-ruleProposes againstConstant w s = s
-ruleProposes againstReading w s = s
-ruleProposes member w s = s
-ruleProposes never w s = s
-ruleProposes unknown w s = s
+-- the words that are run, one after another, with the number of words still to pass over. Whether the test of a word holds is told
+-- by its operation, itself and the word behind it.
+module _ (test : Operation → ℕ → ℕ → Bool) where
+  unfoldable pub ran : ℕ → List ℕ → List ℕ
+  ran n [] = []
+  ran (suc n) (w ∷ ws) = ran n ws
+  ran zero (w ∷ ws) = w ∷ ran (passes (test (operationOf w) w (getD ws 0 0)) (operationOf w) w) ws
 
--- what is proposed in the end, with what is proposed so far and the number of words still to pass over
-unfoldable pub runRules : Epoch → ActionSet → ℕ → List ℕ → ActionSet
-runRules e s n [] = s
-runRules e s (suc n) (w ∷ ws) = runRules e s n ws
-runRules e s zero (w ∷ ws) = runRules e (ruleProposes (operationOf w) w s) (rulePasses e (operationOf w) w (getD ws 0 0)) ws
+-- ---- tests
 
--- ---- the constraint part, on a set of actions and readings
+-- a comparison, which both parts have; any other word asks for none
+unfoldable pub comparisonTest : Readings → Operation → ℕ → ℕ → Bool
+comparisonTest rs Operation.AgainstConstant w k = comparisonHolds rs (constantComparison w k)
+comparisonTest rs Operation.AgainstReading w k = comparisonHolds rs (readingComparison w)
+comparisonTest rs Operation.Present w k = true
+comparisonTest rs Operation.Absent w k = true
+comparisonTest rs Operation.Proposes w k = true
+comparisonTest rs Operation.Member w k = true
+comparisonTest rs Operation.Never w k = true
+comparisonTest rs Operation.Unknown w k = true
 
-unfoldable pub constraintPasses : Readings → ActionSet → Operation → ℕ → ℕ → ℕ
-constraintPasses rs s member w k = passed (hasAction s (actionFrom w)) w
-constraintPasses rs s againstConstant w k = suc (passed (comparisonHolds rs (constantComparison w k)) w)
-constraintPasses rs s againstReading w k = passed (comparisonHolds rs (readingComparison w)) w
-constraintPasses rs s present w k = 0
-constraintPasses rs s absent w k = 0
-constraintPasses rs s proposes w k = 0
-constraintPasses rs s never w k = 0
-constraintPasses rs s unknown w k = 0
+-- in the rule part
+unfoldable pub ruleTest : Events → Readings → Operation → ℕ → ℕ → Bool
+ruleTest ev rs Operation.Present w k = hasEvent (ev .present) (eventFrom w)
+ruleTest ev rs Operation.Absent w k = not (hasEvent (ev .occurred) (eventFrom w))
+ruleTest ev rs Operation.AgainstConstant w k = comparisonTest rs Operation.AgainstConstant w k
+ruleTest ev rs Operation.AgainstReading w k = comparisonTest rs Operation.AgainstReading w k
+ruleTest ev rs Operation.Proposes w k = true
+ruleTest ev rs Operation.Member w k = true
+ruleTest ev rs Operation.Never w k = true
+ruleTest ev rs Operation.Unknown w k = true
+
+-- in the constraint part
+unfoldable pub constraintTest : Readings → ActionSet → Operation → ℕ → ℕ → Bool
+constraintTest rs s Operation.Member w k = hasAction s (actionFrom w)
+constraintTest rs s Operation.AgainstConstant w k = comparisonTest rs Operation.AgainstConstant w k
+constraintTest rs s Operation.AgainstReading w k = comparisonTest rs Operation.AgainstReading w k
+constraintTest rs s Operation.Present w k = true
+constraintTest rs s Operation.Absent w k = true
+constraintTest rs s Operation.Proposes w k = true
+constraintTest rs s Operation.Never w k = true
+constraintTest rs s Operation.Unknown w k = true
+
+-- ---- what the run of a part yields
+
+unfoldable pub proposesAt : Operation → ℕ → ActionSet → ActionSet
+proposesAt Operation.Proposes w s = insertAction s (actionFrom w)
+proposesAt Operation.Present w s = s
+proposesAt Operation.Absent w s = s
+proposesAt Operation.AgainstConstant w s = s
+proposesAt Operation.AgainstReading w s = s
+proposesAt Operation.Member w s = s
+proposesAt Operation.Never w s = s
+proposesAt Operation.Unknown w s = s
+
+abbrev pub proposing : ActionSet → ℕ → ActionSet
+proposing s w = proposesAt (operationOf w) w s
+
+-- the actions of the words that propose one
+unfoldable pub runRules : Events → Readings → List ℕ → ActionSet
+runRules ev rs ws = foldl proposing noActions (ran (ruleTest ev rs) 0 ws)
 
 unfoldable pub isNever : Operation → Bool
-isNever never = true
-isNever present = false
-isNever absent = false
-isNever againstConstant = false
-isNever againstReading = false
-isNever proposes = false
-isNever member = false
-isNever unknown = false
+isNever Operation.Never = true
+isNever Operation.Present = false
+isNever Operation.Absent = false
+isNever Operation.AgainstConstant = false
+isNever Operation.AgainstReading = false
+isNever Operation.Proposes = false
+isNever Operation.Member = false
+isNever Operation.Unknown = false
 
--- whether some constraint holds
-unfoldable pub runConstraints : Readings → ActionSet → ℕ → List ℕ → Bool
-runConstraints rs s n [] = false
-runConstraints rs s (suc n) (w ∷ ws) = runConstraints rs s n ws
-runConstraints rs s zero (w ∷ ws) = cond (isNever (operationOf w)) true (runConstraints rs s (constraintPasses rs s (operationOf w) w (getD ws 0 0)) ws)
+abbrev pub endsConstraint : ℕ → Bool
+endsConstraint w = isNever (operationOf w)
+
+-- whether the end of some constraint is run
+unfoldable pub runConstraints : Readings → ActionSet → List ℕ → Bool
+runConstraints rs s ws = any endsConstraint (ran (constraintTest rs s) 0 ws)

@@ -9,12 +9,12 @@ use lib.ListN.{length, take, drop}
 use lib.Seq.{take-append-seam}
 use Rattle.policy.proofs.ListLaws.{and-out}
 use Rattle.policy.specs.Policy.{Policy}
-use Rattle.policy.specs.declared.fault.Fault.{Fault}
-use Rattle.syntax.proofs.Accepted.{accepted-acceptable}
+use Rattle.policy.specs.declared.fault.Refusal.{Refusal}
+use Rattle.acceptance.proofs.Accepted.{accepted-acceptable}
 use Rattle.syntax.specs.Text.{Progress, reading, stopped, readText}
-use Rattle.image.proofs.Exact.{image-size}
+use Rattle.exactness.proofs.Exact.{image-size}
 use Rattle.image.specs.Layout.{imageOf, sizeLimit}
-use Rattle.image.specs.Load.{wellSized}
+use Rattle.image.specs.Check.{wellSized}
 use Rattle.codegen.proofs.AcceptedLaws.{newest-known}
 use Rattle.codegen.specs.Compile.{newestForm, Output, deliver, outputOf, compiled}
 use Rattle.codegen.specs.declared.Compiled.{Compiled}
@@ -38,16 +38,16 @@ module _ (text buffer : List ℕ) (room : length buffer ≡ 13064) where
   unfolding compiled outputOf
   delivered n p r = rw (r, room, le-leb (length (imageOf newestForm p)) 13064 (image-small text n p r))
 
-  pub compiled-stopped : (f : Fault) (location : ℕ) → compiled text buffer .answer ≡ Compiled.Refused f location → readText text ≡ stopped f location
+  pub compiled-stopped : (x : Refusal) → compiled text buffer .answer ≡ Compiled.Refused x → readText text ≡ stopped x
   unfolding compiled outputOf
-  compiled-stopped f location e = go (readText text) refl
+  compiled-stopped x e = go (readText text) refl
     where
-      go : (s : Progress) → readText text ≡ s → s ≡ stopped f location
-      go (stopped g line) r =
-          let q : Compiled.Refused g line ≡ Compiled.Refused f location = sym (rw r) ∙ e in
+      go : (s : Progress) → readText text ≡ s → s ≡ stopped x
+      go (stopped y) r =
+          let q : Compiled.Refused y ≡ Compiled.Refused x = sym (rw r) ∙ e in
           cc
       go (reading n p) r =
-          let q : Compiled.Image (length (imageOf newestForm p)) ≡ Compiled.Refused f location = sym (ap (λ (o : Output). o .answer) (delivered n p r)) ∙ e in
+          let q : Compiled.Image (length (imageOf newestForm p)) ≡ Compiled.Refused x = sym (ap (λ (o : Output). o .answer) (delivered n p r)) ∙ e in
           let z : _≡_ {A = ℕ} 0 1 = cc in
           absurd (omega arith)
 
@@ -56,8 +56,8 @@ module _ (text buffer : List ℕ) (room : length buffer ≡ 13064) where
   compiled-read size e = go (readText text) refl
     where
       go : (s : Progress) → readText text ≡ s → Read text (compiled text buffer .buffer) size
-      go (stopped f line) r =
-          let q : Compiled.Refused f line ≡ Compiled.Image size = sym (rw r) ∙ e in
+      go (stopped y) r =
+          let q : Compiled.Refused y ≡ Compiled.Image size = sym (rw r) ∙ e in
           let z : _≡_ {A = ℕ} 0 1 = cc in
           absurd (omega arith)
       go (reading n p) r =

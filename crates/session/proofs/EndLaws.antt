@@ -6,7 +6,7 @@ use native.Mathlib.Omega.{arith}
 use lib.ListN.{length, take, drop}
 use lib.Seq.{take-add, drop-at, length-take-le}
 use Rattle.policy.specs.List.{any}
-use Rattle.policy.specs.declared.fault.Fault.{Fault}
+use Rattle.policy.specs.declared.fault.Refusal.{Refusal}
 use Rattle.lexer.specs.Lines.{pieces, linesOf}
 use Rattle.syntax.specs.Text.{Progress}
 use Rattle.codegen.specs.Compile.{compiled}
@@ -37,9 +37,9 @@ part-from l start count h k =
 module _ (text : List ℕ) (s : State) (image out : List ℕ) (answer : Compiled) (image' : List ℕ)
     (made : answer ≡ compiled text image .answer) (wrote : image' ≡ compiled text image .buffer)
     (kept : length image' ≡ length image) (long : length image ≡ 13064) (outLong : length out ≡ 65536) (room : Room s) where
-  prints-refusal : (f : Fault) (location : ℕ) → answer ≡ Compiled.Refused f location → (epochs : List (List ℕ)) → printedFor text epochs ≡ refusalLine f location
+  prints-refusal : (x : Refusal) → answer ≡ Compiled.Refused x → (epochs : List (List ℕ)) → printedFor text epochs ≡ refusalLine x
   unfolding printedFor answersTo
-  prints-refusal f location e epochs = ap (λ (p : Progress). answersTo p epochs) (compiled-stopped text image long f location (sym made ∙ e))
+  prints-refusal x e epochs = ap (λ (p : Progress). answersTo p epochs) (compiled-stopped text image long x (sym made ∙ e))
 
   prints-epochs : (size : ℕ) → answer ≡ Compiled.Image size → (epochs : List (List ℕ)) → printedFor text epochs ≡ epochLines (take size image') 0 epochs
   unfolding printedFor answersTo
@@ -51,19 +51,19 @@ module _ (text : List ℕ) (s : State) (image out : List ℕ) (answer : Compiled
   size-small : (size : ℕ) → answer ≡ Compiled.Image size → size ≤ 13064
   size-small size e = compiled-read text image long size (sym made ∙ e) .small
 
-  pub text-refused : (f : Fault) (location : ℕ) (out' : List ℕ) (end : ℕ) → answer ≡ Compiled.Refused f location → location < 18446744073709551616
-      → Put out (s .used) (refusalLine f location) out' end
+  pub text-refused : (x : Refusal) (out' : List ℕ) (end : ℕ) → answer ≡ Compiled.Refused x → x .location < 18446744073709551616
+      → Put out (s .used) (refusalLine x) out' end
       → TextEnded text s out (record { phase = Phase.Over; start = 0; count = 0; epochs = 0; size = 0; used = end }) image' out'
   unfolding owed leftIn Fitting TracksIn any
-  text-refused f location out' end e small p =
-      let short : length (refusalLine f location) ≤ 512 = refusal-short f location small in
-      let fits : s .used + length (refusalLine f location) ≤ length out = omega arith in
-      let at : end ≡ s .used + length (refusalLine f location) = put-end out (s .used) (refusalLine f location) out' end fits p in
-      let same : length out' ≡ length out = put-length out (s .used) (refusalLine f location) out' end p in
+  text-refused x out' end e small p =
+      let short : length (refusalLine x) ≤ 512 = refusal-short x small in
+      let fits : s .used + length (refusalLine x) ≤ length out = omega arith in
+      let at : end ≡ s .used + length (refusalLine x) = put-end out (s .used) (refusalLine x) out' end fits p in
+      let same : length out' ≡ length out = put-length out (s .used) (refusalLine x) out' end p in
       record {
         owes = λ held rest.
-            append-nil (take end out') ∙ put-take out (s .used) (refusalLine f location) out' end fits p
-            ∙ ap (λ (x : List ℕ). take (s .used) out ++ x) (sym (prints-refusal f location e (linesOf rest)));
+            append-nil (take end out') ∙ put-take out (s .used) (refusalLine x) out' end fits p
+            ∙ ap (λ (x : List ℕ). take (s .used) out ++ x) (sym (prints-refusal x e (linesOf rest)));
         good = λ held h.
             record {
               heldLong = h;

@@ -9,8 +9,8 @@ use lib.ListN.{length, length-append}
 use Rattle.policy.specs.declared.fault.Fault.{Fault}
 use Rattle.lexer.specs.Lines.{pieces, linesOf}
 use Rattle.syntax.specs.Epoch.{readEpoch, refused, epochLimit}
-use Rattle.image.specs.Load.{load}
 use Rattle.word.specs.Word.{wordsOf}
+use Rattle.image.specs.Load.{load}
 use Rattle.monitor.specs.Decision.{decision, onImage}
 use Rattle.monitor.specs.declared.decision.Decision.{Decision}
 use Rattle.session.specs.Printed.{next, decisionLine, epochLines}

@@ -11,13 +11,14 @@ use Rattle.policy.specs.Epoch.{Epoch}
 use Rattle.policy.specs.Fault.{faultNumber}
 use Rattle.policy.specs.Set.{has, difference}
 use Rattle.policy.specs.declared.fault.Fault.{Fault}
+use Rattle.policy.specs.declared.fault.Refusal.{Refusal}
 use Rattle.policy.proofs.SetLaws.{has-difference, has-empty}
 use Rattle.lexer.specs.Byte.{bytes}
 use Rattle.syntax.specs.Epoch.{EpochAnswer, refused, accepted, readEpoch}
+use Rattle.word.specs.Word.{wordsOf, between}
 use Rattle.image.specs.Load.{load}
 use Rattle.image.specs.declared.load.Loaded.{Loaded}
-use Rattle.word.specs.Word.{wordsOf, between}
-use Rattle.monitor.specs.Decision.{decision, onImage, onLine, issuedBy, yieldedBy, proposedBy, keptBy, acceptedOf, cancelledOf}
+use Rattle.monitor.specs.Decision.{decision, onImage, onLine, issuedBy, yieldedBy, proposedBy, keptBy, answerOf}
 use Rattle.monitor.specs.declared.decision.Decision.{Decision}
 use Rattle.output.specs.Number.{digit, decimal}
 use Rattle.output.proofs.DecimalLaws.{decimal-one, decimal-more}
@@ -83,12 +84,12 @@ yielded-apart rules constraints e = difference-apart (proposedBy rules e .0) (ke
 none-apart : Apart 0 0
 none-apart n = rw (has-empty n)
 
-decision-apart : (image line : List ℕ) → Apart (acceptedOf (decision image line) .0) (cancelledOf (decision image line) .0)
+decision-apart : (image line : List ℕ) → Apart (answerOf (decision image line) .accepted .0) (answerOf (decision image line) .cancelled .0)
 unfolding decision onImage onLine issuedBy
 decision-apart image line = go (load image) (readEpoch line)
   where
-    go : (l : Loaded) (a : EpochAnswer) → Apart (acceptedOf (onImage l (wordsOf image) a) .0) (cancelledOf (onImage l (wordsOf image) a) .0)
-    go (Loaded.Refused f at) a = none-apart
+    go : (l : Loaded) (a : EpochAnswer) → Apart (answerOf (onImage l (wordsOf image) a) .accepted .0) (answerOf (onImage l (wordsOf image) a) .cancelled .0)
+    go (Loaded.Refused x) a = none-apart
     go (Loaded.Image parts) (refused f) = none-apart
     go (Loaded.Image parts) (accepted e) = yielded-apart (between 1 (1 + parts .«rule_words») (wordsOf image)) (between (1 + parts .«rule_words») (1 + parts .«rule_words» + parts .«constraint_words») (wordsOf image)) e
 
@@ -111,13 +112,13 @@ fault-small Fault.EpochRange = omega arith
 fault-small Fault.DuplicateReading = omega arith
 fault-small Fault.BufferTooSmall = omega arith
 
-pub refusal-short : (f : Fault) (location : ℕ) → location < 18446744073709551616 → length (refusalLine f location) ≤ 512
+pub refusal-short : (x : Refusal) → x .location < 18446744073709551616 → length (refusalLine x) ≤ 512
 unfolding refusalLine bytes
-refusal-short f location h = simp length-append (omega (arith, decimal-short (faultNumber f) (fault-small f), decimal-short location h))
+refusal-short x h = simp length-append (omega (arith, decimal-short (faultNumber (x .fault)) (fault-small (x .fault)), decimal-short (x .location) h))
 
-line-short : (n : ℕ) (d : Decision) → n < 18446744073709551616 → Apart (acceptedOf d .0) (cancelledOf d .0) → length (decisionLine n d) ≤ 512
+line-short : (n : ℕ) (d : Decision) → n < 18446744073709551616 → Apart (answerOf d .accepted .0) (answerOf d .cancelled .0) → length (decisionLine n d) ≤ 512
 unfolding decisionLine acceptLine refusedLine actionList bytes
-line-short n (Decision.Refused f at) h a = simp length-append (omega (arith, decimal-short n h, decimal-short (faultNumber f) (fault-small f)))
+line-short n (Decision.Refused x) h a = simp length-append (omega (arith, decimal-short n h, decimal-short (faultNumber (x .fault)) (fault-small (x .fault))))
 line-short n (Decision.Issued actions) h a =
     simp length-append
     (omega (

@@ -7,11 +7,13 @@ use native.Mathlib.Omega.{arith}
 use borrow.Author.Tests.{lt-ltb}
 use lib.ListN.{length, take, drop, length-append, drop-of-length-le}
 use lib.Seq.{drop-cons}
+use Rattle.policy.specs.Fault.{refusal}
 use Rattle.policy.specs.declared.fault.Fault.{Fault}
+use Rattle.policy.specs.declared.fault.Refusal.{Refusal}
 use Rattle.word.specs.Word.{wordsOf, wordAt}
+use Rattle.image.specs.Layout.{imageOf}
 use Rattle.word.proofs.WordLaws.{words-length}
 use Rattle.syntax.specs.Text.{Progress, reading, stopped, readText}
-use Rattle.image.specs.Layout.{imageOf}
 use Rattle.codegen.specs.Compile.{newestForm, compiled}
 use Rattle.codegen.specs.declared.Compiled.{Compiled}
 use Rattle.output.specs.Number.{hexDigits}
@@ -57,9 +59,9 @@ lines-length (w ∷ ws) = simp (length-append, hex-length 8 w, lines-length ws) 
 
 module _ (text image : List ℕ) (answer : Compiled) (image' : List ℕ) (made : answer ≡ compiled text image .answer)
     (wrote : image' ≡ compiled text image .buffer) (long : length image ≡ 13064) where
-  pub lists-refusal : (f : Fault) (location : ℕ) → answer ≡ Compiled.Refused f location → refusalLine f location ≡ listed text
+  pub lists-refusal : (x : Refusal) → answer ≡ Compiled.Refused x → refusalLine x ≡ listed text
   unfolding listed listingOf
-  lists-refusal f location e = sym (ap listingOf (compiled-stopped text image long f location (sym made ∙ e)))
+  lists-refusal x e = sym (ap listingOf (compiled-stopped text image long x (sym made ∙ e)))
 
   pub lists-image : (size : ℕ) → answer ≡ Compiled.Image size → wordLines (wordsOf (take size image')) ≡ listed text
   unfolding listed listingOf
@@ -72,7 +74,7 @@ module _ (text image : List ℕ) (answer : Compiled) (image' : List ℕ) (made :
 
 -- ---- how long a listing is
 
-pub listed-long : (text : List ℕ) → 32768 < length text → listed text ≡ refusalLine Fault.TooLong 0
+pub listed-long : (text : List ℕ) → 32768 < length text → listed text ≡ refusalLine (refusal Fault.TooLong 0)
 unfolding listed listingOf readText
 listed-long text h = rw (lt-ltb 32768 (length text) h)
 
@@ -84,5 +86,5 @@ unfolding listed listingOf
 listed-short text = go (readText text) refl
   where
     go : (p : Progress) → readText text ≡ p → length (listingOf p) ≤ 29394
-    go (stopped f location) e = omega (arith, refusal-short f location (omega (arith, location-small text f location e)))
+    go (stopped x) e = omega (arith, refusal-short x (omega (arith, location-small text x e)))
     go (reading n p) e = image-lines (imageOf newestForm p) (image-small text n p e)

@@ -10,15 +10,17 @@ use lib.ListN.{length}
 use Rattle.policy.specs.Limits.{ruleLimit, constraintLimit}
 use Rattle.policy.specs.Line.{rule, constraint}
 use Rattle.policy.specs.Policy.{Policy}
+use Rattle.policy.specs.Fault.{refusal}
 use Rattle.policy.specs.declared.fault.Fault.{Fault}
+use Rattle.policy.specs.declared.fault.Refusal.{Refusal}
 use Rattle.lexer.specs.Lines.{prepend, pieces, linesOf}
 use Rattle.syntax.specs.Text.{LineAnswer, skipped, refused, accepted, lineAnswer, Progress, reading, stopped, withRule, withConstraint, advance, readLine, emptyPolicy, textLimit, readText}
 
 abbrev reachedLine : Progress → ℕ
 reachedLine (reading n p) = n
-reachedLine (stopped f n) = n
+reachedLine (stopped x) = x .location
 
-room-location : (b : Bool) (n : ℕ) (p : Policy) → reachedLine (cond b (reading (suc n) p) (stopped Fault.TooManyLines n)) ≤ suc n
+room-location : (b : Bool) (n : ℕ) (p : Policy) → reachedLine (cond b (reading (suc n) p) (stopped (refusal Fault.TooManyLines n))) ≤ suc n
 room-location true n p = omega arith
 room-location false n p = omega arith
 
@@ -32,7 +34,7 @@ advance-location n p (accepted (constraint c)) = room-location (ltb (length (p .
 line-location : (s : Progress) (line : List ℕ) → reachedLine (readLine s line) ≤ suc (reachedLine s)
 unfolding readLine
 line-location (reading n p) line = advance-location n p (lineAnswer line)
-line-location (stopped f n) line = omega arith
+line-location (stopped x) line = omega arith
 
 lines-location : (s : Progress) (lines : List (List ℕ)) → reachedLine (foldl readLine s lines) ≤ reachedLine s + length lines
 lines-location s [] = omega arith
@@ -52,9 +54,9 @@ pieces-count end (b ∷ s) = go (eqb b end) (pieces-count end s)
     go true h = omega arith
     go false h = omega (arith, prepend-count b (pieces end s))
 
-pub location-small : (text : List ℕ) (f : Fault) (location : ℕ) → readText text ≡ stopped f location → location ≤ 32769
+pub location-small : (text : List ℕ) (x : Refusal) → readText text ≡ stopped x → x .location ≤ 32769
 unfolding readText linesOf
-location-small text f location e = omega (arith, small (ltb textLimit (length text)) refl, ap reachedLine e)
+location-small text x e = omega (arith, small (ltb textLimit (length text)) refl, ap reachedLine e)
   where
     small : (b : Bool) → ltb textLimit (length text) ≡ b → reachedLine (readText text) ≤ 32769
     small true h = rw h (omega arith)

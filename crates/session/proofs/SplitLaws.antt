@@ -7,6 +7,7 @@ use native.Mathlib.Omega.{arith}
 use borrow.Author.Tests.{lt-ltb, ltb-true, ltb-false}
 use lib.Dec.{ltb}
 use lib.ListN.{length, length-append}
+use Rattle.policy.specs.Fault.{refusal}
 use Rattle.policy.specs.declared.fault.Fault.{Fault}
 use Rattle.lexer.specs.Byte.{is}
 use Rattle.lexer.specs.Lines.{pieces, linesOf}
@@ -72,7 +73,7 @@ end-text done (b ∷ bs) h e =
 
 -- ---- a text that is too long, whatever follows
 
-text-long : (text : List ℕ) (epochs : List (List ℕ)) → 32768 < length text → printedFor text epochs ≡ refusalLine Fault.TooLong 0
+text-long : (text : List ℕ) (epochs : List (List ℕ)) → 32768 < length text → printedFor text epochs ≡ refusalLine (refusal Fault.TooLong 0)
 unfolding printedFor answersTo readText
 text-long text epochs h = rw (lt-ltb 32768 (length text) h)
 
@@ -99,14 +100,14 @@ covers (b ∷ bs) rest h l = go (splitAtRun (others (linesOf rest))) refl
     go (withEpochs t es) q = rw (at (withEpochs t es) q) (omega (arith, long, length-append whole (10 ∷ ended t)))
 
 -- more than the full length stands before the line
-pub over-text : (done rest : List ℕ) → 32768 < length done → printedBehind done rest ≡ refusalLine Fault.TooLong 0
+pub over-text : (done rest : List ℕ) → 32768 < length done → printedBehind done rest ≡ refusalLine (refusal Fault.TooLong 0)
 over-text done rest l =
     let s : Session = splitAtRun (linesOf rest) in
     by-split done rest s refl ∙ text-long (done ++ textPart rest s) (epochPart s) (omega (arith, length-append done (textPart rest s)))
 
 -- all that is held is full, whatever follows: the line is none of three bytes, or stands behind too many
 pub full-text : (done line rest : List ℕ) → OneLine line → length done + length line ≡ 32773
-    → printedBehind done (line ++ rest) ≡ refusalLine Fault.TooLong 0
+    → printedBehind done (line ++ rest) ≡ refusalLine (refusal Fault.TooLong 0)
 full-text done line rest h l = by-split done (line ++ rest) s refl ∙ text-long (done ++ textPart (line ++ rest) s) (epochPart s) (go (ltb 32768 (length done)) refl)
   where
     s : Session

@@ -6,6 +6,7 @@ use mathlib.Core.Path.{_≡_, refl, sym, ap, ap₂, _∙_}
 use native.Mathlib.Omega.{arith}
 use lib.ListN.{length, take, set, length-take, length-drop, length-set, length-append}
 use lib.Seq.{length-take-le, take-nil}
+use Rattle.policy.specs.Fault.{refusal}
 use Rattle.policy.specs.declared.fault.Fault.{Fault}
 use Rattle.lexer.specs.Byte.{is}
 use Rattle.report.specs.Report.{refusalLine}
@@ -149,8 +150,8 @@ module _ (s : State) (held image out : List ℕ) (g : Good s held image out) (t 
   -- ---- a text that is too long: the same is owed before the byte and behind it
 
   text-over : (b : ℕ) (r : State) → r .phase ≡ Phase.Text → r .used ≡ s .used
-      → ((rest : List ℕ) → printedBehind (take (s .start) held) (current s held ++ b ∷ rest) ≡ refusalLine Fault.TooLong 0)
-      → ((rest : List ℕ) → printedBehind (take (r .start) held) (current r held ++ rest) ≡ refusalLine Fault.TooLong 0)
+      → ((rest : List ℕ) → printedBehind (take (s .start) held) (current s held ++ b ∷ rest) ≡ refusalLine (refusal Fault.TooLong 0))
+      → ((rest : List ℕ) → printedBehind (take (r .start) held) (current r held ++ rest) ≡ refusalLine (refusal Fault.TooLong 0))
       → ((x : Seen) → Tracks x s held → Tracks (seeByte x b) r held)
       → Good r held image out → Took s held image out (b ∷ []) r held image out
   text-over b r p u before after tracks' g' =
@@ -163,18 +164,18 @@ module _ (s : State) (held image out : List ℕ) (g : Good s held image out) (t 
         good = g';
       }
 
-  all-full : 32773 ≤ s .count → (rest : List ℕ) → printedBehind (take (s .start) held) (current s held ++ rest) ≡ refusalLine Fault.TooLong 0
+  all-full : 32773 ≤ s .count → (rest : List ℕ) → printedBehind (take (s .start) held) (current s held ++ rest) ≡ refusalLine (refusal Fault.TooLong 0)
   all-full h rest =
       let c : s .count ≤ 32773 = at-most in
       full-text (take (s .start) held) (current s held) rest (g .oneLine) (held-length ∙ omega arith)
 
   line-over : is "run" (current s held) ≡ false → 32769 ≤ s .count
-      → (rest : List ℕ) → printedBehind (take (s .start) held) (current s held ++ 10 ∷ rest) ≡ refusalLine Fault.TooLong 0
+      → (rest : List ℕ) → printedBehind (take (s .start) held) (current s held ++ 10 ∷ rest) ≡ refusalLine (refusal Fault.TooLong 0)
   line-over e h rest =
       behind-line (take (s .start) held) (current s held) (g .oneLine) rest e
       ∙ over-text (take (s .start) held ++ current s held ++ 10 ∷ []) rest (line-long (take (s .start) held) (current s held) (omega (arith, held-length)))
 
-  next-over : (rest : List ℕ) → printedBehind (take 32769 held) (current (startingAt 32769 s) held ++ rest) ≡ refusalLine Fault.TooLong 0
+  next-over : (rest : List ℕ) → printedBehind (take 32769 held) (current (startingAt 32769 s) held ++ rest) ≡ refusalLine (refusal Fault.TooLong 0)
   next-over rest =
       let l : length (take 32769 held) ≡ 32769 = length-take-le 32769 held (rw (g .heldLong) (omega arith)) in
       over-text (take 32769 held) (current (startingAt 32769 s) held ++ rest) (omega arith)

@@ -13,7 +13,7 @@ wordLines [] = []
 wordLines (w ∷ ws) = wordLine w ++ wordLines ws
 
 unfoldable pub listingOf : Progress → List ℕ
-listingOf (stopped fault location) = refusalLine fault location
+listingOf (stopped r) = refusalLine r
 listingOf (reading n policy) = wordLines (wordsOf (imageOf newestForm policy))
 
 -- the whole: all bytes of the input, which is the text, to all bytes of the output

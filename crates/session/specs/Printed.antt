@@ -46,7 +46,7 @@ abbrev pub next : ℕ → ℕ
 next n = (n + 1) % 2 ^ 64
 
 unfoldable pub decisionLine : ℕ → Decision → List ℕ
-decisionLine n (Decision.Refused fault at) = refusedLine n fault
+decisionLine n (Decision.Refused r) = refusedLine n (r .fault)
 decisionLine n (Decision.Issued actions) = acceptLine n (actions .accepted) (actions .cancelled)
 
 -- after n epochs
@@ -57,7 +57,7 @@ epochLines image n (line ∷ lines) = decisionLine (next n) (decision image line
 -- ---- "A refused text prints its refusal line and nothing else."
 
 unfoldable pub answersTo : Progress → List (List ℕ) → List ℕ
-answersTo (stopped fault location) epochs = refusalLine fault location
+answersTo (stopped r) epochs = refusalLine r
 answersTo (reading n policy) epochs = epochLines (imageOf newestForm policy) 0 epochs
 
 unfoldable pub printedFor : List ℕ → List (List ℕ) → List ℕ

@@ -23,7 +23,8 @@ pub(crate) fn end_line(state: State, held: &[u8], image: &[u8], out: &mut [u8; 6
     next.epochs = std::num::wrapping_add_u64(state.epochs, 1);
     let decision = monitor::decide(&image[..size], &held[..count]);
     match decision {
-        Decision::Refused(fault, _) => {
+        Decision::Refused(refusal) => {
+            let fault = refusal.fault;
             next.used = report::put_refused(out, state.used, next.epochs, fault);
         }
         Decision::Issued(actions) => {

@@ -27,7 +27,7 @@ pub fn put_listing(text: &[u8], out: &mut [u8]) -> usize
     let mut image = [0u8; 13064];
     let compiled = codegen::compile(text, &mut image);
     match compiled {
-        Compiled::Refused(fault, line) => report::put_refusal(out, 0, fault, line),
+        Compiled::Refused(refusal) => report::put_refusal(out, 0, refusal),
         Compiled::Image(size) => put_image(&image[..size], out),
     }
 }

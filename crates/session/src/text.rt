@@ -51,13 +51,13 @@ pub(crate) fn end_text(
 {
     let compiled = codegen::compile(&held[..end], image);
     match compiled {
-        Compiled::Refused(fault, line) => State {
+        Compiled::Refused(refusal) => State {
             phase: Phase::Over,
             start: 0,
             count: 0,
             epochs: 0,
             size: 0,
-            used: report::put_refusal(out, state.used, fault, line),
+            used: report::put_refusal(out, state.used, refusal),
         },
         Compiled::Image(size) => State {
             phase: Phase::Epochs,

@@ -7,23 +7,24 @@ use mathlib.Core.Path.{_≡_, refl, sym, ap, ap₂, _∙_}
 use native.Mathlib.Omega.{arith}
 use lib.Dec.{ltb}
 use Rattle.policy.specs.Limits.{endingInRange}
-use Rattle.policy.specs.Number as Number
+use Rattle.policy.specs.Number.{checkAction}
 use Rattle.policy.specs.declared.line.Ending.{Ending}
 use Rattle.policy.specs.declared.number.Action.{Action}
 use Rattle.policy.specs.declared.number.ActionCheck.{ActionCheck}
 use Rattle.lexer.proofs.PartLaws.{Named, name-some, name-none, action-valid, action-outside, clip-below, clip-same}
 use Rattle.lexer.proofs.TokenLaws.{tokens-after-spaces, tokens-first, tokens-ended, line-past-spaces, line-past-token}
-use Rattle.lexer.proofs.WordLaws.{word-token, word-absent}
+use Rattle.lexer.proofs.KeywordLaws.{word-token, word-absent}
 use Rattle.lexer.specs.Byte.{bytes, sameBytes, is, isSpace}
 use Rattle.lexer.specs.Token.{Token, named, actionOf, literalOf}
-use Rattle.syntax.specs.Grammar.{conditionOf, joined, ruleAfter, constraintAfter, after, lineFrom}
+use Rattle.syntax.specs.Grammar.{conditionFrom, joined, ruleAfter, constraintAfter, after, lineFrom}
 use Rattle.lexer.specs.Number.{isEmpty}
-use Rattle.syntax.specs.Outcome.{failedParts, conditionOutcome, smallEnding, assembledParts, causedParts, causeParts, lineParts}
-use Rattle.lexer.specs.Scan.{skip, inToken, tokenAt, wordAt, nameAt, tokensAt, lineEnd}
+use Rattle.syntax.specs.Steps.Outcome.{failedLine, conditionOutcome, smallEnding, assembledLine, causedLine, causeLine, parsedFrom}
+use Rattle.lexer.specs.Steps.Scan.{inToken, tokenAt, keywordAt, nameAt, tokensAt}
+use Rattle.lexer.specs.Lines.{skipWhile, lineEnd}
 use Rattle.syntax.specs.declared.line.Heads.{Heads}
-use Rattle.syntax.specs.declared.line.Parts.{Parts}
+use Rattle.syntax.specs.declared.line.ParsedLine.{ParsedLine}
 use Rattle.lexer.specs.declared.scan.NumberAt.{NumberAt}
-use Rattle.lexer.specs.declared.scan.WordAt.{WordAt}
+use Rattle.lexer.specs.declared.scan.KeywordAt.{KeywordAt}
 
 named-solid : (letter : ℕ) (t : Token) (n : ℕ) → named letter t ≡ some n → isEmpty t ≡ false
 unfolding named isEmpty
@@ -32,28 +33,28 @@ named-solid letter (b ∷ t) n e = refl
 
 module _ (text : List ℕ) (at : ℕ) (heads : Heads) where
   abbrev s : ℕ
-  s = skip isSpace text at
+  s = skipWhile isSpace text at
 
-  abbrev outcome : Parts
-  outcome = causeParts heads (lineEnd text at) (tokensAt text at)
+  abbrev outcome : ParsedLine
+  outcome = causeLine heads (lineEnd text at) (tokensAt text at)
 
-  pub cause-absent : wordAt text s (bytes "causes") ≡ WordAt.Absent → failedParts ≡ outcome
-  unfolding causeParts is
-  cause-absent w = sym (ap (causeParts heads (lineEnd text at)) (tokens-after-spaces text at) ∙ go (isEmpty (tokenAt text s)) refl)
+  pub cause-absent : keywordAt text s (bytes "causes") ≡ KeywordAt.Absent → failedLine ≡ outcome
+  unfolding causeLine is
+  cause-absent w = sym (ap (causeLine heads (lineEnd text at)) (tokens-after-spaces text at) ∙ go (isEmpty (tokenAt text s)) refl)
     where
-      none-of : (ts : List Token) → causeParts heads (lineEnd text at) (tokenAt text s ∷ ts) ≡ failedParts
+      none-of : (ts : List Token) → causeLine heads (lineEnd text at) (tokenAt text s ∷ ts) ≡ failedLine
       none-of [] = refl
       none-of (a ∷ ts) = rw (word-absent text s (bytes "causes") w)
 
-      go : (b : Bool) → isEmpty (tokenAt text s) ≡ b → causeParts heads (lineEnd text at) (tokensAt text s) ≡ failedParts
-      go true h = ap (causeParts heads (lineEnd text at)) (tokens-ended text at h)
-      go false h = ap (causeParts heads (lineEnd text at)) (tokens-first text s h) ∙ none-of (tokensAt text (skip inToken text s))
+      go : (b : Bool) → isEmpty (tokenAt text s) ≡ b → causeLine heads (lineEnd text at) (tokensAt text s) ≡ failedLine
+      go true h = ap (causeLine heads (lineEnd text at)) (tokens-ended text at h)
+      go false h = ap (causeLine heads (lineEnd text at)) (tokens-first text s h) ∙ none-of (tokensAt text (skipWhile inToken text s))
 
-  module _ (b : ℕ) (w : wordAt text s (bytes "causes") ≡ WordAt.Found b) where
+  module _ (b : ℕ) (w : keywordAt text s (bytes "causes") ≡ KeywordAt.Found b) where
     abbrev s2 : ℕ
-    s2 = skip isSpace text b
+    s2 = skipWhile isSpace text b
 
-    word : (tokenAt text s ≡ bytes "causes") × (b ≡ skip inToken text s)
+    word : (tokenAt text s ≡ bytes "causes") × (b ≡ skipWhile inToken text s)
     word = word-token text s (bytes "causes") b w
 
     tokens : tokensAt text at ≡ bytes "causes" ∷ tokensAt text s2
@@ -66,13 +67,13 @@ module _ (text : List ℕ) (at : ℕ) (heads : Heads) where
     ends : lineEnd text s2 ≡ lineEnd text at
     ends = line-past-spaces text b ∙ ap (lineEnd text) (word .1) ∙ line-past-token text s ∙ line-past-spaces text at
 
-    pub cause-no-action : nameAt text s2 65 ≡ NumberAt.Malformed → failedParts ≡ outcome
-    unfolding causeParts causedParts is bytes sameBytes actionOf
-    cause-no-action q = sym (ap (causeParts heads (lineEnd text at)) tokens ∙ go (isEmpty (tokenAt text s2)) refl)
+    pub cause-no-action : nameAt text s2 65 ≡ NumberAt.Malformed → failedLine ≡ outcome
+    unfolding causeLine causedLine is bytes sameBytes actionOf
+    cause-no-action q = sym (ap (causeLine heads (lineEnd text at)) tokens ∙ go (isEmpty (tokenAt text s2)) refl)
       where
-        go : (x : Bool) → isEmpty (tokenAt text s2) ≡ x → causeParts heads (lineEnd text at) (bytes "causes" ∷ tokensAt text s2) ≡ failedParts
-        go true h = ap (λ (ts : List Token). causeParts heads (lineEnd text at) (bytes "causes" ∷ ts)) (tokens-ended text b h)
-        go false h = ap (λ (ts : List Token). causeParts heads (lineEnd text at) (bytes "causes" ∷ ts)) (tokens-first text s2 h) ∙ rw (name-none 65 text s2 q)
+        go : (x : Bool) → isEmpty (tokenAt text s2) ≡ x → causeLine heads (lineEnd text at) (bytes "causes" ∷ tokensAt text s2) ≡ failedLine
+        go true h = ap (λ (ts : List Token). causeLine heads (lineEnd text at) (bytes "causes" ∷ ts)) (tokens-ended text b h)
+        go false h = ap (λ (ts : List Token). causeLine heads (lineEnd text at) (bytes "causes" ∷ ts)) (tokens-first text s2 h) ∙ rw (name-none 65 text s2 q)
 
     module _ (v e : ℕ) (q : nameAt text s2 65 ≡ NumberAt.Number v e) where
       name : Named 65 text s2 v e
@@ -89,15 +90,15 @@ module _ (text : List ℕ) (at : ℕ) (heads : Heads) where
       line : lineEnd text e ≡ lineEnd text at
       line = ap (lineEnd text) (name .behind) ∙ line-past-token text s2 ∙ ends
 
-      caused : outcome ≡ assembledParts heads (smallEnding (Ending.Causes action)) (endingInRange (Ending.Causes action)) (conditionOutcome (lineEnd text at) (conditionOf (tokensAt text e)))
-      unfolding causeParts causedParts is bytes sameBytes actionOf action
-      caused = ap (causeParts heads (lineEnd text at)) both-tokens ∙ rw (name .is)
+      caused : outcome ≡ assembledLine heads (smallEnding (Ending.Causes action)) (endingInRange (Ending.Causes action)) (conditionOutcome (lineEnd text at) (conditionFrom (tokensAt text e)))
+      unfolding causeLine causedLine is bytes sameBytes actionOf action
+      caused = ap (causeLine heads (lineEnd text at)) both-tokens ∙ rw (name .is)
 
       -- the action of a clipped number in range is that of the number
       in-range : ltb v 64 ≡ ltb (name .number) 64
       in-range = ap (λ (k : ℕ). ltb k 64) (name .clipped) ∙ clip-below 64 (name .number) (omega arith)
 
-      pub cause-valid : (a : Action) → Number.actionOf v ≡ ActionCheck.Valid a → assembledParts heads (Ending.Causes a) true (conditionOutcome (lineEnd text e) (conditionOf (tokensAt text e))) ≡ outcome
+      pub cause-valid : (a : Action) → checkAction v ≡ ActionCheck.Valid a → assembledLine heads (Ending.Causes a) true (conditionOutcome (lineEnd text e) (conditionFrom (tokensAt text e))) ≡ outcome
       unfolding endingInRange smallEnding action
       cause-valid a h =
           let p = action-valid v a h in
@@ -105,28 +106,28 @@ module _ (text : List ℕ) (at : ℕ) (heads : Heads) where
           let m : v ≡ name .number = name .clipped ∙ clip-same 64 (name .number) (omega arith) k in
           sym (caused ∙ valid-of a k (p .1 ∙ ap (λ (i : ℕ). record { 0 = i }) m))
         where
-          valid-of : (x : Action) → ltb (name .number) 64 ≡ true → x ≡ record { 0 = name .number } → assembledParts heads (smallEnding (Ending.Causes action)) (endingInRange (Ending.Causes action)) (conditionOutcome (lineEnd text at) (conditionOf (tokensAt text e))) ≡ assembledParts heads (Ending.Causes x) true (conditionOutcome (lineEnd text e) (conditionOf (tokensAt text e)))
+          valid-of : (x : Action) → ltb (name .number) 64 ≡ true → x ≡ record { 0 = name .number } → assembledLine heads (smallEnding (Ending.Causes action)) (endingInRange (Ending.Causes action)) (conditionOutcome (lineEnd text at) (conditionFrom (tokensAt text e))) ≡ assembledLine heads (Ending.Causes x) true (conditionOutcome (lineEnd text e) (conditionFrom (tokensAt text e)))
           valid-of x k i = rw (k, i, line)
 
-      pub cause-outside : Number.actionOf v ≡ ActionCheck.OutOfRange → assembledParts heads (Ending.Causes (record { 0 = 0 })) false (conditionOutcome (lineEnd text e) (conditionOf (tokensAt text e))) ≡ outcome
+      pub cause-outside : checkAction v ≡ ActionCheck.OutOfRange → assembledLine heads (Ending.Causes (record { 0 = 0 })) false (conditionOutcome (lineEnd text e) (conditionFrom (tokensAt text e))) ≡ outcome
       unfolding endingInRange smallEnding action
       cause-outside h =
           let k : ltb (name .number) 64 ≡ false = sym in-range ∙ action-outside v h in
           sym (caused ∙ outside-of k)
         where
-          outside-of : ltb (name .number) 64 ≡ false → assembledParts heads (smallEnding (Ending.Causes action)) (endingInRange (Ending.Causes action)) (conditionOutcome (lineEnd text at) (conditionOf (tokensAt text e))) ≡ assembledParts heads (Ending.Causes (record { 0 = 0 })) false (conditionOutcome (lineEnd text e) (conditionOf (tokensAt text e)))
+          outside-of : ltb (name .number) 64 ≡ false → assembledLine heads (smallEnding (Ending.Causes action)) (endingInRange (Ending.Causes action)) (conditionOutcome (lineEnd text at) (conditionFrom (tokensAt text e))) ≡ assembledLine heads (Ending.Causes (record { 0 = 0 })) false (conditionOutcome (lineEnd text e) (conditionFrom (tokensAt text e)))
           outside-of k = rw (k, line)
 
 -- ---- the shape of the line, by its first token
 
 module _ (text : List ℕ) (at : ℕ) (h : isEmpty (tokenAt text at) ≡ false) where
-  pub line-never : (b : ℕ) → wordAt text at (bytes "never") ≡ WordAt.Found b → lineParts (lineEnd text b) (after constraintAfter (joined actionOf (tokensAt text b))) ≡ lineParts (lineEnd text at) (lineFrom (tokensAt text at))
+  pub line-never : (b : ℕ) → keywordAt text at (bytes "never") ≡ KeywordAt.Found b → parsedFrom (lineEnd text b) (after constraintAfter (joined actionOf (tokensAt text b))) ≡ parsedFrom (lineEnd text at) (lineFrom (tokensAt text at))
   unfolding lineFrom is bytes sameBytes
   line-never b w =
       let f = word-token text at (bytes "never") b w in
       rw (tokens-first text at h, f .0)
-      (ap₂ (λ (k m : ℕ). lineParts k (after constraintAfter (joined actionOf (tokensAt text m)))) (ap (lineEnd text) (f .1) ∙ line-past-token text at) (f .1))
+      (ap₂ (λ (k m : ℕ). parsedFrom k (after constraintAfter (joined actionOf (tokensAt text m)))) (ap (lineEnd text) (f .1) ∙ line-past-token text at) (f .1))
 
-  pub line-rule : wordAt text at (bytes "never") ≡ WordAt.Absent → lineParts (lineEnd text at) (after ruleAfter (joined literalOf (tokensAt text at))) ≡ lineParts (lineEnd text at) (lineFrom (tokensAt text at))
+  pub line-rule : keywordAt text at (bytes "never") ≡ KeywordAt.Absent → parsedFrom (lineEnd text at) (after ruleAfter (joined literalOf (tokensAt text at))) ≡ parsedFrom (lineEnd text at) (lineFrom (tokensAt text at))
   unfolding lineFrom is
   line-rule w = rw (tokens-first text at h, word-absent text at (bytes "never") w)

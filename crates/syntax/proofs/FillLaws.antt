@@ -6,7 +6,8 @@ use native.Mathlib.Omega.{arith}
 use borrow.Author.Tests.{lt-ltb, le-ltb}
 use lib.ListN.{set}
 use Rattle.policy.proofs.LineLaws.{push-item, push-count}
-use Rattle.policy.specs.Line.{held, counted, pushItem, pushCount}
+use Rattle.policy.specs.Steps.Push.{pushItem, pushCount}
+use Rattle.policy.specs.Value.{padded, counted}
 
 module _ {A : Type 0} (limit : ℕ) where
   unfoldable pub filled : List A → ℕ → List A → List A
@@ -18,12 +19,12 @@ module _ {A : Type 0} (limit : ℕ) where
   filledCount n (x ∷ xs) = filledCount (pushCount limit n) xs
 
 module _ {A : Type 0} (limit : ℕ) (filler : A) where
-  filled-on : (xs ys : List A) → filled limit (held limit filler xs) (counted limit xs) ys ≡ held limit filler (xs ++ ys)
+  filled-on : (xs ys : List A) → filled limit (padded limit filler xs) (counted limit xs) ys ≡ padded limit filler (xs ++ ys)
   unfolding filled
-  filled-on xs [] = ap (held limit filler) (sym (append-nil xs))
+  filled-on xs [] = ap (padded limit filler) (sym (append-nil xs))
   filled-on xs (y ∷ ys) =
       ap₂ (λ (l : List A) (n : ℕ). filled limit l n ys) (push-item limit filler xs y) (push-count limit filler xs y) ∙ filled-on (xs ++ y ∷ []) ys
-      ∙ ap (held limit filler) (append-assoc xs (y ∷ []) ys)
+      ∙ ap (padded limit filler) (append-assoc xs (y ∷ []) ys)
 
   filled-count-on : (xs ys : List A) → filledCount limit (counted limit xs) ys ≡ counted limit (xs ++ ys)
   unfolding filledCount
@@ -36,8 +37,8 @@ module _ {A : Type 0} (limit : ℕ) (filler : A) where
   unfolding counted
   none-counted = omega arith
 
-  pub filled-all : (xs : List A) → filled limit (held limit filler []) 0 xs ≡ held limit filler xs
-  filled-all xs = ap (λ (n : ℕ). filled limit (held limit filler []) n xs) (sym none-counted) ∙ filled-on [] xs
+  pub filled-all : (xs : List A) → filled limit (padded limit filler []) 0 xs ≡ padded limit filler xs
+  filled-all xs = ap (λ (n : ℕ). filled limit (padded limit filler []) n xs) (sym none-counted) ∙ filled-on [] xs
 
   pub filled-count-all : (xs : List A) → filledCount limit 0 xs ≡ counted limit xs
   filled-count-all xs = ap (λ (n : ℕ). filledCount limit n xs) (sym none-counted) ∙ filled-count-on [] xs

@@ -6,22 +6,25 @@ use mathlib.Core.Option.{Option, none, some, Option·map}
 use mathlib.Core.Path.{_≡_, refl, sym, ap, ap₂, _∙_}
 use native.Mathlib.Omega.{arith}
 use lib.ListN.{length}
-use Rattle.policy.specs.Line.{head, held, headLimit, noHead, pushItem, pushCount}
+use Rattle.policy.specs.Steps.Push.{pushItem, pushCount}
+use Rattle.policy.specs.Value.{head, padded, noHead}
+use Rattle.policy.specs.Limits.{headLimit}
 use Rattle.policy.specs.List.{all}
 use Rattle.policy.specs.declared.line.Head.{Head}
 use Rattle.policy.specs.declared.line.Test.{Test}
 use Rattle.lexer.proofs.TokenLaws.{tokens-after-spaces, tokens-first, tokens-ended, line-past-spaces, line-past-token}
-use Rattle.lexer.proofs.RunLaws.{skip-ge}
-use Rattle.lexer.proofs.WordLaws.{token-inside, skip-grows, word-token, word-absent}
+use Rattle.lexer.proofs.WhileLaws.{skip-ge}
+use Rattle.lexer.proofs.KeywordLaws.{token-inside, skip-grows, word-token, word-absent}
 use Rattle.lexer.specs.Byte.{bytes, sameBytes, is, isSpace}
 use Rattle.lexer.specs.Token.{Token, both, literalOf, actionOf, named}
 use Rattle.syntax.specs.Grammar.{Joined, last, before, joined}
 use Rattle.lexer.specs.Number.{isEmpty}
 use Rattle.syntax.proofs.FillLaws.{filled, filledCount, filled-all, filled-count-all}
-use Rattle.syntax.specs.Outcome.{HeadsRead, viewOf, smallHeads, headsOutcome}
-use Rattle.lexer.specs.Parts.{testInRange, smallTest, testOf, headEnding, headAt}
-use Rattle.lexer.specs.Scan.{skip, inToken, tokenAt, wordAt, tokensAt, lineEnd}
-use Rattle.lexer.specs.declared.scan.WordAt.{WordAt}
+use Rattle.syntax.specs.Steps.Outcome.{HeadsRead, viewOf, smallHeads, headsOutcome}
+use Rattle.lexer.specs.Steps.PartAt.{testInRange, smallTest, testOf, headEnding, headAt}
+use Rattle.lexer.specs.Steps.Scan.{inToken, tokenAt, keywordAt, tokensAt}
+use Rattle.lexer.specs.Lines.{skipWhile, lineEnd}
+use Rattle.lexer.specs.declared.scan.KeywordAt.{KeywordAt}
 use Rattle.lexer.specs.declared.token.HeadAt.{HeadAt}
 
 -- ---- items joined by `&`
@@ -60,7 +63,7 @@ headsFrom ok heads n end none = none
 headsFrom ok heads n end (some j) =
     some (record { inRange = ok && all testInRange (j .items); heads = filled headLimit heads n (smallHeads (j .items)); count = filledCount headLimit n (smallHeads (j .items)); rest = j .rest; end = end })
 
-pub heads-start : (e : ℕ) (o : Option (Joined Test)) → headsOutcome e o ≡ headsFrom true (held headLimit noHead []) 0 e o
+pub heads-start : (e : ℕ) (o : Option (Joined Test)) → headsOutcome e o ≡ headsFrom true (padded headLimit noHead []) 0 e o
 unfolding headsOutcome headsFrom
 heads-start e none = refl
 heads-start e (some j) = rw (filled-all headLimit noHead (smallHeads (j .items)), filled-count-all headLimit noHead (smallHeads (j .items)))
@@ -78,13 +81,13 @@ record HeadRead (text : List ℕ) (at : ℕ) (never : Bool) (t : Test) (ok : Boo
   read : testOf never (tokenAt text at) ≡ some test
   small : t ≡ smallTest test
   range : ok ≡ testInRange test
-  behind : e ≡ skip inToken text at
+  behind : e ≡ skipWhile inToken text at
 
 head-some : (text : List ℕ) (at : ℕ) (never : Bool) (t : Test) (ok : Bool) (e : ℕ) → headAt text at never ≡ HeadAt.Head t ok e → HeadRead text at never t ok e
 unfolding headAt headEnding
 head-some text at never t ok e = go (testOf never (tokenAt text at)) refl
   where
-    go : (o : Option Test) → testOf never (tokenAt text at) ≡ o → headEnding (skip inToken text at) o ≡ HeadAt.Head t ok e → HeadRead text at never t ok e
+    go : (o : Option Test) → testOf never (tokenAt text at) ≡ o → headEnding (skipWhile inToken text at) o ≡ HeadAt.Head t ok e → HeadRead text at never t ok e
     go none p q = let w : _≡_ {A = ℕ} 0 1 = cc in absurd (omega arith)
     go (some x) p q = record { test = x; read = p; small = cc; range = cc; behind = cc }
 
@@ -92,7 +95,7 @@ head-none : (text : List ℕ) (at : ℕ) (never : Bool) → headAt text at never
 unfolding headAt headEnding
 head-none text at never = go (testOf never (tokenAt text at))
   where
-    go : (o : Option Test) → headEnding (skip inToken text at) o ≡ HeadAt.Malformed → o ≡ none
+    go : (o : Option Test) → headEnding (skipWhile inToken text at) o ≡ HeadAt.Malformed → o ≡ none
     go none q = refl
     go (some x) q = let w : _≡_ {A = ℕ} 0 1 = cc in absurd (omega arith)
 
@@ -107,7 +110,7 @@ test-token false (b ∷ t) x e = refl
 
 module _ (text : List ℕ) (at : ℕ) (never r : Bool) (hs : List Head) (k : ℕ) where
   abbrev s : ℕ
-  s = skip isSpace text at
+  s = skipWhile isSpace text at
 
   abbrev item : Token → Option Test
   item = testOf never
@@ -121,11 +124,11 @@ module _ (text : List ℕ) (at : ℕ) (never r : Bool) (hs : List Head) (k : ℕ
     where
       go : (b : Bool) → isEmpty (tokenAt text s) ≡ b → joined item (tokensAt text s) ≡ none
       go true h = ap (joined item) (tokens-ended text at h)
-      go false h = ap (joined item) (tokens-first text s h) ∙ joined-bad item (tokenAt text s) (head-none text s never q) (tokensAt text (skip inToken text s))
+      go false h = ap (joined item) (tokens-first text s h) ∙ joined-bad item (tokenAt text s) (head-none text s never q) (tokensAt text (skipWhile inToken text s))
 
   module _ (t : Test) (ok : Bool) (e : ℕ) (q : headAt text s never ≡ HeadAt.Head t ok e) where
     abbrev n : ℕ
-    n = skip isSpace text e
+    n = skipWhile isSpace text e
 
     abbrev hs′ : List Head
     hs′ = pushItem headLimit hs k (head t)
@@ -151,16 +154,16 @@ module _ (text : List ℕ) (at : ℕ) (never r : Bool) (hs : List Head) (k : ℕ
         heads-step r hs k (lineEnd text at) (found .test) o
         ∙ cc (found .range, found .small, ends)
 
-    pub heads-again : (b : ℕ) → wordAt text n (bytes "&") ≡ WordAt.Found b → outcome ≡ headsFrom (r && ok) hs′ k′ (lineEnd text b) (joined item (tokensAt text b))
+    pub heads-again : (b : ℕ) → keywordAt text n (bytes "&") ≡ KeywordAt.Found b → outcome ≡ headsFrom (r && ok) hs′ k′ (lineEnd text b) (joined item (tokensAt text b))
     unfolding is bytes isEmpty sameBytes
     heads-again b w =
         let f = word-token text n (bytes "&") b w in
         ap (λ (ts : List Token). headsFrom r hs k (lineEnd text at) (joined item ts)) (tokens ∙ ap (λ (ts : List Token). tokenAt text s ∷ ts) (tokens-first text n (ap isEmpty (f .0))))
-        ∙ ap (headsFrom r hs k (lineEnd text at)) (joined-more item (tokenAt text s) (found .test) (found .read) (tokenAt text n) (tokensAt text (skip inToken text n)) (ap (λ (u : Token). sameBytes u (bytes "&")) (f .0)))
-        ∙ taken (joined item (tokensAt text (skip inToken text n)))
+        ∙ ap (headsFrom r hs k (lineEnd text at)) (joined-more item (tokenAt text s) (found .test) (found .read) (tokenAt text n) (tokensAt text (skipWhile inToken text n)) (ap (λ (u : Token). sameBytes u (bytes "&")) (f .0)))
+        ∙ taken (joined item (tokensAt text (skipWhile inToken text n)))
         ∙ ap₂ (λ (i m : ℕ). headsFrom (r && ok) hs′ k′ i (joined item (tokensAt text m))) (sym (line-past-token text n) ∙ ap (lineEnd text) (sym (f .1))) (sym (f .1))
 
-    pub heads-done : wordAt text n (bytes "&") ≡ WordAt.Absent → viewOf text (record { ok = true; «in_range» = r && ok; heads = hs′; count = k′; at = n }) ≡ outcome
+    pub heads-done : keywordAt text n (bytes "&") ≡ KeywordAt.Absent → viewOf text (record { ok = true; «in_range» = r && ok; heads = hs′; count = k′; at = n }) ≡ outcome
     unfolding headsFrom filled filledCount all is bytes
     heads-done w =
         sym (ap (λ (ts : List Token). headsFrom r hs k (lineEnd text at) (joined item ts)) tokens
@@ -171,11 +174,11 @@ module _ (text : List ℕ) (at : ℕ) (never r : Bool) (hs : List Head) (k : ℕ
         go true h = rw (tokens-ended text e h) (joined-alone item (tokenAt text s) (found .test) (found .read))
         go false h =
             rw (tokens-first text n h)
-            (joined-last item (tokenAt text s) (found .test) (found .read) (tokenAt text n) (tokensAt text (skip inToken text n)) (word-absent text n (bytes "&") w))
+            (joined-last item (tokenAt text s) (found .test) (found .read) (tokenAt text n) (tokensAt text (skipWhile inToken text n)) (word-absent text n (bytes "&") w))
 
-    pub heads-less : (b : ℕ) → wordAt text n (bytes "&") ≡ WordAt.Found b → (at < length text) × (at < b)
+    pub heads-less : (b : ℕ) → keywordAt text n (bytes "&") ≡ KeywordAt.Found b → (at < length text) × (at < b)
     heads-less b w =
         let i : s < length text = token-inside text s solid in
-        let f : b ≡ skip inToken text n = word-token text n (bytes "&") b w .1 in
-        let g : e ≡ skip inToken text s = found .behind in
+        let f : b ≡ skipWhile inToken text n = word-token text n (bytes "&") b w .1 in
+        let g : e ≡ skipWhile inToken text s = found .behind in
         (omega (arith, skip-ge isSpace text at), omega (arith, skip-ge isSpace text at, skip-grows text s solid, skip-ge isSpace text e, skip-ge inToken text n))

@@ -12,7 +12,7 @@ use lib.ListN.{length, getD, drop, drop-of-length-le}
 use Rattle.policy.proofs.ListLaws.{true-false}
 use Rattle.policy.specs.Limits.{isReadingValue}
 use Rattle.policy.specs.List.{all}
-use Rattle.policy.specs.Number as Number
+use Rattle.policy.specs.Number.{checkEvent, checkReading}
 use Rattle.policy.specs.declared.number.Event.{Event}
 use Rattle.policy.specs.declared.number.EventCheck.{EventCheck}
 use Rattle.policy.specs.declared.number.Reading.{Reading}
@@ -21,15 +21,16 @@ use Rattle.lexer.proofs.ClassLaws.{digit-bounds}
 use Rattle.lexer.proofs.DigitLaws.{digit-inside, ending-none, number-end}
 use Rattle.lexer.proofs.PartLaws as PartLaws
 use Rattle.lexer.proofs.PartLaws.{reading-valid, reading-outside, name-some, name-none, clip-below, clip-same}
-use Rattle.lexer.proofs.RunLaws.{at-byte, skip-past, drop-skip, skip-on}
-use Rattle.lexer.proofs.WordLaws.{token-end, token-here, token-past}
+use Rattle.lexer.proofs.WhileLaws.{at-byte, skip-past, drop-skip, skip-on}
+use Rattle.lexer.proofs.KeywordLaws.{token-end, token-here, token-past}
 use Rattle.lexer.specs.Byte.{isDigit}
-use Rattle.syntax.specs.Epoch.{Item, event, value, Halves, toLeft, atEquals, valueOf, itemOf, itemInRange}
-use Rattle.syntax.specs.EpochScan.{itemWithin, itemEnding, valueItem, valueAt, itemAt}
+use Rattle.syntax.specs.Epoch.{Item, event, value, Halves, toLeft, atEquals, assignmentOf, itemOf, itemInRange}
+use Rattle.syntax.specs.Steps.EpochScan.{itemWithin, itemEnding, valueItem, valueAt, itemAt}
 use Rattle.lexer.specs.Token.{named, orElse, both}
 use Rattle.lexer.specs.Number.{numberOf, constantOf}
-use Rattle.lexer.specs.Parts.{constantEnding, constantAt}
-use Rattle.lexer.specs.Scan.{run, skip, inToken, tokenAt, clip, numberEnding, digitsAt, nameAt}
+use Rattle.lexer.specs.Steps.PartAt.{constantEnding, constantAt}
+use Rattle.lexer.specs.Steps.Scan.{inToken, tokenAt, clip, numberEnding, digitsAt, nameAt}
+use Rattle.lexer.specs.Lines.{takeWhile, skipWhile}
 use Rattle.syntax.specs.declared.epoch.ItemAt.{ItemAt}
 use Rattle.lexer.specs.declared.scan.NumberAt.{NumberAt}
 use Rattle.lexer.specs.declared.token.ConstantAt.{ConstantAt}
@@ -37,20 +38,20 @@ use Rattle.lexer.specs.declared.token.ConstantAt.{ConstantAt}
 -- ---- checked numbers
 
 module _ (n e : ℕ) where
-  pub event-valid : (x : Event) → Number.eventOf n ≡ EventCheck.Valid x → ItemAt.Event x e ≡ itemEnding e (some (event n))
+  pub event-valid : (x : Event) → checkEvent n ≡ EventCheck.Valid x → ItemAt.Event x e ≡ itemEnding e (some (event n))
   unfolding itemEnding itemWithin itemInRange
   event-valid x q = let p = PartLaws.event-valid n x q in rw (p .0, p .1)
 
-  pub event-outside : Number.eventOf n ≡ EventCheck.OutOfRange → ItemAt.OutOfRange e ≡ itemEnding e (some (event n))
+  pub event-outside : checkEvent n ≡ EventCheck.OutOfRange → ItemAt.OutOfRange e ≡ itemEnding e (some (event n))
   unfolding itemEnding itemInRange
   event-outside q = rw (PartLaws.event-outside n q)
 
   module _ (k : ℤ) where
-    pub value-valid : (r : Reading) → Number.readingOf n ≡ ReadingCheck.Valid r → ItemAt.Value r k e ≡ valueItem n (ConstantAt.Value k e)
+    pub value-valid : (r : Reading) → checkReading n ≡ ReadingCheck.Valid r → ItemAt.Value r k e ≡ valueItem n (ConstantAt.Value k e)
     unfolding valueItem
     value-valid r q = let p = reading-valid n r q in rw (p .0, p .1)
 
-    pub value-outside : Number.readingOf n ≡ ReadingCheck.OutOfRange → ItemAt.OutOfRange e ≡ valueItem n (ConstantAt.Value k e)
+    pub value-outside : checkReading n ≡ ReadingCheck.OutOfRange → ItemAt.OutOfRange e ≡ valueItem n (ConstantAt.Value k e)
     unfolding valueItem
     value-outside q = rw (reading-outside n q)
 
@@ -72,14 +73,14 @@ digit-no-equals : (b : ℕ) → isDigit b ≡ true → eqb b 61 ≡ false
 digit-no-equals b e = ne-eqb b 61 (λ q. omega (arith, digit-bounds b e))
 
 -- the `=` stands right behind the digits
-equals-here : (s r : List ℕ) → drop (length (run isDigit s)) s ≡ 61 ∷ r → atEquals (run inToken s) ≡ some (record { left = run isDigit s; right = run inToken r })
-unfolding run atEquals toLeft
+equals-here : (s r : List ℕ) → drop (length (takeWhile isDigit s)) s ≡ 61 ∷ r → atEquals (takeWhile inToken s) ≡ some (record { left = takeWhile isDigit s; right = takeWhile inToken r })
+unfolding takeWhile atEquals toLeft
 equals-here [] r e = let w : _≡_ {A = ℕ} 0 1 = cc in absurd (omega arith)
 equals-here (b ∷ s) r e = go (isDigit b) refl (equals-here s r) e
   where
-    go : (d : Bool) → isDigit b ≡ d → (drop (length (run isDigit s)) s ≡ 61 ∷ r → atEquals (run inToken s) ≡ some (record { left = run isDigit s; right = run inToken r })) → drop (length (cond d (b ∷ run isDigit s) [])) (b ∷ s) ≡ 61 ∷ r → atEquals (run inToken (b ∷ s)) ≡ some (record { left = cond d (b ∷ run isDigit s) []; right = run inToken r })
+    go : (d : Bool) → isDigit b ≡ d → (drop (length (takeWhile isDigit s)) s ≡ 61 ∷ r → atEquals (takeWhile inToken s) ≡ some (record { left = takeWhile isDigit s; right = takeWhile inToken r })) → drop (length (cond d (b ∷ takeWhile isDigit s) [])) (b ∷ s) ≡ 61 ∷ r → atEquals (takeWhile inToken (b ∷ s)) ≡ some (record { left = cond d (b ∷ takeWhile isDigit s) []; right = takeWhile inToken r })
     go true p h k = rw (digit-inside b p, digit-no-equals b p, h k)
-    go false p h k = ap (λ (l : List ℕ). atEquals (run inToken l)) k
+    go false p h k = ap (λ (l : List ℕ). atEquals (takeWhile inToken l)) k
 
 -- no `=`, or a left half with another byte than a digit
 unfoldable noDigits : Option Halves → Bool
@@ -100,31 +101,31 @@ unfolding noDigits toLeft all
 left-other b none e = refl
 left-other b (some h) e = rw e
 
-equals-none : (s : List ℕ) → ((r : List ℕ) → drop (length (run isDigit s)) s ≡ 61 ∷ r → ⊥) → noDigits (atEquals (run inToken s)) ≡ true
-unfolding run atEquals noDigits
+equals-none : (s : List ℕ) → ((r : List ℕ) → drop (length (takeWhile isDigit s)) s ≡ 61 ∷ r → ⊥) → noDigits (atEquals (takeWhile inToken s)) ≡ true
+unfolding takeWhile atEquals noDigits
 equals-none [] q = refl
 equals-none (b ∷ s) q = go (isDigit b) refl (equals-none s) q
   where
-    other : (i : Bool) → (b ≡ 61 → ⊥) → isDigit b ≡ false → noDigits (atEquals (cond i (b ∷ run inToken s) [])) ≡ true
-    other true n e = rw (ne-eqb b 61 n) (left-other b (atEquals (run inToken s)) e)
+    other : (i : Bool) → (b ≡ 61 → ⊥) → isDigit b ≡ false → noDigits (atEquals (cond i (b ∷ takeWhile inToken s) [])) ≡ true
+    other true n e = rw (ne-eqb b 61 n) (left-other b (atEquals (takeWhile inToken s)) e)
     other false n e = refl
 
-    go : (d : Bool) → isDigit b ≡ d → (((r : List ℕ) → drop (length (run isDigit s)) s ≡ 61 ∷ r → ⊥) → noDigits (atEquals (run inToken s)) ≡ true) → ((r : List ℕ) → drop (length (cond d (b ∷ run isDigit s) [])) (b ∷ s) ≡ 61 ∷ r → ⊥) → noDigits (atEquals (run inToken (b ∷ s))) ≡ true
-    go true p h k = rw (digit-inside b p, digit-no-equals b p) (left-more b (atEquals (run inToken s)) (h k))
+    go : (d : Bool) → isDigit b ≡ d → (((r : List ℕ) → drop (length (takeWhile isDigit s)) s ≡ 61 ∷ r → ⊥) → noDigits (atEquals (takeWhile inToken s)) ≡ true) → ((r : List ℕ) → drop (length (cond d (b ∷ takeWhile isDigit s) [])) (b ∷ s) ≡ 61 ∷ r → ⊥) → noDigits (atEquals (takeWhile inToken (b ∷ s))) ≡ true
+    go true p h k = rw (digit-inside b p, digit-no-equals b p) (left-more b (atEquals (takeWhile inToken s)) (h k))
     go false p h k = other (inToken b) (λ e. k s (ap (λ (x : ℕ). x ∷ s) e)) p
 
 -- ---- the value of a token, by its first byte
 
-other-left : (b : ℕ) (o : Option Halves) → (b ≡ 82 → ⊥) → valueOf (toLeft b o) ≡ none
-unfolding valueOf toLeft named both
+other-left : (b : ℕ) (o : Option Halves) → (b ≡ 82 → ⊥) → assignmentOf (toLeft b o) ≡ none
+unfolding assignmentOf toLeft named both
 other-left b none q = refl
 other-left b (some h) q = rw (ne-eqb b 82 q)
 
-other-value : (b : ℕ) (t : List ℕ) → (b ≡ 82 → ⊥) → valueOf (atEquals (b ∷ t)) ≡ none
-unfolding valueOf atEquals named both
+other-value : (b : ℕ) (t : List ℕ) → (b ≡ 82 → ⊥) → assignmentOf (atEquals (b ∷ t)) ≡ none
+unfolding assignmentOf atEquals named both
 other-value b t q = go (eqb b 61) refl
   where
-    go : (x : Bool) → eqb b 61 ≡ x → valueOf (cond x (some (record { left = []; right = t })) (toLeft b (atEquals t))) ≡ none
+    go : (x : Bool) → eqb b 61 ≡ x → assignmentOf (cond x (some (record { left = []; right = t })) (toLeft b (atEquals t))) ≡ none
     go true e = refl
     go false e = other-left b (atEquals t) q
 
@@ -133,8 +134,8 @@ unfolding numberOf all
 number-all [] e = absurd (true-false refl e)
 number-all (d ∷ ds) e = rw e
 
-value-none : (o : Option Halves) → noDigits o ≡ true → valueOf (toLeft 82 o) ≡ none
-unfolding noDigits valueOf toLeft named both
+value-none : (o : Option Halves) → noDigits o ≡ true → assignmentOf (toLeft 82 o) ≡ none
+unfolding noDigits assignmentOf toLeft named both
 value-none none e = refl
 value-none (some h) e = rw (number-all (h .left) (not-all (all isDigit (h .left)) e))
   where
@@ -144,28 +145,28 @@ value-none (some h) e = rw (number-all (h .left) (not-all (all isDigit (h .left)
 
 -- the value of a token `R` and the token at `s`
 valueFrom : List ℕ → Option Item
-valueFrom s = valueOf (toLeft 82 (atEquals (run inToken s)))
+valueFrom s = assignmentOf (toLeft 82 (atEquals (takeWhile inToken s)))
 
-from-none : (s : List ℕ) → ((r : List ℕ) → drop (length (run isDigit s)) s ≡ 61 ∷ r → ⊥) → valueFrom s ≡ none
+from-none : (s : List ℕ) → ((r : List ℕ) → drop (length (takeWhile isDigit s)) s ≡ 61 ∷ r → ⊥) → valueFrom s ≡ none
 unfolding valueFrom
-from-none s q = value-none (atEquals (run inToken s)) (equals-none s q)
+from-none s q = value-none (atEquals (takeWhile inToken s)) (equals-none s q)
 
-from-some : (s r : List ℕ) → drop (length (run isDigit s)) s ≡ 61 ∷ r → valueFrom s ≡ both value (numberOf (run isDigit s)) (constantOf (run inToken r))
-unfolding valueFrom valueOf toLeft named
+from-some : (s r : List ℕ) → drop (length (takeWhile isDigit s)) s ≡ 61 ∷ r → valueFrom s ≡ both value (numberOf (takeWhile isDigit s)) (constantOf (takeWhile inToken r))
+unfolding valueFrom assignmentOf toLeft named
 from-some s r e = rw (equals-here s r e)
 
-from-malformed : (s : List ℕ) → numberOf (run isDigit s) ≡ none → valueFrom s ≡ none
+from-malformed : (s : List ℕ) → numberOf (takeWhile isDigit s) ≡ none → valueFrom s ≡ none
 unfolding both
-from-malformed s e = go (drop (length (run isDigit s)) s) refl
+from-malformed s e = go (drop (length (takeWhile isDigit s)) s) refl
   where
-    none-of : (c : ℕ) (r : List ℕ) → drop (length (run isDigit s)) s ≡ c ∷ r → (b : Bool) → eqb c 61 ≡ b → valueFrom s ≡ none
+    none-of : (c : ℕ) (r : List ℕ) → drop (length (takeWhile isDigit s)) s ≡ c ∷ r → (b : Bool) → eqb c 61 ≡ b → valueFrom s ≡ none
     none-of c r q true p = from-some s r (q ∙ ap (λ (x : ℕ). x ∷ r) (eqb-true c 61 p)) ∙ rw e
     none-of c r q false p = from-none s (λ r₂ k. true-false (eq-eqb c 61 (first (sym q ∙ k))) p)
       where
         first : {r₂ : List ℕ} → c ∷ r ≡ 61 ∷ r₂ → c ≡ 61
         first k = cc
 
-    go : (l : List ℕ) → drop (length (run isDigit s)) s ≡ l → valueFrom s ≡ none
+    go : (l : List ℕ) → drop (length (takeWhile isDigit s)) s ≡ l → valueFrom s ≡ none
     go [] q = from-none s (λ r k. let w : _≡_ {A = ℕ} 0 1 = cc in absurd (omega arith))
     go (c ∷ r) q = none-of c r q (eqb c 61) refl
 
@@ -173,38 +174,38 @@ from-malformed s e = go (drop (length (run isDigit s)) s) refl
 
 module _ (line : List ℕ) (at : ℕ) where
   pub value-end : length line ≤ at → ItemAt.Malformed ≡ valueAt line at
-  unfolding valueAt valueOf atEquals itemEnding
+  unfolding valueAt assignmentOf atEquals itemEnding
   value-end h = rw (token-end line at h)
 
   -- another byte than `R`
   pub value-other : at < length line → (getD line at 0 ≡ 82 → ⊥) → ItemAt.Malformed ≡ valueAt line at
-  unfolding valueAt itemEnding valueOf atEquals
-  value-other h q = sym (ap (itemEnding (skip inToken line at)) (go (inToken (getD line at 0)) refl))
+  unfolding valueAt itemEnding assignmentOf atEquals
+  value-other h q = sym (ap (itemEnding (skipWhile inToken line at)) (go (inToken (getD line at 0)) refl))
     where
-      go : (b : Bool) → inToken (getD line at 0) ≡ b → valueOf (atEquals (tokenAt line at)) ≡ none
-      go true e = ap (λ (t : List ℕ). valueOf (atEquals t)) (token-past line at h e) ∙ other-value (getD line at 0) (tokenAt line (at + 1)) q
-      go false e = ap (λ (t : List ℕ). valueOf (atEquals t)) (token-here line at h e)
+      go : (b : Bool) → inToken (getD line at 0) ≡ b → assignmentOf (atEquals (tokenAt line at)) ≡ none
+      go true e = ap (λ (t : List ℕ). assignmentOf (atEquals t)) (token-past line at h e) ∙ other-value (getD line at 0) (tokenAt line (at + 1)) q
+      go false e = ap (λ (t : List ℕ). assignmentOf (atEquals t)) (token-here line at h e)
 
   module _ (h : at < length line) (q : getD line at 0 ≡ 82) where
     inside : inToken (getD line at 0) ≡ true
     inside = ap inToken q
 
-    from-first : valueAt line at ≡ itemEnding (skip inToken line (at + 1)) (valueFrom (drop (at + 1) line))
+    from-first : valueAt line at ≡ itemEnding (skipWhile inToken line (at + 1)) (valueFrom (drop (at + 1) line))
     unfolding valueAt valueFrom tokenAt atEquals
     from-first =
         ap₂ itemEnding (skip-past inToken line at h inside)
-        (ap (λ (t : List ℕ). valueOf (atEquals t)) (token-past line at h inside ∙ ap (λ (b : ℕ). b ∷ tokenAt line (at + 1)) q))
+        (ap (λ (t : List ℕ). assignmentOf (atEquals t)) (token-past line at h inside ∙ ap (λ (b : ℕ). b ∷ tokenAt line (at + 1)) q))
 
     no-value : valueFrom (drop (at + 1) line) ≡ none → ItemAt.Malformed ≡ valueAt line at
     unfolding itemEnding
-    no-value e = sym (from-first ∙ ap (itemEnding (skip inToken line (at + 1))) e)
+    no-value e = sym (from-first ∙ ap (itemEnding (skipWhile inToken line (at + 1))) e)
 
     pub value-no-number : digitsAt line (at + 1) ≡ NumberAt.Malformed → ItemAt.Malformed ≡ valueAt line at
     unfolding digitsAt
-    value-no-number d = no-value (from-malformed (drop (at + 1) line) (ending-none (skip isDigit line (at + 1)) (numberOf (run isDigit (drop (at + 1) line))) d))
+    value-no-number d = no-value (from-malformed (drop (at + 1) line) (ending-none (skipWhile isDigit line (at + 1)) (numberOf (takeWhile isDigit (drop (at + 1) line))) d))
 
     module _ (v e : ℕ) (d : digitsAt line (at + 1) ≡ NumberAt.Number v e) where
-      left : drop (length (run isDigit (drop (at + 1) line))) (drop (at + 1) line) ≡ drop e line
+      left : drop (length (takeWhile isDigit (drop (at + 1) line))) (drop (at + 1) line) ≡ drop e line
       left = sym (drop-skip isDigit line (at + 1)) ∙ ap (λ (k : ℕ). drop k line) (number-end line (at + 1) v e d)
 
       pub value-ended : length line ≤ e → ItemAt.Malformed ≡ valueAt line at
@@ -221,22 +222,22 @@ module _ (line : List ℕ) (at : ℕ) where
 
       pub value-read : e < length line → getD line e 0 ≡ 61 → valueItem v (constantAt line (e + 1)) ≡ valueAt line at
       unfolding constantAt tokenAt digitsAt numberEnding
-      value-read l z = go (numberOf (run isDigit (drop (at + 1) line))) refl d
+      value-read l z = go (numberOf (takeWhile isDigit (drop (at + 1) line))) refl d
         where
-          ends : skip inToken line (at + 1) ≡ skip inToken line (e + 1)
+          ends : skipWhile inToken line (at + 1) ≡ skipWhile inToken line (e + 1)
           ends =
-              sym (skip-on inToken isDigit digit-inside line (at + 1)) ∙ ap (skip inToken line) (number-end line (at + 1) v e d)
+              sym (skip-on inToken isDigit digit-inside line (at + 1)) ∙ ap (skipWhile inToken line) (number-end line (at + 1) v e d)
               ∙ skip-past inToken line e l (ap inToken z)
 
-          equals : drop (length (run isDigit (drop (at + 1) line))) (drop (at + 1) line) ≡ 61 ∷ drop (e + 1) line
+          equals : drop (length (takeWhile isDigit (drop (at + 1) line))) (drop (at + 1) line) ≡ 61 ∷ drop (e + 1) line
           equals = left ∙ at-byte line e l ∙ ap (λ (b : ℕ). b ∷ drop (e + 1) line) z
 
-          go : (o : Option ℕ) → numberOf (run isDigit (drop (at + 1) line)) ≡ o → numberEnding (skip isDigit line (at + 1)) o ≡ NumberAt.Number v e → valueItem v (constantAt line (e + 1)) ≡ valueAt line at
+          go : (o : Option ℕ) → numberOf (takeWhile isDigit (drop (at + 1) line)) ≡ o → numberEnding (skipWhile isDigit line (at + 1)) o ≡ NumberAt.Number v e → valueItem v (constantAt line (e + 1)) ≡ valueAt line at
           go none p k = let w : _≡_ {A = ℕ} 0 1 = cc in absurd (omega arith)
           go (some n) p k =
               let c : v ≡ clip n = cc in
               ap (λ (m : ℕ). valueItem m (constantAt line (e + 1))) c
-              ∙ value-clipped n (skip inToken line (e + 1)) (constantOf (tokenAt line (e + 1)))
+              ∙ value-clipped n (skipWhile inToken line (e + 1)) (constantOf (tokenAt line (e + 1)))
               ∙ sym (from-first ∙ ap₂ itemEnding ends (from-some (drop (at + 1) line) (drop (e + 1) line) equals ∙ ap (λ (o : Option ℕ). both value o (constantOf (tokenAt line (e + 1)))) p))
 
   -- ---- an event, or else a value
@@ -253,7 +254,7 @@ module _ (line : List ℕ) (at : ℕ) where
   unfolding itemAt itemOf orElse
   item-event v e q =
       let p = name-some 69 line at v e q in
-      ap₂ (λ (k n : ℕ). itemEnding k (some (event n))) (p .behind) (p .clipped) ∙ event-clipped (p .number) (skip inToken line at) ∙ sym (rw (p .is))
+      ap₂ (λ (k n : ℕ). itemEnding k (some (event n))) (p .behind) (p .clipped) ∙ event-clipped (p .number) (skipWhile inToken line at) ∙ sym (rw (p .is))
 
   pub item-value : nameAt line at 69 ≡ NumberAt.Malformed → valueAt line at ≡ itemAt line at
   unfolding itemAt itemOf orElse valueAt

@@ -11,8 +11,10 @@ use lib.ListN.{length, getD, take, replicate, length-map}
 use lib.Seq.{take-all, take-at}
 use Rattle.policy.proofs.ListLaws.{and-out}
 use Rattle.policy.proofs.SeenLaws.{seen-repeats}
-use Rattle.policy.specs.Limits.{inRange, crowded, repeats, repeated, seenIn, testNumber, headNumber, comparisonInRange, endingInRange}
-use Rattle.policy.specs.Line.{PolicyLine, headsOf, comparisonsOf, endingOf, lineOf, lineValue, held, counted, head, headLimit, comparisonLimit, noHead}
+use Rattle.policy.specs.Limits.{inRange, crowded, repeats, repeated, testNumber, headNumber, comparisonInRange, endingInRange, headLimit, comparisonLimit}
+use Rattle.policy.specs.Steps.Seen.{seenIn}
+use Rattle.policy.specs.Line.{PolicyLine, headsOf, comparisonsOf, endingOf}
+use Rattle.policy.specs.Value.{lineOf, lineValue, padded, counted, head, noHead}
 use Rattle.policy.specs.List.{all}
 use Rattle.policy.specs.Number.{setLimit}
 use Rattle.policy.specs.declared.fault.Fault.{Fault}
@@ -21,19 +23,20 @@ use Rattle.policy.specs.declared.line.Head.{Head}
 use Rattle.policy.specs.declared.line.Line.{Line}
 use Rattle.policy.specs.declared.line.Test.{Test}
 use Rattle.lexer.proofs.TokenLaws.{tokens-after-spaces, tokens-first, tokens-ended, line-past-spaces, line-ended}
-use Rattle.lexer.proofs.WordLaws.{token-first}
-use Rattle.syntax.specs.Answers.{judgedLine, judgedParts, behindLine, lineReadOf, lineRead}
+use Rattle.lexer.proofs.KeywordLaws.{token-first}
+use Rattle.syntax.specs.Answers.{behindLine, lineReadOf, lineRead, newLine}
+use Rattle.syntax.specs.Steps.Judged.{lineStatus, parsedStatus}
 use Rattle.lexer.specs.Byte.{isSpace}
 use Rattle.syntax.specs.Grammar.{lineFrom}
-use Rattle.lexer.specs.Lines.{tokensOf}
+use Rattle.lexer.specs.Lines.{tokensOf, skipWhile, restOfLine, lineEnd}
 use Rattle.lexer.specs.Number.{isEmpty}
-use Rattle.syntax.specs.Outcome.{newLine, smallEnding, smallLine, lineParts}
-use Rattle.lexer.specs.Parts.{testInRange, smallTest, smallComparison}
-use Rattle.lexer.specs.Scan.{skip, inToken, tokenAt, lineAt, tokensAt, lineEnd}
-use Rattle.syntax.specs.Text.{LineAnswer, skipped, refused, accepted, judge, isComment, tokensAnswer, lineAnswer}
+use Rattle.syntax.specs.Steps.Outcome.{smallEnding, smallLine, parsedFrom}
+use Rattle.lexer.specs.Steps.PartAt.{testInRange, smallTest, smallComparison}
+use Rattle.lexer.specs.Steps.Scan.{inToken, tokenAt, tokensAt}
+use Rattle.syntax.specs.Text.{LineAnswer, skipped, refused, accepted, judgeLine, isComment, tokensAnswer, lineAnswer}
 use Rattle.syntax.specs.declared.line.LineRead.{LineRead}
 use Rattle.syntax.specs.declared.line.LineStatus.{LineStatus}
-use Rattle.syntax.specs.declared.line.Parts.{Parts}
+use Rattle.syntax.specs.declared.line.ParsedLine.{ParsedLine}
 
 -- ---- a line whose numbers are in range has no fillers
 
@@ -66,9 +69,9 @@ counted-over limit xs = go (ltb limit (length xs)) refl
     go true e = let l = ltb-true limit (length xs) e in lt-ltb limit (min (length xs) (suc limit)) (omega arith)
     go false e = let l = ltb-false limit (length xs) e in le-ltb limit (min (length xs) (suc limit)) (omega arith)
 
-pub held-whole : {A : Type 0} (limit : ℕ) (filler : A) (xs : List A) → ltb limit (length xs) ≡ false → take (counted limit xs) (held limit filler xs) ≡ xs
-unfolding held counted
-held-whole limit filler xs e =
+pub padded-whole : {A : Type 0} (limit : ℕ) (filler : A) (xs : List A) → ltb limit (length xs) ≡ false → take (counted limit xs) (padded limit filler xs) ≡ xs
+unfolding padded counted
+padded-whole limit filler xs e =
     let l : length xs ≤ limit = ltb-false limit (length xs) e in
     let k : length xs ≡ min (length xs) (suc limit) = omega arith in
     ap (λ (s : List _). take (min (length xs) (suc limit)) (s ++ replicate (limit - length xs) filler)) (take-all limit xs l)
@@ -89,7 +92,7 @@ value-repeats l h k =
     let p = and-out (all testInRange (headsOf l) && all comparisonInRange (comparisonsOf l)) (endingInRange (endingOf l)) h in
     let q = and-out (all testInRange (headsOf l)) (all comparisonInRange (comparisonsOf l)) (p .0) in
     let m : ltb headLimit (length (map head (headsOf l))) ≡ false = ap (ltb headLimit) (length-map (headsOf l) head) ∙ k in
-    ap (λ (s : List Head). seenIn 0 (map headNumber s)) (held-whole headLimit noHead (map head (headsOf l)) m)
+    ap (λ (s : List Head). seenIn 0 (map headNumber s)) (padded-whole headLimit noHead (map head (headsOf l)) m)
     ∙ ap (seenIn 0) (numbers (headsOf l)) ∙ seen-repeats (map testNumber (headsOf l)) (all-numbers (headsOf l) ∙ q .0)
 
 -- ---- the status
@@ -107,35 +110,35 @@ over-comparisons : (l : PolicyLine) → ltb 4 (lineValue l .«comparison_count»
 unfolding lineValue lineOf
 over-comparisons l = counted-over comparisonLimit (comparisonsOf l)
 
-value-judged : (l : PolicyLine) → inRange l ≡ true → judgedLine (lineValue l) ≡ statusOf (cond (crowded l) (refused Fault.TooManyParts) (cond (repeated l) (refused Fault.Duplicate) (accepted l)))
-unfolding judgedLine crowded statusOf
+value-judged : (l : PolicyLine) → inRange l ≡ true → lineStatus (lineValue l) ≡ statusOf (cond (crowded l) (refused Fault.TooManyParts) (cond (repeated l) (refused Fault.Duplicate) (accepted l)))
+unfolding lineStatus crowded statusOf
 value-judged l h = go (ltb headLimit (length (headsOf l))) refl (ltb comparisonLimit (length (comparisonsOf l))) refl
   where
     twice : (b : Bool) → cond b (LineStatus.Refused Fault.Duplicate) LineStatus.Accepted ≡ statusOf (cond b (refused Fault.Duplicate) (accepted l))
     twice true = refl
     twice false = refl
 
-    go : (x : Bool) → ltb headLimit (length (headsOf l)) ≡ x → (y : Bool) → ltb comparisonLimit (length (comparisonsOf l)) ≡ y → judgedLine (lineValue l) ≡ statusOf (cond (crowded l) (refused Fault.TooManyParts) (cond (repeated l) (refused Fault.Duplicate) (accepted l)))
+    go : (x : Bool) → ltb headLimit (length (headsOf l)) ≡ x → (y : Bool) → ltb comparisonLimit (length (comparisonsOf l)) ≡ y → lineStatus (lineValue l) ≡ statusOf (cond (crowded l) (refused Fault.TooManyParts) (cond (repeated l) (refused Fault.Duplicate) (accepted l)))
     go true p y q = rw (over-heads l, p)
     go false p true q = rw (over-heads l, over-comparisons l, p, q)
     go false p false q = rw (over-heads l, over-comparisons l, p, q, value-repeats l h p) (twice (repeated l))
 
-parts-judged : (e : ℕ) (o : Option PolicyLine) → judgedParts (lineParts e o) ≡ statusOf (judge o)
-unfolding judgedParts lineParts judge statusOf
+parts-judged : (e : ℕ) (o : Option PolicyLine) → parsedStatus (parsedFrom e o) ≡ statusOf (judgeLine o)
+unfolding parsedStatus parsedFrom judgeLine statusOf
 parts-judged e none = refl
 parts-judged e (some l) = go (inRange l) refl
   where
-    go : (b : Bool) → inRange l ≡ b → cond b (judgedLine (smallLine l)) (LineStatus.Refused Fault.OutOfRange) ≡ statusOf (cond (not b) (refused Fault.OutOfRange) (cond (crowded l) (refused Fault.TooManyParts) (cond (repeated l) (refused Fault.Duplicate) (accepted l))))
-    go true h = ap judgedLine (in-range-value l h) ∙ value-judged l h
+    go : (b : Bool) → inRange l ≡ b → cond b (lineStatus (smallLine l)) (LineStatus.Refused Fault.OutOfRange) ≡ statusOf (cond (not b) (refused Fault.OutOfRange) (cond (crowded l) (refused Fault.TooManyParts) (cond (repeated l) (refused Fault.Duplicate) (accepted l))))
+    go true h = ap lineStatus (in-range-value l h) ∙ value-judged l h
     go false h = refl
 
 -- a line that is judged is accepted in range, or refused
 pub data Judged (o : Option PolicyLine) : Type 0 where
-  yes-line : (l : PolicyLine) → o ≡ some l → inRange l ≡ true → crowded l ≡ false → repeated l ≡ false → judge o ≡ accepted l → Judged o
-  no-line : (f : Fault) → judge o ≡ refused f → Judged o
+  yes-line : (l : PolicyLine) → o ≡ some l → inRange l ≡ true → crowded l ≡ false → repeated l ≡ false → judgeLine o ≡ accepted l → Judged o
+  no-line : (f : Fault) → judgeLine o ≡ refused f → Judged o
 
 pub judged-cases : (o : Option PolicyLine) → Judged o
-unfolding judge
+unfolding judgeLine
 judged-cases none = no-line Fault.Syntax refl
 judged-cases (some l) = go (inRange l) refl (crowded l) refl (repeated l) refl
   where
@@ -150,7 +153,7 @@ pub accepted-uncrowded : (line : List ℕ) (l : PolicyLine) → lineAnswer line 
 unfolding lineAnswer tokensAnswer
 accepted-uncrowded line l = go (tokensOf line)
   where
-    of-judge : (o : Option PolicyLine) → Judged o → judge o ≡ accepted l → crowded l ≡ false
+    of-judge : (o : Option PolicyLine) → Judged o → judgeLine o ≡ accepted l → crowded l ≡ false
     of-judge o (yes-line m p h c _ k) q = ap crowded (same (sym q ∙ k)) ∙ c
       where
         same : accepted l ≡ accepted m → l ≡ m
@@ -161,33 +164,33 @@ accepted-uncrowded line l = go (tokensOf line)
     go [] q = let w : _≡_ {A = ℕ} 0 1 = cc in absurd (omega arith)
     go (t ∷ ts) q = comment (isComment t) q
       where
-        comment : (b : Bool) → cond b skipped (judge (lineFrom (t ∷ ts))) ≡ accepted l → crowded l ≡ false
+        comment : (b : Bool) → cond b skipped (judgeLine (lineFrom (t ∷ ts))) ≡ accepted l → crowded l ≡ false
         comment true k = let w : _≡_ {A = ℕ} 0 1 = cc in absurd (omega arith)
         comment false k = of-judge (lineFrom (t ∷ ts)) (judged-cases (lineFrom (t ∷ ts))) k
 
 -- the line as it is read, by the status of its parts
 module _ (e next : ℕ) (o : Option PolicyLine) where
-  pub read-accepted : judgedParts (lineParts e o) ≡ LineStatus.Accepted → record { status = LineStatus.Accepted; line = lineParts e o .line; next = next } ≡ lineReadOf next (judge o)
-  unfolding lineParts lineReadOf statusOf
+  pub read-accepted : parsedStatus (parsedFrom e o) ≡ LineStatus.Accepted → record { status = LineStatus.Accepted; line = parsedFrom e o .line; next = next } ≡ lineReadOf next (judgeLine o)
+  unfolding parsedFrom lineReadOf statusOf
   read-accepted q = go (judged-cases o)
     where
-      go : Judged o → record { status = LineStatus.Accepted; line = lineParts e o .line; next = next } ≡ lineReadOf next (judge o)
+      go : Judged o → record { status = LineStatus.Accepted; line = parsedFrom e o .line; next = next } ≡ lineReadOf next (judgeLine o)
       go (yes-line l p h _ _ k) = rw (k, p) (ap (λ (x : Line). record { status = LineStatus.Accepted; line = x; next = next }) (in-range-value l h))
       go (no-line f k) = let w : _≡_ {A = ℕ} 0 1 = cc (sym q ∙ parts-judged e o ∙ ap statusOf k) in absurd (omega arith)
 
-  pub read-refused : (f : Fault) → judgedParts (lineParts e o) ≡ LineStatus.Refused f → lineReadOf 0 (refused f) ≡ lineReadOf next (judge o)
+  pub read-refused : (f : Fault) → parsedStatus (parsedFrom e o) ≡ LineStatus.Refused f → lineReadOf 0 (refused f) ≡ lineReadOf next (judgeLine o)
   unfolding lineReadOf statusOf
   read-refused f q = go (judged-cases o)
     where
-      go : Judged o → lineReadOf 0 (refused f) ≡ lineReadOf next (judge o)
+      go : Judged o → lineReadOf 0 (refused f) ≡ lineReadOf next (judgeLine o)
       go (yes-line l p h _ _ k) = let w : _≡_ {A = ℕ} 0 1 = cc (sym q ∙ parts-judged e o ∙ ap statusOf k) in absurd (omega arith)
       go (no-line g k) = rw k (ap (λ (x : LineStatus). record { status = x; line = newLine; next = 0 }) (sym q ∙ parts-judged e o ∙ ap statusOf k))
 
-  pub read-skipped : judgedParts (lineParts e o) ≡ LineStatus.Skipped → (r : LineRead) → r ≡ lineReadOf next (judge o)
+  pub read-skipped : parsedStatus (parsedFrom e o) ≡ LineStatus.Skipped → (r : LineRead) → r ≡ lineReadOf next (judgeLine o)
   unfolding statusOf
   read-skipped q r = go (judged-cases o)
     where
-      go : Judged o → r ≡ lineReadOf next (judge o)
+      go : Judged o → r ≡ lineReadOf next (judgeLine o)
       go (yes-line l p h _ _ k) = let w : _≡_ {A = ℕ} 0 1 = cc (sym q ∙ parts-judged e o ∙ ap statusOf k) in absurd (omega arith)
       go (no-line g k) = let w : _≡_ {A = ℕ} 0 1 = cc (sym q ∙ parts-judged e o ∙ ap statusOf k) in absurd (omega arith)
 
@@ -195,13 +198,13 @@ module _ (e next : ℕ) (o : Option PolicyLine) where
 
 module _ (text : List ℕ) (at : ℕ) where
   abbrev s : ℕ
-  s = skip isSpace text at
+  s = skipWhile isSpace text at
 
   answer : lineRead text at ≡ lineReadOf (behindLine text (lineEnd text s)) (tokensAnswer (tokensAt text s))
   unfolding lineRead lineAnswer tokensAt
   answer = ap₂ (λ (e : ℕ) (ts : List (List ℕ)). lineReadOf (behindLine text e) (tokensAnswer ts)) (sym (line-past-spaces text at)) (same ∙ tokens-after-spaces text at)
     where
-      same : tokensOf (lineAt text at) ≡ tokensAt text at
+      same : tokensOf (restOfLine text at) ≡ tokensAt text at
       same = refl
 
   pub line-blank : isEmpty (tokenAt text s) ≡ true → lineReadOf (behindLine text s) skipped ≡ lineRead text at
@@ -209,40 +212,40 @@ module _ (text : List ℕ) (at : ℕ) where
   line-blank h = sym (answer ∙ ap₂ (λ (e : ℕ) (ts : List (List ℕ)). lineReadOf (behindLine text e) (tokensAnswer ts)) (line-ended text at h) (tokens-ended text at h))
 
   module _ (h : isEmpty (tokenAt text s) ≡ false) where
-    first : tokensAt text s ≡ (getD text s 0 ∷ tokenAt text (s + 1)) ∷ tokensAt text (skip inToken text s)
-    first = tokens-first text s h ∙ ap (λ (t : List ℕ). t ∷ tokensAt text (skip inToken text s)) (token-first text s h)
+    first : tokensAt text s ≡ (getD text s 0 ∷ tokenAt text (s + 1)) ∷ tokensAt text (skipWhile inToken text s)
+    first = tokens-first text s h ∙ ap (λ (t : List ℕ). t ∷ tokensAt text (skipWhile inToken text s)) (token-first text s h)
 
     pub line-comment : getD text s 0 ≡ 35 → lineReadOf (behindLine text (lineEnd text s)) skipped ≡ lineRead text at
     unfolding tokensAnswer isComment
     line-comment q = sym (answer ∙ ap (λ (ts : List (List ℕ)). lineReadOf (behindLine text (lineEnd text s)) (tokensAnswer ts)) first ∙ rw (eq-eqb (getD text s 0) 35 q))
 
-    pub line-other : (getD text s 0 ≡ 35 → ⊥) → lineReadOf (behindLine text (lineEnd text s)) (judge (lineFrom (tokensAt text s))) ≡ lineRead text at
+    pub line-other : (getD text s 0 ≡ 35 → ⊥) → lineReadOf (behindLine text (lineEnd text s)) (judgeLine (lineFrom (tokensAt text s))) ≡ lineRead text at
     unfolding tokensAnswer isComment
     line-other q =
         sym (answer ∙ ap (λ (ts : List (List ℕ)). lineReadOf (behindLine text (lineEnd text s)) (tokensAnswer ts)) first ∙ rw (ne-eqb (getD text s 0) 35 q)
-        (ap (λ (ts : List (List ℕ)). lineReadOf (behindLine text (lineEnd text s)) (judge (lineFrom ts))) (sym first)))
+        (ap (λ (ts : List (List ℕ)). lineReadOf (behindLine text (lineEnd text s)) (judgeLine (lineFrom ts))) (sym first)))
 
-parts-end : (e : ℕ) (o : Option PolicyLine) → judgedParts (lineParts e o) ≡ LineStatus.Accepted → lineParts e o .at ≡ e
-unfolding judgedParts lineParts
+parts-end : (e : ℕ) (o : Option PolicyLine) → parsedStatus (parsedFrom e o) ≡ LineStatus.Accepted → parsedFrom e o .at ≡ e
+unfolding parsedStatus parsedFrom
 parts-end e none q = let w : _≡_ {A = ℕ} 0 1 = cc in absurd (omega arith)
 parts-end e (some l) q = refl
 
 -- the answer for a line that is neither blank nor a comment, by its parts
-module _ (text : List ℕ) (at start : ℕ) (k : start ≡ skip isSpace text at) (h : isEmpty (tokenAt text start) ≡ false) (q : getD text start 0 ≡ 35 → ⊥) (p : Parts)
-    (r : p ≡ lineParts (lineEnd text start) (lineFrom (tokensAt text start))) where
-  line-parts : lineReadOf (behindLine text (lineEnd text start)) (judge (lineFrom (tokensAt text start))) ≡ lineRead text at
+module _ (text : List ℕ) (at start : ℕ) (k : start ≡ skipWhile isSpace text at) (h : isEmpty (tokenAt text start) ≡ false) (q : getD text start 0 ≡ 35 → ⊥) (p : ParsedLine)
+    (r : p ≡ parsedFrom (lineEnd text start) (lineFrom (tokensAt text start))) where
+  line-parts : lineReadOf (behindLine text (lineEnd text start)) (judgeLine (lineFrom (tokensAt text start))) ≡ lineRead text at
   line-parts =
-      ap (λ (n : ℕ). lineReadOf (behindLine text (lineEnd text n)) (judge (lineFrom (tokensAt text n)))) k
+      ap (λ (n : ℕ). lineReadOf (behindLine text (lineEnd text n)) (judgeLine (lineFrom (tokensAt text n)))) k
       ∙ line-other text at (ap (λ (n : ℕ). isEmpty (tokenAt text n)) (sym k) ∙ h) (λ e. q (ap (λ (n : ℕ). getD text n 0) k ∙ e))
 
-  pub line-accepted : (st : LineStatus) → st ≡ judgedParts p → st ≡ LineStatus.Accepted → (n : ℕ) → n ≡ behindLine text (p .at) → record { status = st; line = p .line; next = n } ≡ lineRead text at
+  pub line-accepted : (st : LineStatus) → st ≡ parsedStatus p → st ≡ LineStatus.Accepted → (n : ℕ) → n ≡ behindLine text (p .at) → record { status = st; line = p .line; next = n } ≡ lineRead text at
   line-accepted st a b n m =
-      let j : judgedParts (lineParts (lineEnd text start) (lineFrom (tokensAt text start))) ≡ LineStatus.Accepted = sym (ap judgedParts r) ∙ sym a ∙ b in
-      let e : n ≡ behindLine text (lineEnd text start) = m ∙ ap (λ (x : Parts). behindLine text (x .at)) r ∙ ap (behindLine text) (parts-end (lineEnd text start) (lineFrom (tokensAt text start)) j) in
-      cc (b, ap (λ (x : Parts). x .line) r, e) ∙ read-accepted (lineEnd text start) (behindLine text (lineEnd text start)) (lineFrom (tokensAt text start)) j ∙ line-parts
+      let j : parsedStatus (parsedFrom (lineEnd text start) (lineFrom (tokensAt text start))) ≡ LineStatus.Accepted = sym (ap parsedStatus r) ∙ sym a ∙ b in
+      let e : n ≡ behindLine text (lineEnd text start) = m ∙ ap (λ (x : ParsedLine). behindLine text (x .at)) r ∙ ap (behindLine text) (parts-end (lineEnd text start) (lineFrom (tokensAt text start)) j) in
+      cc (b, ap (λ (x : ParsedLine). x .line) r, e) ∙ read-accepted (lineEnd text start) (behindLine text (lineEnd text start)) (lineFrom (tokensAt text start)) j ∙ line-parts
 
-  pub line-refused : (f : Fault) → judgedParts p ≡ LineStatus.Refused f → lineReadOf 0 (refused f) ≡ lineRead text at
-  line-refused f a = read-refused (lineEnd text start) (behindLine text (lineEnd text start)) (lineFrom (tokensAt text start)) f (sym (ap judgedParts r) ∙ a) ∙ line-parts
+  pub line-refused : (f : Fault) → parsedStatus p ≡ LineStatus.Refused f → lineReadOf 0 (refused f) ≡ lineRead text at
+  line-refused f a = read-refused (lineEnd text start) (behindLine text (lineEnd text start)) (lineFrom (tokensAt text start)) f (sym (ap parsedStatus r) ∙ a) ∙ line-parts
 
-  pub line-skipped : judgedParts p ≡ LineStatus.Skipped → (x : LineRead) → x ≡ lineRead text at
-  line-skipped a x = read-skipped (lineEnd text start) (behindLine text (lineEnd text start)) (lineFrom (tokensAt text start)) (sym (ap judgedParts r) ∙ a) x ∙ line-parts
+  pub line-skipped : parsedStatus p ≡ LineStatus.Skipped → (x : LineRead) → x ≡ lineRead text at
+  line-skipped a x = read-skipped (lineEnd text start) (behindLine text (lineEnd text start)) (lineFrom (tokensAt text start)) (sym (ap parsedStatus r) ∙ a) x ∙ line-parts

@@ -1,8 +1,6 @@
-pub mod Accepted
 pub mod CauseLaws
 pub mod ConditionLaws
 pub mod EpochLaws
-pub mod Examples
 pub mod FillLaws
 pub mod HeadLaws
 pub mod ItemLaws

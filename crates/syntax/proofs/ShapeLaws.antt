@@ -5,9 +5,9 @@ use mathlib.Core.List.{List, [], _∷_, map}
 use mathlib.Core.Option.{Option, none, some, Option·map}
 use mathlib.Core.Path.{_≡_, refl, ap, ap₂, _∙_}
 use native.Mathlib.Omega.{arith}
-use Rattle.policy.specs.Limits.{inRange, endingInRange}
-use Rattle.policy.specs.Line as Line
-use Rattle.policy.specs.Line.{PolicyLine, headsOf, endingOf, lineOf, counted, headLimit, noHead}
+use Rattle.policy.specs.Limits.{inRange, endingInRange, headLimit}
+use Rattle.policy.specs.Line.{PolicyLine, headsOf, comparisonsOf, endingOf}
+use Rattle.policy.specs.Value.{padded, lineOf, counted, noHead}
 use Rattle.policy.specs.List.{all}
 use Rattle.policy.specs.declared.comparison.Comparison.{Comparison}
 use Rattle.policy.specs.declared.comparison.Literal.{Literal}
@@ -16,12 +16,13 @@ use Rattle.policy.specs.declared.line.Test.{Test}
 use Rattle.policy.specs.declared.number.Action.{Action}
 use Rattle.lexer.specs.Byte.{is}
 use Rattle.lexer.specs.Token.{Token, both, literalOf, actionOf}
-use Rattle.syntax.specs.Grammar.{Joined, last, before, joined, conditionOf, causes, never, ruleAfter, constraintAfter, after}
-use Rattle.syntax.specs.Outcome.{HeadsRead, failedParts, viewOf, smallHeads, headsOutcome, conditionOutcome, smallEnding, assembledParts, causedParts, causeParts, smallLine, lineParts}
-use Rattle.lexer.specs.Parts.{testInRange, testOf}
-use Rattle.lexer.specs.Scan.{tokensAt, lineEnd}
+use Rattle.syntax.specs.Grammar.{Joined, last, before, joined, conditionFrom, causes, never, ruleAfter, constraintAfter, after}
+use Rattle.syntax.specs.Steps.Outcome.{HeadsRead, failedLine, viewOf, smallHeads, headsOutcome, conditionOutcome, smallEnding, assembledLine, causedLine, causeLine, smallLine, parsedFrom}
+use Rattle.lexer.specs.Steps.PartAt.{testInRange, testOf}
+use Rattle.lexer.specs.Steps.Scan.{tokensAt}
+use Rattle.lexer.specs.Lines.{lineEnd}
 use Rattle.syntax.specs.declared.line.Heads.{Heads}
-use Rattle.syntax.specs.declared.line.Parts.{Parts}
+use Rattle.syntax.specs.declared.line.ParsedLine.{ParsedLine}
 
 -- ---- heads as literals or as actions
 
@@ -51,57 +52,57 @@ module _ {A B : Type 0} (f : A → B) (item : Token → Option A) where
 -- what was read of the heads is that of these
 record OfHeads (h : Heads) (ts : List Test) : Type 0 where
   range : h .«in_range» ≡ all testInRange ts
-  held : h .heads ≡ Line.held headLimit noHead (smallHeads ts)
+  padded-heads : h .heads ≡ padded headLimit noHead (smallHeads ts)
   count : h .count ≡ counted headLimit (smallHeads ts)
 
 some-same : {A : Type 0} {x y : A} → some x ≡ some y → x ≡ y
 some-same e = cc
 
 module _ (E : ℕ) (h : Heads) where
-  line-parts : (l : PolicyLine) → OfHeads h (headsOf l) → assembledParts h (smallEnding (endingOf l)) (endingInRange (endingOf l)) (conditionOutcome E (some (Line.comparisonsOf l))) ≡ lineParts E (some l)
-  unfolding assembledParts conditionOutcome lineParts inRange smallLine lineOf testInRange
-  line-parts l k = rw (k .range, k .held, k .count)
+  line-parts : (l : PolicyLine) → OfHeads h (headsOf l) → assembledLine h (smallEnding (endingOf l)) (endingInRange (endingOf l)) (conditionOutcome E (some (comparisonsOf l))) ≡ parsedFrom E (some l)
+  unfolding assembledLine conditionOutcome parsedFrom inRange smallLine lineOf testInRange
+  line-parts l k = rw (k .range, k .padded-heads, k .count)
 
-  never-parts : (actions : List Action) → OfHeads h (map Test.Member actions) → (o : Option (List Comparison)) → assembledParts h Ending.Never true (conditionOutcome E o) ≡ lineParts E (Option·map (never actions) o)
-  unfolding assembledParts conditionOutcome lineParts headsOf Line.comparisonsOf endingOf endingInRange smallEnding
+  never-parts : (actions : List Action) → OfHeads h (map Test.Member actions) → (o : Option (List Comparison)) → assembledLine h Ending.Never true (conditionOutcome E o) ≡ parsedFrom E (Option·map (never actions) o)
+  unfolding assembledLine conditionOutcome parsedFrom headsOf comparisonsOf endingOf endingInRange smallEnding
   never-parts actions k none = refl
   never-parts actions k (some cs) = line-parts (never actions cs) k
 
-  rule-parts : (literals : List Literal) → OfHeads h (map Test.Occurs literals) → (ts : List Token) → causeParts h E ts ≡ lineParts E (ruleAfter literals ts)
-  unfolding causeParts causedParts ruleAfter lineParts both assembledParts conditionOutcome headsOf Line.comparisonsOf endingOf
+  rule-parts : (literals : List Literal) → OfHeads h (map Test.Occurs literals) → (ts : List Token) → causeLine h E ts ≡ parsedFrom E (ruleAfter literals ts)
+  unfolding causeLine causedLine ruleAfter parsedFrom both assembledLine conditionOutcome headsOf comparisonsOf endingOf
   rule-parts literals k [] = refl
   rule-parts literals k (t ∷ []) = refl
   rule-parts literals k (t ∷ u ∷ ts) = go (is "causes" t)
     where
-      caused : (x : Option Action) (o : Option (List Comparison)) → causedParts h E x o ≡ lineParts E (both (causes literals) x o)
+      caused : (x : Option Action) (o : Option (List Comparison)) → causedLine h E x o ≡ parsedFrom E (both (causes literals) x o)
       caused none o = refl
       caused (some a) none = refl
       caused (some a) (some cs) = line-parts (causes literals a cs) k
 
-      go : (b : Bool) → cond b (causedParts h E (actionOf u) (conditionOf ts)) failedParts ≡ lineParts E (cond b (both (causes literals) (actionOf u) (conditionOf ts)) none)
-      go true = caused (actionOf u) (conditionOf ts)
+      go : (b : Bool) → cond b (causedLine h E (actionOf u) (conditionFrom ts)) failedLine ≡ parsedFrom E (cond b (both (causes literals) (actionOf u) (conditionFrom ts)) none)
+      go true = caused (actionOf u) (conditionFrom ts)
       go false = refl
 
   -- the heads that were read, against those of the line
   module _ (text : List ℕ) {A : Type 0} (f : A → Test) (tail : List A → List Token → Option PolicyLine) (o : Option (Joined A)) (q : viewOf text h ≡ headsOutcome E (Option·map (mapped f) o)) where
-    heads-no : h .ok ≡ false → failedParts ≡ lineParts E (after tail o)
-    unfolding headsOutcome lineParts after
+    heads-no : h .ok ≡ false → failedLine ≡ parsedFrom E (after tail o)
+    unfolding headsOutcome parsedFrom after
     heads-no k = go o (rw k at q)
       where
-        go : (x : Option (Joined A)) → none ≡ headsOutcome E (Option·map (mapped f) x) → failedParts ≡ lineParts E (after tail x)
+        go : (x : Option (Joined A)) → none ≡ headsOutcome E (Option·map (mapped f) x) → failedLine ≡ parsedFrom E (after tail x)
         go none p = refl
         go (some j) p = let w : _≡_ {A = ℕ} 0 1 = cc in absurd (omega arith)
 
-    heads-yes : h .ok ≡ true → (made : ℕ → List Token → Parts) → ((j : Joined A) → OfHeads h (map f (j .items)) → made E (j .rest) ≡ lineParts E (tail (j .items) (j .rest))) → made (lineEnd text (h .at)) (tokensAt text (h .at)) ≡ lineParts E (after tail o)
-    unfolding headsOutcome lineParts after mapped
+    heads-yes : h .ok ≡ true → (made : ℕ → List Token → ParsedLine) → ((j : Joined A) → OfHeads h (map f (j .items)) → made E (j .rest) ≡ parsedFrom E (tail (j .items) (j .rest))) → made (lineEnd text (h .at)) (tokensAt text (h .at)) ≡ parsedFrom E (after tail o)
+    unfolding headsOutcome parsedFrom after mapped
     heads-yes k made law = go o (rw k at q)
       where
-        go : (x : Option (Joined A)) → some (record { inRange = h .«in_range»; heads = h .heads; count = h .count; rest = tokensAt text (h .at); end = lineEnd text (h .at) }) ≡ headsOutcome E (Option·map (mapped f) x) → made (lineEnd text (h .at)) (tokensAt text (h .at)) ≡ lineParts E (after tail x)
+        go : (x : Option (Joined A)) → some (record { inRange = h .«in_range»; heads = h .heads; count = h .count; rest = tokensAt text (h .at); end = lineEnd text (h .at) }) ≡ headsOutcome E (Option·map (mapped f) x) → made (lineEnd text (h .at)) (tokensAt text (h .at)) ≡ parsedFrom E (after tail x)
         go none p = let w : _≡_ {A = ℕ} 0 1 = cc in absurd (omega arith)
         go (some j) p =
             let e = some-same p in
             ap₂ made (ap (λ (v : HeadsRead). v .end) e) (ap (λ (v : HeadsRead). v .rest) e)
-            ∙ law j (record { range = ap (λ (v : HeadsRead). v .inRange) e; held = ap (λ (v : HeadsRead). v .heads) e; count = ap (λ (v : HeadsRead). v .count) e })
+            ∙ law j (record { range = ap (λ (v : HeadsRead). v .inRange) e; padded-heads = ap (λ (v : HeadsRead). v .heads) e; count = ap (λ (v : HeadsRead). v .count) e })
 
 module _ (text : List ℕ) (from : ℕ) (h : Heads) where
   abbrev E : ℕ
@@ -115,14 +116,14 @@ module _ (text : List ℕ) (from : ℕ) (h : Heads) where
     unfolding testOf
     actions-read = q ∙ ap (headsOutcome E) (joined-map Test.Member actionOf (tokensAt text from))
 
-    pub constraint-no : h .ok ≡ false → failedParts ≡ lineParts E (after constraintAfter actions)
+    pub constraint-no : h .ok ≡ false → failedLine ≡ parsedFrom E (after constraintAfter actions)
     constraint-no k = heads-no E h text Test.Member constraintAfter actions actions-read k
 
-    pub constraint-yes : h .ok ≡ true → assembledParts h Ending.Never true (conditionOutcome (lineEnd text (h .at)) (conditionOf (tokensAt text (h .at)))) ≡ lineParts E (after constraintAfter actions)
+    pub constraint-yes : h .ok ≡ true → assembledLine h Ending.Never true (conditionOutcome (lineEnd text (h .at)) (conditionFrom (tokensAt text (h .at)))) ≡ parsedFrom E (after constraintAfter actions)
     unfolding constraintAfter
     constraint-yes k =
         heads-yes E h text Test.Member constraintAfter actions actions-read k
-        (λ end ts. assembledParts h Ending.Never true (conditionOutcome end (conditionOf ts))) (λ j p. never-parts E h (j .items) p (conditionOf (j .rest)))
+        (λ end ts. assembledLine h Ending.Never true (conditionOutcome end (conditionFrom ts))) (λ j p. never-parts E h (j .items) p (conditionFrom (j .rest)))
 
   module _ (q : viewOf text h ≡ headsOutcome E (joined (testOf false) (tokensAt text from))) where
     abbrev literals : Option (Joined Literal)
@@ -132,10 +133,10 @@ module _ (text : List ℕ) (from : ℕ) (h : Heads) where
     unfolding testOf
     literals-read = q ∙ ap (headsOutcome E) (joined-map Test.Occurs literalOf (tokensAt text from))
 
-    pub rule-no : h .ok ≡ false → failedParts ≡ lineParts E (after ruleAfter literals)
+    pub rule-no : h .ok ≡ false → failedLine ≡ parsedFrom E (after ruleAfter literals)
     rule-no k = heads-no E h text Test.Occurs ruleAfter literals literals-read k
 
-    pub rule-yes : h .ok ≡ true → causeParts h (lineEnd text (h .at)) (tokensAt text (h .at)) ≡ lineParts E (after ruleAfter literals)
+    pub rule-yes : h .ok ≡ true → causeLine h (lineEnd text (h .at)) (tokensAt text (h .at)) ≡ parsedFrom E (after ruleAfter literals)
     rule-yes k =
         heads-yes E h text Test.Occurs ruleAfter literals literals-read k
-        (causeParts h) (λ j p. rule-parts E h (j .items) p (j .rest))
+        (causeLine h) (λ j p. rule-parts E h (j .items) p (j .rest))

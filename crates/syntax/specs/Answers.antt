@@ -1,95 +1,129 @@
--- What the reading functions answer for every text, by the definitions of `Text`.
-use Prim.Native.Nat.{ℕ, _+_, _*_, _≤_, min}
+-- What the reading functions answer for every text, position and epoch line, by the definitions of `Text` and `Epoch`, and what
+-- each answer says in the terms of document 01: the fault with its location, if it is a refusal, and what was read, which is
+-- empty in a refusal.
+use Prim.Native.Nat.{ℕ, _+_}
 use mathlib.Core.Bool.{cond}
 use mathlib.Core.List.{List, [], _∷_, map}
+use mathlib.Core.Option.{Option, none, some}
 use lib.Dec.{ltb}
-use lib.ListN.{length, take}
-use Rattle.policy.specs.Limits.{headNumber, seenIn, comparisonsSize, lineSize, ruleLimit, constraintLimit}
-use Rattle.policy.specs.Line.{PolicyLine, rule, constraint, lineValue}
+use lib.IntN.{pos}
+use lib.ListN.{length, replicate}
+use Rattle.policy.specs.Epoch.{Epoch}
+use Rattle.policy.specs.Fault.{refusal}
+use Rattle.policy.specs.Line.{PolicyLine, rule, constraint, headsOf, comparisonsOf, constantCount}
+use Rattle.policy.specs.Number.{readingLimit}
 use Rattle.policy.specs.Policy.{Policy}
+use Rattle.policy.specs.Set.{noEvents, noReadings}
+use Rattle.policy.specs.Value.{lineOf, lineValue}
 use Rattle.policy.specs.declared.fault.Fault.{Fault}
+use Rattle.policy.specs.declared.fault.Refusal.{Refusal}
 use Rattle.policy.specs.declared.line.Ending.{Ending}
 use Rattle.policy.specs.declared.line.Line.{Line}
-use Rattle.syntax.specs.Outcome.{newLine}
-use Rattle.lexer.specs.Scan.{lineAt, lineEnd}
+use Rattle.lexer.specs.Lines.{restOfLine, lineEnd}
+use Rattle.syntax.specs.Epoch.{EpochAnswer, readEpoch}
 use Rattle.syntax.specs.Text.{LineAnswer, lineAnswer, Progress, reading, stopped, readText}
+use Rattle.syntax.specs.declared.epoch.EpochRead.{EpochRead}
+use Rattle.syntax.specs.declared.epoch.EpochStatus.{EpochStatus}
 use Rattle.syntax.specs.declared.line.LineRead.{LineRead}
 use Rattle.syntax.specs.declared.line.LineStatus.{LineStatus}
-use Rattle.syntax.specs.declared.line.Parts.{Parts}
-use Rattle.syntax.specs.declared.text.Tally.{Tally}
+use Rattle.syntax.specs.declared.text.LineCounts.{LineCounts}
 use Rattle.syntax.specs.declared.text.TextCounts.{TextCounts}
 use Rattle.syntax.specs.declared.text.TextRead.{TextRead}
 
--- the status that is told by the parts alone
-unfoldable pub judgedLine : Line → LineStatus
-judgedLine l =
-    cond (ltb 8 (l .«head_count»)) (LineStatus.Refused Fault.TooManyParts)
-    (cond (ltb 4 (l .«comparison_count»)) (LineStatus.Refused Fault.TooManyParts)
-    (cond (seenIn 0 (map headNumber (take (l .«head_count») (l .heads)))) (LineStatus.Refused Fault.Duplicate) LineStatus.Accepted))
-
-unfoldable pub judgedParts : Parts → LineStatus
-judgedParts p = cond (p .ok) (cond (p .«in_range») (judgedLine (p .line)) (LineStatus.Refused Fault.OutOfRange)) (LineStatus.Refused Fault.Syntax)
+-- ---- one line of a text
 
 -- where the next line starts, behind the end of one
 unfoldable pub behindLine : List ℕ → ℕ → ℕ
 behindLine text end = cond (ltb end (length text)) (end + 1) end
+
+-- the line of a refusal and of a line that is skipped: it has no part
+abbrev pub newLine : Line
+newLine = lineOf [] [] Ending.Never
 
 unfoldable pub lineReadOf : ℕ → LineAnswer → LineRead
 lineReadOf next LineAnswer.skipped = record { status = LineStatus.Skipped; line = newLine; next = next }
 lineReadOf next (LineAnswer.refused f) = record { status = LineStatus.Refused f; line = newLine; next = 0 }
 lineReadOf next (LineAnswer.accepted l) = record { status = LineStatus.Accepted; line = lineValue l; next = next }
 
--- the line that starts at a position
+-- the line that starts at a position: what is left of its line there, and where the next line starts
 unfoldable pub lineRead : List ℕ → ℕ → LineRead
-lineRead text at = lineReadOf (behindLine text (lineEnd text at)) (lineAnswer (lineAt text at))
+lineRead text at = lineReadOf (behindLine text (lineEnd text at)) (lineAnswer (restOfLine text at))
 
--- ---- the text
+-- its fault, whose location only the text has
+abbrev pub faultInLine : LineRead → Option Fault
+faultInLine r = of-status (r .status)
+  where
+    of-status : LineStatus → Option Fault
+    of-status LineStatus.Skipped = none
+    of-status (LineStatus.Refused f) = some f
+    of-status LineStatus.Accepted = none
 
-unfoldable pub linesSize : List PolicyLine → ℕ
-linesSize [] = 0
-linesSize (l ∷ ls) = lineSize l + linesSize ls
+abbrev pub lineIn : LineRead → Line
+lineIn r = r .line
 
--- how many rules and constraints there are, and the words that they take in an image
-unfoldable pub countsOf : Policy → TextCounts
-countsOf p =
+-- ---- a text
+
+unfoldable pub total : (PolicyLine → ℕ) → List PolicyLine → ℕ
+total count [] = 0
+total count (l ∷ ls) = count l + total count ls
+
+-- how many lines there are, and how many literals or actions, comparisons, and constants among these they have
+unfoldable pub countsIn : List PolicyLine → LineCounts
+countsIn ls =
     record {
-      rules = length (p .rules);
-      constraints = length (p .constraints);
-      «rule_words» = linesSize (map rule (p .rules));
-      «constraint_words» = linesSize (map constraint (p .constraints));
+      lines = length ls;
+      heads = total (λ (l : PolicyLine). length (headsOf l)) ls;
+      comparisons = total (λ (l : PolicyLine). length (comparisonsOf l)) ls;
+      constants = total (λ (l : PolicyLine). constantCount (comparisonsOf l)) ls;
     }
+
+unfoldable pub countsOf : Policy → TextCounts
+countsOf p = record { rules = countsIn (map rule (p .rules)); constraints = countsIn (map constraint (p .constraints)) }
 
 unfoldable pub textReadOf : Progress → TextRead
 textReadOf (reading n p) = TextRead.Accepted (countsOf p)
-textReadOf (stopped f n) = TextRead.Refused f n
+textReadOf (stopped r) = TextRead.Refused r
 
--- what the reader of a text answers
 unfoldable pub textRead : List ℕ → TextRead
 textRead text = textReadOf (readText text)
 
--- ---- one line more: notions of the reading functions
+abbrev pub refusalInText : TextRead → Option Refusal
+refusalInText (TextRead.Refused r) = some r
+refusalInText (TextRead.Accepted c) = none
 
--- counts within the limits
-pub record Small (c : TextCounts) : Type 0 where
-  pub rules : c .rules ≤ ruleLimit
-  pub constraints : c .constraints ≤ constraintLimit
-  pub ruleWords : c .«rule_words» ≤ c .rules * 18
-  pub constraintWords : c .«constraint_words» ≤ c .constraints * 18
+abbrev pub noLines : LineCounts
+noLines = record { lines = 0; heads = 0; comparisons = 0; constants = 0 }
 
-unfoldable pub withWords : TextCounts → ℕ → Ending → Tally
-withWords c w (Ending.Causes a) =
-    cond (ltb (c .rules) ruleLimit)
-    (Tally.Go (record { rules = c .rules + 1; constraints = c .constraints; «rule_words» = c .«rule_words» + w; «constraint_words» = c .«constraint_words» }))
-    (Tally.Stop Fault.TooManyLines)
-withWords c w Ending.Never =
-    cond (ltb (c .constraints) constraintLimit)
-    (Tally.Go (record { rules = c .rules; constraints = c .constraints + 1; «rule_words» = c .«rule_words»; «constraint_words» = c .«constraint_words» + w }))
-    (Tally.Stop Fault.TooManyLines)
+abbrev pub noCounts : TextCounts
+noCounts = record { rules = noLines; constraints = noLines }
 
-unfoldable pub talliedBy : TextCounts → Line → Tally
-talliedBy c l = withWords c (min (l .«head_count») 9 + 1 + comparisonsSize (take (l .«comparison_count») (l .comparisons))) (l .ending)
+abbrev pub countsInText : TextRead → TextCounts
+countsInText (TextRead.Refused r) = noCounts
+countsInText (TextRead.Accepted c) = c
 
-unfoldable pub stepOf : TextCounts → LineStatus → Line → Tally
-stepOf c LineStatus.Skipped l = Tally.Go c
-stepOf c (LineStatus.Refused f) l = Tally.Stop f
-stepOf c LineStatus.Accepted l = talliedBy c l
+-- ---- an epoch line
+
+-- "Sets and returned parts are empty"
+abbrev pub refusedRead : Fault → EpochRead
+refusedRead f = record { status = EpochStatus.Refused f; events = noEvents; given = noReadings; values = replicate readingLimit (pos 0) }
+
+abbrev pub acceptedRead : Epoch → EpochRead
+acceptedRead e = record { status = EpochStatus.Accepted; events = e .events; given = e .readings .given; values = e .readings .values }
+
+unfoldable pub answerRead : EpochAnswer → EpochRead
+answerRead (EpochAnswer.refused f) = refusedRead f
+answerRead (EpochAnswer.accepted e) = acceptedRead e
+
+unfoldable pub epochRead : List ℕ → EpochRead
+epochRead line = answerRead (readEpoch line)
+
+-- its fault, which is at no line
+abbrev pub refusalInEpoch : EpochRead → Option Refusal
+refusalInEpoch r = of-status (r .status)
+  where
+    of-status : EpochStatus → Option Refusal
+    of-status (EpochStatus.Refused f) = some (refusal f 0)
+    of-status EpochStatus.Accepted = none
+
+abbrev pub epochIn : EpochRead → Epoch
+epochIn r = record { events = r .events; readings = record { given = r .given; values = r .values } }

@@ -35,12 +35,12 @@ unfoldable pub atEquals : List ℕ → Option Halves
 atEquals [] = none
 atEquals (b ∷ bs) = cond (eqb b (code "=")) (some (record { left = []; right = bs })) (toLeft b (atEquals bs))
 
-unfoldable pub valueOf : Option Halves → Option Item
-valueOf none = none
-valueOf (some h) = both value (named (code "R") (h .left)) (constantOf (h .right))
+unfoldable pub assignmentOf : Option Halves → Option Item
+assignmentOf none = none
+assignmentOf (some h) = both value (named (code "R") (h .left)) (constantOf (h .right))
 
 unfoldable pub itemOf : Token → Option Item
-itemOf t = orElse (Option·map event (named (code "E") t)) (valueOf (atEquals t))
+itemOf t = orElse (Option·map event (named (code "E") t)) (assignmentOf (atEquals t))
 
 unfoldable pub itemsOf : List Token → Option (List Item)
 itemsOf [] = some []
@@ -72,9 +72,10 @@ pub data EpochAnswer : Type 0 where
   refused : Fault → EpochAnswer
   accepted : Epoch → EpochAnswer
 
-unfoldable pub judge : Option (List Item) → EpochAnswer
-judge none = refused Fault.EpochSyntax
-judge (some is) =
+-- the faults of a line in their order: 12, 13, 14
+unfoldable pub judgeEpoch : Option (List Item) → EpochAnswer
+judgeEpoch none = refused Fault.EpochSyntax
+judgeEpoch (some is) =
     cond (not (all itemInRange is)) (refused Fault.EpochRange)
     (cond (repeats (givenBy is)) (refused Fault.DuplicateReading) (accepted (foldl addItem emptyEpoch is)))
 
@@ -85,4 +86,4 @@ epochLimit = 1024
 unfoldable pub readEpoch : List ℕ → EpochAnswer
 readEpoch line =
     cond (ltb epochLimit (length line)) (refused Fault.TooLong)
-    (cond (any (eqb 10) line) (refused Fault.EpochSyntax) (judge (itemsOf (tokensOf line))))
+    (cond (any (eqb 10) line) (refused Fault.EpochSyntax) (judgeEpoch (itemsOf (tokensOf line))))

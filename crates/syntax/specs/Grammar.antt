@@ -15,16 +15,16 @@ use Rattle.lexer.specs.Token.{Token, literalOf, actionOf, both, comparisonOf}
 abbrev single : Comparison → List Comparison
 single c = c ∷ []
 
-unfoldable pub comparisonsOf : List Token → Option (List Comparison)
-comparisonsOf [] = none
-comparisonsOf (r ∷ []) = none
-comparisonsOf (r ∷ relation ∷ []) = none
-comparisonsOf (r ∷ relation ∷ o ∷ []) = Option·map single (comparisonOf r relation o)
-comparisonsOf (r ∷ relation ∷ o ∷ t ∷ ts) = cond (is "," t) (both _∷_ (comparisonOf r relation o) (comparisonsOf ts)) none
+unfoldable pub comparisonsFrom : List Token → Option (List Comparison)
+comparisonsFrom [] = none
+comparisonsFrom (r ∷ []) = none
+comparisonsFrom (r ∷ relation ∷ []) = none
+comparisonsFrom (r ∷ relation ∷ o ∷ []) = Option·map single (comparisonOf r relation o)
+comparisonsFrom (r ∷ relation ∷ o ∷ t ∷ ts) = cond (is "," t) (both _∷_ (comparisonOf r relation o) (comparisonsFrom ts)) none
 
-unfoldable pub conditionOf : List Token → Option (List Comparison)
-conditionOf [] = some []
-conditionOf (t ∷ ts) = cond (is "if" t) (comparisonsOf ts) none
+unfoldable pub conditionFrom : List Token → Option (List Comparison)
+conditionFrom [] = some []
+conditionFrom (t ∷ ts) = cond (is "if" t) (comparisonsFrom ts) none
 
 -- ---- one or more items joined by `&`, and the tokens behind them
 
@@ -54,13 +54,13 @@ causes literals action comparisons = rule (record { literals = literals; action 
 unfoldable pub ruleAfter : List Literal → List Token → Option PolicyLine
 ruleAfter literals [] = none
 ruleAfter literals (t ∷ []) = none
-ruleAfter literals (t ∷ a ∷ ts) = cond (is "causes" t) (both (causes literals) (actionOf a) (conditionOf ts)) none
+ruleAfter literals (t ∷ a ∷ ts) = cond (is "causes" t) (both (causes literals) (actionOf a) (conditionFrom ts)) none
 
 abbrev pub never : List Action → List Comparison → PolicyLine
 never actions comparisons = constraint (record { actions = actions; comparisons = comparisons })
 
 unfoldable pub constraintAfter : List Action → List Token → Option PolicyLine
-constraintAfter actions ts = Option·map (never actions) (conditionOf ts)
+constraintAfter actions ts = Option·map (never actions) (conditionFrom ts)
 
 module _ {A : Type 0} where
   unfoldable pub after : (List A → List Token → Option PolicyLine) → Option (Joined A) → Option PolicyLine

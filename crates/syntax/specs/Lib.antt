@@ -1,8 +1,6 @@
--- What a reader must believe of this layer. Start with `Grammar`, then `Text` and `Epoch`.
+-- What a reader must believe of this layer, in the order in which to read it. `Steps` needs not be read.
 pub mod Grammar
 pub mod Text
 pub mod Epoch
-pub mod EpochScan
-pub mod Outcome
 pub mod Answers
-pub mod Examples
+pub mod Steps

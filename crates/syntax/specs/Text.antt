@@ -1,5 +1,5 @@
--- Document 01, "Grounds for refusing" 1 to 6: what each line of a rule text is, what the text is refused for, and the
--- policy that an accepted text has.
+-- Document 01, "Grounds for refusing" 1 to 6 (a ground is a fault here, a place a location): what each line of a rule text is,
+-- what the text is refused for, and the policy that an accepted text has.
 use Prim.Native.Char.{code}
 use Prim.Native.Nat.{ℕ, suc}
 use mathlib.Core.Bool.{Bool, false, not, cond}
@@ -7,10 +7,12 @@ use mathlib.Core.List.{List, [], _∷_, _++_, foldl}
 use mathlib.Core.Option.{Option, none, some}
 use lib.Dec.{eqb, ltb}
 use lib.ListN.{length}
+use Rattle.policy.specs.Fault.{refusal}
 use Rattle.policy.specs.Limits.{inRange, crowded, repeated, ruleLimit, constraintLimit}
 use Rattle.policy.specs.Line.{PolicyLine, rule, constraint}
 use Rattle.policy.specs.Policy.{Policy, Rule, Constraint}
 use Rattle.policy.specs.declared.fault.Fault.{Fault}
+use Rattle.policy.specs.declared.fault.Refusal.{Refusal}
 use Rattle.syntax.specs.Grammar.{lineFrom}
 use Rattle.lexer.specs.Lines.{linesOf, tokensOf}
 
@@ -20,9 +22,9 @@ pub data LineAnswer : Type 0 where
   accepted : PolicyLine → LineAnswer
 
 -- the faults of a line in their order: 2, 3, 4, 6
-unfoldable pub judge : Option PolicyLine → LineAnswer
-judge none = refused Fault.Syntax
-judge (some l) =
+unfoldable pub judgeLine : Option PolicyLine → LineAnswer
+judgeLine none = refused Fault.Syntax
+judgeLine (some l) =
     cond (not (inRange l)) (refused Fault.OutOfRange)
     (cond (crowded l) (refused Fault.TooManyParts)
     (cond (repeated l) (refused Fault.Duplicate) (accepted l)))
@@ -34,7 +36,7 @@ isComment (b ∷ bs) = eqb b (code "#")
 -- lines with no token, and lines whose first token begins with `#`, are skipped
 unfoldable pub tokensAnswer : List (List ℕ) → LineAnswer
 tokensAnswer [] = skipped
-tokensAnswer (t ∷ ts) = cond (isComment t) skipped (judge (lineFrom (t ∷ ts)))
+tokensAnswer (t ∷ ts) = cond (isComment t) skipped (judgeLine (lineFrom (t ∷ ts)))
 
 unfoldable pub lineAnswer : List ℕ → LineAnswer
 lineAnswer line = tokensAnswer (tokensOf line)
@@ -44,8 +46,7 @@ lineAnswer line = tokensAnswer (tokensOf line)
 pub data Progress : Type 0 where
   -- the number of the next line, and the policy so far
   reading : ℕ → Policy → Progress
-  -- the fault, and the location
-  stopped : Fault → ℕ → Progress
+  stopped : Refusal → Progress
 
 abbrev pub withRule : Policy → Rule → Policy
 withRule p r = record { rules = p .rules ++ r ∷ []; constraints = p .constraints }
@@ -55,13 +56,13 @@ withConstraint p c = record { rules = p .rules; constraints = p .constraints ++ 
 
 unfoldable pub advance : ℕ → Policy → LineAnswer → Progress
 advance n p skipped = reading (suc n) p
-advance n p (refused f) = stopped f n
-advance n p (accepted (rule r)) = cond (ltb (length (p .rules)) ruleLimit) (reading (suc n) (withRule p r)) (stopped Fault.TooManyLines n)
-advance n p (accepted (constraint c)) = cond (ltb (length (p .constraints)) constraintLimit) (reading (suc n) (withConstraint p c)) (stopped Fault.TooManyLines n)
+advance n p (refused f) = stopped (refusal f n)
+advance n p (accepted (rule r)) = cond (ltb (length (p .rules)) ruleLimit) (reading (suc n) (withRule p r)) (stopped (refusal Fault.TooManyLines n))
+advance n p (accepted (constraint c)) = cond (ltb (length (p .constraints)) constraintLimit) (reading (suc n) (withConstraint p c)) (stopped (refusal Fault.TooManyLines n))
 
 unfoldable pub readLine : Progress → List ℕ → Progress
 readLine (reading n p) line = advance n p (lineAnswer line)
-readLine (stopped f n) line = stopped f n
+readLine (stopped r) line = stopped r
 
 abbrev pub emptyPolicy : Policy
 emptyPolicy = record { rules = []; constraints = [] }
@@ -71,7 +72,7 @@ textLimit = 32768
 
 -- a text over its length is refused at no line; otherwise lines are counted from 1, skipped ones too
 unfoldable pub readText : List ℕ → Progress
-readText text = cond (ltb textLimit (length text)) (stopped Fault.TooLong 0) (foldl readLine (reading 1 emptyPolicy) (linesOf text))
+readText text = cond (ltb textLimit (length text)) (stopped (refusal Fault.TooLong 0)) (foldl readLine (reading 1 emptyPolicy) (linesOf text))
 
 -- the policy of an accepted text
 unfoldable pub policyOf : List ℕ → Option Policy
@@ -79,4 +80,4 @@ policyOf text = accepted-policy (readText text)
   where
     accepted-policy : Progress → Option Policy
     accepted-policy (reading n p) = some p
-    accepted-policy (stopped f n) = none
+    accepted-policy (stopped r) = none

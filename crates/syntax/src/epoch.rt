@@ -7,8 +7,8 @@ ghost use Rattle.syntax.specs.Epoch.{event};
 ghost use lib.IntN.{pos};
 ghost use lib.ListN.{replicate};
 ghost use Rattle.policy.specs.Set.{noEvents, noReadings};
-ghost use Rattle.syntax.specs.EpochScan.{itemEnding, valueItem, valueAt, itemAt};
-ghost use Rattle.syntax.specs.EpochScan.{refusedRead, epochRead, scanned, finishRead, readFrom};
+ghost use Rattle.syntax.specs.Steps.EpochScan.{itemEnding, valueItem, valueAt, itemAt, scanned, finishRead, epochFrom};
+ghost use Rattle.syntax.specs.Answers.{refusedRead, epochRead};
 use lexer::ConstantAt;
 use lexer::NumberAt;
 use lexer::constant_at;
@@ -148,7 +148,7 @@ fn finished(
 
 // The tokens of the line, one after another. At a byte 10 no token stands: that is malformed too.
 fn read_items(line: &[u8]) -> EpochRead
-    ensures { λ r. ⌜ r ≡ readFrom (scanned false false noEvents noReadings (replicate 16 (pos 0))) (now (line .entry)) 0 ⌝ }
+    ensures { λ r. ⌜ r ≡ epochFrom (scanned false false noEvents noReadings (replicate 16 (pos 0))) (now (line .entry)) 0 ⌝ }
 {
     let mut out_of_range = false;
     let mut twice = false;

@@ -3,21 +3,21 @@
 ghost use mathlib.Core.Path.{_≡_};
 ghost use mathlib.Core.Bool.{false, _&&_};
 ghost use Prim.Native.Nat.{_≤_};
-ghost use Rattle.policy.specs.Line.{pushCount};
+ghost use Rattle.policy.specs.Steps.Push.{pushCount};
 ghost use Rattle.lexer.specs.Token.{literalOf, actionOf};
-ghost use Rattle.syntax.specs.Grammar.{joined, comparisonsOf, conditionOf};
-ghost use Rattle.syntax.specs.Grammar.{after, ruleAfter, constraintAfter, lineFrom};
-ghost use Rattle.lexer.specs.Parts.{testOf};
-ghost use Rattle.lexer.specs.Scan.{tokenAt, tokensAt, lineEnd};
+ghost use Rattle.syntax.specs.Grammar.{joined, comparisonsFrom, conditionFrom, after, ruleAfter, constraintAfter, lineFrom};
+ghost use Rattle.lexer.specs.Steps.PartAt.{testOf};
+ghost use Rattle.lexer.specs.Steps.Scan.{tokenAt, tokensAt};
+ghost use Rattle.lexer.specs.Lines.{lineEnd};
 ghost use Rattle.lexer.specs.Number.{isEmpty};
-ghost use Rattle.syntax.specs.Answers.{judgedLine, judgedParts, behindLine, lineReadOf, lineRead};
+ghost use Rattle.syntax.specs.Answers.{behindLine, lineReadOf, lineRead};
+ghost use Rattle.syntax.specs.Steps.Judged.{lineStatus, parsedStatus};
 ghost use Rattle.syntax.specs.Text.{LineAnswer};
-ghost use Rattle.syntax.specs.Outcome.{failedParts, viewOf, headsOutcome, noComparisons, conditionOutcome};
-ghost use Rattle.syntax.specs.Outcome.{assembledParts, causeParts, lineParts};
+ghost use Rattle.syntax.specs.Steps.Outcome.{failedLine, viewOf, headsOutcome, noComparisons, conditionOutcome, assembledLine, causeLine, parsedFrom};
 use lexer::ComparisonAt;
 use lexer::HeadAt;
+use lexer::KeywordAt;
 use lexer::NumberAt;
-use lexer::WordAt;
 use lexer::action_at;
 use lexer::ampersand_at;
 use lexer::at_token_end;
@@ -38,7 +38,7 @@ use policy::Line;
 
 // What was read of a line: whether it has the right shape, whether every number is in range, the parts, and the position
 // behind them.
-pub struct Parts {
+pub struct ParsedLine {
     pub ok: bool,
     pub in_range: bool,
     pub line: Line,
@@ -77,10 +77,10 @@ fn one_more(n: usize, limit: usize) -> usize
     if n <= limit { n + 1 } else { n }
 }
 
-fn failed() -> Parts
-    ensures { λ r. ⌜ r ≡ failedParts ⌝ }
+fn failed() -> ParsedLine
+    ensures { λ r. ⌜ r ≡ failedLine ⌝ }
 {
-    Parts {
+    ParsedLine {
         ok: false,
         in_range: false,
         line: Line::new(),
@@ -115,7 +115,7 @@ fn read_heads(text: &[u8], from: usize, never: bool) -> Heads
         count = one_more(count, 8);
         in_range = both(in_range, ok);
         let next = skip_spaces(text, end);
-        let WordAt::Found(behind) = ampersand_at(text, next) else {
+        let KeywordAt::Found(behind) = ampersand_at(text, next) else {
             return Heads {
                 ok: true,
                 in_range,
@@ -146,7 +146,7 @@ fn no_comparisons(ok: bool, at: usize) -> Condition
 // The comparisons of a line, joined by `,`, to the end of the line.
 fn read_comparisons(text: &[u8], from: usize) -> Condition
     ensures { λ r. ⌜ r
-        ≡ conditionOutcome (lineEnd (now (text .entry)) from) (comparisonsOf (tokensAt (now (text .entry)) from)) ⌝ }
+        ≡ conditionOutcome (lineEnd (now (text .entry)) from) (comparisonsFrom (tokensAt (now (text .entry)) from)) ⌝ }
 {
     let line = Line::new();
     let mut comparisons = line.comparisons;
@@ -173,7 +173,7 @@ fn read_comparisons(text: &[u8], from: usize) -> Condition
                 at: next,
             };
         }
-        let WordAt::Found(behind) = comma_at(text, next) else {
+        let KeywordAt::Found(behind) = comma_at(text, next) else {
             return no_comparisons(false, 0);
         };
         at = behind;
@@ -183,26 +183,31 @@ fn read_comparisons(text: &[u8], from: usize) -> Condition
 // The condition of a line: `if` and comparisons, or nothing, to the end of the line.
 fn read_condition(text: &[u8], from: usize) -> Condition
     ensures { λ r. ⌜ r
-        ≡ conditionOutcome (lineEnd (now (text .entry)) from) (conditionOf (tokensAt (now (text .entry)) from)) ⌝ }
+        ≡ conditionOutcome (lineEnd (now (text .entry)) from) (conditionFrom (tokensAt (now (text .entry)) from)) ⌝ }
 {
     let start = skip_spaces(text, from);
     if at_token_end(text, start) {
         return no_comparisons(true, start);
     }
-    let WordAt::Found(behind) = if_at(text, start) else {
+    let KeywordAt::Found(behind) = if_at(text, start) else {
         return no_comparisons(false, 0);
     };
     read_comparisons(text, behind)
 }
 
 // The line put together, where its condition has the right shape. An ending out of range is a filler.
-fn assembled(heads: Heads, ending: Ending, ending_in_range: bool, condition: Condition) -> Parts
-    ensures { λ r. ⌜ r ≡ assembledParts heads ending «ending_in_range» condition ⌝ }
+fn assembled(
+    heads: Heads,
+    ending: Ending,
+    ending_in_range: bool,
+    condition: Condition,
+) -> ParsedLine
+    ensures { λ r. ⌜ r ≡ assembledLine heads ending «ending_in_range» condition ⌝ }
 {
     if condition.ok {
         let held = heads.heads;
         let comparisons = condition.comparisons;
-        Parts {
+        ParsedLine {
             ok: true,
             in_range: both(both(heads.in_range, condition.in_range), ending_in_range),
             line: Line {
@@ -220,12 +225,12 @@ fn assembled(heads: Heads, ending: Ending, ending_in_range: bool, condition: Con
 }
 
 // `causes`, the action and the condition of a rule whose literals were read.
-fn read_cause(text: &[u8], heads: Heads) -> Parts
-    ensures { λ r. ⌜ r ≡ causeParts heads (lineEnd (now (text .entry)) (heads .at))
+fn read_cause(text: &[u8], heads: Heads) -> ParsedLine
+    ensures { λ r. ⌜ r ≡ causeLine heads (lineEnd (now (text .entry)) (heads .at))
         (tokensAt (now (text .entry)) (heads .at)) ⌝ }
 {
     let first = skip_spaces(text, heads.at);
-    let WordAt::Found(behind) = causes_at(text, first) else {
+    let KeywordAt::Found(behind) = causes_at(text, first) else {
         return failed();
     };
     let second = skip_spaces(text, behind);
@@ -240,8 +245,8 @@ fn read_cause(text: &[u8], heads: Heads) -> Parts
     }
 }
 
-fn read_rule(text: &[u8], from: usize) -> Parts
-    ensures { λ r. ⌜ r ≡ lineParts (lineEnd (now (text .entry)) from)
+fn read_rule(text: &[u8], from: usize) -> ParsedLine
+    ensures { λ r. ⌜ r ≡ parsedFrom (lineEnd (now (text .entry)) from)
         (after ruleAfter (joined literalOf (tokensAt (now (text .entry)) from))) ⌝ }
 {
     let heads = read_heads(text, from, false);
@@ -252,8 +257,8 @@ fn read_rule(text: &[u8], from: usize) -> Parts
     }
 }
 
-fn read_constraint(text: &[u8], from: usize) -> Parts
-    ensures { λ r. ⌜ r ≡ lineParts (lineEnd (now (text .entry)) from)
+fn read_constraint(text: &[u8], from: usize) -> ParsedLine
+    ensures { λ r. ⌜ r ≡ parsedFrom (lineEnd (now (text .entry)) from)
         (after constraintAfter (joined actionOf (tokensAt (now (text .entry)) from))) ⌝ }
 {
     let heads = read_heads(text, from, true);
@@ -265,15 +270,15 @@ fn read_constraint(text: &[u8], from: usize) -> Parts
     }
 }
 
-// The parts of the line whose first token is at the position.
-fn read_parts(text: &[u8], start: usize) -> Parts
+// The line whose first token is at the position.
+fn parse_line(text: &[u8], start: usize) -> ParsedLine
     ensures { λ r. ⌜ (isEmpty (tokenAt (now (text .entry)) start) ≡ false →
-        r ≡ lineParts (lineEnd (now (text .entry)) start) (lineFrom (tokensAt (now (text .entry)) start))) ⌝ }
+        r ≡ parsedFrom (lineEnd (now (text .entry)) start) (lineFrom (tokensAt (now (text .entry)) start))) ⌝ }
 {
     let never = never_at(text, start);
     match never {
-        WordAt::Found(behind) => read_constraint(text, behind),
-        WordAt::Absent => read_rule(text, start),
+        KeywordAt::Found(behind) => read_constraint(text, behind),
+        KeywordAt::Absent => read_rule(text, start),
     }
 }
 
@@ -293,7 +298,7 @@ pub struct LineRead {
 }
 
 fn judged_line(line: Line) -> LineStatus
-    ensures { λ r. ⌜ r ≡ judgedLine line ⌝ }
+    ensures { λ r. ⌜ r ≡ lineStatus line ⌝ }
 {
     if 8 < line.head_count {
         return LineStatus::Refused(Fault::TooManyParts);
@@ -309,12 +314,12 @@ fn judged_line(line: Line) -> LineStatus
 }
 
 // The faults of a line, in their order.
-fn judged(parts: Parts) -> LineStatus
-    ensures { λ r. ⌜ r ≡ judgedParts parts ⌝ }
+fn judged(parsed: ParsedLine) -> LineStatus
+    ensures { λ r. ⌜ r ≡ parsedStatus parsed ⌝ }
 {
-    let line = parts.line;
-    if parts.ok {
-        if parts.in_range {
+    let line = parsed.line;
+    if parsed.ok {
+        if parsed.in_range {
             judged_line(line)
         } else {
             LineStatus::Refused(Fault::OutOfRange)
@@ -375,15 +380,15 @@ pub fn read_line(text: &[u8], at: usize) -> LineRead
     if text[start] == b'#' {
         return skipped(behind_line(text, line_end(text, start)));
     }
-    let parts = read_parts(text, start);
-    let status = judged(parts);
+    let parsed = parse_line(text, start);
+    let status = judged(parsed);
     match status {
         LineStatus::Accepted => {
-            let line = parts.line;
+            let line = parsed.line;
             LineRead {
                 status,
                 line,
-                next: behind_line(text, parts.at),
+                next: behind_line(text, parsed.at),
             }
         }
         LineStatus::Refused(fault) => refused(fault),

@@ -1,23 +1,30 @@
 // Reading a whole rule text.
 ghost use mathlib.Core.Path.{_≡_};
-ghost use Rattle.syntax.specs.Answers.{Small, talliedBy, stepOf, textRead};
+ghost use Rattle.policy.specs.Limits.{ruleLimit};
+ghost use Rattle.syntax.specs.Answers.{textRead};
+ghost use Rattle.syntax.specs.Steps.Tally.{Within, Small, Counted, withLine, talliedBy, stepOf};
 use crate::line::LineStatus;
 use crate::line::read_line;
 use policy::Ending;
 use policy::Fault;
 use policy::Line;
+use policy::Refusal;
 
-// What an accepted text has: its rules and constraints, and the words that they take in an image.
+// How many lines of a kind a text has, and how many literals or actions, comparisons, and constants among these they have.
+pub struct LineCounts {
+    pub lines: usize,
+    pub heads: usize,
+    pub comparisons: usize,
+    pub constants: usize,
+}
+
 pub struct TextCounts {
-    pub rules: usize,
-    pub constraints: usize,
-    pub rule_words: usize,
-    pub constraint_words: usize,
+    pub rules: LineCounts,
+    pub constraints: LineCounts,
 }
 
 pub enum TextRead {
-    // The fault, and the number of the line, counted from 1.
-    Refused(Fault, usize),
+    Refused(Refusal),
     Accepted(TextCounts),
 }
 
@@ -26,33 +33,45 @@ pub enum Tally {
     Stop(Fault),
 }
 
-// The counts with one line more.
+// The counts of a kind with one line more.
+fn with_line(counts: LineCounts, line: Line) -> LineCounts
+    requires { ⌜ Within ruleLimit counts ⌝ }
+    requires { ⌜ Counted line ⌝ }
+    ensures { λ r. ⌜ r ≡ withLine counts line ⌝ }
+{
+    LineCounts {
+        lines: counts.lines + 1,
+        heads: counts.heads + line.head_count,
+        comparisons: counts.comparisons + line.comparison_count,
+        constants: counts.constants + line.constants(),
+    }
+}
+
+// The counts of a text with one line more.
 fn tallied(counts: TextCounts, line: Line) -> Tally
     requires { ⌜ Small counts ⌝ }
+    requires { ⌜ Counted line ⌝ }
     ensures { λ r. ⌜ r ≡ talliedBy counts line ⌝ }
 {
-    let words = line.words();
+    let rules = counts.rules;
+    let constraints = counts.constraints;
     let ending = line.ending;
     match ending {
         Ending::Causes(_) => {
-            if counts.rules < 128 {
+            if rules.lines < 128 {
                 Tally::Go(TextCounts {
-                    rules: counts.rules + 1,
-                    constraints: counts.constraints,
-                    rule_words: counts.rule_words + words,
-                    constraint_words: counts.constraint_words,
+                    rules: with_line(rules, line),
+                    constraints,
                 })
             } else {
                 Tally::Stop(Fault::TooManyLines)
             }
         }
         Ending::Never => {
-            if counts.constraints < 64 {
+            if constraints.lines < 64 {
                 Tally::Go(TextCounts {
-                    rules: counts.rules,
-                    constraints: counts.constraints + 1,
-                    rule_words: counts.rule_words,
-                    constraint_words: counts.constraint_words + words,
+                    rules,
+                    constraints: with_line(constraints, line),
                 })
             } else {
                 Tally::Stop(Fault::TooManyLines)
@@ -63,6 +82,7 @@ fn tallied(counts: TextCounts, line: Line) -> Tally
 
 fn step(counts: TextCounts, status: LineStatus, line: Line) -> Tally
     requires { ⌜ Small counts ⌝ }
+    requires { ⌜ Counted line ⌝ }
     ensures { λ r. ⌜ r ≡ stepOf counts status line ⌝ }
 {
     match status {
@@ -72,17 +92,22 @@ fn step(counts: TextCounts, status: LineStatus, line: Line) -> Tally
     }
 }
 
+const NO_LINES: LineCounts = LineCounts {
+    lines: 0,
+    heads: 0,
+    comparisons: 0,
+    constants: 0,
+};
+
 pub fn read_text(text: &[u8]) -> TextRead
     ensures { λ r. ⌜ r ≡ textRead (now (text .entry)) ⌝ }
 {
     if 32_768 < text.len() {
-        return TextRead::Refused(Fault::TooLong, 0);
+        return TextRead::Refused(Fault::TooLong.at(0));
     }
     let mut counts = TextCounts {
-        rules: 0,
-        constraints: 0,
-        rule_words: 0,
-        constraint_words: 0,
+        rules: NO_LINES,
+        constraints: NO_LINES,
     };
     let mut at = 0;
     let mut number = 1;
@@ -96,7 +121,7 @@ pub fn read_text(text: &[u8]) -> TextRead
                 counts = more;
             }
             Tally::Stop(fault) => {
-                return TextRead::Refused(fault, number);
+                return TextRead::Refused(fault.at(number));
             }
         }
         at = read.next;

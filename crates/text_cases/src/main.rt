@@ -2,7 +2,9 @@
 // first byte says what it is: `T` a rule text, any other an epoch line.
 use libc::STDIN_FILENO;
 use libc::STDOUT_FILENO;
+use std::num::wrapping_add_u64;
 use syntax::EpochStatus;
+use syntax::LineCounts;
 use syntax::TextRead;
 
 fn write(text: &[u8]) {
@@ -13,24 +15,32 @@ fn write_number(n: u64) {
     io::print_decimal(STDOUT_FILENO, n);
 }
 
+// The words that lines with these counts take in an image.
+fn words(counts: LineCounts) -> u64 {
+    let lines = wrapping_add_u64(counts.lines as u64, counts.heads as u64);
+    let comparisons = wrapping_add_u64(counts.comparisons as u64, counts.constants as u64);
+    wrapping_add_u64(lines, comparisons)
+}
+
 fn show_text(text: &[u8]) {
     let read = syntax::read_text(text);
     match read {
-        TextRead::Refused(fault, line) => {
+        TextRead::Refused(refusal) => {
+            let fault = refusal.fault;
             write(b"refused ");
             write_number(fault.number() as u64);
             write(b" line ");
-            write_number(line as u64);
+            write_number(refusal.location as u64);
         }
         TextRead::Accepted(counts) => {
             write(b"accepted rules ");
-            write_number(counts.rules as u64);
+            write_number(counts.rules.lines as u64);
             write(b" constraints ");
-            write_number(counts.constraints as u64);
+            write_number(counts.constraints.lines as u64);
             write(b" words ");
-            write_number(counts.rule_words as u64);
+            write_number(words(counts.rules));
             write(b" ");
-            write_number(counts.constraint_words as u64);
+            write_number(words(counts.constraints));
         }
     }
     write(b"\n");

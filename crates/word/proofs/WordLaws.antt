@@ -5,11 +5,11 @@ use mathlib.Core.Path.{_≡_, refl, sym, ap, ap₂, _∙_}
 use native.Mathlib.Omega.{arith}
 use lib.ListN.{length, getD}
 use lib.Pow.{shr-shr, split}
-use Rattle.word.specs.Word.{wordLimit, join, wordsOf, bytesOf, byteList, pack, opcodeOf, firstOf, secondOf, relationOf, skipOf, packHeader, formOf, ruleCountOf, constraintCountOf, swap}
-
--- each element is below n
-abbrev pub Below : ℕ → List ℕ → Type 0
-Below n xs = (i : ℕ) → getD xs i 0 < n
+use Rattle.word.specs.Word.{wordLimit, Below, InFields, join, wordsOf, bytesOf, byteList, pack, opcodeOf, firstOf, secondOf, relationCodeOf, skipOf, packHeader, formOf, ruleCountOf, constraintCountOf, operationOf}
+use Rattle.word.specs.Operation.{opcode, operationFrom}
+use Rattle.word.specs.Steps.Swap.{swap}
+use Rattle.word.specs.declared.operation.Operation.{Operation}
+use Rattle.word.proofs.OperationLaws.{opcode-below, operation-back, operation-there, operation-number}
 
 -- ---- words of bytes
 
@@ -129,58 +129,56 @@ bytes-append (w ∷ ws) b = ap (λ (xs : List ℕ). byteList w ++ xs) (bytes-app
 
 -- ---- fields
 
--- what each field can hold
-pub record InFields (opcode first second relation skip : ℕ) : Type 0 where
-  pub opcode-below : opcode < 16
-  pub first-below : first < 64
-  pub second-below : second < 64
-  pub relation-below : relation < 8
-  pub skip-below : skip < 32
+module _ (o : Operation) (first second relation skip : ℕ) (h : InFields first second relation skip) where
+  limit : opcode o < 8
+  limit = opcode-below o
 
-module _ (opcode first second relation skip : ℕ) (h : InFields opcode first second relation skip) where
-  pub pack-below : pack opcode first second relation skip < wordLimit
+  pub pack-below : pack o first second relation skip < wordLimit
   unfolding pack
-  pack-below = omega arith
+  pack-below = omega (arith, limit)
 
-  pub opcode-pack : opcodeOf (pack opcode first second relation skip) ≡ opcode
+  pub opcode-pack : opcodeOf (pack o first second relation skip) ≡ opcode o
   unfolding pack
-  opcode-pack = omega arith
+  opcode-pack = omega (arith, limit)
 
-  pub first-pack : firstOf (pack opcode first second relation skip) ≡ first
+  pub operation-pack : operationOf (pack o first second relation skip) ≡ o
+  operation-pack = ap operationFrom opcode-pack ∙ operation-back o
+
+  pub first-pack : firstOf (pack o first second relation skip) ≡ first
   unfolding pack
   first-pack = omega arith
 
-  pub second-pack : secondOf (pack opcode first second relation skip) ≡ second
+  pub second-pack : secondOf (pack o first second relation skip) ≡ second
   unfolding pack
   second-pack = omega arith
 
-  pub relation-pack : relationOf (pack opcode first second relation skip) ≡ relation
+  pub relation-pack : relationCodeOf (pack o first second relation skip) ≡ relation
   unfolding pack
   relation-pack = omega arith
 
-  pub skip-pack : skipOf (pack opcode first second relation skip) ≡ skip
+  pub skip-pack : skipOf (pack o first second relation skip) ≡ skip
   unfolding pack
   skip-pack = omega arith
 
   -- below the relation, and below the first number where the second and the relation are 0
-  pub low-pack : pack opcode first second relation skip % 2 ^ 13 ≡ skip
+  pub low-pack : pack o first second relation skip % 2 ^ 13 ≡ skip
   unfolding pack
   low-pack = omega arith
 
-pub head-low : (opcode first skip : ℕ) → skip < 32 → pack opcode first 0 0 skip % 2 ^ 22 ≡ skip
+pub head-low : (o : Operation) (first skip : ℕ) → skip < 32 → pack o first 0 0 skip % 2 ^ 22 ≡ skip
 unfolding pack
-head-low opcode first skip h = omega arith
+head-low o first skip h = omega arith
 
--- a word whose eight zero bits are 0 is the packing of its own fields
+-- a word with the number of an operation or 0, whose eight zero bits are 0, is the packing of its own fields
 fields-linear : (w o f s r k q₅ q₁₃ q₁₆ q₂₂ q₂₈ : ℕ) → w ≡ q₅ * 32 + k → q₅ ≡ q₁₃ * 256 + 0 → q₁₃ ≡ q₁₆ * 8 + r → q₁₆ ≡ q₂₂ * 64 + s → q₂₂ ≡ q₂₈ * 64 + f → q₂₈ ≡ o → o * 2 ^ 28 + f * 2 ^ 22 + s * 2 ^ 16 + r * 2 ^ 13 + k ≡ w
 fields-linear w o f s r k q₅ q₁₃ q₁₆ q₂₂ q₂₈ e₁ e₂ e₃ e₄ e₅ e₆ = omega arith
 
-pub pack-fields : (w : ℕ) → w < wordLimit → w / 2 ^ 5 % 2 ^ 8 ≡ 0 → pack (opcodeOf w) (firstOf w) (secondOf w) (relationOf w) (skipOf w) ≡ w
+pub pack-fields : (w : ℕ) → w < wordLimit → opcodeOf w < 8 → w / 2 ^ 5 % 2 ^ 8 ≡ 0 → pack (operationOf w) (firstOf w) (secondOf w) (relationCodeOf w) (skipOf w) ≡ w
 unfolding pack
-pack-fields w h z =
-    let top : w / 2 ^ 28 ≡ opcodeOf w = omega arith in
+pack-fields w h o z =
+    let top : w / 2 ^ 28 ≡ opcode (operationOf w) = omega (arith, operation-there (opcodeOf w) o) in
     let none : w / 2 ^ 5 ≡ w / 2 ^ 13 * 256 + 0 = omega (arith, parts w 5 8) in
-    fields-linear w (opcodeOf w) (firstOf w) (secondOf w) (relationOf w) (skipOf w) (w / 2 ^ 5) (w / 2 ^ 13) (w / 2 ^ 16) (w / 2 ^ 22) (w / 2 ^ 28) (lowest w 5) none (parts w 13 3) (parts w 16 6) (parts w 22 6) top
+    fields-linear w (opcode (operationOf w)) (firstOf w) (secondOf w) (relationCodeOf w) (skipOf w) (w / 2 ^ 5) (w / 2 ^ 13) (w / 2 ^ 16) (w / 2 ^ 22) (w / 2 ^ 28) (lowest w 5) none (parts w 13 3) (parts w 16 6) (parts w 22 6) top
 
 module _ (form ruleCount constraintCount : ℕ) (f : form < 256) (r : ruleCount < 4096) (c : constraintCount < 4096) where
   pub header-below : packHeader form ruleCount constraintCount < wordLimit
@@ -205,14 +203,14 @@ header-fields w h = omega (arith, shr-shr w 12 12)
 
 -- ---- words put together again from what a scan tests
 
-pub head-again : (w left : ℕ) → w < wordLimit → w % 2 ^ 22 ≡ left → pack (opcodeOf w) (firstOf w) 0 0 left ≡ w
-unfolding pack
-head-again w left h e =
-    let top : w / 2 ^ 28 ≡ opcodeOf w = omega arith in
-    omega (arith, lowest w 22, parts w 22 6)
+module _ (o : Operation) (w : ℕ) (known : 0 < opcode o) (h : w < wordLimit) (e : operationOf w ≡ o) where
+  top : w / 2 ^ 28 ≡ opcode o
+  top = let k : w / 2 ^ 28 ≡ opcodeOf w = omega arith in k ∙ operation-number (opcodeOf w) o known e
 
-pub comparison-again : (w low : ℕ) → w < wordLimit → w % 2 ^ 13 ≡ low → pack (opcodeOf w) (firstOf w) (secondOf w) (relationOf w) low ≡ w
-unfolding pack
-comparison-again w low h e =
-    let top : w / 2 ^ 28 ≡ opcodeOf w = omega arith in
-    omega (arith, lowest w 13, parts w 13 3, parts w 16 6, parts w 22 6)
+  pub head-again : (left : ℕ) → w % 2 ^ 22 ≡ left → pack o (firstOf w) 0 0 left ≡ w
+  unfolding pack
+  head-again left q = omega (arith, top, lowest w 22, parts w 22 6)
+
+  pub comparison-again : (low : ℕ) → w % 2 ^ 13 ≡ low → pack o (firstOf w) (secondOf w) (relationCodeOf w) low ≡ w
+  unfolding pack
+  comparison-again low q = omega (arith, top, lowest w 13, parts w 13 3, parts w 16 6, parts w 22 6)

@@ -10,7 +10,7 @@ use lib.ListN.{length, take, drop, set, length-append, length-drop, take-append-
 use lib.Seq.{sets-eq, take-at, drop-drop, length-take-le, take-append-seam, take-append-le, drop-append-le, drop-append-add}
 use Rattle.word.proofs.WordLaws.{bytes-append, bytes-length}
 use Rattle.word.specs.Word.{bytesOf}
-use Rattle.word.specs.Write.{putBytes, fits, putWords}
+use Rattle.word.specs.Steps.Write.{putBytes, fits, putWords}
 
 pub fits-in : (buffer : List ℕ) (index count : ℕ) → index + count ≤ length buffer / 4 → fits buffer index count ≡ true
 unfolding fits

@@ -1,45 +1,36 @@
--- Document 01, "Image": the table of operations and relations, and what the fields of a word stand for.
+-- Document 01, "Image": the tables of operations and relations, each number both ways.
 use Prim.Native.Nat.{ℕ, zero, suc}
-use mir.Syntax.{w32}
-use mir.Val.{toZ}
-use Rattle.policy.specs.declared.comparison.Comparison.{Comparison}
-use Rattle.policy.specs.declared.comparison.Operand.{Operand}
 use Rattle.policy.specs.declared.comparison.Relation.{Relation}
-use Rattle.policy.specs.declared.number.Action.{Action}
-use Rattle.policy.specs.declared.number.Event.{Event}
-use Rattle.word.specs.Word.{opcodeOf, firstOf, secondOf, relationOf}
+use Rattle.word.specs.declared.operation.Operation.{Operation}
 
-pub data Operation : Type 0 where
-  -- 1, 2: the event must be present, absent
-  present : Operation
-  absent : Operation
-  -- 3, 4: a reading against the constant in the next word, against a reading
-  againstConstant : Operation
-  againstReading : Operation
-  -- 5: propose the action; ends a rule
-  proposes : Operation
-  -- 6: the action must be in the set
-  member : Operation
-  -- 7: the constraint holds; ends it
-  never : Operation
-  unknown : Operation
+abbrev pub opcode : Operation → ℕ
+-- the event must be present, absent
+opcode Operation.Present = 1
+opcode Operation.Absent = 2
+-- a reading against the constant in the next word, against a reading
+opcode Operation.AgainstConstant = 3
+opcode Operation.AgainstReading = 4
+-- propose the action; ends a rule
+opcode Operation.Proposes = 5
+-- the action must be in the set
+opcode Operation.Member = 6
+-- the constraint holds; ends it
+opcode Operation.Never = 7
+opcode Operation.Unknown = 0
 
 unfoldable pub operationFrom : ℕ → Operation
-operationFrom zero = unknown
-operationFrom (suc zero) = present
-operationFrom (suc (suc zero)) = absent
-operationFrom (suc (suc (suc zero))) = againstConstant
-operationFrom (suc (suc (suc (suc zero)))) = againstReading
-operationFrom (suc (suc (suc (suc (suc zero))))) = proposes
-operationFrom (suc (suc (suc (suc (suc (suc zero)))))) = member
-operationFrom (suc (suc (suc (suc (suc (suc (suc zero))))))) = never
-operationFrom (suc (suc (suc (suc (suc (suc (suc (suc n)))))))) = unknown
-
-abbrev pub operationOf : ℕ → Operation
-operationOf w = operationFrom (opcodeOf w)
+operationFrom zero = Operation.Unknown
+operationFrom (suc zero) = Operation.Present
+operationFrom (suc (suc zero)) = Operation.Absent
+operationFrom (suc (suc (suc zero))) = Operation.AgainstConstant
+operationFrom (suc (suc (suc (suc zero)))) = Operation.AgainstReading
+operationFrom (suc (suc (suc (suc (suc zero))))) = Operation.Proposes
+operationFrom (suc (suc (suc (suc (suc (suc zero)))))) = Operation.Member
+operationFrom (suc (suc (suc (suc (suc (suc (suc zero))))))) = Operation.Never
+operationFrom (suc (suc (suc (suc (suc (suc (suc (suc n)))))))) = Operation.Unknown
 
 -- "Relations: = 0, != 1, < 2, <= 3, > 4, >= 5."
-unfoldable pub relationCode : Relation → ℕ
+abbrev pub relationCode : Relation → ℕ
 relationCode Relation.Equal = 0
 relationCode Relation.NotEqual = 1
 relationCode Relation.Less = 2
@@ -55,17 +46,3 @@ relationFrom (suc (suc zero)) = Relation.Less
 relationFrom (suc (suc (suc zero))) = Relation.LessOrEqual
 relationFrom (suc (suc (suc (suc zero)))) = Relation.Greater
 relationFrom (suc (suc (suc (suc (suc n))))) = Relation.GreaterOrEqual
-
-abbrev pub eventFrom : ℕ → Event
-eventFrom w = record { 0 = firstOf w }
-
-abbrev pub actionFrom : ℕ → Action
-actionFrom w = record { 0 = firstOf w }
-
--- operation 3, with the word that follows it: a constant in two's complement
-unfoldable pub constantComparison : ℕ → ℕ → Comparison
-constantComparison w k = record { reading = record { 0 = firstOf w }; relation = relationFrom (relationOf w); operand = Operand.Constant (toZ w32 k) }
-
--- operation 4
-unfoldable pub readingComparison : ℕ → Comparison
-readingComparison w = record { reading = record { 0 = firstOf w }; relation = relationFrom (relationOf w); operand = Operand.Reading (record { 0 = secondOf w }) }

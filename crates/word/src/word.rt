@@ -3,16 +3,9 @@ ghost use mathlib.Core.Path.{_≡_};
 ghost use mathlib.Core.List.{[], _∷_};
 ghost use Prim.Native.Nat.{_/_, _<_, min};
 ghost use lib.ListN.{length};
-ghost use Rattle.word.specs.Word.{join, swap, wordAt, opcodeOf, firstOf, secondOf, relationOf, skipOf};
-ghost use Rattle.word.specs.Write.{fits, putWords};
-
-pub struct Fields {
-    pub opcode: u32,
-    pub first: u32,
-    pub second: u32,
-    pub relation: u32,
-    pub skip: u32,
-}
+ghost use Rattle.word.specs.Steps.Swap.{swap};
+ghost use Rattle.word.specs.Word.{join, wordAt, opcodeOf, firstOf, secondOf, relationCodeOf, skipOf};
+ghost use Rattle.word.specs.Steps.Write.{fits, putWords};
 
 // Four bytes as a word whose least significant byte is the first: what one load reads.
 fn reversed4(a: u8, b: u8, c: u8, d: u8) -> u32
@@ -84,8 +77,8 @@ pub fn second(word: u32) -> u32
     (word >> 16) % 64
 }
 
-pub fn relation(word: u32) -> u32
-    ensures { λ r. ⌜ r ≡ relationOf word ⌝ }
+pub fn relation_code_of(word: u32) -> u32
+    ensures { λ r. ⌜ r ≡ relationCodeOf word ⌝ }
 {
     (word >> 13) % 8
 }
@@ -94,18 +87,6 @@ pub fn skip(word: u32) -> u32
     ensures { λ r. ⌜ r ≡ skipOf word ⌝ }
 {
     word % 32
-}
-
-pub fn fields_of(word: u32) -> Fields
-    ensures { λ r. ⌜ r ≡ record { opcode = opcodeOf word; first = firstOf word; second = secondOf word; relation = relationOf word; skip = skipOf word } ⌝ }
-{
-    Fields {
-        opcode: opcode(word),
-        first: first(word),
-        second: second(word),
-        relation: relation(word),
-        skip: skip(word),
-    }
 }
 
 // Whether the word fits at the index. Where it does not, the buffer stays as it is.

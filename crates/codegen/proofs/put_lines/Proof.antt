@@ -7,10 +7,10 @@ use Rattle.codegen.proofs.put_lines.Statement.{statement}
 use Rattle.codegen.proofs.put_lines.Tie as tie
 
 abbrev Inv-loop : tie.InvT-loop
-Inv-loop out₀ text places₀ at₀ out places at = Putting text out₀ places₀ out places at
+Inv-loop out₀ text cursors₀ at₀ out cursors at = Putting text out₀ cursors₀ out cursors at
 
 abbrev μ-loop : tie.MeasureT-loop
-μ-loop out₀ text places₀ at₀ out places at = length text - at
+μ-loop out₀ text cursors₀ at₀ out cursors at = length text - at
 
 loop-holds : tie.Need-loop-holds Inv-loop μ-loop
 loop-holds c = putting-none _ _ _

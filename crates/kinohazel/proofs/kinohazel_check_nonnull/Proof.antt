@@ -9,17 +9,14 @@ load-image-requires c κs = search needs
 enum-known-answer : tie.Need-enum-known-answer
 enum-known-answer c = search needs
 
-number-requires : tie.Need-number-requires
-number-requires c κs = search needs
-
-cast-t8 : tie.Need-cast-t8
-cast-t8 c = search needs
+fault-number-requires : tie.Need-fault-number-requires
+fault-number-requires c κs = search needs
 
 enum-known-answer-2 : tie.Need-enum-known-answer-2
 enum-known-answer-2 c = search needs
 
 returns : tie.Need-returns
-returns c = check-refused _ _ (c .before .before .before .before .load-image .ensures) _ _ _ (c .before .before .answer .given .1) (c .number .ensures)
+returns c = check-refused _ _ (c .before .before .before .before .load-image .ensures) _ _ (c .before .before .answer .given .1) (c .fault-number .ensures)
 
 returns-2 : tie.Need-returns-2
 returns-2 c = check-image _ _ (c .before .before .before .load-image .ensures) _ (c .before .answer2 .given .1)
@@ -30,8 +27,7 @@ kinohazel-check-nonnull-spec =
     (tie.spec
     load-image-requires
     enum-known-answer
-    number-requires
-    cast-t8
+    fault-number-requires
     enum-known-answer-2
     returns
     returns-2)

@@ -9,11 +9,8 @@ compile-requires c κs = search needs
 enum-known-answer : tie.Need-enum-known-answer
 enum-known-answer c = search needs
 
-number-requires : tie.Need-number-requires
-number-requires c κs = search needs
-
-cast-t11 : tie.Need-cast-t11
-cast-t11 c = search needs
+fault-number-requires : tie.Need-fault-number-requires
+fault-number-requires c κs = search needs
 
 enum-known-answer-2 : tie.Need-enum-known-answer-2
 enum-known-answer-2 c = search needs
@@ -22,7 +19,7 @@ same-length : tie.Need-same-length
 same-length c = search needs
 
 returns : tie.Need-returns
-returns c = (compile-refused _ _ (c .before .before .before .before .before .before .compile .ensures .0) _ _ _ (c .before .before .answer .given .1) (c .number .ensures), c .before .before .before .before .before .before .compile .ensures .1)
+returns c = (compile-refused _ _ (c .before .before .before .before .before .before .compile .ensures .0) _ _ (c .before .before .answer .given .1) (c .fault-number .ensures), c .before .before .before .before .before .before .compile .ensures .1)
 
 same-length-2 : tie.Need-same-length-2
 same-length-2 c = search needs
@@ -36,8 +33,7 @@ kinohazel-compile-nonnull-spec =
     (tie.spec
     compile-requires
     enum-known-answer
-    number-requires
-    cast-t11
+    fault-number-requires
     enum-known-answer-2
     same-length
     returns

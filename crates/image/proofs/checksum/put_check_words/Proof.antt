@@ -5,9 +5,9 @@ use mathlib.Core.List.{[], _∷_}
 use mathlib.Core.Path.{ap, _∙_}
 use lib.ListN.{take}
 use denote.Ref.{now}
-use Rattle.image.specs.Layout.{checkCount, checkWords}
+use Rattle.word.specs.Steps.Write.{putWords}
 use Rattle.word.specs.Word.{wordsOf}
-use Rattle.word.specs.Write.{putWords}
+use Rattle.image.specs.Layout.{checkCount, checkWords}
 use Rattle.image.proofs.SumLaws.{check-word}
 use borrow.Author.Needs.{needs}
 use Rattle.image.proofs.checksum.put_check_words.Statement.{statement}

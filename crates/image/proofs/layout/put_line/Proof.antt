@@ -3,8 +3,8 @@ use Prim.Native.Nat.{ℕ, _+_}
 use mathlib.Core.Path.{_≡_, sym, ap, _∙_}
 use lib.ListN.{length, take}
 use denote.Ref.{now}
-use Rattle.image.specs.Layout.{headWords, testsOf, valueWords}
-use Rattle.word.specs.Write.{putWords}
+use Rattle.word.specs.Steps.Write.{putWords}
+use Rattle.image.specs.Steps.Value.{headWords, testsOf, valueWords}
 use Rattle.image.proofs.LayoutLaws.{value-limit, value-length, value-put}
 use Rattle.word.proofs.WriteLaws.{put-out}
 use native.Mathlib.Omega.{arith}

@@ -8,10 +8,6 @@ use borrow.Author.Needs.{needs}
 use native.Mathlib.Omega.{arith}
 use Rattle.image.proofs.line.comparisons_sound.Statement.{statement}
 use Rattle.image.proofs.line.comparisons_sound.Tie as tie
-use Rattle.image.proofs.line.comparisons_sound.Reads as reads
-use Rattle.image.proofs.line.comparisons_sound.Lts as lts
-use Rattle.image.proofs.line.comparison_size.Reads as comparison-size-reads
-use Rattle.word.proofs.word_in.Reads as word-in-reads
 
 abbrev Inv-loop : tie.InvT-loop
 Inv-loop image from last room₀ i₀ room i = (last < from + 32) × (last ≤ length image / 4) × Comparing (wordsOf image) from last room i
@@ -19,73 +15,61 @@ Inv-loop image from last room₀ i₀ room i = (last < from + 32) × (last ≤ l
 abbrev μ-loop : tie.MeasureT-loop
 μ-loop image from last room₀ i₀ room i = last - i
 
--- src/line.rt:183:5
 loop-holds : tie.Need-loop-holds Inv-loop μ-loop
 loop-holds c =
     let a = c .before .args in
     (c .before .pre .1, c .before .pre .2, comparing-none (wordsOf (now (a .image))) (a .from) (a .last) (c .before .pre .0))
 
--- src/line.rt:185:13
 returns : tie.Need-returns Inv-loop μ-loop
 returns c =
     let a = c .before .before .before .before .args in
     comparing-full (wordsOf (now (a .image))) (a .from) (a .last) _ _ (c .before .before .loop .inv .2) (c .before .loop-test .taken) (c .if1 .taken)
 
--- src/line.rt:187:37
 word-in-requires : tie.Need-word-in-requires Inv-loop μ-loop
 word-in-requires c κs = search needs
 
--- src/line.rt:187:57
-sub-comparison-size : tie.Need-sub-comparison-size Inv-loop μ-loop
-sub-comparison-size c = search needs
+sub-comparison-length : tie.Need-sub-comparison-length Inv-loop μ-loop
+sub-comparison-length c = search needs
 
--- src/line.rt:187:56
-cast-comparison-size : tie.Need-cast-comparison-size Inv-loop μ-loop
-cast-comparison-size c =
+cast-comparison-length : tie.Need-cast-comparison-length Inv-loop μ-loop
+cast-comparison-length c =
     let h = c .before .before .before .loop .inv .2 .after in
     omega arith
 
--- src/line.rt:187:13
-comparison-size-requires : tie.Need-comparison-size-requires Inv-loop μ-loop
-comparison-size-requires c κs = search needs
+comparison-length-requires : tie.Need-comparison-length-requires Inv-loop μ-loop
+comparison-length-requires c κs = search needs
 
--- src/line.rt:189:13
 returns-2 : tie.Need-returns-2 Inv-loop μ-loop
 returns-2 c =
     let a = c .before .before .before .before .before .before .before .args in
-    comparing-bad (wordsOf (now (a .image))) (a .from) (a .last) _ _ _ _ _ (c .before .before .before .before .before .loop .inv .2) (c .before .before .before .before .loop-test .taken) (c .before .before .before .if1 .left) (c .before .before .word-in .ensures) refl (c .before .comparison-size .ensures) (c .if2 .taken)
+    comparing-bad (wordsOf (now (a .image))) (a .from) (a .last) _ _ _ _ _ (c .before .before .before .before .before .loop .inv .2) (c .before .before .before .before .loop-test .taken) (c .before .before .before .if1 .left) (c .before .before .word-in .ensures) refl (c .before .comparison-length .ensures) (c .if2 .taken)
 
--- src/line.rt:191:9
 sub-room : tie.Need-sub-room Inv-loop μ-loop
 sub-room c = search needs
 
--- src/line.rt:192:9
 add-i : tie.Need-add-i Inv-loop μ-loop
 add-i c =
     let a = c .before .before .before .before .before .before .before .args in
     let h = c .before .before .before .before .before .loop .inv in
-    let n = comparing-more (wordsOf (now (a .image))) (a .from) (a .last) _ _ _ _ _ (h .2) (c .before .before .before .before .loop-test .taken) (c .before .before .before .if1 .left) (c .before .before .word-in .ensures) refl (c .before .comparison-size .ensures) (c .if2 .left) (omega arith) in
+    let n = comparing-more (wordsOf (now (a .image))) (a .from) (a .last) _ _ _ _ _ (h .2) (c .before .before .before .before .loop-test .taken) (c .before .before .before .if1 .left) (c .before .before .word-in .ensures) refl (c .before .comparison-length .ensures) (c .if2 .left) (omega arith) in
     let u = n .upto in
     omega arith
 
--- src/line.rt:183:5
 loop-less : tie.Need-loop-less Inv-loop μ-loop
 loop-less c =
     let a = c .before .before .before .before .before .before .before .args in
     let h = c .before .before .before .before .before .loop .inv in
-    let n = comparing-more (wordsOf (now (a .image))) (a .from) (a .last) _ _ _ _ _ (h .2) (c .before .before .before .before .loop-test .taken) (c .before .before .before .if1 .left) (c .before .before .word-in .ensures) refl (c .before .comparison-size .ensures) (c .if2 .left) (omega arith) in
+    let n = comparing-more (wordsOf (now (a .image))) (a .from) (a .last) _ _ _ _ _ (h .2) (c .before .before .before .before .loop-test .taken) (c .before .before .before .if1 .left) (c .before .before .word-in .ensures) refl (c .before .comparison-length .ensures) (c .if2 .left) (omega arith) in
     let u = n .upto in
     omega arith
 
--- src/line.rt:183:5
 loop-again : tie.Need-loop-again Inv-loop μ-loop
 loop-again c =
     let a = c .before .before .before .before .before .before .before .args in
     let h = c .before .before .before .before .before .loop .inv in
-    let n = comparing-more (wordsOf (now (a .image))) (a .from) (a .last) _ _ _ _ _ (h .2) (c .before .before .before .before .loop-test .taken) (c .before .before .before .if1 .left) (c .before .before .word-in .ensures) refl (c .before .comparison-size .ensures) (c .if2 .left) (omega arith) in
+    let n = comparing-more (wordsOf (now (a .image))) (a .from) (a .last) _ _ _ _ _ (h .2) (c .before .before .before .before .loop-test .taken) (c .before .before .before .if1 .left) (c .before .before .word-in .ensures) refl (c .before .comparison-length .ensures) (c .if2 .left) (omega arith) in
     (h .0, h .1, n)
 
--- src/line.rt:177:1
 returns-3 : tie.Need-returns-3 Inv-loop μ-loop
 returns-3 c =
     let a = c .before .before .before .args in
@@ -100,9 +84,9 @@ comparisons-sound-spec =
     loop-holds
     returns
     word-in-requires
-    sub-comparison-size
-    cast-comparison-size
-    comparison-size-requires
+    sub-comparison-length
+    cast-comparison-length
+    comparison-length-requires
     returns-2
     sub-room
     add-i

@@ -1,8 +1,9 @@
-use Prim.Native.Nat.{_%_, _^_}
+use Prim.Native.Nat.{ℕ, _%_, _^_}
 use mathlib.Core.Path.{sym, ap, _∙_}
 use borrow.Author.Tests.{eq-eqb, ne-eqb, not-true, not-false}
 use Rattle.policy.specs.Set.{has}
-use Rattle.image.specs.Scan.{isHead, headSound}
+use Rattle.word.specs.Operation.{operationFrom}
+use Rattle.image.specs.Steps.Scan.{isHead, headSound}
 use native.Mathlib.Omega.{arith}
 use borrow.Author.Needs.{needs}
 use Rattle.image.proofs.line.head_sound.Statement.{statement}
@@ -22,7 +23,7 @@ returns-2 : tie.Need-returns-2
 unfolding headSound
 returns-2 c =
     let a = c .before .before .before .before .args in
-    rw (eq-eqb (a .word % 2 ^ 22) (a .left) (omega arith), sym (c .before .is-head .ensures ∙ ap (isHead (a .part)) (c .before .before .opcode .ensures)) ∙ not-true _ (c .if2 .taken))
+    rw (eq-eqb (a .word % 2 ^ 22) (a .left) (omega arith), sym (c .before .is-head .ensures ∙ ap (λ (n : ℕ). isHead (a .part) (operationFrom n)) (c .before .before .opcode .ensures)) ∙ not-true _ (c .if2 .taken))
 
 first-requires : tie.Need-first-requires
 first-requires c κs = search needs
@@ -34,7 +35,7 @@ returns-3 : tie.Need-returns-3
 unfolding headSound
 returns-3 c =
     let a = c .before .before .before .before .before .before .args in
-    rw (eq-eqb (a .word % 2 ^ 22) (a .left) (omega arith), sym (c .before .before .before .is-head .ensures ∙ ap (isHead (a .part)) (c .before .before .before .before .opcode .ensures)) ∙ not-false _ (c .before .before .if2 .left), c .is-seen .ensures ∙ ap (has (a .seen)) (c .before .first .ensures))
+    rw (eq-eqb (a .word % 2 ^ 22) (a .left) (omega arith), sym (c .before .before .before .is-head .ensures ∙ ap (λ (n : ℕ). isHead (a .part) (operationFrom n)) (c .before .before .before .before .opcode .ensures)) ∙ not-false _ (c .before .before .if2 .left), c .is-seen .ensures ∙ ap (has (a .seen)) (c .before .first .ensures))
 
 pub head-sound-spec : {M : Type 1} → statement M
 head-sound-spec = tie.close (tie.spec returns opcode-requires is-head-requires returns-2 first-requires is-seen-requires returns-3)

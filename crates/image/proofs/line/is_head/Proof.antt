@@ -7,19 +7,13 @@ use native.Mathlib.Omega.{arith}
 use borrow.Author.Needs.{needs}
 use Rattle.image.proofs.line.is_head.Statement.{statement}
 use Rattle.image.proofs.line.is_head.Tie as tie
-use Rattle.image.proofs.line.is_head.Reads as reads
-use Rattle.image.proofs.line.is_head.Lts as lts
-use Rattle.image.proofs.line.head_opcodes.Reads as head-opcodes-reads
 
--- src/line.rt:55:6
 head-opcodes-requires : tie.Need-head-opcodes-requires
 head-opcodes-requires c κs = search needs
 
--- src/line.rt:55:6
 shr-result : tie.Need-shr-result
 shr-result c = search needs
 
--- src/line.rt:51:1
 returns : tie.Need-returns
 unfolding has
 returns c = ap (λ (s : ℕ). eqb (s / 2 ^ c .before .args .opcode % 2) 1) (c .head-opcodes .ensures) ∙ head-bit (c .before .args .part) (c .before .args .opcode)

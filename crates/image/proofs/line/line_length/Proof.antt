@@ -1,10 +1,9 @@
-use Rattle.word.proofs.WordLaws.{Below}
 use Prim.Native.Nat.{_+_, _-_, _/_, _≤_, _<_}
 use mathlib.Core.Path.{_≡_, refl, ap, _∙_}
 use borrow.Author.Tests.{not-true, not-false}
 use lib.ListN.{length, take, drop}
 use denote.Ref.{now}
-use Rattle.word.specs.Word.{wordsOf, between, skipOf}
+use Rattle.word.specs.Word.{wordsOf, between, skipOf, Below}
 use Rattle.image.proofs.SumLaws.{before-length}
 use Rattle.image.proofs.LengthLaws.{head-count-limit, length-none, length-long, length-unended, length-headless, length-crowded, length-found, length-unsound}
 use native.Mathlib.Omega.{arith}

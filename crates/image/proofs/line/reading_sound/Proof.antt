@@ -1,6 +1,6 @@
 use borrow.Author.Tests.{lt-ltb, le-ltb}
-use Rattle.image.specs.Scan.{readingSound}
-use Rattle.word.specs.Word.{firstOf, secondOf, relationOf}
+use Rattle.word.specs.Word.{firstOf, secondOf, relationCodeOf}
+use Rattle.image.specs.Steps.Scan.{readingSound}
 use native.Mathlib.Omega.{arith}
 use borrow.Author.Needs.{needs}
 use Rattle.image.proofs.line.reading_sound.Statement.{statement}
@@ -13,23 +13,23 @@ returns : tie.Need-returns
 unfolding readingSound
 returns c = rw (le-ltb (firstOf (c .before .before .args .word)) 16 (omega arith))
 
-relation-requires : tie.Need-relation-requires
-relation-requires c κs = search needs
+relation-code-of-requires : tie.Need-relation-code-of-requires
+relation-code-of-requires c κs = search needs
 
 returns-2 : tie.Need-returns-2
 unfolding readingSound
-returns-2 c = rw (lt-ltb (firstOf (c .before .before .before .before .args .word)) 16 (omega arith), le-ltb (relationOf (c .before .before .before .before .args .word)) 6 (omega arith))
+returns-2 c = rw (lt-ltb (firstOf (c .before .before .before .before .args .word)) 16 (omega arith), le-ltb (relationCodeOf (c .before .before .before .before .args .word)) 6 (omega arith))
 
 second-requires : tie.Need-second-requires
 second-requires c κs = search needs
 
 returns-3 : tie.Need-returns-3
 unfolding readingSound
-returns-3 c = rw (lt-ltb (firstOf (c .before .before .before .before .before .before .args .word)) 16 (omega arith), lt-ltb (relationOf (c .before .before .before .before .before .before .args .word)) 6 (omega arith), le-ltb (secondOf (c .before .before .before .before .before .before .args .word)) 16 (omega arith))
+returns-3 c = rw (lt-ltb (firstOf (c .before .before .before .before .before .before .args .word)) 16 (omega arith), lt-ltb (relationCodeOf (c .before .before .before .before .before .before .args .word)) 6 (omega arith), le-ltb (secondOf (c .before .before .before .before .before .before .args .word)) 16 (omega arith))
 
 returns-4 : tie.Need-returns-4
 unfolding readingSound
-returns-4 c = rw (lt-ltb (firstOf (c .before .before .before .before .before .before .args .word)) 16 (omega arith), lt-ltb (relationOf (c .before .before .before .before .before .before .args .word)) 6 (omega arith), lt-ltb (secondOf (c .before .before .before .before .before .before .args .word)) 16 (omega arith))
+returns-4 c = rw (lt-ltb (firstOf (c .before .before .before .before .before .before .args .word)) 16 (omega arith), lt-ltb (relationCodeOf (c .before .before .before .before .before .before .args .word)) 6 (omega arith), lt-ltb (secondOf (c .before .before .before .before .before .before .args .word)) 16 (omega arith))
 
 pub reading-sound-spec : {M : Type 1} → statement M
 reading-sound-spec =
@@ -37,7 +37,7 @@ reading-sound-spec =
     (tie.spec
     first-requires
     returns
-    relation-requires
+    relation-code-of-requires
     returns-2
     second-requires
     returns-3

@@ -1,6 +1,7 @@
-use mathlib.Core.Path.{sym, _∙_}
-use Rattle.image.specs.Load.{partLines}
+use mathlib.Core.Path.{sym, ap, _∙_}
+use Rattle.image.specs.Lines.{partLines}
 use Rattle.image.proofs.LoadLaws.{rules-fault, constraints-fault, both-whole}
+use Rattle.image.specs.declared.load.Loaded.{Loaded}
 use borrow.Author.Needs.{needs}
 use Rattle.image.proofs.load.load_body.Statement.{statement}
 use Rattle.image.proofs.load.load_body.Tie as tie
@@ -14,6 +15,9 @@ part-lines-requires c κs = search needs
 enum-known-rules : tie.Need-enum-known-rules
 enum-known-rules c = search needs
 
+at-requires : tie.Need-at-requires
+at-requires c κs = search needs
+
 enum-known-rules-2 : tie.Need-enum-known-rules-2
 enum-known-rules-2 c = search needs
 
@@ -26,16 +30,19 @@ part-lines-requires-2 c κs = search needs
 enum-known-constraints : tie.Need-enum-known-constraints
 enum-known-constraints c = search needs
 
+at-requires-2 : tie.Need-at-requires-2
+at-requires-2 c κs = search needs
+
 enum-known-constraints-2 : tie.Need-enum-known-constraints-2
 enum-known-constraints-2 c = search needs
 
 returns : tie.Need-returns
 unfolding partLines
-returns c = rules-fault _ _ _ _ _ _ (sym (c .before .before .before .part-lines .ensures) ∙ c .before .rules .given .1)
+returns c = let t = c .before in ap Loaded.Refused (c .at .ensures) ∙ rules-fault _ _ _ _ _ _ (sym (t .before .before .before .part-lines .ensures) ∙ t .before .rules .given .1)
 
 returns-2 : tie.Need-returns-2
 unfolding partLines
-returns-2 c = constraints-fault _ _ _ _ _ _ _ (sym (c .before .before .before .before .before .before .before .part-lines .ensures) ∙ c .before .before .before .before .before .rules2 .given .1) (sym (c .before .before .before .part-lines2 .ensures) ∙ c .before .constraints .given .1)
+returns-2 c = let t = c .before in ap Loaded.Refused (c .at2 .ensures) ∙ constraints-fault _ _ _ _ _ _ _ (sym (t .before .before .before .before .before .before .before .part-lines .ensures) ∙ t .before .before .before .before .before .rules2 .given .1) (sym (t .before .before .before .part-lines2 .ensures) ∙ t .before .constraints .given .1)
 
 returns-3 : tie.Need-returns-3
 unfolding partLines
@@ -48,10 +55,12 @@ load-body-spec =
     add-middle
     part-lines-requires
     enum-known-rules
+    at-requires
     enum-known-rules-2
     add-part-lines
     part-lines-requires-2
     enum-known-constraints
+    at-requires-2
     enum-known-constraints-2
     returns
     returns-2

@@ -46,7 +46,8 @@ use denote.Triple.Walked.{says, needs, Stays, stay-none, stay-none-slice, walkOf
 use denote.Exit.{yes}
 use denote.Triple.Clauses.{ensured, lasts}
 use Rattle.word.specs.Word.{between, wordsOf}
-use Rattle.image.specs.Load.{lineAt, lineLength, linesFrom, partAnswer}
+use Rattle.image.specs.Lines.{lineAt, lineLength, linesFrom}
+use Rattle.image.specs.Steps.Part.{partAnswer}
 use Rattle.image.specs.declared.line.Part.{Part}
 use Rattle.image.specs.declared.load.PartCheck.{PartCheck}
 use Rattle.image.specs.declared.walker.Walker.{Walker}

@@ -1,16 +1,19 @@
 use borrow.Author.Needs.{needs}
-use Rattle.lexer.proofs.ClassLaws.{class-digit}
+use Rattle.lexer.proofs.ClassLaws.{digit-class, no-digit-class}
 use Rattle.lexer.proofs.class.is_digit.Statement.{statement}
 use Rattle.lexer.proofs.class.is_digit.Tie as tie
 
 class-of-requires : tie.Need-class-of-requires
 class-of-requires c κs = search needs
 
-code-requires : tie.Need-code-requires
-code-requires c κs = search needs
+enum-told : tie.Need-enum-told
+enum-told c = search needs
 
 returns : tie.Need-returns
-returns c = rw (c .code .ensures, c .before .class-of .ensures) (class-digit (c .before .before .args .b))
+returns c = digit-class _ _ (c .before .before .class-of .ensures) (c .enum-told .given .1)
+
+returns-2 : tie.Need-returns-2
+returns-2 c = no-digit-class _ _ (c .before .class-of .ensures) (c .match .keys2)
 
 pub is-digit-spec : {M : Type 1} → statement M
-is-digit-spec = tie.close (tie.spec class-of-requires code-requires returns)
+is-digit-spec = tie.close (tie.spec class-of-requires enum-told returns returns-2)

@@ -1,6 +1,6 @@
 use mathlib.Core.Path.{_∙_}
 use denote.Ref.{now}
-use Rattle.lexer.proofs.WordLaws.{empty-here, empty-end}
+use Rattle.lexer.proofs.KeywordLaws.{empty-here, empty-end}
 use borrow.Author.Needs.{needs}
 use Rattle.lexer.proofs.scan.at_token_end.Statement.{statement}
 use Rattle.lexer.proofs.scan.at_token_end.Tie as tie

@@ -5,16 +5,16 @@ use borrow.Author.Needs.{needs}
 use Rattle.lexer.proofs.scan.causes_at.Statement.{statement}
 use Rattle.lexer.proofs.scan.causes_at.Tie as tie
 
-slice-aggregate-word-at : tie.Need-slice-aggregate-word-at
-slice-aggregate-word-at c = search needs
+slice-aggregate-keyword-at : tie.Need-slice-aggregate-keyword-at
+slice-aggregate-keyword-at c = search needs
 
-word-at-requires : tie.Need-word-at-requires
+keyword-at-requires : tie.Need-keyword-at-requires
 unfolding all
-word-at-requires c κs = refl
+keyword-at-requires c κs = refl
 
 returns : tie.Need-returns
 unfolding bytes
-returns c = c .word-at .ensures
+returns c = c .keyword-at .ensures
 
 pub causes-at-spec : {M : Type 1} → statement M
-causes-at-spec = tie.close (tie.spec slice-aggregate-word-at word-at-requires returns)
+causes-at-spec = tie.close (tie.spec slice-aggregate-keyword-at keyword-at-requires returns)

@@ -2,15 +2,15 @@ use Prim.Native.Nat.{_-_}
 use mathlib.Core.Path.{_≡_, refl, sym, _∙_}
 use lib.ListN.{length}
 use denote.Ref.{now}
-use Rattle.lexer.proofs.RunLaws.{skip-here, skip-past, skip-end}
+use Rattle.lexer.proofs.WhileLaws.{skip-here, skip-past, skip-end}
 use Rattle.lexer.specs.Byte.{isSpace}
-use Rattle.lexer.specs.Scan.{skip}
+use Rattle.lexer.specs.Lines.{skipWhile}
 use borrow.Author.Needs.{needs}
 use Rattle.lexer.proofs.scan.skip_spaces.Statement.{statement}
 use Rattle.lexer.proofs.scan.skip_spaces.Tie as tie
 
 abbrev Inv-loop : tie.InvT-loop
-Inv-loop text at i₀ i = skip isSpace text at ≡ skip isSpace text i
+Inv-loop text at i₀ i = skipWhile isSpace text at ≡ skipWhile isSpace text i
 
 abbrev μ-loop : tie.MeasureT-loop
 μ-loop text at i₀ i = length text - i

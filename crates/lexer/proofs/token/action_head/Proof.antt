@@ -1,6 +1,6 @@
 use mathlib.Core.Path.{sym, ap, _∙_}
 use Rattle.lexer.proofs.PartLaws.{member-valid, member-outside}
-use Rattle.lexer.specs.Parts.{actionHead}
+use Rattle.lexer.specs.Steps.PartAt.{actionHead}
 use borrow.Author.Needs.{needs}
 use Rattle.lexer.proofs.token.action_head.Statement.{statement}
 use Rattle.lexer.proofs.token.action_head.Tie as tie

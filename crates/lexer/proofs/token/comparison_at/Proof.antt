@@ -1,7 +1,7 @@
 use mathlib.Core.Path.{sym, ap, _∙_}
 use denote.Ref.{now}
 use Rattle.lexer.proofs.PartLaws.{comparison-no-reading, comparison-no-relation, comparison-no-operand, comparison-some}
-use Rattle.lexer.specs.Parts.{relationAt, operandAt}
+use Rattle.lexer.specs.Steps.PartAt.{relationAt, operandAt}
 use borrow.Author.Needs.{needs}
 use Rattle.lexer.proofs.token.comparison_at.Statement.{statement}
 use Rattle.lexer.proofs.token.comparison_at.Tie as tie
@@ -48,11 +48,11 @@ enum-told-3 c = search needs
 returns-3 : tie.Need-returns-3
 returns-3 c = comparison-no-operand (now (c .before .before .before .before .before .before .before .before .before .before .before .before .before .before .args .text)) (c .before .before .before .before .before .before .before .before .before .before .before .before .before .before .args .at) _ _ (sym (c .before .before .before .before .before .before .before .before .before .before .before .before .name-at .ensures) ∙ c .before .before .before .before .before .before .before .before .before .before .n .given .1) _ _ (ap (relationAt (now (c .before .before .before .before .before .before .before .before .before .before .before .before .before .before .args .text))) (sym (c .before .before .before .before .before .before .before .before .skip-spaces .ensures)) ∙ sym (c .before .before .before .before .before .before .before .relation-at .ensures) ∙ c .before .before .before .before .before .relation .given .1) (ap (operandAt (now (c .before .before .before .before .before .before .before .before .before .before .before .before .before .before .args .text))) (sym (c .before .before .before .skip-spaces2 .ensures)) ∙ sym (c .before .before .operand-at .ensures) ∙ c .enum-told3 .given .1)
 
-compared-requires : tie.Need-compared-requires
-compared-requires c κs = search needs
+comparison-from-requires : tie.Need-comparison-from-requires
+comparison-from-requires c κs = search needs
 
 returns-4 : tie.Need-returns-4
-returns-4 c = c .compared .ensures ∙ comparison-some (now (c .before .before .before .before .before .before .before .before .before .before .before .before .before .before .before .before .args .text)) (c .before .before .before .before .before .before .before .before .before .before .before .before .before .before .before .before .args .at) _ _ (sym (c .before .before .before .before .before .before .before .before .before .before .before .before .before .before .name-at .ensures) ∙ c .before .before .before .before .before .before .before .before .before .before .before .before .n .given .1) _ _ (ap (relationAt (now (c .before .before .before .before .before .before .before .before .before .before .before .before .before .before .before .before .args .text))) (sym (c .before .before .before .before .before .before .before .before .before .before .skip-spaces .ensures)) ∙ sym (c .before .before .before .before .before .before .before .before .before .relation-at .ensures) ∙ c .before .before .before .before .before .before .before .relation .given .1) _ _ _ (ap (operandAt (now (c .before .before .before .before .before .before .before .before .before .before .before .before .before .before .before .before .args .text))) (sym (c .before .before .before .before .before .skip-spaces2 .ensures)) ∙ sym (c .before .before .before .before .operand-at .ensures) ∙ c .before .before .operand .given .1)
+returns-4 c = c .comparison-from .ensures ∙ comparison-some (now (c .before .before .before .before .before .before .before .before .before .before .before .before .before .before .before .before .args .text)) (c .before .before .before .before .before .before .before .before .before .before .before .before .before .before .before .before .args .at) _ _ (sym (c .before .before .before .before .before .before .before .before .before .before .before .before .before .before .name-at .ensures) ∙ c .before .before .before .before .before .before .before .before .before .before .before .before .n .given .1) _ _ (ap (relationAt (now (c .before .before .before .before .before .before .before .before .before .before .before .before .before .before .before .before .args .text))) (sym (c .before .before .before .before .before .before .before .before .before .before .skip-spaces .ensures)) ∙ sym (c .before .before .before .before .before .before .before .before .before .relation-at .ensures) ∙ c .before .before .before .before .before .before .before .relation .given .1) _ _ _ (ap (operandAt (now (c .before .before .before .before .before .before .before .before .before .before .before .before .before .before .before .before .args .text))) (sym (c .before .before .before .before .before .skip-spaces2 .ensures)) ∙ sym (c .before .before .before .before .operand-at .ensures) ∙ c .before .before .operand .given .1)
 
 pub comparison-at-spec : {M : Type 1} → statement M
 comparison-at-spec =
@@ -72,5 +72,5 @@ comparison-at-spec =
     enum-known-operand
     enum-told-3
     returns-3
-    compared-requires
+    comparison-from-requires
     returns-4)

@@ -1,7 +1,7 @@
 use mathlib.Core.Path.{ap, _∙_}
 use denote.Ref.{now}
 use Rattle.lexer.proofs.ConstantLaws.{constant-end, constant-minus, constant-plain}
-use Rattle.lexer.specs.Parts.{positiveAt, negativeAt}
+use Rattle.lexer.specs.Steps.PartAt.{positiveAt, negativeAt}
 use borrow.Author.Needs.{needs}
 use Rattle.lexer.proofs.token.constant_at.Statement.{statement}
 use Rattle.lexer.proofs.token.constant_at.Tie as tie

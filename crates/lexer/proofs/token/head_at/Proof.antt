@@ -2,8 +2,8 @@ use mathlib.Core.Bool.{true, false}
 use mathlib.Core.Path.{sym, ap, _∙_}
 use denote.Ref.{now}
 use Rattle.lexer.proofs.PartLaws.{head-action, head-none, head-negated, head-plain}
-use Rattle.lexer.proofs.WordLaws.{token-inside}
-use Rattle.lexer.specs.Parts.{actionHead, literalHead, headAt}
+use Rattle.lexer.proofs.KeywordLaws.{token-inside}
+use Rattle.lexer.specs.Steps.PartAt.{actionHead, literalHead, headAt}
 use Rattle.lexer.specs.declared.scan.NumberAt.{NumberAt}
 use native.Mathlib.Omega.{arith}
 use borrow.Author.Needs.{needs}

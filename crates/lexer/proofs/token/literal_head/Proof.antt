@@ -1,6 +1,6 @@
 use mathlib.Core.Path.{sym, ap, _∙_}
 use Rattle.lexer.proofs.PartLaws.{literal-valid, literal-outside}
-use Rattle.lexer.specs.Parts.{literalHead}
+use Rattle.lexer.specs.Steps.PartAt.{literalHead}
 use Rattle.lexer.specs.declared.scan.NumberAt.{NumberAt}
 use borrow.Author.Needs.{needs}
 use Rattle.lexer.proofs.token.literal_head.Statement.{statement}

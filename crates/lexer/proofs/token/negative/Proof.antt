@@ -1,7 +1,7 @@
 use Prim.Native.Nat.{ℕ, _-_}
 use mathlib.Core.Path.{sym, ap, _∙_}
 use Rattle.lexer.proofs.ConstantLaws.{nonzero, small-pos, minus-fits, negative-value, negative-past}
-use Rattle.lexer.specs.Parts.{negativeAt}
+use Rattle.lexer.specs.Steps.PartAt.{negativeAt}
 use Rattle.lexer.specs.declared.scan.NumberAt.{NumberAt}
 use native.Mathlib.Omega.{arith}
 use borrow.Author.Needs.{needs}

@@ -1,7 +1,7 @@
 use Rattle.lexer.proofs.SymbolLaws.{one-unknown}
 use Rattle.lexer.specs.Byte.{bytes, sameBytes, is}
 use Rattle.lexer.specs.Token.{relationOf}
-use Rattle.lexer.specs.Parts.{relationEnding}
+use Rattle.lexer.specs.Steps.PartAt.{relationEnding}
 use Rattle.lexer.proofs.token.one_byte.Statement.{statement}
 use Rattle.lexer.proofs.token.one_byte.Tie as tie
 

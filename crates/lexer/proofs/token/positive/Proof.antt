@@ -1,6 +1,6 @@
 use mathlib.Core.Path.{sym, ap, _∙_}
 use Rattle.lexer.proofs.ConstantLaws.{small-pos, positive-value, positive-past}
-use Rattle.lexer.specs.Parts.{positiveAt}
+use Rattle.lexer.specs.Steps.PartAt.{positiveAt}
 use borrow.Author.Needs.{needs}
 use Rattle.lexer.proofs.token.positive.Statement.{statement}
 use Rattle.lexer.proofs.token.positive.Tie as tie

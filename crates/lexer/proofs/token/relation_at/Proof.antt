@@ -2,7 +2,7 @@ use Prim.Native.Nat.{_+_}
 use mathlib.Core.Path.{sym, _∙_}
 use denote.Ref.{now}
 use Rattle.lexer.proofs.SymbolLaws.{symbol-none, symbol-one, symbol-two, symbol-longer, symbol-other}
-use Rattle.lexer.proofs.WordLaws.{token-inside}
+use Rattle.lexer.proofs.KeywordLaws.{token-inside}
 use native.Mathlib.Omega.{arith}
 use borrow.Author.Needs.{needs}
 use Rattle.lexer.proofs.token.relation_at.Statement.{statement}

@@ -21,6 +21,9 @@ read-epoch-requires c κs = search needs
 enum-known-status : tie.Need-enum-known-status
 enum-known-status c = search needs
 
+at-requires : tie.Need-at-requires
+at-requires c κs = search needs
+
 enum-told : tie.Need-enum-told
 enum-told c = search needs
 
@@ -31,13 +34,14 @@ issue-requires : tie.Need-issue-requires
 issue-requires c κs = taken-small (now (c .before .before .before .before .before .before .before .before .before .before .before .args .image)) _ (sym (c .before .before .before .before .before .before .before .before .load-image .ensures) ∙ c .before .before .before .before .before .before .loaded2 .given .1)
 
 returns : tie.Need-returns
-returns c = image-refused (now (c .before .before .before .before .before .before .args .image)) (now (c .before .before .before .before .before .before .args .line)) _ _ (sym (c .before .before .before .load-image .ensures) ∙ c .before .loaded .given .1)
+returns c = image-refused (now (c .before .before .before .before .before .before .args .image)) (now (c .before .before .before .before .before .before .args .line)) _ (sym (c .before .before .before .load-image .ensures) ∙ c .before .loaded .given .1)
 
 returns-2 : tie.Need-returns-2
 returns-2 c =
-    let a = c .before .before .before .before .before .before .before .before .before .before .args in
-    line-refused (now (a .image)) (now (a .line)) _ (sym (c .before .before .before .before .before .before .before .load-image .ensures) ∙ c .before .before .before .before .before .loaded2 .given .1) _
-    (refused-read (now (a .line)) _ (c .before .before .before .read-epoch .ensures) _ (c .before .status .given .1))
+    let a = c .before .before .before .before .before .before .before .before .before .before .before .args in
+    ap Decision.Refused (c .at .ensures)
+    ∙ line-refused (now (a .image)) (now (a .line)) _ (sym (c .before .before .before .before .before .before .before .before .load-image .ensures) ∙ c .before .before .before .before .before .before .loaded2 .given .1) _
+    (refused-read (now (a .line)) _ (c .before .before .before .before .read-epoch .ensures) _ (c .before .before .status .given .1))
 
 returns-3 : tie.Need-returns-3
 returns-3 c =
@@ -55,6 +59,7 @@ decide-spec =
     enum-known-loaded-2
     read-epoch-requires
     enum-known-status
+    at-requires
     enum-told
     slice-aggregate-issue
     issue-requires

@@ -44,7 +44,7 @@ same-length c = search needs
 returns : tie.Need-returns
 returns c =
     let made = c .before .before .before .before .before .before .before .before .compile in
-    let put = put-same _ _ _ _ _ _ (lists-refusal _ _ _ _ (made .ensures .0) (made .ensures .1) refl _ _ (c .before .before .before .before .before .compiled .given .1)) (c .before .before .put-refusal .ensures) in
+    let put = put-same _ _ _ _ _ _ (lists-refusal _ _ _ _ (made .ensures .0) (made .ensures .1) refl _ (c .before .before .before .before .before .compiled .given .1)) (c .before .before .put-refusal .ensures) in
     (counts _ _ (put-within _ _ _ _ _ put), put)
 
 same-length-2 : tie.Need-same-length-2

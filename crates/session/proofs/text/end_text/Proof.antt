@@ -26,7 +26,7 @@ returns c =
     let made = c .before .before .before .before .before .compile in
     let s = c .before .before .before .before .before .before .before .before .before in
     text-refused _ (s .args .state) _ _ (made .result) _ (made .ensures .0) (made .ensures .1) (made .kept .1 .0) (s .pre .1) (s .pre .2) (s .pre .3)
-    _ _ _ _ (c .before .before .before .compiled .given .1) (omega (arith, c .before .before .known-told .given)) (c .put-refusal .ensures)
+    _ _ _ (c .before .before .before .compiled .given .1) (omega (arith, c .before .before .known-told .given)) (c .put-refusal .ensures)
 
 returns-2 : tie.Need-returns-2
 returns-2 c =

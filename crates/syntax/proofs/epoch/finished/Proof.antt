@@ -1,5 +1,5 @@
 use mathlib.Core.Path.{_∙_}
-use Rattle.syntax.specs.EpochScan.{finishRead}
+use Rattle.syntax.specs.Steps.EpochScan.{finishRead}
 use borrow.Author.Needs.{needs}
 use Rattle.syntax.proofs.epoch.finished.Statement.{statement}
 use Rattle.syntax.proofs.epoch.finished.Tie as tie

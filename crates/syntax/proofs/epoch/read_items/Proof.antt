@@ -1,5 +1,5 @@
 use Rattle.lexer.specs.Byte.{isSpace}
-use Rattle.lexer.specs.Scan.{skip}
+use Rattle.lexer.specs.Lines.{skipWhile}
 use mir.Facts.{toZ-ofZ}
 use mir.Syntax.{w32}
 use mir.Val.{SFits}
@@ -8,14 +8,14 @@ use Prim.Native.Nat.{_-_, _≤_, _<_}
 use mathlib.Core.Path.{_≡_, refl, sym, ap, _∙_}
 use lib.ListN.{length}
 use denote.Ref.{now}
-use Rattle.syntax.specs.EpochScan.{scanned, itemAt, readFrom}
+use Rattle.syntax.specs.Steps.EpochScan.{scanned, itemAt, epochFrom}
 use borrow.Author.Needs.{needs}
 use native.Mathlib.Omega.{arith}
 use Rattle.syntax.proofs.epoch.read_items.Statement.{statement}
 use Rattle.syntax.proofs.epoch.read_items.Tie as tie
 
 abbrev Inv-loop : tie.InvT-loop
-Inv-loop line out-of-range₀ twice₀ events₀ given₀ values₀ at₀ out-of-range twice events given values at = readFrom (scanned out-of-range₀ twice₀ events₀ given₀ values₀) line 0 ≡ readFrom (scanned out-of-range twice events given values) line at
+Inv-loop line out-of-range₀ twice₀ events₀ given₀ values₀ at₀ out-of-range twice events given values at = epochFrom (scanned out-of-range₀ twice₀ events₀ given₀ values₀) line 0 ≡ epochFrom (scanned out-of-range twice events given values) line at
 
 abbrev μ-loop : tie.MeasureT-loop
 μ-loop line out-of-range₀ twice₀ events₀ given₀ values₀ at₀ out-of-range twice events given values at = length line - at
@@ -34,7 +34,7 @@ returns c =
     let t = now (c .before .before .before .before .before .args .line) in
     let l = c .before .before .before .loop in
     let s = scanned (l .out-of-range) (l .twice) (l .events) (l .given) (l .values) in
-    let h : length t ≤ skip isSpace t (l .at) = rw (sym (c .before .before .skip-spaces .ensures)) (c .before .if1 .taken) in
+    let h : length t ≤ skipWhile isSpace t (l .at) = rw (sym (c .before .before .skip-spaces .ensures)) (c .before .if1 .taken) in
     c .finished .ensures ∙ read-ended t (l .at) s h ∙ sym (l .inv)
 
 item-at-requires : tie.Need-item-at-requires Inv-loop μ-loop
@@ -152,7 +152,7 @@ returns-2 c =
     let l = c .before .before .before .before .before .before .loop in
     let s = scanned (l .out-of-range) (l .twice) (l .events) (l .given) (l .values) in
     let q = ap (itemAt t) (sym (c .before .before .before .before .before .skip-spaces .ensures)) ∙ sym (c .before .before .before .item-at .ensures) ∙ c .before .enum-told .given .1 in
-    let h : skip isSpace t (l .at) < length t = rw (sym (c .before .before .before .before .before .skip-spaces .ensures)) (c .before .before .before .before .if1 .left) in
+    let h : skipWhile isSpace t (l .at) < length t = rw (sym (c .before .before .before .before .before .skip-spaces .ensures)) (c .before .before .before .before .if1 .left) in
     c .refused .ensures ∙ read-malformed t (l .at) s h q ∙ sym (l .inv)
 
 pub read-items-spec : {M : Type 1} → statement M

@@ -1,7 +1,7 @@
 use mathlib.Core.Path.{sym, ap, _∙_}
 use denote.Ref.{now}
 use Rattle.syntax.proofs.ItemLaws.{value-end, value-other, value-no-number, value-ended, value-no-equals, value-read}
-use Rattle.syntax.specs.EpochScan.{valueItem}
+use Rattle.syntax.specs.Steps.EpochScan.{valueItem}
 use borrow.Author.Needs.{needs}
 use Rattle.syntax.proofs.epoch.value_at.Statement.{statement}
 use Rattle.syntax.proofs.epoch.value_at.Tie as tie

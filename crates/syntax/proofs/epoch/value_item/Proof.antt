@@ -3,7 +3,7 @@ use mir.Facts.{toZ-ofZ}
 use mir.Syntax.{w32}
 use mir.Val.{SFits}
 use Rattle.syntax.proofs.ItemLaws.{value-valid, value-outside}
-use Rattle.syntax.specs.EpochScan.{valueItem}
+use Rattle.syntax.specs.Steps.EpochScan.{valueItem}
 use borrow.Author.Needs.{needs}
 use Rattle.syntax.proofs.epoch.value_item.Statement.{statement}
 use Rattle.syntax.proofs.epoch.value_item.Tie as tie

@@ -1,4 +1,4 @@
-use Rattle.syntax.specs.Outcome.{assembledParts}
+use Rattle.syntax.specs.Steps.Outcome.{assembledLine}
 use borrow.Author.Needs.{needs}
 use Rattle.syntax.proofs.line.assembled.Statement.{statement}
 use Rattle.syntax.proofs.line.assembled.Tie as tie
@@ -13,11 +13,11 @@ failed-requires : tie.Need-failed-requires
 failed-requires c κs = search needs
 
 returns : tie.Need-returns
-unfolding assembledParts
+unfolding assembledLine
 returns c = rw (c .both2 .ensures, c .before .both .ensures, c .before .before .before .before .if1 .taken)
 
 returns-2 : tie.Need-returns-2
-unfolding assembledParts
+unfolding assembledLine
 returns-2 c = rw (c .before .if1 .left) (c .failed .ensures)
 
 pub assembled-spec : {M : Type 1} → statement M

@@ -4,14 +4,14 @@ use mathlib.Core.Path.{_≡_, refl, sym, ap, _∙_}
 use borrow.Author.Tests.{eq-eqb, ne-eqb}
 use lib.ListN.{length}
 use denote.Ref.{now}
-use Rattle.lexer.proofs.RunLaws.{skip-here, skip-past, skip-end}
-use Rattle.lexer.specs.Scan.{skip, inLine, lineEnd}
+use Rattle.lexer.proofs.WhileLaws.{skip-here, skip-past, skip-end}
+use Rattle.lexer.specs.Lines.{skipWhile, inLine, lineEnd}
 use borrow.Author.Needs.{needs}
 use Rattle.syntax.proofs.line.line_end.Statement.{statement}
 use Rattle.syntax.proofs.line.line_end.Tie as tie
 
 abbrev Inv-loop : tie.InvT-loop
-Inv-loop text at i₀ i = skip inLine text at ≡ skip inLine text i
+Inv-loop text at i₀ i = skipWhile inLine text at ≡ skipWhile inLine text i
 
 abbrev μ-loop : tie.MeasureT-loop
 μ-loop text at i₀ i = length text - i

@@ -2,7 +2,7 @@ use Prim.Native.Nat.{ℕ}
 use mathlib.Core.Path.{sym, ap, _∙_}
 use denote.Ref.{now}
 use Rattle.lexer.specs.Byte.{bytes}
-use Rattle.lexer.specs.Scan.{wordAt, nameAt}
+use Rattle.lexer.specs.Steps.Scan.{keywordAt, nameAt}
 use Rattle.syntax.proofs.CauseLaws.{cause-absent, cause-no-action, cause-valid, cause-outside}
 use borrow.Author.Needs.{needs}
 use Rattle.syntax.proofs.line.read_cause.Statement.{statement}
@@ -27,7 +27,7 @@ returns : tie.Need-returns
 returns c =
     let t = now (c .before .before .before .before .before .before .args .text) in
     let p = c .before .before .before .before .before .before .args .heads in
-    let w = ap (λ (k : ℕ). wordAt t k (bytes "causes")) (sym (c .before .before .before .before .skip-spaces .ensures)) ∙ sym (c .before .before .before .causes-at .ensures) ∙ c .before .enum-told .given .1 in
+    let w = ap (λ (k : ℕ). keywordAt t k (bytes "causes")) (sym (c .before .before .before .before .skip-spaces .ensures)) ∙ sym (c .before .before .before .causes-at .ensures) ∙ c .before .enum-told .given .1 in
     c .failed .ensures ∙ cause-absent t (p .at) p w
 
 skip-spaces-requires-2 : tie.Need-skip-spaces-requires-2
@@ -49,7 +49,7 @@ returns-2 : tie.Need-returns-2
 returns-2 c =
     let t = now (c .before .before .before .before .before .before .before .before .before .before .before .args .text) in
     let p = c .before .before .before .before .before .before .before .before .before .before .before .args .heads in
-    let w = ap (λ (k : ℕ). wordAt t k (bytes "causes")) (sym (c .before .before .before .before .before .before .before .before .before .skip-spaces .ensures)) ∙ sym (c .before .before .before .before .before .before .before .before .causes-at .ensures) ∙ c .before .before .before .before .before .before .behind .given .1 in
+    let w = ap (λ (k : ℕ). keywordAt t k (bytes "causes")) (sym (c .before .before .before .before .before .before .before .before .before .skip-spaces .ensures)) ∙ sym (c .before .before .before .before .before .before .before .before .causes-at .ensures) ∙ c .before .before .before .before .before .before .behind .given .1 in
     let q = ap (λ (k : ℕ). nameAt t k 65) (sym (c .before .before .before .before .skip-spaces2 .ensures)) ∙ sym (c .before .before .before .action-at .ensures) ∙ c .before .enum-told2 .given .1 in
     c .failed2 .ensures ∙ cause-no-action t (p .at) p _ w q
 
@@ -75,7 +75,7 @@ returns-3 : tie.Need-returns-3
 returns-3 c =
     let t = now (c .before .before .before .before .before .before .before .before .before .before .before .before .before .before .before .before .before .args .text) in
     let p = c .before .before .before .before .before .before .before .before .before .before .before .before .before .before .before .before .before .args .heads in
-    let w = ap (λ (k : ℕ). wordAt t k (bytes "causes")) (sym (c .before .before .before .before .before .before .before .before .before .before .before .before .before .before .before .skip-spaces .ensures)) ∙ sym (c .before .before .before .before .before .before .before .before .before .before .before .before .before .before .causes-at .ensures) ∙ c .before .before .before .before .before .before .before .before .before .before .before .before .behind .given .1 in
+    let w = ap (λ (k : ℕ). keywordAt t k (bytes "causes")) (sym (c .before .before .before .before .before .before .before .before .before .before .before .before .before .before .before .skip-spaces .ensures)) ∙ sym (c .before .before .before .before .before .before .before .before .before .before .before .before .before .before .causes-at .ensures) ∙ c .before .before .before .before .before .before .before .before .before .before .before .before .behind .given .1 in
     let q = ap (λ (k : ℕ). nameAt t k 65) (sym (c .before .before .before .before .before .before .before .before .before .before .skip-spaces2 .ensures)) ∙ sym (c .before .before .before .before .before .before .before .before .before .action-at .ensures) ∙ c .before .before .before .before .before .before .before .n .given .1 in
     c .assembled .ensures ∙ rw (c .before .before .before .before .before .read-condition .ensures) (cause-valid t (p .at) p _ w _ _ q _ (sym (c .before .before .before .before .new .ensures) ∙ c .before .before .check .given .1))
 
@@ -83,7 +83,7 @@ returns-4 : tie.Need-returns-4
 returns-4 c =
     let t = now (c .before .before .before .before .before .before .before .before .before .before .before .before .before .before .before .before .args .text) in
     let p = c .before .before .before .before .before .before .before .before .before .before .before .before .before .before .before .before .args .heads in
-    let w = ap (λ (k : ℕ). wordAt t k (bytes "causes")) (sym (c .before .before .before .before .before .before .before .before .before .before .before .before .before .before .skip-spaces .ensures)) ∙ sym (c .before .before .before .before .before .before .before .before .before .before .before .before .before .causes-at .ensures) ∙ c .before .before .before .before .before .before .before .before .before .before .before .behind .given .1 in
+    let w = ap (λ (k : ℕ). keywordAt t k (bytes "causes")) (sym (c .before .before .before .before .before .before .before .before .before .before .before .before .before .before .skip-spaces .ensures)) ∙ sym (c .before .before .before .before .before .before .before .before .before .before .before .before .before .causes-at .ensures) ∙ c .before .before .before .before .before .before .before .before .before .before .before .behind .given .1 in
     let q = ap (λ (k : ℕ). nameAt t k 65) (sym (c .before .before .before .before .before .before .before .before .before .skip-spaces2 .ensures)) ∙ sym (c .before .before .before .before .before .before .before .before .action-at .ensures) ∙ c .before .before .before .before .before .before .n .given .1 in
     c .assembled2 .ensures ∙ rw (c .before .before .before .before .read-condition .ensures) (cause-outside t (p .at) p _ w _ _ q (sym (c .before .before .before .new .ensures) ∙ c .before .enum-told3 .given .1))
 

@@ -3,22 +3,23 @@ use mathlib.Core.Logic.{⊎-elim}
 use mathlib.Core.Path.{_≡_, sym, ap, _∙_}
 use denote.Ref.{now}
 use lib.ListN.{length}
-use Rattle.policy.specs.Line.{lineOf}
+use Rattle.policy.specs.Value.{lineOf}
 use Rattle.lexer.specs.Byte.{bytes}
 use Rattle.lexer.specs.Number.{isEmpty}
-use Rattle.lexer.specs.Parts.{comparisonAt}
-use Rattle.lexer.specs.Scan.{tokenAt, tokensAt, lineEnd, wordAt}
-use Rattle.syntax.proofs.ConditionLaws.{comparisonsFrom, comparisons-start, comparisons-failed, comparisons-done, comparisons-broken, comparisons-less, comparisons-again}
+use Rattle.lexer.specs.Steps.PartAt.{comparisonAt}
+use Rattle.lexer.specs.Steps.Scan.{tokenAt, tokensAt, keywordAt}
+use Rattle.lexer.specs.Lines.{lineEnd}
+use Rattle.syntax.proofs.ConditionLaws.{comparisonsLeft, comparisons-start, comparisons-failed, comparisons-done, comparisons-broken, comparisons-less, comparisons-again}
 use Rattle.syntax.proofs.FillLaws.{taken-in, left-out}
-use Rattle.syntax.specs.Grammar.{comparisonsOf}
-use Rattle.syntax.specs.Outcome.{conditionOutcome}
+use Rattle.syntax.specs.Grammar.{comparisonsFrom}
+use Rattle.syntax.specs.Steps.Outcome.{conditionOutcome}
 use borrow.Author.Needs.{needs}
 use native.Mathlib.Omega.{arith}
 use Rattle.syntax.proofs.line.read_comparisons.Statement.{statement}
 use Rattle.syntax.proofs.line.read_comparisons.Tie as tie
 
 abbrev Inv-loop : tie.InvT-loop
-Inv-loop text from comparisons₀ count₀ in-range₀ at₀ comparisons count in-range at = conditionOutcome (lineEnd text from) (comparisonsOf (tokensAt text from)) ≡ comparisonsFrom in-range comparisons count (lineEnd text at) (comparisonsOf (tokensAt text at))
+Inv-loop text from comparisons₀ count₀ in-range₀ at₀ comparisons count in-range at = conditionOutcome (lineEnd text from) (comparisonsFrom (tokensAt text from)) ≡ comparisonsLeft in-range comparisons count (lineEnd text at) (comparisonsFrom (tokensAt text at))
 
 abbrev μ-loop : tie.MeasureT-loop
 μ-loop text from comparisons₀ count₀ in-range₀ at₀ comparisons count in-range at = length text - at
@@ -98,7 +99,7 @@ returns-3 c =
     let l = c .before .before .before .before .before .before .before .before .before .before .before .before .before .before .before .loop in
     let q = ap (comparisonAt t) (sym (c .before .before .before .before .before .before .before .before .before .before .before .before .before .before .skip-spaces .ensures)) ∙ sym (c .before .before .before .before .before .before .before .before .before .before .before .before .before .comparison-at .ensures) ∙ c .before .before .before .before .before .before .before .before .before .before .before .comparison .given .1 in
     let h = ap (λ (k : ℕ). isEmpty (tokenAt t k)) (sym (c .before .before .before .before .before .before .skip-spaces2 .ensures)) ∙ sym (c .before .before .before .before .before .at-token-end .ensures) ∙ c .before .before .before .before .if2 .left in
-    let w = ap (λ (k : ℕ). wordAt t k (bytes ",")) (sym (c .before .before .before .before .before .before .skip-spaces2 .ensures)) ∙ sym (c .before .before .before .comma-at .ensures) ∙ c .before .enum-told2 .given .1 in
+    let w = ap (λ (k : ℕ). keywordAt t k (bytes ",")) (sym (c .before .before .before .before .before .before .skip-spaces2 .ensures)) ∙ sym (c .before .before .before .comma-at .ensures) ∙ c .before .enum-told2 .given .1 in
     c .no-comparisons2 .ensures ∙ comparisons-broken t (l .at) (l .in-range) (l .comparisons) (l .count) _ _ _ q h w ∙ sym (l .inv)
 
 loop-less : tie.Need-loop-less Inv-loop μ-loop
@@ -107,7 +108,7 @@ loop-less c =
     let l = c .before .before .before .before .before .before .before .before .before .before .before .before .before .before .before .loop in
     let q = ap (comparisonAt t) (sym (c .before .before .before .before .before .before .before .before .before .before .before .before .before .before .skip-spaces .ensures)) ∙ sym (c .before .before .before .before .before .before .before .before .before .before .before .before .before .comparison-at .ensures) ∙ c .before .before .before .before .before .before .before .before .before .before .before .comparison .given .1 in
     let h = ap (λ (k : ℕ). isEmpty (tokenAt t k)) (sym (c .before .before .before .before .before .before .skip-spaces2 .ensures)) ∙ sym (c .before .before .before .before .before .at-token-end .ensures) ∙ c .before .before .before .before .if2 .left in
-    let w = ap (λ (k : ℕ). wordAt t k (bytes ",")) (sym (c .before .before .before .before .before .before .skip-spaces2 .ensures)) ∙ sym (c .before .before .before .comma-at .ensures) ∙ c .before .behind .given .1 in
+    let w = ap (λ (k : ℕ). keywordAt t k (bytes ",")) (sym (c .before .before .before .before .before .before .skip-spaces2 .ensures)) ∙ sym (c .before .before .before .comma-at .ensures) ∙ c .before .behind .given .1 in
     let k = comparisons-less t (l .at) (l .in-range) (l .comparisons) (l .count) _ _ _ q h _ w in
     omega arith
 
@@ -117,7 +118,7 @@ loop-again c =
     let l = c .before .before .before .before .before .before .before .before .before .before .before .before .before .before .before .loop in
     let q = ap (comparisonAt t) (sym (c .before .before .before .before .before .before .before .before .before .before .before .before .before .before .skip-spaces .ensures)) ∙ sym (c .before .before .before .before .before .before .before .before .before .before .before .before .before .comparison-at .ensures) ∙ c .before .before .before .before .before .before .before .before .before .before .before .comparison .given .1 in
     let h = ap (λ (k : ℕ). isEmpty (tokenAt t k)) (sym (c .before .before .before .before .before .before .skip-spaces2 .ensures)) ∙ sym (c .before .before .before .before .before .at-token-end .ensures) ∙ c .before .before .before .before .if2 .left in
-    let w = ap (λ (k : ℕ). wordAt t k (bytes ",")) (sym (c .before .before .before .before .before .before .skip-spaces2 .ensures)) ∙ sym (c .before .before .before .comma-at .ensures) ∙ c .before .behind .given .1 in
+    let w = ap (λ (k : ℕ). keywordAt t k (bytes ",")) (sym (c .before .before .before .before .before .before .skip-spaces2 .ensures)) ∙ sym (c .before .before .before .comma-at .ensures) ∙ c .before .behind .given .1 in
     let x = c .before .before .before .before .before .before .before .before .before .before .before .comparison .given .0 .0 in
     let k = ⊎-elim (λ y. taken-in 4 (l .comparisons) _ (l .count) x (y .0 .taken) (y .1)) (λ y. left-out 4 (l .comparisons) _ (l .count) x (y .0 .left) (y .1)) (c .before .before .before .before .before .before .before .before .before .if1 .came) in
     rw (c .before .before .before .before .before .before .before .both .ensures, k, c .before .before .before .before .before .before .before .before .one-more .ensures) (l .inv ∙ comparisons-again t (l .at) (l .in-range) (l .comparisons) (l .count) _ _ _ q h _ w)

@@ -3,7 +3,7 @@ use mathlib.Core.Path.{sym, ap, _∙_}
 use denote.Ref.{now}
 use Rattle.lexer.specs.Byte.{bytes}
 use Rattle.lexer.specs.Number.{isEmpty}
-use Rattle.lexer.specs.Scan.{tokenAt, wordAt}
+use Rattle.lexer.specs.Steps.Scan.{tokenAt, keywordAt}
 use Rattle.syntax.proofs.ConditionLaws.{condition-none, condition-bad, condition-some}
 use borrow.Author.Needs.{needs}
 use Rattle.syntax.proofs.line.read_condition.Statement.{statement}
@@ -40,7 +40,7 @@ returns-2 : tie.Need-returns-2
 returns-2 c =
     let t = now (c .before .before .before .before .before .before .before .before .args .text) in
     let h = ap (λ (k : ℕ). isEmpty (tokenAt t k)) (sym (c .before .before .before .before .before .before .skip-spaces .ensures)) ∙ sym (c .before .before .before .before .before .at-token-end .ensures) ∙ c .before .before .before .before .if1 .left in
-    let w = ap (λ (k : ℕ). wordAt t k (bytes "if")) (sym (c .before .before .before .before .before .before .skip-spaces .ensures)) ∙ sym (c .before .before .before .if-at .ensures) ∙ c .before .enum-told .given .1 in
+    let w = ap (λ (k : ℕ). keywordAt t k (bytes "if")) (sym (c .before .before .before .before .before .before .skip-spaces .ensures)) ∙ sym (c .before .before .before .if-at .ensures) ∙ c .before .enum-told .given .1 in
     c .no-comparisons2 .ensures ∙ condition-bad t (c .before .before .before .before .before .before .before .before .args .from) h w
 
 read-comparisons-requires : tie.Need-read-comparisons-requires
@@ -50,7 +50,7 @@ returns-3 : tie.Need-returns-3
 returns-3 c =
     let t = now (c .before .before .before .before .before .before .before .before .before .args .text) in
     let h = ap (λ (k : ℕ). isEmpty (tokenAt t k)) (sym (c .before .before .before .before .before .before .before .skip-spaces .ensures)) ∙ sym (c .before .before .before .before .before .before .at-token-end .ensures) ∙ c .before .before .before .before .before .if1 .left in
-    let w = ap (λ (k : ℕ). wordAt t k (bytes "if")) (sym (c .before .before .before .before .before .before .before .skip-spaces .ensures)) ∙ sym (c .before .before .before .before .if-at .ensures) ∙ c .before .before .behind .given .1 in
+    let w = ap (λ (k : ℕ). keywordAt t k (bytes "if")) (sym (c .before .before .before .before .before .before .before .skip-spaces .ensures)) ∙ sym (c .before .before .before .before .if-at .ensures) ∙ c .before .before .behind .given .1 in
     c .read-comparisons .ensures ∙ condition-some t (c .before .before .before .before .before .before .before .before .before .args .from) h _ w
 
 pub read-condition-spec : {M : Type 1} → statement M

@@ -3,14 +3,15 @@ use mathlib.Core.Logic.{⊎-elim}
 use mathlib.Core.Path.{_≡_, sym, ap, _∙_}
 use denote.Ref.{now}
 use lib.ListN.{length}
-use Rattle.policy.specs.Line.{head, lineOf}
+use Rattle.policy.specs.Value.{head, lineOf}
 use Rattle.lexer.specs.Byte.{bytes}
-use Rattle.lexer.specs.Parts.{testOf, headAt}
-use Rattle.lexer.specs.Scan.{tokensAt, lineEnd, wordAt}
+use Rattle.lexer.specs.Steps.PartAt.{testOf, headAt}
+use Rattle.lexer.specs.Steps.Scan.{tokensAt, keywordAt}
+use Rattle.lexer.specs.Lines.{lineEnd}
 use Rattle.syntax.proofs.FillLaws.{taken-in, left-out}
 use Rattle.syntax.proofs.HeadLaws.{headsFrom, heads-start, heads-failed, heads-done, heads-less, heads-again}
 use Rattle.syntax.specs.Grammar.{joined}
-use Rattle.syntax.specs.Outcome.{headsOutcome}
+use Rattle.syntax.specs.Steps.Outcome.{headsOutcome}
 use borrow.Author.Needs.{needs}
 use native.Mathlib.Omega.{arith}
 use Rattle.syntax.proofs.line.read_heads.Statement.{statement}
@@ -79,7 +80,7 @@ returns-2 c =
     let v = c .before .before .before .before .before .before .before .before .before .before .before .before .before .before .before .before .args .never in
     let l = c .before .before .before .before .before .before .before .before .before .before .before .before .loop in
     let q = ap (λ (k : ℕ). headAt t k v) (sym (c .before .before .before .before .before .before .before .before .before .before .before .skip-spaces .ensures)) ∙ sym (c .before .before .before .before .before .before .before .before .before .before .head-at .ensures) ∙ c .before .before .before .before .before .before .before .before .test .given .1 in
-    let w = ap (λ (k : ℕ). wordAt t k (bytes "&")) (sym (c .before .before .before .skip-spaces2 .ensures)) ∙ sym (c .before .before .ampersand-at .ensures) ∙ c .enum-told2 .given .1 in
+    let w = ap (λ (k : ℕ). keywordAt t k (bytes "&")) (sym (c .before .before .before .skip-spaces2 .ensures)) ∙ sym (c .before .before .ampersand-at .ensures) ∙ c .enum-told2 .given .1 in
     let x = c .before .before .before .before .before .before .before .before .test .given .0 .0 in
     let k = ⊎-elim (λ y. taken-in 8 (l .heads) _ (l .count) (head x) (y .0 .taken) (y .1)) (λ y. left-out 8 (l .heads) _ (l .count) (head x) (y .0 .left) (y .1)) (c .before .before .before .before .before .before .if1 .came) in
     rw (c .before .before .before .before .both .ensures, k, c .before .before .before .before .before .one-more .ensures, c .before .before .before .skip-spaces2 .ensures) (heads-done t (l .at) v (l .in-range) (l .heads) (l .count) _ _ _ q w ∙ sym (l .inv))
@@ -90,7 +91,7 @@ loop-less c =
     let v = c .before .before .before .before .before .before .before .before .before .before .before .before .before .before .before .before .before .args .never in
     let l = c .before .before .before .before .before .before .before .before .before .before .before .before .before .loop in
     let q = ap (λ (k : ℕ). headAt t k v) (sym (c .before .before .before .before .before .before .before .before .before .before .before .before .skip-spaces .ensures)) ∙ sym (c .before .before .before .before .before .before .before .before .before .before .before .head-at .ensures) ∙ c .before .before .before .before .before .before .before .before .before .test .given .1 in
-    let w = ap (λ (k : ℕ). wordAt t k (bytes "&")) (sym (c .before .before .before .before .skip-spaces2 .ensures)) ∙ sym (c .before .before .before .ampersand-at .ensures) ∙ c .before .behind .given .1 in
+    let w = ap (λ (k : ℕ). keywordAt t k (bytes "&")) (sym (c .before .before .before .before .skip-spaces2 .ensures)) ∙ sym (c .before .before .before .ampersand-at .ensures) ∙ c .before .behind .given .1 in
     let h = heads-less t (l .at) v (l .in-range) (l .heads) (l .count) _ _ _ q _ w in
     omega arith
 
@@ -100,7 +101,7 @@ loop-again c =
     let v = c .before .before .before .before .before .before .before .before .before .before .before .before .before .before .before .before .before .args .never in
     let l = c .before .before .before .before .before .before .before .before .before .before .before .before .before .loop in
     let q = ap (λ (k : ℕ). headAt t k v) (sym (c .before .before .before .before .before .before .before .before .before .before .before .before .skip-spaces .ensures)) ∙ sym (c .before .before .before .before .before .before .before .before .before .before .before .head-at .ensures) ∙ c .before .before .before .before .before .before .before .before .before .test .given .1 in
-    let w = ap (λ (k : ℕ). wordAt t k (bytes "&")) (sym (c .before .before .before .before .skip-spaces2 .ensures)) ∙ sym (c .before .before .before .ampersand-at .ensures) ∙ c .before .behind .given .1 in
+    let w = ap (λ (k : ℕ). keywordAt t k (bytes "&")) (sym (c .before .before .before .before .skip-spaces2 .ensures)) ∙ sym (c .before .before .before .ampersand-at .ensures) ∙ c .before .behind .given .1 in
     let x = c .before .before .before .before .before .before .before .before .before .test .given .0 .0 in
     let k = ⊎-elim (λ y. taken-in 8 (l .heads) _ (l .count) (head x) (y .0 .taken) (y .1)) (λ y. left-out 8 (l .heads) _ (l .count) (head x) (y .0 .left) (y .1)) (c .before .before .before .before .before .before .before .if1 .came) in
     rw (c .before .before .before .before .before .both .ensures, k, c .before .before .before .before .before .before .one-more .ensures) (l .inv ∙ heads-again t (l .at) v (l .in-range) (l .heads) (l .count) _ _ _ q _ w)

@@ -3,11 +3,12 @@ use mathlib.Core.Path.{sym, ap, _∙_}
 use lib.ListN.{getD}
 use denote.Ref.{now}
 use Rattle.syntax.proofs.JudgeLaws.{line-blank, line-comment, line-accepted, line-refused, line-skipped}
-use Rattle.lexer.proofs.WordLaws.{token-inside}
+use Rattle.lexer.proofs.KeywordLaws.{token-inside}
 use Rattle.syntax.specs.Answers.{behindLine, lineReadOf}
 use Rattle.lexer.specs.Byte.{isSpace}
 use Rattle.lexer.specs.Number.{isEmpty}
-use Rattle.lexer.specs.Scan.{skip, tokenAt, lineEnd}
+use Rattle.lexer.specs.Steps.Scan.{tokenAt}
+use Rattle.lexer.specs.Lines.{skipWhile, lineEnd}
 use Rattle.syntax.specs.Text.{LineAnswer}
 use borrow.Author.Needs.{needs}
 use Rattle.syntax.proofs.line.read_line.Statement.{statement}
@@ -39,7 +40,7 @@ shared-slice-read-if2 c =
     let a = c .before .before .before .before .before .args .at in
     let k = c .before .before .before .skip-spaces .ensures in
     let h = ap (λ (n : ℕ). isEmpty (tokenAt t n)) (sym k) ∙ sym (c .before .before .at-token-end .ensures) ∙ c .before .if1 .left in
-    rw k (token-inside t (skip isSpace t a) h)
+    rw k (token-inside t (skipWhile isSpace t a) h)
 
 line-end-requires : tie.Need-line-end-requires
 line-end-requires c κs = search needs
@@ -60,8 +61,8 @@ returns-2 c =
     ∙ ap (λ (n : ℕ). lineReadOf n LineAnswer.skipped) (c .before .behind-line2 .ensures ∙ ap (behindLine t) (c .before .before .line-end .ensures ∙ ap (lineEnd t) k))
     ∙ line-comment t a h (ap (λ (n : ℕ). getD t n 0) (sym k) ∙ c .before .before .before .if2 .taken)
 
-read-parts-requires : tie.Need-read-parts-requires
-read-parts-requires c κs = search needs
+parse-line-requires : tie.Need-parse-line-requires
+parse-line-requires c κs = search needs
 
 judged-requires : tie.Need-judged-requires
 judged-requires c κs = search needs
@@ -88,19 +89,19 @@ returns-3 : tie.Need-returns-3
 returns-3 c =
     let t = now (c .before .before .before .before .before .before .before .before .before .before .before .before .args .text) in
     let h = sym (c .before .before .before .before .before .before .before .before .before .at-token-end .ensures) ∙ c .before .before .before .before .before .before .before .before .if1 .left in
-    line-accepted t (c .before .before .before .before .before .before .before .before .before .before .before .before .args .at) _ (c .before .before .before .before .before .before .before .before .before .before .skip-spaces .ensures) h (c .before .before .before .before .before .before .if2 .left) (c .before .before .before .before .before .read-parts .result) (c .before .before .before .before .before .read-parts .ensures h) _ (c .before .before .before .before .judged .ensures) (c .before .before .enum-told .given .1) _ (c .behind-line3 .ensures)
+    line-accepted t (c .before .before .before .before .before .before .before .before .before .before .before .before .args .at) _ (c .before .before .before .before .before .before .before .before .before .before .skip-spaces .ensures) h (c .before .before .before .before .before .before .if2 .left) (c .before .before .before .before .before .parse-line .result) (c .before .before .before .before .before .parse-line .ensures h) _ (c .before .before .before .before .judged .ensures) (c .before .before .enum-told .given .1) _ (c .behind-line3 .ensures)
 
 returns-4 : tie.Need-returns-4
 returns-4 c =
     let t = now (c .before .before .before .before .before .before .before .before .before .before .before .before .args .text) in
     let h = sym (c .before .before .before .before .before .before .before .before .before .at-token-end .ensures) ∙ c .before .before .before .before .before .before .before .before .if1 .left in
-    c .refused .ensures ∙ line-refused t (c .before .before .before .before .before .before .before .before .before .before .before .before .args .at) _ (c .before .before .before .before .before .before .before .before .before .before .skip-spaces .ensures) h (c .before .before .before .before .before .before .if2 .left) (c .before .before .before .before .before .read-parts .result) (c .before .before .before .before .before .read-parts .ensures h) _ (sym (c .before .before .before .before .judged .ensures) ∙ c .before .before .status .given .1)
+    c .refused .ensures ∙ line-refused t (c .before .before .before .before .before .before .before .before .before .before .before .before .args .at) _ (c .before .before .before .before .before .before .before .before .before .before .skip-spaces .ensures) h (c .before .before .before .before .before .before .if2 .left) (c .before .before .before .before .before .parse-line .result) (c .before .before .before .before .before .parse-line .ensures h) _ (sym (c .before .before .before .before .judged .ensures) ∙ c .before .before .status .given .1)
 
 returns-5 : tie.Need-returns-5
 returns-5 c =
     let t = now (c .before .before .before .before .before .before .before .before .before .before .before .args .text) in
     let h = sym (c .before .before .before .before .before .before .before .before .at-token-end .ensures) ∙ c .before .before .before .before .before .before .before .if1 .left in
-    line-skipped t (c .before .before .before .before .before .before .before .before .before .before .before .args .at) _ (c .before .before .before .before .before .before .before .before .before .skip-spaces .ensures) h (c .before .before .before .before .before .if2 .left) (c .before .before .before .before .read-parts .result) (c .before .before .before .before .read-parts .ensures h) (sym (c .before .before .before .judged .ensures) ∙ c .before .enum-told2 .given .1) _
+    line-skipped t (c .before .before .before .before .before .before .before .before .before .before .before .args .at) _ (c .before .before .before .before .before .before .before .before .before .skip-spaces .ensures) h (c .before .before .before .before .before .if2 .left) (c .before .before .before .before .parse-line .result) (c .before .before .before .before .parse-line .ensures h) (sym (c .before .before .before .judged .ensures) ∙ c .before .enum-told2 .given .1) _
 
 pub read-line-spec : {M : Type 1} → statement M
 read-line-spec =
@@ -116,7 +117,7 @@ read-line-spec =
     behind-line-requires-2
     skipped-requires-2
     returns-2
-    read-parts-requires
+    parse-line-requires
     judged-requires
     enum-told
     behind-line-requires-3

@@ -2,8 +2,10 @@ use Prim.Native.Nat.{_-_, _+_, _≤_}
 use mathlib.Core.Path.{_≡_, refl, sym, ap, _∙_}
 use lib.ListN.{length}
 use denote.Ref.{now}
-use Rattle.syntax.proofs.TextLaws.{countRead, countFrom, noCounts, none-small, text-long, text-short, halted-read, going-read, count-stop, count-later, count-go, count-small, count-end}
-use Rattle.syntax.specs.Answers.{Small}
+use Rattle.syntax.proofs.TextLaws.{countRead, countFrom, none-small, read-counted, text-long, text-short, halted-read, going-read, count-stop, count-later, count-go, count-small, count-end}
+use Rattle.syntax.specs.Answers.{noCounts}
+use Rattle.syntax.specs.declared.text.TextRead.{TextRead}
+use Rattle.syntax.specs.Steps.Tally.{Small}
 use borrow.Author.Needs.{needs}
 use native.Mathlib.Omega.{arith}
 use Rattle.syntax.proofs.text.read_text.Statement.{statement}
@@ -16,7 +18,10 @@ abbrev μ-loop : tie.MeasureT-loop
 μ-loop text counts₀ at₀ number₀ counts at number = length text - at
 
 returns : tie.Need-returns Inv-loop μ-loop
-returns c = text-long (now (c .before .before .args .text)) (c .if1 .taken)
+returns c = ap TextRead.Refused (c .at .ensures) ∙ text-long (now (c .before .before .before .args .text)) (c .before .if1 .taken)
+
+at-requires : tie.Need-at-requires Inv-loop μ-loop
+at-requires c κs = search needs
 
 loop-holds : tie.Need-loop-holds Inv-loop μ-loop
 loop-holds c = (refl, none-small, omega arith)
@@ -25,7 +30,7 @@ read-line-requires : tie.Need-read-line-requires Inv-loop μ-loop
 read-line-requires c κs = search needs
 
 step-requires : tie.Need-step-requires Inv-loop μ-loop
-step-requires c κs = c .before .before .before .loop .inv .1
+step-requires c κs = (c .before .before .before .loop .inv .1, read-counted _ _ _ (c .before .read-line .ensures))
 
 enum-known-next : tie.Need-enum-known-next Inv-loop μ-loop
 enum-known-next c = search needs
@@ -33,13 +38,16 @@ enum-known-next c = search needs
 enum-known-next-2 : tie.Need-enum-known-next-2 Inv-loop μ-loop
 enum-known-next-2 c = search needs
 
+at-requires-2 : tie.Need-at-requires-2 Inv-loop μ-loop
+at-requires-2 c κs = search needs
+
 returns-2 : tie.Need-returns-2 Inv-loop μ-loop
 returns-2 c =
-    let t = now (c .before .before .before .before .before .before .before .before .before .before .args .text) in
-    let l = c .before .before .before .before .before .before .before .loop in
-    let r = c .before .before .before .before .before .read-line .result in
-    let q = c .before .before .before .before .before .read-line .ensures in
-    sym (halted-read _ (l .number)) ∙ ap countRead (sym (count-stop t (l .number) (l .counts) (l .at) (c .before .before .before .before .before .before .loop-test .taken) r q _ (sym (c .before .before .before .step .ensures) ∙ c .before .next2 .given .1))) ∙ sym (l .inv .0) ∙ text-short t (c .before .before .before .before .before .before .before .before .if1 .left)
+    let t = now (c .before .before .before .before .before .before .before .before .before .before .before .args .text) in
+    let l = c .before .before .before .before .before .before .before .before .loop in
+    let r = c .before .before .before .before .before .before .read-line .result in
+    let q = c .before .before .before .before .before .before .read-line .ensures in
+    ap TextRead.Refused (c .at2 .ensures) ∙ sym (halted-read _) ∙ ap countRead (sym (count-stop t (l .number) (l .counts) (l .at) (c .before .before .before .before .before .before .before .loop-test .taken) r q _ (sym (c .before .before .before .before .step .ensures) ∙ c .before .before .next2 .given .1))) ∙ sym (l .inv .0) ∙ text-short t (c .before .before .before .before .before .before .before .before .before .if1 .left)
 
 add-number : tie.Need-add-number Inv-loop μ-loop
 add-number c = search needs
@@ -78,12 +86,14 @@ read-text-spec =
     (tie.spec
     Inv-loop
     μ-loop
+    at-requires
     returns
     loop-holds
     read-line-requires
     step-requires
     enum-known-next
     enum-known-next-2
+    at-requires-2
     returns-2
     add-number
     loop-less

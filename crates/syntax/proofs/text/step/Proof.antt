@@ -1,4 +1,4 @@
-use Rattle.syntax.specs.Answers.{stepOf}
+use Rattle.syntax.specs.Steps.Tally.{stepOf}
 use borrow.Author.Needs.{needs}
 use Rattle.syntax.proofs.text.step.Statement.{statement}
 use Rattle.syntax.proofs.text.step.Tie as tie
@@ -13,7 +13,7 @@ enum-told-2 : tie.Need-enum-told-2
 enum-told-2 c = search needs
 
 tallied-requires : tie.Need-tallied-requires
-tallied-requires c κs = c .before .before .pre
+tallied-requires c κs = search needs
 
 returns : tie.Need-returns
 unfolding stepOf

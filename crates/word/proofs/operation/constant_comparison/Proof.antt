@@ -1,7 +1,7 @@
 use mir.Facts.{toZ-ofZ}
 use mir.Syntax.{w32}
 use mir.Val.{SFits}
-use Rattle.word.specs.Operation.{constantComparison}
+use Rattle.word.specs.Parts.{constantComparison}
 use borrow.Author.Needs.{needs}
 use Rattle.word.proofs.operation.constant_comparison.Statement.{statement}
 use Rattle.word.proofs.operation.constant_comparison.Tie as tie
@@ -12,8 +12,8 @@ first-requires c κs = search needs
 cast-t4 : tie.Need-cast-t4
 cast-t4 c = search needs
 
-relation-requires : tie.Need-relation-requires
-relation-requires c κs = search needs
+relation-code-of-requires : tie.Need-relation-code-of-requires
+relation-code-of-requires c κs = search needs
 
 relation-from-requires : tie.Need-relation-from-requires
 relation-from-requires c κs = search needs
@@ -33,7 +33,7 @@ constant-comparison-spec =
     (tie.spec
     first-requires
     cast-t4
-    relation-requires
+    relation-code-of-requires
     relation-from-requires
     constant-from-requires
     returns)

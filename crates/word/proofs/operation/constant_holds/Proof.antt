@@ -2,7 +2,7 @@ use mir.Facts.{toZ-ofZ}
 use mir.Syntax.{w32}
 use mir.Val.{SFits}
 use Rattle.policy.specs.Comparison.{operandValue, comparisonHolds}
-use Rattle.word.specs.Operation.{constantComparison}
+use Rattle.word.specs.Parts.{constantComparison}
 use borrow.Author.Needs.{needs}
 use Rattle.word.proofs.operation.constant_holds.Statement.{statement}
 use Rattle.word.proofs.operation.constant_holds.Tie as tie
@@ -16,8 +16,8 @@ cast-t7 c = search needs
 value-requires : tie.Need-value-requires
 value-requires c κs = search needs
 
-relation-requires : tie.Need-relation-requires
-relation-requires c κs = search needs
+relation-code-of-requires : tie.Need-relation-code-of-requires
+relation-code-of-requires c κs = search needs
 
 constant-from-requires : tie.Need-constant-from-requires
 constant-from-requires c κs = search needs
@@ -39,7 +39,7 @@ constant-holds-spec =
     first-requires
     cast-t7
     value-requires
-    relation-requires
+    relation-code-of-requires
     constant-from-requires
     relation-holds-requires
     returns)

@@ -1,4 +1,4 @@
-use Rattle.word.specs.Operation.{readingComparison}
+use Rattle.word.specs.Parts.{readingComparison}
 use borrow.Author.Needs.{needs}
 use Rattle.word.proofs.operation.reading_comparison.Statement.{statement}
 use Rattle.word.proofs.operation.reading_comparison.Tie as tie
@@ -9,8 +9,8 @@ first-requires c κs = search needs
 cast-t3 : tie.Need-cast-t3
 cast-t3 c = search needs
 
-relation-requires : tie.Need-relation-requires
-relation-requires c κs = search needs
+relation-code-of-requires : tie.Need-relation-code-of-requires
+relation-code-of-requires c κs = search needs
 
 relation-from-requires : tie.Need-relation-from-requires
 relation-from-requires c κs = search needs
@@ -31,7 +31,7 @@ reading-comparison-spec =
     (tie.spec
     first-requires
     cast-t3
-    relation-requires
+    relation-code-of-requires
     relation-from-requires
     second-requires
     cast-t8

@@ -2,7 +2,7 @@ use mir.Facts.{toZ-ofZ}
 use mir.Syntax.{w32}
 use mir.Val.{SFits}
 use Rattle.policy.specs.Comparison.{operandValue, comparisonHolds}
-use Rattle.word.specs.Operation.{readingComparison}
+use Rattle.word.specs.Parts.{readingComparison}
 use borrow.Author.Needs.{needs}
 use Rattle.word.proofs.operation.reading_holds.Statement.{statement}
 use Rattle.word.proofs.operation.reading_holds.Tie as tie
@@ -25,8 +25,8 @@ cast-t7-2 c = search needs
 value-requires-2 : tie.Need-value-requires-2
 value-requires-2 c κs = search needs
 
-relation-requires : tie.Need-relation-requires
-relation-requires c κs = search needs
+relation-code-of-requires : tie.Need-relation-code-of-requires
+relation-code-of-requires c κs = search needs
 
 relation-holds-requires : tie.Need-relation-holds-requires
 relation-holds-requires c κs = search needs
@@ -48,6 +48,6 @@ reading-holds-spec =
     second-requires
     cast-t7-2
     value-requires-2
-    relation-requires
+    relation-code-of-requires
     relation-holds-requires
     returns)

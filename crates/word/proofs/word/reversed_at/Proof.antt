@@ -1,7 +1,8 @@
 use mathlib.Core.Path.{sym}
 use lib.ListN.{List·getD-eq-default}
 use denote.Ref.{now}
-use Rattle.word.specs.Word.{swap, wordsOf}
+use Rattle.word.specs.Word.{wordsOf}
+use Rattle.word.specs.Steps.Swap.{swap}
 use Rattle.word.proofs.WordLaws.{words-length}
 use native.Mathlib.Omega.{arith}
 use borrow.Author.Needs.{needs}

@@ -1,5 +1,5 @@
 use mathlib.Core.Path.{refl}
-use Rattle.word.specs.Word.{swap}
+use Rattle.word.specs.Steps.Swap.{swap}
 use borrow.Author.Needs.{needs}
 use Rattle.word.proofs.word.swapped.Statement.{statement}
 use Rattle.word.proofs.word.swapped.Tie as tie

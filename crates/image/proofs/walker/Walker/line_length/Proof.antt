@@ -37,7 +37,7 @@ use denote.Triple.Walked.{says, Stays, stay-none, walkOf, goes-none, Walks, ends
 use denote.Exit.{yes}
 use denote.Triple.Clauses.{ensured, lasts}
 use Rattle.word.specs.Word.{between, wordsOf}
-use Rattle.image.specs.Load.{lineAt, lineLength}
+use Rattle.image.specs.Lines.{lineAt, lineLength}
 use Rattle.image.specs.declared.line.Part.{Part}
 use Rattle.image.specs.declared.walker.Walker.{Walker}
 use Rattle.image.proofs.WalkerLaws.{Row, Type′, Laws′, mach, slice, Own, SliceOwn, lent}

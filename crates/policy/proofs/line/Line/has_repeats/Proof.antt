@@ -7,7 +7,8 @@ use Prim.Native.Nat.{_-_}
 use mathlib.Core.List.{map}
 use mathlib.Core.Path.{_≡_, refl, sym, ap, _∙_}
 use lib.ListN.{length, take, drop}
-use Rattle.policy.specs.Limits.{headNumber, seenIn}
+use Rattle.policy.specs.Limits.{headNumber}
+use Rattle.policy.specs.Steps.Seen.{seenIn}
 use borrow.Author.Needs.{needs}
 use native.Mathlib.Omega.{arith}
 use Rattle.policy.proofs.line.Line.has_repeats.Statement.{statement}

@@ -1,10 +1,10 @@
 use mathlib.Core.Path.{refl}
-use Rattle.policy.specs.Line.{lineOf, held, counted}
+use Rattle.policy.specs.Value.{lineOf, padded, counted}
 use Rattle.policy.proofs.line.Line.new.Statement.{statement}
 use Rattle.policy.proofs.line.Line.new.Tie as tie
 
 returns : tie.Need-returns
-unfolding lineOf held counted
+unfolding lineOf padded counted
 returns c = refl
 
 pub new-spec : {M : Type 1} → statement M

@@ -1,7 +1,7 @@
 use native.Mathlib.Omega.{arith}
 use borrow.Author.Needs.{needs}
 use borrow.Author.Tests.{lt-ltb, le-ltb}
-use Rattle.policy.specs.Line.{pushComparison}
+use Rattle.policy.specs.Steps.Push.{pushComparison}
 use Rattle.policy.proofs.line.Line.with_comparison.Statement.{statement}
 use Rattle.policy.proofs.line.Line.with_comparison.Tie as tie
 

@@ -1,7 +1,7 @@
 use native.Mathlib.Omega.{arith}
 use borrow.Author.Needs.{needs}
 use borrow.Author.Tests.{lt-ltb, le-ltb}
-use Rattle.policy.specs.Line.{pushHead}
+use Rattle.policy.specs.Steps.Push.{pushHead}
 use Rattle.policy.proofs.line.Line.with_head.Statement.{statement}
 use Rattle.policy.proofs.line.Line.with_head.Tie as tie
 

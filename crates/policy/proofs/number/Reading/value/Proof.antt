@@ -6,7 +6,7 @@ use denote.Ref.{now}
 use mir.Facts.{toZ-ofZ}
 use mir.Syntax.{w32}
 use mir.Val.{SFits}
-use Rattle.policy.specs.Epoch.{valueOf}
+use Rattle.policy.specs.Epoch.{readingValue}
 use Rattle.policy.proofs.number.Reading.value.Statement.{statement}
 use Rattle.policy.proofs.number.Reading.value.Tie as tie
 
@@ -23,18 +23,18 @@ shared-slice-copy-out-result : tie.Need-shared-slice-copy-out-result
 shared-slice-copy-out-result c = search needs
 
 returns : tie.Need-returns
-unfolding valueOf
+unfolding readingValue
 returns c =
     let a = c .before .before .before .before .before .args in
     let f : SFits w32 (getD (now (a .values)) (a .self .0) (pos 0)) = search needs in
     rw (sym (c .before .before .before .has .ensures) ∙ c .before .before .if1 .taken) (toZ-ofZ f)
 
 returns-2 : tie.Need-returns-2
-unfolding valueOf
+unfolding readingValue
 returns-2 c = rw (sym (c .before .before .has .ensures) ∙ c .before .if1 .taken, List·getD-eq-default (now (c .before .before .before .before .args .values)) (pos 0) (c .if2 .left))
 
 returns-3 : tie.Need-returns-3
-unfolding valueOf
+unfolding readingValue
 returns-3 c = rw (sym (c .before .has .ensures) ∙ c .if1 .left)
 
 pub value-spec : {M : Type 1} → statement M

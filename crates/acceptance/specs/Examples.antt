@@ -1,0 +1,116 @@
+-- Texts and epoch lines of document 01, and lines that are easily read wrong, one row each.
+use Prim.Native.String.{String}
+use mathlib.Core.Bool.{true, false}
+use mathlib.Core.List.{List, [], _∷_}
+use lib.IntN.{pos, negsuc}
+use lib.ListN.{set, replicate}
+use Rattle.policy.specs.Fault.{refusal}
+use Rattle.policy.specs.Policy.{Policy}
+use Rattle.policy.specs.declared.comparison.Operand.{Operand}
+use Rattle.policy.specs.declared.comparison.Relation.{Relation}
+use Rattle.policy.specs.declared.fault.Fault.{Fault}
+use Rattle.lexer.specs.Byte.{bytes}
+use Rattle.syntax.specs.Epoch as Epoch
+use Rattle.syntax.specs.Epoch.{EpochAnswer, readEpoch, emptyEpoch}
+use Rattle.lexer.specs.Token.{literalAs}
+use Rattle.syntax.specs.Text.{Progress, reading, stopped, readText, emptyPolicy}
+
+-- ---- rule texts
+
+abbrev worked : Policy
+worked =
+    record {
+      rules =
+          record {
+            literals = literalAs false 1 ∷ literalAs true 2 ∷ [];
+            action = record { 0 = 3 };
+            comparisons = record { reading = record { 0 = 0 }; relation = Relation.Greater; operand = Operand.Constant (pos 40) } ∷ [];
+          }
+          ∷ record { literals = literalAs false 3 ∷ []; action = record { 0 = 4 }; comparisons = [] } ∷ [];
+      constraints = record { actions = record { 0 = 3 } ∷ record { 0 = 4 } ∷ []; comparisons = [] } ∷ [];
+    }
+
+pub record TextExample : Type 0 where
+  pub text : String
+  pub answer : Progress
+
+abbrev row : String → Progress → TextExample
+row text answer = record { text = text; answer = answer }
+
+unfoldable pub texts : List TextExample
+texts =
+    row "E1 & !E2 causes A3 if R0 > 40\nE3 causes A4\nnever A3 & A4\n" (reading 4 worked)
+    ∷ row "  never A3 & A4 \n\n# comment\nE1  &  !E2 causes A3 if R0 > 40\n#\nE3 causes A4" (reading 7 worked)
+    ∷ row "" (reading 1 emptyPolicy)
+    ∷ row "\n \n" (reading 3 emptyPolicy)
+    ∷ row "E01 causes A1" (stopped (refusal Fault.Syntax 1))
+    ∷ row "E1 causes A1 if R0 = -0" (stopped (refusal Fault.Syntax 1))
+    ∷ row "E1 causes A1 if R0 = 00" (stopped (refusal Fault.Syntax 1))
+    ∷ row "E1 causes A1 if R0 = +1" (stopped (refusal Fault.Syntax 1))
+    ∷ row "\nE causes A1" (stopped (refusal Fault.Syntax 2))
+    ∷ row "! E2 causes A1" (stopped (refusal Fault.Syntax 1))
+    ∷ row "!!E2 causes A1" (stopped (refusal Fault.Syntax 1))
+    ∷ row "E1 causes A1 if R0=40" (stopped (refusal Fault.Syntax 1))
+    ∷ row "E1 # x" (stopped (refusal Fault.Syntax 1))
+    ∷ row "never" (stopped (refusal Fault.Syntax 1))
+    ∷ row "E1 causes causes A1" (stopped (refusal Fault.Syntax 1))
+    ∷ row "E1 causes A1 if" (stopped (refusal Fault.Syntax 1))
+    ∷ row "E1 & causes A1" (stopped (refusal Fault.Syntax 1))
+    ∷ row "never A1 &" (stopped (refusal Fault.Syntax 1))
+    ∷ row "E1 causes A1 if R0 = 1 ," (stopped (refusal Fault.Syntax 1))
+    ∷ row "E64 causes A1 if" (stopped (refusal Fault.Syntax 1))
+    ∷ row "E1\tcauses A1" (stopped (refusal Fault.Syntax 1))
+    ∷ row "E1 causes A1\r\n" (stopped (refusal Fault.Syntax 1))
+    ∷ row "E64 causes A1" (stopped (refusal Fault.OutOfRange 1))
+    ∷ row "E1 causes A64" (stopped (refusal Fault.OutOfRange 1))
+    ∷ row "E1 causes A1 if R16 = 1" (stopped (refusal Fault.OutOfRange 1))
+    ∷ row "E1 causes A1 if R0 = R16" (stopped (refusal Fault.OutOfRange 1))
+    ∷ row "E1 causes A1 if R0 = 2147483648" (stopped (refusal Fault.OutOfRange 1))
+    ∷ row "E1 causes A1 if R0 = -2147483649" (stopped (refusal Fault.OutOfRange 1))
+    ∷ row "E0 & E1 & E2 & E3 & E4 & E5 & E6 & E7 & E100000000000000000000000000000 causes A1" (stopped (refusal Fault.OutOfRange 1))
+    ∷ row "E0 & E1 & E2 & E3 & E4 & E5 & E6 & E7 & E8 causes A1" (stopped (refusal Fault.TooManyParts 1))
+    ∷ row "E0 & E1 & E2 & E3 & E4 & E5 & E6 & E7 & E7 causes A1" (stopped (refusal Fault.TooManyParts 1))
+    ∷ row "never A1 if R0 = 1 , R0 = 1 , R0 = 1 , R0 = 1 , R0 = 1" (stopped (refusal Fault.TooManyParts 1))
+    ∷ row "# first\n\nE1 & !E1 causes A1" (stopped (refusal Fault.Duplicate 3))
+    ∷ row "never A1 & A2 & A1" (stopped (refusal Fault.Duplicate 1))
+    ∷ []
+
+-- ---- epoch lines
+
+pub record LineExample : Type 0 where
+  pub line : String
+  pub answer : EpochAnswer
+
+abbrev entry : String → EpochAnswer → LineExample
+entry line answer = record { line = line; answer = answer }
+
+unfoldable pub epochLines : List LineExample
+epochLines =
+    entry "" (Epoch.accepted emptyEpoch)
+    ∷ entry " E1 E3 E1  R0=41 " (Epoch.accepted (record { events = record { 0 = 10 }; readings = record { given = record { 0 = 1 }; values = pos 41 ∷ replicate 15 (pos 0) } }))
+    ∷ entry "R15=-2147483648 E63" (Epoch.accepted (record { events = record { 0 = 9223372036854775808 }; readings = record { given = record { 0 = 32768 }; values = set (replicate 16 (pos 0)) 15 (negsuc 2147483647) } }))
+    ∷ entry "E1\nE2" (Epoch.refused Fault.EpochSyntax)
+    ∷ entry "E1 \n" (Epoch.refused Fault.EpochSyntax)
+    ∷ entry "E1=2" (Epoch.refused Fault.EpochSyntax)
+    ∷ entry "R0" (Epoch.refused Fault.EpochSyntax)
+    ∷ entry "R0=" (Epoch.refused Fault.EpochSyntax)
+    ∷ entry "=1" (Epoch.refused Fault.EpochSyntax)
+    ∷ entry "R0=1=2" (Epoch.refused Fault.EpochSyntax)
+    ∷ entry "#" (Epoch.refused Fault.EpochSyntax)
+    ∷ entry "E64 E" (Epoch.refused Fault.EpochSyntax)
+    ∷ entry "E E64" (Epoch.refused Fault.EpochSyntax)
+    ∷ entry "R0=1 R0=1 E64" (Epoch.refused Fault.EpochRange)
+    ∷ entry "E64" (Epoch.refused Fault.EpochRange)
+    ∷ entry "R16=1" (Epoch.refused Fault.EpochRange)
+    ∷ entry "R0=2147483648" (Epoch.refused Fault.EpochRange)
+    ∷ entry "R0=1 R0=1" (Epoch.refused Fault.DuplicateReading)
+    ∷ entry "R0=1 R0=2" (Epoch.refused Fault.DuplicateReading)
+    ∷ []
+
+-- ---- what the definitions say of each row
+
+unfoldable pub textAnswer : TextExample → Progress
+textAnswer x = readText (bytes (x .text))
+
+unfoldable pub epochAnswer : LineExample → EpochAnswer
+epochAnswer x = readEpoch (bytes (x .line))

@@ -1,0 +1,5 @@
+pub mod Exact
+pub mod Examples
+pub mod ImageLaws
+pub mod PartLines
+pub mod Walk

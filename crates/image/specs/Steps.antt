@@ -1,0 +1,5 @@
+-- Mechanism of the code, which laws tie to the definitions above: a reader need not believe it.
+pub mod Size
+pub mod Value
+pub mod Part
+pub mod Scan

@@ -1,0 +1,2 @@
+-- The table of examples of what words do.
+pub mod Examples

@@ -1,0 +1,108 @@
+-- The accepted and the cancelled actions of an epoch: a maximal action cancellation of what the rules propose (source
+-- document 000, Definition 11), lower numbers kept first.
+use mathlib.Core.Bool.{Bool, true, false, not, _&&_, _||_}
+use mathlib.Core.List.{[], _∷_, List·Memᴰ, List·Memᴰ·eq-of-singleton, List·Memᴰ·not-nil}
+use mathlib.Core.Path.{_≡_, refl, sym, ap, _∙_}
+use Rattle.policy.proofs.ListLaws.{not-true-is, not-false-is, and-out}
+use Rattle.pdl.proofs.Proposals.{proposals-limit}
+use Rattle.pdl.proofs.Resolution.{actions-ext, satisfied, conflict-out, resolve-within, resolve-satisfies, resolve-maximal, resolve-dropped, resolve-kept, resolve-limit}
+use Rattle.policy.proofs.SetLaws.{has-empty, has-insert-same, has-union, has-difference}
+use Rattle.policy.specs.Epoch.{Epoch}
+use Rattle.pdl.specs.Pdl.{Violated, Satisfies, NameActions, Monitor, Conservative, ActionCancellation, MaximalActionCancellation, _⊆_}
+use Rattle.policy.specs.Policy.{Policy, Constraint}
+use Rattle.policy.specs.Set.{allEvents, hasAction, noActions, insertAction, unionActions, actionsBelow}
+use Rattle.pdl.specs.Yield.{conflict, proposed, accepted, cancelled}
+use Rattle.policy.specs.declared.number.Action.{Action}
+use Rattle.policy.specs.declared.set.ActionSet.{ActionSet}
+
+module _ (p : Policy) where
+  -- ---- accepted and cancelled against proposed
+
+  pub accepted-within : ActionCancellation (proposed (p .rules)) (accepted p)
+  unfolding accepted
+  accepted-within e = resolve-within (p .constraints) (e .readings) (proposed (p .rules) e)
+
+  has-cancelled : (e : Epoch) (a : Action) → hasAction (cancelled p e) a ≡ hasAction (proposed (p .rules) e) a && not (hasAction (accepted p e) a)
+  unfolding cancelled
+  has-cancelled e a = has-difference (proposed (p .rules) e .0) (accepted p e .0) (a .0)
+
+  pub accepted-with-cancelled : (e : Epoch) → unionActions (accepted p e) (cancelled p e) ≡ proposed (p .rules) e
+  accepted-with-cancelled e =
+      actions-ext (unionActions (accepted p e) (cancelled p e)) (proposed (p .rules) e)
+      (λ a. has-union (accepted p e .0) (cancelled p e .0) (a .0) ∙ ap (λ (b : Bool). hasAction (accepted p e) a || b) (has-cancelled e a)
+      ∙ joined (hasAction (accepted p e) a) (hasAction (proposed (p .rules) e) a) (accepted-within e a))
+    where
+      joined : (a b : Bool) → (a ≡ true → b ≡ true) → a || b && not a ≡ b
+      joined true b h = sym (h refl)
+      joined false true h = refl
+      joined false false h = refl
+
+  pub cancelled-apart : (e : Epoch) (a : Action) → hasAction (cancelled p e) a ≡ true → hasAction (accepted p e) a ≡ false
+  cancelled-apart e a h = not-one (hasAction (accepted p e) a) (and-out (hasAction (proposed (p .rules) e) a) (not (hasAction (accepted p e) a)) (sym (has-cancelled e a) ∙ h) .1)
+    where
+      not-one : (b : Bool) → not b ≡ true → b ≡ false
+      not-one true q = sym q
+      not-one false q = refl
+
+  -- ---- no constraint holds on the accepted set
+
+  pub accepted-satisfies : NameActions (p .constraints) → Monitor (p .constraints) (accepted p)
+  unfolding accepted
+  accepted-satisfies named e = resolve-satisfies (p .constraints) (e .readings) (proposed (p .rules) e) named
+
+  -- ---- giving back one or more cancelled actions makes one hold
+
+  maximal : (e : Epoch) (u : ActionSet) → accepted p e ⊆ u → u ⊆ proposed (p .rules) e → Satisfies (p .constraints) (e .readings) u → u ≡ accepted p e
+  unfolding accepted
+  maximal e = resolve-maximal (p .constraints) (e .readings) (proposed (p .rules) e) (proposals-limit (p .rules) (allEvents (e .events)) (e .readings))
+
+  pub giving-back-violates : (e : Epoch) (u : ActionSet) → accepted p e ⊆ u → u ⊆ proposed (p .rules) e → ¬ (u ≡ accepted p e) → Violated (p .constraints) (e .readings) u
+  giving-back-violates e u h k other =
+      conflict-out (p .constraints) (e .readings) u
+      (not-false-is (conflict (p .constraints) (e .readings) u) (λ q. other (maximal e u h k (satisfied (p .constraints) (e .readings) u q))))
+
+  pub maximal-cancellation : NameActions (p .constraints) → MaximalActionCancellation (p .constraints) (proposed (p .rules)) (accepted p)
+  maximal-cancellation named e = record { within = accepted-within e; satisfies = accepted-satisfies named e; maximal = maximal e }
+
+  -- ---- nothing is cancelled where nothing clashes
+
+  pub conservative : Conservative (p .constraints) (proposed (p .rules)) (accepted p)
+  conservative e h = sym (maximal e (proposed (p .rules) e) (accepted-within e) (λ a k. k) h)
+
+  pub nothing-cancelled : (e : Epoch) → Satisfies (p .constraints) (e .readings) (proposed (p .rules) e) → cancelled p e ≡ noActions
+  nothing-cancelled e h =
+      actions-ext (cancelled p e) noActions
+      (λ a. has-cancelled e a ∙ ap (λ (s : ActionSet). hasAction (proposed (p .rules) e) a && not (hasAction s a)) (conservative e h)
+      ∙ none (hasAction (proposed (p .rules) e) a) ∙ sym (has-empty (a .0)))
+    where
+      none : (b : Bool) → b && not b ≡ false
+      none true = refl
+      none false = refl
+
+  -- ---- trials
+
+  -- on the accepted actions under a cancelled one, together with it, some constraint holds
+  pub cancelled-trial : (e : Epoch) (a : Action) → hasAction (cancelled p e) a ≡ true → Violated (p .constraints) (e .readings) (insertAction (actionsBelow (accepted p e) a) a)
+  unfolding accepted
+  cancelled-trial e a h =
+      resolve-dropped (p .constraints) (e .readings) (proposed (p .rules) e) (proposals-limit (p .rules) (allEvents (e .events)) (e .readings)) a
+      (and-out (hasAction (proposed (p .rules) e) a) (not (hasAction (accepted p e) a)) (sym (has-cancelled e a) ∙ h) .0)
+      (cancelled-apart e a h)
+
+  -- a constraint with one action and no comparison
+  abbrev lone : Action → Constraint
+  lone a = record { actions = a ∷ []; comparisons = [] }
+
+  pub lone-never-accepted : (a : Action) → List·Memᴰ (lone a) (p .constraints) → (e : Epoch) → hasAction (accepted p e) a ≡ false
+  unfolding accepted
+  lone-never-accepted a m e =
+      not-true-is (hasAction (accepted p e) a)
+      (λ h. resolve-kept (p .constraints) (e .readings) (proposed (p .rules) e) a h (lone a) m
+      (record {
+        members = λ b k. ap (hasAction (insertAction (actionsBelow (accepted p e) a) a)) (List·Memᴰ·eq-of-singleton k)
+            ∙ has-insert-same (actionsBelow (accepted p e) a .0) (a .0) (resolve-limit (p .constraints) (e .readings) (proposed (p .rules) e) a h);
+        condition = λ c k. absurd (List·Memᴰ·not-nil k);
+      }))
+
+  pub lone-always-cancelled : (a : Action) → List·Memᴰ (lone a) (p .constraints) → (e : Epoch) → hasAction (proposed (p .rules) e) a ≡ true → hasAction (cancelled p e) a ≡ true
+  lone-always-cancelled a m e h = has-cancelled e a ∙ rw (h, lone-never-accepted a m e)

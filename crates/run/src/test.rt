@@ -1,0 +1,60 @@
+// The test of a word, which both runs share: whether it holds, and where the run goes on.
+ghost use mathlib.Core.Bool.{cond};
+ghost use mathlib.Core.Path.{_≡_};
+ghost use Prim.Native.Nat.{_+_, _/_, _≤_};
+ghost use lib.ListN.{length};
+ghost use Rattle.word.specs.Word.{skipOf, wordAt};
+ghost use Rattle.run.specs.Run.{comparisonTest};
+ghost use Rattle.run.specs.Steps.Test.{tested};
+use policy::ReadingSet;
+use word::Operation;
+use word::constant_holds;
+use word::reading_holds;
+use word::skip;
+use word::word_at;
+
+// Whether the test of a word holds, and the word behind it and its constant.
+pub struct Tested {
+    pub holds: bool,
+    pub next: usize,
+}
+
+// The comparison that a word stands for, with the word behind it. Any other word asks for none.
+pub(crate) fn compare(
+    image: &[u8],
+    behind: usize,
+    operation: Operation,
+    word: u32,
+    given: ReadingSet,
+    values: &[i32],
+) -> Tested
+    requires { ⌜ behind ≤ length (now image) / 4 ⌝ }
+    ensures { λ r. ⌜ r ≡ tested (comparisonTest (record { given = given; values = now (values .entry) }) operation word (wordAt (now (image .entry)) behind)) operation behind ⌝ }
+{
+    match operation {
+        Operation::AgainstConstant => Tested {
+            holds: constant_holds(word, word_at(image, behind), given, values),
+            next: behind + 1,
+        },
+        Operation::AgainstReading => Tested {
+            holds: reading_holds(word, given, values),
+            next: behind,
+        },
+        _ => Tested {
+            holds: true,
+            next: behind,
+        },
+    }
+}
+
+// Where the run goes on: a test that fails passes over `skip` further words.
+pub(crate) fn passed(test: Tested, word: u32) -> usize
+    requires { ⌜ test .next ≤ 0x4000_0000_0000_0000 ⌝ }
+    ensures { λ r. ⌜ r ≡ test .next + cond (test .holds) 0 (skipOf word) ⌝ }
+{
+    if test.holds {
+        test.next
+    } else {
+        test.next + skip(word) as usize
+    }
+}
