@@ -28,6 +28,8 @@ use Rattle.pdl.specs.Greedy.{greedy}
 use Rattle.pdl.specs.Pdl.{NameActions}
 use Rattle.pdl.specs.Yield as Yield
 use Rattle.pdl.specs.Yield.{proposed, resolve, cancelled}
+use Rattle.acceptance.proofs.Refusals.{epoch-faults}
+use Rattle.syntax.specs.Answers.{answerRead, epochRead, refusalInEpoch}
 use Rattle.syntax.specs.Epoch.{EpochAnswer, refused, accepted, readEpoch}
 use Rattle.word.proofs.WordLaws.{bytes-below}
 use Rattle.word.specs.Word.{Bytes, wordLimit, wordsOf, wordAt, between}
@@ -36,14 +38,14 @@ use Rattle.image.specs.Layout.{knownForm, imageWords, imageOf}
 use Rattle.image.specs.Load.{refusalIn, load}
 use Rattle.image.specs.declared.load.Contents.{Contents}
 use Rattle.image.specs.declared.load.Loaded.{Loaded}
-use Rattle.exactness.proofs.Exact.{took, image-taken, image-holds, held-acceptable, one-word-changed}
+use Rattle.exactness.proofs.Exact.{refusals, took, image-taken, image-holds, held-acceptable, one-word-changed}
 use Rattle.exactness.specs.Exact.{contentsOf, changed, Checked, RefusedEarly}
 use Rattle.meaning.proofs.Taken.{taken-rules-run, taken-constraints-run}
 use Rattle.monitor.proofs.DecideLaws.{image-refused, line-refused, line-accepted}
 use Rattle.monitor.specs.Decision.{keptBy, actionsOf, yieldedBy, issuedBy, onLine, onImage, decision, answerOf}
 use Rattle.monitor.specs.declared.decision.Actions.{Actions}
 use Rattle.monitor.specs.declared.decision.Decision.{Decision}
-use Rattle.guarantees.specs.Decisions.{RefusedFor, theImage, theLine, CheckFailed, yieldOf, Obeys}
+use Rattle.guarantees.specs.Decisions.{RefusedFor, theImage, theLine, OfDecision, ofImage, ofLine, CheckFailed, yieldOf, Obeys}
 
 -- ---- refusals
 
@@ -65,6 +67,15 @@ refused-exactly image line r = (image-case (load image) refl, back)
     back : RefusedFor image line r → decision image line ≡ Decision.Refused r
     back (theImage q) = sym (image-refused image line r q)
     back (theLine contents t f q w) = sym (line-refused image line contents t f q) ∙ ap Decision.Refused (sym w)
+
+-- and under which faults, at which locations
+pub decision-faults : (image line : List ℕ) (r : Refusal) → decision image line ≡ Decision.Refused r → OfDecision (length (wordsOf image)) r
+unfolding epochRead answerRead
+decision-faults image line r e = go (refused-exactly image line r .0 e)
+  where
+    go : RefusedFor image line r → OfDecision (length (wordsOf image)) r
+    go (theImage q) = ofImage (refusals image r (ap refusalIn q))
+    go (theLine contents t f q w) = ofLine (epoch-faults line r (ap (λ (a : EpochAnswer). refusalInEpoch (answerRead a)) q ∙ ap some (sym w)))
 
 -- whatever was handed over, the sets of a refusal are empty
 pub refused-empty : (image line : List ℕ) → answerOf (decision image line) .isRefused ≡ true

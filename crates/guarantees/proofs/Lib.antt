@@ -3,3 +3,4 @@ pub mod Demand3
 pub mod Exactness
 pub mod Output
 pub mod Examples
+pub mod Together

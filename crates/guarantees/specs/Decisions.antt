@@ -16,9 +16,11 @@ use Rattle.pdl.specs.Pdl.{Satisfies, Violated, MaximalIn, _⊆_}
 use Rattle.pdl.specs.Yield as Yield
 use Rattle.pdl.specs.Yield.{proposed}
 use Rattle.syntax.specs.Epoch.{refused, readEpoch}
+use Rattle.acceptance.specs.Refusals.{OfEpoch}
 use Rattle.image.specs.Load.{load}
 use Rattle.image.specs.declared.load.Contents.{Contents}
 use Rattle.image.specs.declared.load.Loaded.{Loaded}
+use Rattle.exactness.specs.Exact.{RefusalOf}
 
 -- ---- demand 1
 
@@ -27,6 +29,11 @@ pub data RefusedFor (image line : List ℕ) (r : Refusal) : Type 0 where
   theImage : load image ≡ Loaded.Refused r → RefusedFor image line r
   theLine : (contents : Contents) → load image ≡ Loaded.Image contents → (fault : Fault) → readEpoch line ≡ refused fault → r ≡ refusal fault 0
       → RefusedFor image line r
+
+-- which refusals a decision has: those of an image of so many words, and those of an epoch line
+pub data OfDecision (words : ℕ) (r : Refusal) : Type 0 where
+  ofImage : RefusalOf words r → OfDecision words r
+  ofLine : OfEpoch r → OfDecision words r
 
 -- refused under one of 7 to 10, at location 0 and with empty sets
 pub record CheckFailed (a : Answer) : Type 0 where

@@ -1,2 +1,26 @@
-// The claims about the whole: compiler, image and monitor against the reference machine that sees no image. There is no
-// code here. Start with specs/Machine.antt, then proofs/Demand3.antt.
+// The claims about the whole: compiler, image and monitor against the reference machine that sees no image. Start with
+// specs/Machine.antt, then proofs/Demand3.antt. The one function here is no part of a program: it uses the contracts of `compile` and
+// `decide` together, so that demand 3 rests on them and not on a reading of them.
+ghost use mathlib.Core.Path.{_≡_};
+ghost use Rattle.guarantees.specs.Together.{answerIn, machineAnswer};
+use codegen::Compiled;
+use monitor::Decision;
+use policy::Refusal;
+
+pub enum Outcome {
+    TextRefused(Refusal),
+    Decided(Decision),
+}
+
+// Compiles a text and decides an epoch line on the bytes that were written: what the reference machine answers, which sees the text
+// and the line alone.
+pub fn compile_and_decide(text: &[u8], line: &[u8]) -> Outcome
+    ensures { λ r. ⌜ answerIn r ≡ machineAnswer (now (text .entry)) (now (line .entry)) ⌝ }
+{
+    let mut image = [0u8; 13064];
+    let compiled = codegen::compile(text, &mut image);
+    match compiled {
+        Compiled::Refused(refusal) => Outcome::TextRefused(refusal),
+        Compiled::Image(size) => Outcome::Decided(monitor::decide(&image[..size], line)),
+    }
+}

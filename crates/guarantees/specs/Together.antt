@@ -1,0 +1,18 @@
+-- What the function that compiles and decides answers, against the reference machine.
+use Prim.Native.Nat.{ℕ}
+use mathlib.Core.List.{List}
+use mathlib.Core.Option.{Option, none, some, Option·map}
+use Rattle.policy.specs.Policy.{Policy}
+use Rattle.pdl.specs.Answer.{Answer}
+use Rattle.syntax.specs.Text.{policyOf}
+use Rattle.monitor.specs.Decision.{answerOf}
+use Rattle.guarantees.specs.Machine.{step}
+use Rattle.guarantees.specs.declared.Outcome.{Outcome}
+
+abbrev pub answerIn : Outcome → Option Answer
+answerIn (Outcome.TextRefused r) = none
+answerIn (Outcome.Decided d) = some (answerOf d)
+
+-- the machine's answer to one line; there is none where the text is refused
+abbrev pub machineAnswer : List ℕ → List ℕ → Option Answer
+machineAnswer text line = Option·map (λ (p : Policy). step p line) (policyOf text)
