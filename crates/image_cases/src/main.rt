@@ -1,6 +1,8 @@
-// Runs the loader on cases from standard input and writes what it answers, one line a case. A case is its size in two bytes,
-// the more significant first, and then its bytes.
+// Runs the loader on cases from standard input and writes what it answers, one line a case, and how many lines are met going over a
+// taken image from line to line. A case is its size in two bytes, the more significant first, and then its bytes.
+use image::Contents;
 use image::Loaded;
+use image::Part;
 use libc::STDIN_FILENO;
 use libc::STDOUT_FILENO;
 
@@ -10,6 +12,34 @@ fn write(text: &[u8]) {
 
 fn write_number(n: usize) {
     io::print_decimal(STDOUT_FILENO, n as u64);
+}
+
+// How many lines stand between two words, going from each to the next.
+fn count_lines(image: &[u8], part: Part, start: usize, end: usize) -> usize {
+    let mut count = 0;
+    let mut at = start;
+    while at < end {
+        let found = image::line_at(image, part, at, end);
+        let next = found.next;
+        if next <= at {
+            return count;
+        }
+        at = next;
+        count += 1;
+    }
+    count
+}
+
+fn show_lines(image: &[u8], contents: Contents) {
+    let rules = contents.rule_words;
+    let constraints = contents.constraint_words;
+    if rules < 4096 && constraints < 4096 {
+        let middle = 1 + rules;
+        write(b" lines ");
+        write_number(count_lines(image, Part::Rules, 1, middle));
+        write(b" ");
+        write_number(count_lines(image, Part::Constraints, middle, middle + constraints));
+    }
 }
 
 fn show_case(case: &[u8]) {
@@ -31,6 +61,7 @@ fn show_case(case: &[u8]) {
             write_number(contents.rule_words);
             write(b" ");
             write_number(contents.constraint_words);
+            show_lines(case, contents);
         }
     }
     write(b"\n");

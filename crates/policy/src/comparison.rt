@@ -1,7 +1,7 @@
 // The parts of a rule: event literals, and comparisons of readings.
 ghost use mathlib.Core.Path.{_≡_};
 ghost use Rattle.policy.specs.Epoch.{readingValue};
-ghost use Rattle.policy.specs.Comparison.{relationHolds, operandValue, comparisonHolds};
+ghost use Rattle.policy.specs.Comparison.{relationHolds};
 use crate::number::Event;
 use crate::number::Reading;
 use crate::set::ReadingSet;
@@ -59,29 +59,5 @@ impl Reading {
         } else {
             0
         }
-    }
-}
-
-impl Operand {
-    fn value(self, given: ReadingSet, values: &[i32]) -> i32
-        ensures { λ r. ⌜ r ≡ operandValue (record { given = given; values = now (values .entry) }) self ⌝ }
-    {
-        match self {
-            Operand::Constant(k) => k,
-            Operand::Reading(reading) => reading.value(given, values),
-        }
-    }
-}
-
-impl Comparison {
-    // Whether the comparison holds on the readings of an epoch: those that it gives, and their values.
-    pub fn holds(self, given: ReadingSet, values: &[i32]) -> bool
-        ensures { λ r. ⌜ r ≡ comparisonHolds (record { given = given; values = now (values .entry) }) self ⌝ }
-    {
-        let operand = self.operand;
-        let relation = self.relation;
-        let left = self.reading.value(given, values);
-        let right = operand.value(given, values);
-        relation.holds(left, right)
     }
 }
