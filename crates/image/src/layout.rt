@@ -40,8 +40,8 @@ pub fn header(form: u8, rule_words: usize, constraint_words: usize) -> u32
 }
 
 // The words of one comparison, for which there is room.
-fn put_comparison(buffer: &mut [u8], index: usize, comparison: Comparison, skip: u32)
-    requires { ⌜ (index + operandSize (comparison .operand) ≤ length (now buffer) / 4) × (skip < 32) ⌝ }
+fn put_comparison(buffer: &mut [u8], index: usize, comparison: Comparison, skip: u8)
+    requires { ⌜ index + operandSize (comparison .operand) ≤ length (now buffer) / 4 ⌝ }
     ensures { λ _. ⌜ now (buffer .exit) ≡ putWords (now (buffer .entry)) index (comparisonWords comparison skip) ⌝ }
 {
     let operand = comparison.operand;
@@ -76,7 +76,7 @@ fn put_condition(
         let comparison = comparisons[i];
         let words = comparison_size(comparison);
         left -= words;
-        put_comparison(buffer, at, comparison, left as u32);
+        put_comparison(buffer, at, comparison, left as u8);
         at += words;
         i += 1;
     }
@@ -92,7 +92,7 @@ fn put_heads(buffer: &mut [u8], index: usize, heads: [Head; 8], count: usize, si
     while i < count {
         let head = heads[i];
         let test = head.0;
-        put_word(buffer, index + i, test_word(test, (size - i - 1) as u32));
+        put_word(buffer, index + i, test_word(test, (size - i - 1) as u8));
         i += 1;
     }
 }

@@ -114,20 +114,19 @@ pub fn constant_word(k: i32) -> u32
     }
 }
 
-fn pack_word(operation: Operation, first: u8, second: u8, relation: u32, skip: u32) -> u32
-    requires { ⌜ (relation < 8) × (skip < 32) ⌝ }
+fn pack_word(operation: Operation, first: u8, second: u8, relation: u32, skip: u8) -> u32
+    requires { ⌜ relation < 8 ⌝ }
     ensures { λ r. ⌜ r ≡ pack operation first second relation skip ⌝ }
 {
     operation.opcode() * 0x1000_0000
         + (first as u32) * 0x0040_0000
         + (second as u32) * 0x0001_0000
         + relation * 0x2000
-        + skip
+        + (skip as u32)
 }
 
 // The word of a head.
-pub fn test_word(test: Test, skip: u32) -> u32
-    requires { ⌜ skip < 32 ⌝ }
+pub fn test_word(test: Test, skip: u8) -> u32
     ensures { λ r. ⌜ r ≡ testWord test skip ⌝ }
 {
     match test {
@@ -143,8 +142,7 @@ pub fn test_word(test: Test, skip: u32) -> u32
 }
 
 // The first word of a comparison; a constant stands in a second one.
-pub fn comparison_word(comparison: Comparison, skip: u32) -> u32
-    requires { ⌜ skip < 32 ⌝ }
+pub fn comparison_word(comparison: Comparison, skip: u8) -> u32
     ensures { λ r. ⌜ r ≡ comparisonWord comparison skip ⌝ }
 {
     let operand = comparison.operand;

@@ -48,7 +48,7 @@ returns c =
     let s = o .before .before .before .before in
     let a = s .args in
     let told = o .operand .given in
-    let room : a .index + 2 ≤ length (now (a .buffer)) / 4 = rw (told .1) at (s .pre .0) in
+    let room : a .index + 2 ≤ length (now (a .buffer)) / 4 = rw (told .1) at (s .pre) in
     put-constant _ _ _ _ _ _ _ _ room (c .before .before .before .before .before .before .before .put-word .ensures .1) (c .before .before .put-word2 .ensures .1) (o .before .before .comparison-word .ensures) (c .before .before .before .constant-word .ensures ∙ ap (ofZ w32) (toZ-ofZ f))
     ∙ ap (λ (ks : List ℕ). putWords (now (a .buffer)) (a .index) (comparisonWord (a .comparison) (a .skip) ∷ ks)) (sym (ap constantWords (told .1)))
 

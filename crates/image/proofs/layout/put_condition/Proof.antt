@@ -38,7 +38,7 @@ cast-put-comparison : tie.Need-cast-put-comparison Inv-loop μ-loop
 cast-put-comparison c = let r = condition-turn (c .before .before .before .before .before .before .args .t3) (c .before .before .before .before .before .before .args .count) (c .before .before .before .before .loop .inv .0) (c .before .before .before .before .before .before .pre .0) (c .before .before .before .before .before .before .args .ending) (now (c .before .before .before .before .before .before .args .buffer)) (c .before .before .before .before .before .before .args .index) (c .before .before .before .before .loop .buffer) (c .before .before .before .before .loop .at) (c .before .before .before .before .loop .left) (c .before .before .before .before .loop .i) (c .before .comparison-size .result) (c .before .before .before .before .loop .inv .1) (c .before .before .before .loop-test .taken) (c .before .comparison-size .ensures) in record { fits = omega (arith, r .small) }
 
 put-comparison-requires : tie.Need-put-comparison-requires Inv-loop μ-loop
-put-comparison-requires c κs = let r = condition-turn (c .before .before .before .before .before .before .args .t3) (c .before .before .before .before .before .before .args .count) (c .before .before .before .before .loop .inv .0) (c .before .before .before .before .before .before .pre .0) (c .before .before .before .before .before .before .args .ending) (now (c .before .before .before .before .before .before .args .buffer)) (c .before .before .before .before .before .before .args .index) (c .before .before .before .before .loop .buffer) (c .before .before .before .before .loop .at) (c .before .before .before .before .loop .left) (c .before .before .before .before .loop .i) (c .before .comparison-size .result) (c .before .before .before .before .loop .inv .1) (c .before .before .before .loop-test .taken) (c .before .comparison-size .ensures) in (rw (← c .before .comparison-size .ensures) (r .room), r .small)
+put-comparison-requires c κs = let r = condition-turn (c .before .before .before .before .before .before .args .t3) (c .before .before .before .before .before .before .args .count) (c .before .before .before .before .loop .inv .0) (c .before .before .before .before .before .before .pre .0) (c .before .before .before .before .before .before .args .ending) (now (c .before .before .before .before .before .before .args .buffer)) (c .before .before .before .before .before .before .args .index) (c .before .before .before .before .loop .buffer) (c .before .before .before .before .loop .at) (c .before .before .before .before .loop .left) (c .before .before .before .before .loop .i) (c .before .comparison-size .result) (c .before .before .before .before .loop .inv .1) (c .before .before .before .loop-test .taken) (c .before .comparison-size .ensures) in rw (← c .before .comparison-size .ensures) (r .room)
 
 add-at : tie.Need-add-at Inv-loop μ-loop
 add-at c = let r = condition-turn (c .before .before .before .before .before .before .before .before .before .args .t3) (c .before .before .before .before .before .before .before .before .before .args .count) (c .before .before .before .before .before .before .before .loop .inv .0) (c .before .before .before .before .before .before .before .before .before .pre .0) (c .before .before .before .before .before .before .before .before .before .args .ending) (now (c .before .before .before .before .before .before .before .before .before .args .buffer)) (c .before .before .before .before .before .before .before .before .before .args .index) (c .before .before .before .before .before .before .before .loop .buffer) (c .before .before .before .before .before .before .before .loop .at) (c .before .before .before .before .before .before .before .loop .left) (c .before .before .before .before .before .before .before .loop .i) (c .before .before .before .before .comparison-size .result) (c .before .before .before .before .before .before .before .loop .inv .1) (c .before .before .before .before .before .before .loop-test .taken) (c .before .before .before .before .comparison-size .ensures) in omega (arith, r .room)
