@@ -23,7 +23,7 @@ use Rattle.image.specs.Held.{policyIn}
 use Rattle.acceptance.proofs.Accepted.{accepted-acceptable}
 use Rattle.syntax.specs.Text.{Progress, reading, stopped, readText, policyOf}
 use Rattle.codegen.proofs.AcceptedLaws.{newest-known}
-use Rattle.codegen.specs.Compile.{newestForm, Output, outputOf, compiled}
+use Rattle.codegen.specs.Compile.{newestForm, Output, refuse, outputOf, compiled, refusalIn}
 use Rattle.codegen.specs.Written.{writtenIn, Written}
 use Rattle.codegen.specs.declared.Compiled.{Compiled}
 
@@ -70,13 +70,13 @@ module _ (text buffer : List ℕ) where
   -- ---- when it is refused, and that a refusal changes no byte of the buffer
 
   -- 1 to 6, at the line, whatever room there is
-  pub text-refused : (r : Refusal) → readText text ≡ stopped r → compiled text buffer .answer ≡ Compiled.Refused r
+  pub text-refused : (r : Refusal) → readText text ≡ stopped r → refusalIn (compiled text buffer .answer) ≡ some r
   unfolding compiled outputOf
   text-refused r e = rw e
 
   module _ (n : ℕ) (p : Policy) (r : readText text ≡ reading n p) where
     -- 15 where the image has more bytes than the buffer
-    pub room-refused : length buffer < length (imageOf newestForm p) → compiled text buffer .answer ≡ Compiled.Refused (refusal Fault.BufferTooSmall 0)
+    pub room-refused : length buffer < length (imageOf newestForm p) → refusalIn (compiled text buffer .answer) ≡ some (refusal Fault.BufferTooSmall 0)
     unfolding compiled outputOf
     room-refused h = rw (r, lt-leb (length (imageOf newestForm p)) (length buffer) h)
 
@@ -85,15 +85,17 @@ module _ (text buffer : List ℕ) where
     unfolding compiled outputOf
     text-compiled h = rw (r, le-leb (length (imageOf newestForm p)) (length buffer) h)
 
-  pub refused-unchanged : (r : Refusal) → compiled text buffer .answer ≡ Compiled.Refused r → compiled text buffer .buffer ≡ buffer
+  pub refused-unchanged : (r : Refusal) → refusalIn (compiled text buffer .answer) ≡ some r → compiled text buffer .buffer ≡ buffer
   unfolding compiled outputOf
   refused-unchanged r e = go (readText text) e
     where
-      delivered : (b : Bool) (full : Output) (size : ℕ) → full .answer ≡ Compiled.Image size → cond b full (record { answer = Compiled.Refused (refusal Fault.BufferTooSmall 0); buffer = buffer }) .answer ≡ Compiled.Refused r → cond b full (record { answer = Compiled.Refused (refusal Fault.BufferTooSmall 0); buffer = buffer }) .buffer ≡ buffer
-      delivered true full size q k = let w : _≡_ {A = ℕ} 0 1 = cc in absurd (omega arith)
+      delivered : (b : Bool) (full : Output) (size : ℕ) → full .answer ≡ Compiled.Image size → refusalIn (cond b full (refuse (refusal Fault.BufferTooSmall 0) buffer) .answer) ≡ some r → cond b full (refuse (refusal Fault.BufferTooSmall 0) buffer) .buffer ≡ buffer
+      delivered true full size q k =
+          let none-some : refusalIn (Compiled.Image size) ≡ some r = ap refusalIn (sym q) ∙ k in
+          let w : _≡_ {A = ℕ} 0 1 = cc in absurd (omega arith)
       delivered false full size q k = refl
 
-      go : (s : Progress) → outputOf s buffer .answer ≡ Compiled.Refused r → outputOf s buffer .buffer ≡ buffer
+      go : (s : Progress) → refusalIn (outputOf s buffer .answer) ≡ some r → outputOf s buffer .buffer ≡ buffer
       go (reading n p) k = delivered (leb (length (imageOf newestForm p)) (length buffer)) _ (length (imageOf newestForm p)) refl k
       go (stopped x) k = refl
 
