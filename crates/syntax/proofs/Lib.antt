@@ -2,6 +2,7 @@ pub mod CauseLaws
 pub mod ConditionLaws
 pub mod EpochLaws
 pub mod FillLaws
+pub mod FlagLaws
 pub mod HeadLaws
 pub mod ItemLaws
 pub mod JudgeLaws

@@ -1,7 +1,7 @@
 // The epoch line: events and values of readings. The line is scanned once: what it names is collected with two flags, a
 // number out of range and a reading given twice, and the line is judged at its end.
 ghost use mathlib.Core.Path.{_≡_};
-ghost use mathlib.Core.Bool.{false, _||_};
+ghost use mathlib.Core.Bool.{false};
 ghost use mathlib.Core.Option.{some};
 ghost use Rattle.syntax.specs.Epoch.{event};
 ghost use lib.IntN.{pos};
@@ -105,12 +105,6 @@ fn item_at(line: &[u8], at: usize) -> ItemAt
     }
 }
 
-fn either(a: bool, b: bool) -> bool
-    ensures { λ r. ⌜ r ≡ a || b ⌝ }
-{
-    if a { true } else { b }
-}
-
 fn refused(fault: Fault) -> EpochRead
     ensures { λ r. ⌜ r ≡ refusedRead fault ⌝ }
 {
@@ -168,7 +162,7 @@ fn read_items(line: &[u8]) -> EpochRead
                 at = end;
             }
             ItemAt::Value(reading, value, end) => {
-                twice = either(twice, given.has(reading));
+                twice = twice || given.has(reading);
                 given = given.insert(reading);
                 values[reading.0 as usize] = value;
                 at = end;

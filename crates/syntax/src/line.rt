@@ -1,7 +1,7 @@
 // The lines of a rule text. A line is scanned once: its parts are collected with a flag that says whether every number is
 // in range, and the line is judged at its end.
 ghost use mathlib.Core.Path.{_≡_};
-ghost use mathlib.Core.Bool.{false, _&&_};
+ghost use mathlib.Core.Bool.{false};
 ghost use Prim.Native.Nat.{_≤_};
 ghost use Rattle.policy.specs.Steps.Push.{pushCount};
 ghost use Rattle.lexer.specs.Token.{literalOf, actionOf};
@@ -63,12 +63,6 @@ pub struct Condition {
     pub at: usize,
 }
 
-fn both(a: bool, b: bool) -> bool
-    ensures { λ r. ⌜ r ≡ a && b ⌝ }
-{
-    if a { b } else { false }
-}
-
 // A count of parts, which stops at one past the limit.
 fn one_more(n: usize, limit: usize) -> usize
     requires { ⌜ limit ≤ 8 ⌝ }
@@ -113,7 +107,7 @@ fn read_heads(text: &[u8], from: usize, never: bool) -> Heads
             heads[count] = Head(test);
         }
         count = one_more(count, 8);
-        in_range = both(in_range, ok);
+        in_range = in_range && ok;
         let next = skip_spaces(text, end);
         let KeywordAt::Found(behind) = ampersand_at(text, next) else {
             return Heads {
@@ -162,7 +156,7 @@ fn read_comparisons(text: &[u8], from: usize) -> Condition
             comparisons[count] = comparison;
         }
         count = one_more(count, 4);
-        in_range = both(in_range, ok);
+        in_range = in_range && ok;
         let next = skip_spaces(text, end);
         if at_token_end(text, next) {
             return Condition {
@@ -209,7 +203,7 @@ fn assembled(
         let comparisons = condition.comparisons;
         ParsedLine {
             ok: true,
-            in_range: both(both(heads.in_range, condition.in_range), ending_in_range),
+            in_range: heads.in_range && condition.in_range && ending_in_range,
             line: Line {
                 heads: held,
                 head_count: heads.count,

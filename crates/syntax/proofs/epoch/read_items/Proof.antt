@@ -1,3 +1,5 @@
+use mathlib.Core.Logic.{⊎-elim}
+use Rattle.syntax.proofs.FlagLaws.{or-yes, or-no}
 use Rattle.lexer.specs.Byte.{isSpace}
 use Rattle.lexer.specs.Lines.{skipWhile}
 use mir.Facts.{toZ-ofZ}
@@ -69,56 +71,53 @@ enum-known-item-2 c = search needs
 has-requires : tie.Need-has-requires Inv-loop μ-loop
 has-requires c κs = search needs
 
-either-requires : tie.Need-either-requires Inv-loop μ-loop
-either-requires c κs = search needs
-
 insert-requires-2 : tie.Need-insert-requires-2 Inv-loop μ-loop
 insert-requires-2 c κs = search needs
 
 cast-values : tie.Need-cast-values Inv-loop μ-loop
 cast-values c =
-    let t = now (c .before .before .before .before .before .before .before .before .before .before .before .before .args .line) in
-    let l = c .before .before .before .before .before .before .before .before .before .before .loop in
+    let t = now (c .before .before .before .before .before .before .before .before .before .before .before .args .line) in
+    let l = c .before .before .before .before .before .before .before .before .before .loop in
     let s = scanned (l .out-of-range) (l .twice) (l .events) (l .given) (l .values) in
-    let q = ap (itemAt t) (sym (c .before .before .before .before .before .before .before .before .before .skip-spaces .ensures)) ∙ sym (c .before .before .before .before .before .before .before .item-at .ensures) ∙ c .before .before .before .before .before .item2 .given .1 in
+    let q = ap (itemAt t) (sym (c .before .before .before .before .before .before .before .before .skip-spaces .ensures)) ∙ sym (c .before .before .before .before .before .before .item-at .ensures) ∙ c .before .before .before .before .item2 .given .1 in
     let h = value-small t (l .at) s _ _ _ q in
     search needs
 
 mul-values : tie.Need-mul-values Inv-loop μ-loop
 mul-values c =
-    let t = now (c .before .before .before .before .before .before .before .before .before .before .before .before .args .line) in
-    let l = c .before .before .before .before .before .before .before .before .before .before .loop in
+    let t = now (c .before .before .before .before .before .before .before .before .before .before .before .args .line) in
+    let l = c .before .before .before .before .before .before .before .before .before .loop in
     let s = scanned (l .out-of-range) (l .twice) (l .events) (l .given) (l .values) in
-    let q = ap (itemAt t) (sym (c .before .before .before .before .before .before .before .before .before .skip-spaces .ensures)) ∙ sym (c .before .before .before .before .before .before .before .item-at .ensures) ∙ c .before .before .before .before .before .item2 .given .1 in
+    let q = ap (itemAt t) (sym (c .before .before .before .before .before .before .before .before .skip-spaces .ensures)) ∙ sym (c .before .before .before .before .before .before .item-at .ensures) ∙ c .before .before .before .before .item2 .given .1 in
     let h = value-small t (l .at) s _ _ _ q in
     search needs
 
 array-set-from-values : tie.Need-array-set-from-values Inv-loop μ-loop
 array-set-from-values c =
-    let t = now (c .before .before .before .before .before .before .before .before .before .before .before .before .args .line) in
-    let l = c .before .before .before .before .before .before .before .before .before .before .loop in
+    let t = now (c .before .before .before .before .before .before .before .before .before .before .before .args .line) in
+    let l = c .before .before .before .before .before .before .before .before .before .loop in
     let s = scanned (l .out-of-range) (l .twice) (l .events) (l .given) (l .values) in
-    let q = ap (itemAt t) (sym (c .before .before .before .before .before .before .before .before .before .skip-spaces .ensures)) ∙ sym (c .before .before .before .before .before .before .before .item-at .ensures) ∙ c .before .before .before .before .before .item2 .given .1 in
+    let q = ap (itemAt t) (sym (c .before .before .before .before .before .before .before .before .skip-spaces .ensures)) ∙ sym (c .before .before .before .before .before .before .item-at .ensures) ∙ c .before .before .before .before .item2 .given .1 in
     let h = value-small t (l .at) s _ _ _ q in
     h
 
 loop-less-2 : tie.Need-loop-less-2 Inv-loop μ-loop
 loop-less-2 c =
-    let t = now (c .before .before .before .before .before .before .before .before .before .before .before .before .args .line) in
-    let l = c .before .before .before .before .before .before .before .before .before .before .loop in
+    let t = now (c .before .before .before .before .before .before .before .before .before .before .before .args .line) in
+    let l = c .before .before .before .before .before .before .before .before .before .loop in
     let s = scanned (l .out-of-range) (l .twice) (l .events) (l .given) (l .values) in
-    let q = ap (itemAt t) (sym (c .before .before .before .before .before .before .before .before .before .skip-spaces .ensures)) ∙ sym (c .before .before .before .before .before .before .before .item-at .ensures) ∙ c .before .before .before .before .before .item2 .given .1 in
+    let q = ap (itemAt t) (sym (c .before .before .before .before .before .before .before .before .skip-spaces .ensures)) ∙ sym (c .before .before .before .before .before .before .item-at .ensures) ∙ c .before .before .before .before .item2 .given .1 in
     let h = value-on t (l .at) s _ _ _ q in
     omega arith
 
 loop-again-2 : tie.Need-loop-again-2 Inv-loop μ-loop
 loop-again-2 c =
-    let t = now (c .before .before .before .before .before .before .before .before .before .before .before .before .args .line) in
-    let l = c .before .before .before .before .before .before .before .before .before .before .loop in
+    let t = now (c .before .before .before .before .before .before .before .before .before .before .before .args .line) in
+    let l = c .before .before .before .before .before .before .before .before .before .loop in
     let s = scanned (l .out-of-range) (l .twice) (l .events) (l .given) (l .values) in
-    let q = ap (itemAt t) (sym (c .before .before .before .before .before .before .before .before .before .skip-spaces .ensures)) ∙ sym (c .before .before .before .before .before .before .before .item-at .ensures) ∙ c .before .before .before .before .before .item2 .given .1 in
-    let f : SFits w32 (c .before .before .before .before .before .item2 .given .0 .1 .0) = search needs in
-    rw (toZ-ofZ f, c .before .insert2 .ensures, c .before .before .either .ensures, c .before .before .before .has .ensures) (l .inv ∙ read-value t (l .at) s _ _ _ q)
+    let q = ap (itemAt t) (sym (c .before .before .before .before .before .before .before .before .skip-spaces .ensures)) ∙ sym (c .before .before .before .before .before .before .item-at .ensures) ∙ c .before .before .before .before .item2 .given .1 in
+    let f : SFits w32 (c .before .before .before .before .item2 .given .0 .1 .0) = search needs in
+    rw (toZ-ofZ f, c .before .insert2 .ensures, ⊎-elim (λ w. or-yes _ _ _ (w .0 .taken) (w .1)) (λ w. or-no _ _ _ (w .0 .left) (w .2 ∙ w .1 .ensures)) (c .before .before .if2 .came)) (l .inv ∙ read-value t (l .at) s _ _ _ q)
 
 enum-known-item-3 : tie.Need-enum-known-item-3 Inv-loop μ-loop
 enum-known-item-3 c = search needs
@@ -172,7 +171,6 @@ read-items-spec =
     loop-again
     enum-known-item-2
     has-requires
-    either-requires
     insert-requires-2
     cast-values
     mul-values

@@ -1,3 +1,5 @@
+use mathlib.Core.Logic.{⊎-elim}
+use Rattle.syntax.proofs.FlagLaws.{and-yes, and-no}
 use Prim.Native.Nat.{ℕ, _-_}
 use mathlib.Core.Logic.{⊎-elim}
 use mathlib.Core.Path.{_≡_, sym, ap, _∙_}
@@ -62,9 +64,6 @@ array-set-from-comparisons c = search needs
 one-more-requires : tie.Need-one-more-requires Inv-loop μ-loop
 one-more-requires c κs = search needs
 
-both-requires : tie.Need-both-requires Inv-loop μ-loop
-both-requires c κs = search needs
-
 skip-spaces-requires-2 : tie.Need-skip-spaces-requires-2 Inv-loop μ-loop
 skip-spaces-requires-2 c κs = search needs
 
@@ -76,10 +75,10 @@ returns-2 c =
     let t = now (c .before .before .before .before .before .before .before .before .before .before .before .before .before .before .before .args .text) in
     let l = c .before .before .before .before .before .before .before .before .before .before .before .loop in
     let q = ap (comparisonAt t) (sym (c .before .before .before .before .before .before .before .before .before .before .skip-spaces .ensures)) ∙ sym (c .before .before .before .before .before .before .before .before .before .comparison-at .ensures) ∙ c .before .before .before .before .before .before .before .comparison .given .1 in
-    let h = ap (λ (k : ℕ). isEmpty (tokenAt t k)) (sym (c .before .before .skip-spaces2 .ensures)) ∙ sym (c .before .at-token-end .ensures) ∙ c .if2 .taken in
+    let h = ap (λ (k : ℕ). isEmpty (tokenAt t k)) (sym (c .before .before .skip-spaces2 .ensures)) ∙ sym (c .before .at-token-end .ensures) ∙ c .if3 .taken in
     let x = c .before .before .before .before .before .before .before .comparison .given .0 .0 in
     let k = ⊎-elim (λ y. taken-in 4 (l .comparisons) _ (l .count) x (y .0 .taken) (y .1)) (λ y. left-out 4 (l .comparisons) _ (l .count) x (y .0 .left) (y .1)) (c .before .before .before .before .before .if1 .came) in
-    rw (c .before .before .before .both .ensures, k, c .before .before .before .before .one-more .ensures, c .before .before .skip-spaces2 .ensures) (comparisons-done t (l .at) (l .in-range) (l .comparisons) (l .count) _ _ _ q h ∙ sym (l .inv))
+    rw (⊎-elim (λ w. and-yes _ _ _ (w .0 .taken) (w .1)) (λ w. and-no _ _ _ (w .0 .left) (w .1)) (c .before .before .before .if2 .came), k, c .before .before .before .before .one-more .ensures, c .before .before .skip-spaces2 .ensures) (comparisons-done t (l .at) (l .in-range) (l .comparisons) (l .count) _ _ _ q h ∙ sym (l .inv))
 
 comma-at-requires : tie.Need-comma-at-requires Inv-loop μ-loop
 comma-at-requires c κs = search needs
@@ -98,7 +97,7 @@ returns-3 c =
     let t = now (c .before .before .before .before .before .before .before .before .before .before .before .before .before .before .before .before .before .before .before .args .text) in
     let l = c .before .before .before .before .before .before .before .before .before .before .before .before .before .before .before .loop in
     let q = ap (comparisonAt t) (sym (c .before .before .before .before .before .before .before .before .before .before .before .before .before .before .skip-spaces .ensures)) ∙ sym (c .before .before .before .before .before .before .before .before .before .before .before .before .before .comparison-at .ensures) ∙ c .before .before .before .before .before .before .before .before .before .before .before .comparison .given .1 in
-    let h = ap (λ (k : ℕ). isEmpty (tokenAt t k)) (sym (c .before .before .before .before .before .before .skip-spaces2 .ensures)) ∙ sym (c .before .before .before .before .before .at-token-end .ensures) ∙ c .before .before .before .before .if2 .left in
+    let h = ap (λ (k : ℕ). isEmpty (tokenAt t k)) (sym (c .before .before .before .before .before .before .skip-spaces2 .ensures)) ∙ sym (c .before .before .before .before .before .at-token-end .ensures) ∙ c .before .before .before .before .if3 .left in
     let w = ap (λ (k : ℕ). keywordAt t k (bytes ",")) (sym (c .before .before .before .before .before .before .skip-spaces2 .ensures)) ∙ sym (c .before .before .before .comma-at .ensures) ∙ c .before .enum-told2 .given .1 in
     c .no-comparisons2 .ensures ∙ comparisons-broken t (l .at) (l .in-range) (l .comparisons) (l .count) _ _ _ q h w ∙ sym (l .inv)
 
@@ -107,7 +106,7 @@ loop-less c =
     let t = now (c .before .before .before .before .before .before .before .before .before .before .before .before .before .before .before .before .before .before .before .args .text) in
     let l = c .before .before .before .before .before .before .before .before .before .before .before .before .before .before .before .loop in
     let q = ap (comparisonAt t) (sym (c .before .before .before .before .before .before .before .before .before .before .before .before .before .before .skip-spaces .ensures)) ∙ sym (c .before .before .before .before .before .before .before .before .before .before .before .before .before .comparison-at .ensures) ∙ c .before .before .before .before .before .before .before .before .before .before .before .comparison .given .1 in
-    let h = ap (λ (k : ℕ). isEmpty (tokenAt t k)) (sym (c .before .before .before .before .before .before .skip-spaces2 .ensures)) ∙ sym (c .before .before .before .before .before .at-token-end .ensures) ∙ c .before .before .before .before .if2 .left in
+    let h = ap (λ (k : ℕ). isEmpty (tokenAt t k)) (sym (c .before .before .before .before .before .before .skip-spaces2 .ensures)) ∙ sym (c .before .before .before .before .before .at-token-end .ensures) ∙ c .before .before .before .before .if3 .left in
     let w = ap (λ (k : ℕ). keywordAt t k (bytes ",")) (sym (c .before .before .before .before .before .before .skip-spaces2 .ensures)) ∙ sym (c .before .before .before .comma-at .ensures) ∙ c .before .behind .given .1 in
     let k = comparisons-less t (l .at) (l .in-range) (l .comparisons) (l .count) _ _ _ q h _ w in
     omega arith
@@ -117,11 +116,11 @@ loop-again c =
     let t = now (c .before .before .before .before .before .before .before .before .before .before .before .before .before .before .before .before .before .before .before .args .text) in
     let l = c .before .before .before .before .before .before .before .before .before .before .before .before .before .before .before .loop in
     let q = ap (comparisonAt t) (sym (c .before .before .before .before .before .before .before .before .before .before .before .before .before .before .skip-spaces .ensures)) ∙ sym (c .before .before .before .before .before .before .before .before .before .before .before .before .before .comparison-at .ensures) ∙ c .before .before .before .before .before .before .before .before .before .before .before .comparison .given .1 in
-    let h = ap (λ (k : ℕ). isEmpty (tokenAt t k)) (sym (c .before .before .before .before .before .before .skip-spaces2 .ensures)) ∙ sym (c .before .before .before .before .before .at-token-end .ensures) ∙ c .before .before .before .before .if2 .left in
+    let h = ap (λ (k : ℕ). isEmpty (tokenAt t k)) (sym (c .before .before .before .before .before .before .skip-spaces2 .ensures)) ∙ sym (c .before .before .before .before .before .at-token-end .ensures) ∙ c .before .before .before .before .if3 .left in
     let w = ap (λ (k : ℕ). keywordAt t k (bytes ",")) (sym (c .before .before .before .before .before .before .skip-spaces2 .ensures)) ∙ sym (c .before .before .before .comma-at .ensures) ∙ c .before .behind .given .1 in
     let x = c .before .before .before .before .before .before .before .before .before .before .before .comparison .given .0 .0 in
     let k = ⊎-elim (λ y. taken-in 4 (l .comparisons) _ (l .count) x (y .0 .taken) (y .1)) (λ y. left-out 4 (l .comparisons) _ (l .count) x (y .0 .left) (y .1)) (c .before .before .before .before .before .before .before .before .before .if1 .came) in
-    rw (c .before .before .before .before .before .before .before .both .ensures, k, c .before .before .before .before .before .before .before .before .one-more .ensures) (l .inv ∙ comparisons-again t (l .at) (l .in-range) (l .comparisons) (l .count) _ _ _ q h _ w)
+    rw (⊎-elim (λ w. and-yes _ _ _ (w .0 .taken) (w .1)) (λ w. and-no _ _ _ (w .0 .left) (w .1)) (c .before .before .before .before .before .before .before .if2 .came), k, c .before .before .before .before .before .before .before .before .one-more .ensures) (l .inv ∙ comparisons-again t (l .at) (l .in-range) (l .comparisons) (l .count) _ _ _ q h _ w)
 
 pub read-comparisons-spec : {M : Type 1} → statement M
 read-comparisons-spec =
@@ -140,7 +139,6 @@ read-comparisons-spec =
     mul-comparisons
     array-set-from-comparisons
     one-more-requires
-    both-requires
     skip-spaces-requires-2
     at-token-end-requires
     returns-2

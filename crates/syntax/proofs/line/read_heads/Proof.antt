@@ -1,3 +1,5 @@
+use mathlib.Core.Logic.{⊎-elim}
+use Rattle.syntax.proofs.FlagLaws.{and-yes, and-no}
 use Prim.Native.Nat.{ℕ, _-_}
 use mathlib.Core.Logic.{⊎-elim}
 use mathlib.Core.Path.{_≡_, sym, ap, _∙_}
@@ -59,9 +61,6 @@ array-set-from-heads c = search needs
 one-more-requires : tie.Need-one-more-requires Inv-loop μ-loop
 one-more-requires c κs = search needs
 
-both-requires : tie.Need-both-requires Inv-loop μ-loop
-both-requires c κs = search needs
-
 skip-spaces-requires-2 : tie.Need-skip-spaces-requires-2 Inv-loop μ-loop
 skip-spaces-requires-2 c κs = search needs
 
@@ -83,7 +82,7 @@ returns-2 c =
     let w = ap (λ (k : ℕ). keywordAt t k (bytes "&")) (sym (c .before .before .before .skip-spaces2 .ensures)) ∙ sym (c .before .before .ampersand-at .ensures) ∙ c .enum-told2 .given .1 in
     let x = c .before .before .before .before .before .before .before .before .test .given .0 .0 in
     let k = ⊎-elim (λ y. taken-in 8 (l .heads) _ (l .count) (head x) (y .0 .taken) (y .1)) (λ y. left-out 8 (l .heads) _ (l .count) (head x) (y .0 .left) (y .1)) (c .before .before .before .before .before .before .if1 .came) in
-    rw (c .before .before .before .before .both .ensures, k, c .before .before .before .before .before .one-more .ensures, c .before .before .before .skip-spaces2 .ensures) (heads-done t (l .at) v (l .in-range) (l .heads) (l .count) _ _ _ q w ∙ sym (l .inv))
+    rw (⊎-elim (λ w. and-yes _ _ _ (w .0 .taken) (w .1)) (λ w. and-no _ _ _ (w .0 .left) (w .1)) (c .before .before .before .before .if2 .came), k, c .before .before .before .before .before .one-more .ensures, c .before .before .before .skip-spaces2 .ensures) (heads-done t (l .at) v (l .in-range) (l .heads) (l .count) _ _ _ q w ∙ sym (l .inv))
 
 loop-less : tie.Need-loop-less Inv-loop μ-loop
 loop-less c =
@@ -104,7 +103,7 @@ loop-again c =
     let w = ap (λ (k : ℕ). keywordAt t k (bytes "&")) (sym (c .before .before .before .before .skip-spaces2 .ensures)) ∙ sym (c .before .before .before .ampersand-at .ensures) ∙ c .before .behind .given .1 in
     let x = c .before .before .before .before .before .before .before .before .before .test .given .0 .0 in
     let k = ⊎-elim (λ y. taken-in 8 (l .heads) _ (l .count) (head x) (y .0 .taken) (y .1)) (λ y. left-out 8 (l .heads) _ (l .count) (head x) (y .0 .left) (y .1)) (c .before .before .before .before .before .before .before .if1 .came) in
-    rw (c .before .before .before .before .before .both .ensures, k, c .before .before .before .before .before .before .one-more .ensures) (l .inv ∙ heads-again t (l .at) v (l .in-range) (l .heads) (l .count) _ _ _ q _ w)
+    rw (⊎-elim (λ w. and-yes _ _ _ (w .0 .taken) (w .1)) (λ w. and-no _ _ _ (w .0 .left) (w .1)) (c .before .before .before .before .before .if2 .came), k, c .before .before .before .before .before .before .one-more .ensures) (l .inv ∙ heads-again t (l .at) v (l .in-range) (l .heads) (l .count) _ _ _ q _ w)
 
 pub read-heads-spec : {M : Type 1} → statement M
 read-heads-spec =
@@ -122,7 +121,6 @@ read-heads-spec =
     mul-heads
     array-set-from-heads
     one-more-requires
-    both-requires
     skip-spaces-requires-2
     ampersand-at-requires
     enum-known-behind
