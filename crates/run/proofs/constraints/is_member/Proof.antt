@@ -10,7 +10,6 @@ enum-told : tie.Need-enum-told
 enum-told c = search needs
 
 returns : tie.Need-returns
-
 returns c = search needs
 
 returns-2 : tie.Need-returns-2
