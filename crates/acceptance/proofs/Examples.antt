@@ -6,7 +6,7 @@ use Rattle.policy.specs.Line.{headsOf, comparisonsOf, endingOf}
 use Rattle.policy.specs.List.{all, any}
 use Rattle.policy.specs.Set.{has, insert}
 use Rattle.lexer.specs.Byte.{bytes, sameBytes, is}
-use Rattle.syntax.specs.Epoch.{toLeft, atEquals, assignmentOf, itemOf, itemsOf, itemInRange, givenBy, addItem, judgeEpoch, readEpoch}
+use Rattle.epoch_line.specs.Epoch.{toLeft, atEquals, assignmentOf, itemOf, itemsOf, itemInRange, givenBy, addItem, judgeEpoch, readEpoch}
 use Rattle.acceptance.specs.Examples.{TextExample, LineExample, texts, epochLines, textAnswer, epochAnswer}
 use Rattle.lexer.specs.Token.{named, literalOf, actionOf, readingOf, relationOf, orElse, operandOf, both, comparisonOf}
 use Rattle.syntax.specs.Grammar.{comparisonsFrom, conditionFrom, joined, ruleAfter, constraintAfter, after, lineFrom}

@@ -10,8 +10,8 @@ use Rattle.policy.specs.declared.comparison.Operand.{Operand}
 use Rattle.policy.specs.declared.comparison.Relation.{Relation}
 use Rattle.policy.specs.declared.fault.Fault.{Fault}
 use Rattle.lexer.specs.Byte.{bytes}
-use Rattle.syntax.specs.Epoch as Epoch
-use Rattle.syntax.specs.Epoch.{EpochAnswer, readEpoch, emptyEpoch}
+use Rattle.epoch_line.specs.Epoch as Epoch
+use Rattle.epoch_line.specs.Epoch.{EpochAnswer, readEpoch, emptyEpoch}
 use Rattle.lexer.specs.Token.{literalAs}
 use Rattle.syntax.specs.Text.{Progress, reading, stopped, readText, emptyPolicy}
 

@@ -18,8 +18,8 @@ use Rattle.policy.specs.declared.fault.Refusal.{Refusal}
 use Rattle.policy.specs.declared.line.Ending.{Ending}
 use Rattle.policy.specs.declared.line.Test.{Test}
 use Rattle.exactness.proofs.Exact.{P-limit, N-limit}
-use Rattle.image.specs.Layout.{lineWords, linesWords, ruleWords, constraintWords, conditionWords, partWords, knownForm}
-use Rattle.word.specs.Parts.{constantWords, comparisonWord, comparisonWords}
+use Rattle.layout.specs.Layout.{lineWords, linesWords, ruleWords, constraintWords, conditionWords, partWords, knownForm}
+use Rattle.operation.specs.Parts.{constantWords, comparisonWord, comparisonWords}
 use Rattle.image.specs.Held.{rulesIn, constraintsIn}
 use Rattle.acceptance.proofs.Accepted.{accepted-acceptable}
 use Rattle.syntax.specs.Answers.{total, countsIn, countsOf, textReadOf, textRead}

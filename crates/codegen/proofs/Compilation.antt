@@ -16,7 +16,7 @@ use Rattle.policy.specs.Policy.{Policy}
 use Rattle.policy.specs.declared.fault.Fault.{Fault}
 use Rattle.policy.specs.declared.fault.Refusal.{Refusal}
 use Rattle.exactness.proofs.Exact.{image-taken, image-holds, image-size}
-use Rattle.image.specs.Layout.{imageOf, sizeLimit}
+use Rattle.layout.specs.Layout.{imageOf, sizeLimit}
 use Rattle.image.specs.Load.{load}
 use Rattle.image.specs.Check.{wellSized}
 use Rattle.image.specs.Held.{policyIn}

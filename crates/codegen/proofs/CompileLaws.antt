@@ -16,9 +16,10 @@ use Rattle.exactness.proofs.Exact.{content-below, image-length}
 use Rattle.word.proofs.WordLaws.{words-append, bytes-length}
 use Rattle.word.proofs.WriteLaws.{put-in, put-length, put-append, put-none, put-swap}
 use Rattle.word.specs.Steps.Write.{putBytes, putWords}
-use Rattle.word.specs.Word.{bytesOf, wordsOf, packHeader}
+use Rattle.word.specs.Word.{bytesOf, wordsOf}
+use Rattle.layout.specs.Header.{packHeader}
 use Rattle.image.specs.Held.{rulesIn, constraintsIn}
-use Rattle.image.specs.Layout.{lineWords, linesWords, ruleWords, constraintWords, headerWord, contentWords, checkWords, imageWords, imageOf}
+use Rattle.layout.specs.Layout.{lineWords, linesWords, ruleWords, constraintWords, headerWord, contentWords, checkWords, imageWords, imageOf}
 use Rattle.syntax.specs.Answers.{textReadOf, textRead}
 use Rattle.lexer.specs.Lines.{linesOf}
 use Rattle.syntax.specs.Text.{Progress, reading, stopped, readText}

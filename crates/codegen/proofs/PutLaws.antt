@@ -7,19 +7,20 @@ use native.Mathlib.Omega.{arith}
 use lib.ListN.{length, take, drop, drop-of-length-le}
 use Rattle.policy.specs.Limits.{valid}
 use Rattle.policy.specs.Line.{PolicyLine, endingOf}
-use Rattle.policy.specs.Value.{lineOf, lineValue}
+use Rattle.line_value.specs.Value.{lineOf, lineValue}
 use Rattle.policy.specs.declared.fault.Fault.{Fault}
 use Rattle.policy.specs.declared.line.Ending.{Ending}
-use Rattle.policy.specs.declared.line.Line.{Line}
+use Rattle.line_value.specs.declared.Line.{Line}
 use Rattle.policy.specs.declared.number.Action.{Action}
-use Rattle.image.proofs.LayoutLaws.{value-words}
-use Rattle.image.specs.Layout.{lineWords, checkWords}
-use Rattle.image.specs.Steps.Value.{valueWords}
+use Rattle.layout.proofs.LayoutLaws.{value-words}
+use Rattle.layout.specs.Layout.{lineWords, checkWords}
+use Rattle.layout.specs.Steps.Value.{valueWords}
 use Rattle.exactness.proofs.PartLines.{line-limit}
 use Rattle.policy.proofs.ValidLaws.{valid-out}
 use Rattle.word.proofs.WriteLaws.{put-length}
 use Rattle.word.specs.Steps.Write.{putWords}
-use Rattle.word.specs.Word.{wordsOf, packHeader}
+use Rattle.word.specs.Word.{wordsOf}
+use Rattle.layout.specs.Header.{packHeader}
 use Rattle.acceptance.proofs.Accepted.{accepted-valid}
 use Rattle.syntax.proofs.TextLaws.{lines-here, next-later}
 use Rattle.syntax.specs.Answers.{lineReadOf, lineRead, behindLine}

@@ -9,7 +9,7 @@ use lib.ListN.{length, drop}
 use Rattle.policy.specs.Fault.{refusal}
 use Rattle.policy.specs.declared.fault.Fault.{Fault}
 use Rattle.policy.specs.declared.fault.Refusal.{Refusal}
-use Rattle.image.specs.Layout.{imageOf}
+use Rattle.layout.specs.Layout.{imageOf}
 use Rattle.syntax.specs.Text.{Progress, reading, stopped, readText}
 use Rattle.codegen.specs.declared.Compiled.{Compiled}
 

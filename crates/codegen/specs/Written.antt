@@ -7,7 +7,7 @@ use lib.ListN.{length, take, drop}
 use Rattle.policy.specs.Limits.{Acceptable}
 use Rattle.policy.specs.Policy.{Policy}
 use Rattle.exactness.specs.Exact.{contentsOf}
-use Rattle.image.specs.Layout.{imageOf, sizeLimit}
+use Rattle.layout.specs.Layout.{imageOf, sizeLimit}
 use Rattle.image.specs.Load.{load}
 use Rattle.image.specs.Held.{policyIn}
 use Rattle.image.specs.declared.load.Loaded.{Loaded}

@@ -20,16 +20,18 @@ use Rattle.policy.specs.declared.fault.Fault.{Fault}
 use Rattle.policy.specs.declared.fault.Refusal.{Refusal}
 use Rattle.exactness.proofs.ImageLaws.{below-append, below-cons, below-none, lines-below, rules-between, constraints-between, rules-size, constraints-size, parts-of}
 use Rattle.exactness.proofs.PartLines.{lines-limit, lines-found, AreLines, same-lines, lines-written, lines-fault, no-line-fault, rules-kind, constraints-kind, rules-back, constraints-back, rules-there, constraints-there}
-use Rattle.image.proofs.SumLaws.{check-word, check-sum, check-below, sum-append, sum-set}
-use Rattle.word.proofs.WordLaws.{words-length, words-below, words-of-bytes, bytes-of-words, bytes-length, header-below, form-header, rules-header, constraints-header, header-fields}
-use Rattle.word.specs.Word.{wordLimit, Bytes, wordsOf, wordAt, bytesOf, between, packHeader, formOf, ruleCountOf, constraintCountOf, Below}
+use Rattle.layout.proofs.SumLaws.{check-word, check-sum, check-below, sum-append, sum-set}
+use Rattle.word.proofs.WordLaws.{words-length, words-below, words-of-bytes, bytes-of-words, bytes-length}
+use Rattle.layout.proofs.HeaderLaws.{header-below, form-header, rules-header, constraints-header, header-fields}
+use Rattle.word.specs.Word.{wordLimit, Bytes, wordsOf, wordAt, bytesOf, between, Below}
+use Rattle.layout.specs.Header.{packHeader, formOf, ruleCountOf, constraintCountOf}
 use Rattle.image.specs.Check.{ruleCount, constraintCount, formByte, wellSized, countsFit, sumsToZero}
 use Rattle.image.specs.Held.{linesIn, policyIn}
-use Rattle.image.specs.Layout.{linesWords, knownForm, checkCount, sum, checkWord, checkWords, headerWord, ruleWords, constraintWords, contentWords, imageWords, imageOf}
+use Rattle.layout.specs.Layout.{linesWords, knownForm, checkCount, sum, checkWord, checkWords, headerWord, ruleWords, constraintWords, contentWords, imageWords, imageOf}
 use Rattle.image.specs.Lines.{Lines, whole, fault, linesFrom, partLines, ruleLines, constraintLines}
 use Rattle.image.specs.Load.{bodyAnswer, loadWords, load, refusalIn}
 use Rattle.exactness.specs.Exact.{IsImage, contentsOf, changed, Checked, RefusedEarly, RefusalOf, ofChecks, ofBody, NoLineAt, FirstFault, inRules, inConstraints}
-use Rattle.image.specs.declared.line.Part.{Part}
+use Rattle.decode.specs.declared.Part.{Part}
 use Rattle.image.specs.declared.load.Loaded.{Loaded}
 use Rattle.image.specs.declared.load.Contents.{Contents}
 

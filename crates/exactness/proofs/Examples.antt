@@ -5,13 +5,16 @@ use mathlib.Core.Path.{_≡_, refl}
 use Rattle.policy.specs.Limits.{valid, inRange, crowded, repeated, repeats, testNumber, operandInRange, comparisonInRange, endingInRange, isReadingValue}
 use Rattle.policy.specs.Line.{headsOf, comparisonsOf, endingOf}
 use Rattle.policy.specs.List.{all, any}
-use Rattle.word.specs.Operation.{operationFrom, relationFrom}
-use Rattle.word.specs.Parts.{constantComparison, readingComparison, testOperation, testWord, operandWord, constantWords, comparisonWord, comparisonWords, endingWord}
-use Rattle.word.specs.Word.{wordsOf, bytesOf, between, pack, packHeader}
+use Rattle.operation.specs.Operation.{operationFrom, relationFrom}
+use Rattle.operation.specs.Parts.{constantComparison, readingComparison, testOperation, testWord, operandWord, constantWords, comparisonWord, comparisonWords, endingWord}
+use Rattle.word.specs.Word.{wordsOf, bytesOf, between}
+use Rattle.operation.specs.Fields.{pack}
+use Rattle.layout.specs.Header.{packHeader}
 use Rattle.image.specs.Check.{wellSized, countsFit, sumsToZero}
 use Rattle.image.specs.Held.{rulesIn, constraintsIn, linesIn, policyIn}
-use Rattle.image.specs.Layout.{conditionWords, partWords, lineWords, linesWords, knownForm, checkCount, sum, checkWord, checkWords, headerWord, ruleWords, constraintWords, contentWords, imageWords, imageOf}
-use Rattle.image.specs.Lines.{addLiteral, addMember, addComparison, decodeWord, decode, isPrefix, inPart, standsAt, keepIf, lineAt, addLine, afterLine, linesFrom, partLines}
+use Rattle.layout.specs.Layout.{conditionWords, partWords, lineWords, linesWords, knownForm, checkCount, sum, checkWord, checkWords, headerWord, ruleWords, constraintWords, contentWords, imageWords, imageOf}
+use Rattle.decode.specs.Decode.{addLiteral, addMember, addComparison, decodeWord, decode, isPrefix, inPart, standsAt, keepIf, lineAt}
+use Rattle.image.specs.Lines.{addLine, afterLine, linesFrom, partLines}
 use Rattle.image.specs.Load.{bodyAnswer, loadWords, load}
 use Rattle.exactness.specs.Examples.{worked, nothing, policies, images, imageFor}
 

@@ -9,17 +9,17 @@ use lib.ListN.{length, take, drop, getD, length-append, length-take, length-drop
 use lib.Seq.{drop-cons, take-at, drop-at, take-take, getD-take}
 use Rattle.policy.proofs.ListLaws.{and-out}
 use Rattle.policy.specs.Limits.{valid, testNumber, comparisonInRange, endingInRange}
-use Rattle.word.specs.Parts.{testWord, comparisonWords, endingWord}
+use Rattle.operation.specs.Parts.{testWord, comparisonWords, endingWord}
 use Rattle.word.specs.Word.{wordLimit, between, Below}
-use Rattle.image.specs.Layout.{conditionWords, partWords, lineWords, linesWords}
-use Rattle.image.specs.Steps.Size.{comparisonsSize, conditionSize}
+use Rattle.layout.specs.Layout.{conditionWords, partWords, lineWords, linesWords}
+use Rattle.layout.specs.Steps.Size.{comparisonsSize, conditionSize}
 use Rattle.policy.specs.Line.{PolicyLine, headsOf, comparisonsOf, endingOf}
 use Rattle.policy.specs.List.{all}
 use Rattle.policy.specs.declared.comparison.Comparison.{Comparison}
 use Rattle.policy.specs.declared.line.Ending.{Ending}
 use Rattle.policy.specs.declared.line.Test.{Test}
-use Rattle.word.proofs.PartsLaws.{Written, withConstant, withReading, written, test-below, causes-below, never-below}
-use Rattle.image.proofs.LayoutLaws.{condition-length, part-length, condition-size-limit}
+use Rattle.operation.proofs.PartsLaws.{Written, withConstant, withReading, written, test-below, causes-below, never-below}
+use Rattle.layout.proofs.LayoutLaws.{condition-length, part-length, condition-size-limit}
 use Rattle.policy.proofs.ValidLaws.{valid-out, testInRange}
 
 -- ---- words below 2 ^ 32

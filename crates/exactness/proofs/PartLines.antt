@@ -14,15 +14,16 @@ use Rattle.policy.specs.Limits.{valid}
 use Rattle.policy.specs.Line.{PolicyLine, rule, constraint, headsOf, comparisonsOf, endingOf}
 use Rattle.policy.specs.List.{all}
 use Rattle.policy.specs.Policy.{Rule, Constraint}
-use Rattle.image.proofs.DecodeLaws.{line-in, line-out, line-none}
-use Rattle.image.proofs.LayoutLaws.{part-length, condition-size-limit}
-use Rattle.image.proofs.PartLaws.{line-some}
+use Rattle.decode.proofs.DecodeLaws.{line-in, line-out, line-none}
+use Rattle.layout.proofs.LayoutLaws.{part-length, condition-size-limit}
+use Rattle.decode.proofs.FoundLaws.{line-some}
 use Rattle.policy.proofs.ValidLaws.{valid-out}
 use Rattle.image.specs.Held.{rulesIn, constraintsIn}
-use Rattle.image.specs.Layout.{lineWords, linesWords}
-use Rattle.image.specs.Lines.{Stands, inPart, lineAt, Lines, whole, fault, addLine, afterLine, linesFrom}
+use Rattle.layout.specs.Layout.{lineWords, linesWords}
+use Rattle.decode.specs.Decode.{Stands, inPart, lineAt}
+use Rattle.image.specs.Lines.{Lines, whole, fault, addLine, afterLine, linesFrom}
 use Rattle.exactness.specs.Exact.{NoLineAt}
-use Rattle.image.specs.declared.line.Part.{Part}
+use Rattle.decode.specs.declared.Part.{Part}
 
 -- ---- how long lines are
 

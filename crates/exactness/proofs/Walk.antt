@@ -10,18 +10,18 @@ use lib.Seq.{drop-at, drop-drop}
 use Rattle.policy.proofs.ListLaws.{and-out}
 use Rattle.policy.specs.Limits.{valid}
 use Rattle.policy.specs.Line.{PolicyLine, rule, constraint}
-use Rattle.policy.specs.Value.{lineValue}
+use Rattle.line_value.specs.Value.{lineValue}
 use Rattle.policy.specs.List.{all}
-use Rattle.policy.specs.declared.line.Line.{Line}
+use Rattle.line_value.specs.declared.Line.{Line}
 use Rattle.word.specs.Word.{Bytes, wordsOf, between}
-use Rattle.image.proofs.DecodeLaws.{line-in}
-use Rattle.image.proofs.PartLaws.{line-some}
+use Rattle.decode.proofs.DecodeLaws.{line-in}
+use Rattle.decode.proofs.FoundLaws.{line-some}
 use Rattle.image.specs.Held.{policyIn}
-use Rattle.image.specs.Layout.{lineWords, linesWords}
-use Rattle.image.specs.Lines.{inPart, lineAt, lineAnswer}
+use Rattle.layout.specs.Layout.{lineWords, linesWords}
+use Rattle.decode.specs.Decode.{inPart, lineAt, lineAnswer}
 use Rattle.image.specs.Load.{load}
-use Rattle.image.specs.declared.line.LineAt.{LineAt}
-use Rattle.image.specs.declared.line.Part.{Part}
+use Rattle.decode.specs.declared.LineAt.{LineAt}
+use Rattle.decode.specs.declared.Part.{Part}
 use Rattle.image.specs.declared.load.Contents.{Contents}
 use Rattle.image.specs.declared.load.Loaded.{Loaded}
 use Rattle.exactness.proofs.Exact.{HeldParts, held-parts}

@@ -15,10 +15,11 @@ use Rattle.policy.specs.declared.fault.Fault.{Fault}
 use Rattle.policy.specs.declared.fault.Refusal.{Refusal}
 use Rattle.word.specs.Word.{wordsOf, bytesOf, between}
 use Rattle.image.specs.Check.{formByte, ruleCount, constraintCount, wellSized, countsFit, sumsToZero}
-use Rattle.image.specs.Layout.{lineWords, linesWords, knownForm, ruleWords, constraintWords, imageOf}
-use Rattle.image.specs.Lines.{inPart, whole, ruleLines}
+use Rattle.layout.specs.Layout.{lineWords, linesWords, knownForm, ruleWords, constraintWords, imageOf}
+use Rattle.decode.specs.Decode.{inPart}
+use Rattle.image.specs.Lines.{whole, ruleLines}
 use Rattle.image.specs.Load.{refusalIn}
-use Rattle.image.specs.declared.line.Part.{Part}
+use Rattle.decode.specs.declared.Part.{Part}
 use Rattle.image.specs.declared.load.Contents.{Contents}
 use Rattle.image.specs.declared.load.Loaded.{Loaded}
 

@@ -9,7 +9,7 @@ use Rattle.policy.specs.declared.comparison.Literal.{Literal}
 use Rattle.policy.specs.declared.comparison.Operand.{Operand}
 use Rattle.policy.specs.declared.comparison.Relation.{Relation}
 use Rattle.word.specs.Word.{wordsOf}
-use Rattle.image.specs.Layout.{imageOf}
+use Rattle.layout.specs.Layout.{imageOf}
 use Rattle.image.specs.Held.{policyIn}
 use Rattle.image.specs.Load.{load}
 use Rattle.image.specs.declared.load.Loaded.{Loaded}

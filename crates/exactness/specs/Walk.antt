@@ -3,11 +3,11 @@ use Prim.Native.Nat.{ℕ, zero, suc}
 use mathlib.Core.Bool.{Bool, cond}
 use mathlib.Core.List.{List, [], _∷_}
 use lib.Dec.{ltb}
-use Rattle.policy.specs.declared.line.Line.{Line}
+use Rattle.line_value.specs.declared.Line.{Line}
 use Rattle.word.specs.Word.{between}
-use Rattle.image.specs.Lines.{lineAt, lineAnswer}
-use Rattle.image.specs.declared.line.LineAt.{LineAt}
-use Rattle.image.specs.declared.line.Part.{Part}
+use Rattle.decode.specs.Decode.{lineAt, lineAnswer}
+use Rattle.decode.specs.declared.LineAt.{LineAt}
+use Rattle.decode.specs.declared.Part.{Part}
 
 -- the contract of `line_at`, on the words of the bytes
 abbrev pub answerAt : Part → List ℕ → ℕ → ℕ → LineAt

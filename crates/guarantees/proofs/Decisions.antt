@@ -29,12 +29,12 @@ use Rattle.pdl.specs.Pdl.{NameActions}
 use Rattle.pdl.specs.Yield as Yield
 use Rattle.pdl.specs.Yield.{proposed, resolve, cancelled}
 use Rattle.acceptance.proofs.Refusals.{epoch-faults}
-use Rattle.syntax.specs.Answers.{answerRead, epochRead, refusalInEpoch}
-use Rattle.syntax.specs.Epoch.{EpochAnswer, refused, accepted, readEpoch}
+use Rattle.epoch_line.specs.Answer.{answerRead, epochRead, refusalInEpoch}
+use Rattle.epoch_line.specs.Epoch.{EpochAnswer, refused, accepted, readEpoch}
 use Rattle.word.proofs.WordLaws.{bytes-below}
 use Rattle.word.specs.Word.{Bytes, wordLimit, wordsOf, wordAt, between}
 use Rattle.image.specs.Held.{policyIn}
-use Rattle.image.specs.Layout.{knownForm, imageWords, imageOf}
+use Rattle.layout.specs.Layout.{knownForm, imageWords, imageOf}
 use Rattle.image.specs.Load.{refusalIn, load}
 use Rattle.image.specs.declared.load.Contents.{Contents}
 use Rattle.image.specs.declared.load.Loaded.{Loaded}

@@ -9,13 +9,13 @@ use lib.ListN.{length, set}
 use Rattle.policy.specs.Epoch.{Epoch}
 use Rattle.policy.specs.Limits.{Acceptable}
 use Rattle.policy.specs.Policy.{Policy}
-use Rattle.syntax.specs.Epoch.{EpochAnswer, refused, accepted, readEpoch}
+use Rattle.epoch_line.specs.Epoch.{EpochAnswer, refused, accepted, readEpoch}
 use Rattle.syntax.specs.Text.{policyOf}
 use Rattle.exactness.proofs.Exact.{changed-words, changed-length}
 use Rattle.exactness.specs.Exact.{changed}
 use Rattle.word.proofs.WordLaws.{bytes-length, bytes-below}
 use Rattle.word.specs.Word.{wordLimit, bytesOf, wordsOf, wordAt}
-use Rattle.image.specs.Layout.{imageWords, imageOf}
+use Rattle.layout.specs.Layout.{imageWords, imageOf}
 use Rattle.codegen.proofs.AcceptedLaws.{newest-known}
 use Rattle.codegen.proofs.Compilation.{image-written}
 use Rattle.codegen.specs.Compile.{newestForm}

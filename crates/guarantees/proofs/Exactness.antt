@@ -17,7 +17,7 @@ use Rattle.policy.specs.declared.fault.Fault.{Fault}
 use Rattle.policy.specs.declared.fault.Refusal.{Refusal}
 use Rattle.exactness.proofs.Exact.{exactly-images, image-taken, held-acceptable, held-image, held-form, Answered, early, late, answered}
 use Rattle.exactness.specs.Exact.{contentsOf, Checked}
-use Rattle.image.specs.Layout.{knownForm, imageOf}
+use Rattle.layout.specs.Layout.{knownForm, imageOf}
 use Rattle.image.specs.Check.{formByte, ruleCount, constraintCount}
 use Rattle.image.specs.Held.{policyIn}
 use Rattle.image.specs.Lines.{Lines, whole, fault, ruleLines, constraintLines}

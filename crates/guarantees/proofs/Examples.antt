@@ -15,11 +15,13 @@ use Rattle.lexer.specs.Lines.{prepend, pieces, linesOf, nonEmpty, tokensOf, tak
 use Rattle.lexer.specs.Token.{named, literalOf, actionOf, readingOf, relationOf, orElse, operandOf, both, comparisonOf}
 use Rattle.syntax.specs.Grammar.{comparisonsFrom, conditionFrom, joined, ruleAfter, constraintAfter, after, lineFrom}
 use Rattle.syntax.specs.Text.{judgeLine, isComment, tokensAnswer, lineAnswer, advance, readLine, readText, policyOf}
-use Rattle.syntax.specs.Epoch.{toLeft, atEquals, assignmentOf, itemOf, itemsOf, itemInRange, givenBy, addItem, judgeEpoch, readEpoch}
-use Rattle.word.specs.Operation.{operationFrom, relationFrom}
-use Rattle.word.specs.Word.{wordsOf, bytesOf, between, pack, packHeader}
-use Rattle.word.specs.Parts.{testOperation, testWord, operandWord, constantWords, comparisonWord, comparisonWords, constantComparison, readingComparison, endingWord}
-use Rattle.image.specs.Layout.{conditionWords, partWords, lineWords, linesWords, knownForm, checkCount, sum, checkWord, checkWords, headerWord, ruleWords, constraintWords, contentWords, imageWords, imageOf}
+use Rattle.epoch_line.specs.Epoch.{toLeft, atEquals, assignmentOf, itemOf, itemsOf, itemInRange, givenBy, addItem, judgeEpoch, readEpoch}
+use Rattle.operation.specs.Operation.{operationFrom, relationFrom}
+use Rattle.word.specs.Word.{wordsOf, bytesOf, between}
+use Rattle.operation.specs.Fields.{pack}
+use Rattle.layout.specs.Header.{packHeader}
+use Rattle.operation.specs.Parts.{testOperation, testWord, operandWord, constantWords, comparisonWord, comparisonWords, constantComparison, readingComparison, endingWord}
+use Rattle.layout.specs.Layout.{conditionWords, partWords, lineWords, linesWords, knownForm, checkCount, sum, checkWord, checkWords, headerWord, ruleWords, constraintWords, contentWords, imageWords, imageOf}
 use Rattle.codegen.specs.Compile.{outputOf, compiled}
 use Rattle.guarantees.specs.Machine.{answer, step, steps, machine}
 use Rattle.guarantees.specs.Examples.{examples, computed}

@@ -15,7 +15,7 @@ use Rattle.pdl.specs.Answer.{Answer, issues}
 use Rattle.pdl.specs.Pdl.{Satisfies, Violated, MaximalIn, _⊆_}
 use Rattle.pdl.specs.Yield as Yield
 use Rattle.pdl.specs.Yield.{proposed}
-use Rattle.syntax.specs.Epoch.{refused, readEpoch}
+use Rattle.epoch_line.specs.Epoch.{refused, readEpoch}
 use Rattle.acceptance.specs.Refusals.{OfEpoch}
 use Rattle.image.specs.Load.{load}
 use Rattle.image.specs.declared.load.Contents.{Contents}

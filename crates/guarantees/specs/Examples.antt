@@ -9,7 +9,7 @@ use Rattle.policy.specs.Set.{noActions, actionsFrom}
 use Rattle.pdl.specs.Answer.{Answer, issues}
 use Rattle.lexer.specs.Byte.{bytes}
 use Rattle.syntax.specs.Text.{policyOf}
-use Rattle.image.specs.Layout.{imageWords}
+use Rattle.layout.specs.Layout.{imageWords}
 use Rattle.codegen.specs.Compile.{newestForm}
 use Rattle.guarantees.specs.Machine.{machine}
 

@@ -7,7 +7,7 @@ use Rattle.policy.specs.Fault.{refusal}
 use Rattle.policy.specs.Policy.{Policy}
 use Rattle.pdl.specs.Answer.{Answer, refuses, issues}
 use Rattle.pdl.specs.Yield as Yield
-use Rattle.syntax.specs.Epoch.{EpochAnswer, refused, accepted, readEpoch}
+use Rattle.epoch_line.specs.Epoch.{EpochAnswer, refused, accepted, readEpoch}
 use Rattle.syntax.specs.Text.{policyOf}
 
 unfoldable pub answer : Policy → EpochAnswer → Answer

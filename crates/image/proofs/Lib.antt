@@ -1,11 +1,3 @@
-pub mod DecodeLaws
-pub mod FreshLaws
-pub mod LayoutLaws
-pub mod LengthLaws
 pub mod LoadLaws
 pub mod PartLaws
-pub mod ReadLaws
-pub mod ScanLaws
-pub mod ScanLines
-pub mod SumLaws
 pub mod WalkerLaws

@@ -12,13 +12,14 @@ use lib.Seq.{take-all}
 use Rattle.policy.specs.Fault.{refusal}
 use Rattle.policy.specs.declared.fault.Fault.{Fault}
 use Rattle.word.proofs.WordLaws.{words-length}
-use Rattle.word.specs.Word.{wordLimit, wordsOf, wordAt, formOf, ruleCountOf, constraintCountOf}
+use Rattle.word.specs.Word.{wordLimit, wordsOf, wordAt}
+use Rattle.layout.specs.Header.{formOf, ruleCountOf, constraintCountOf}
 use Rattle.image.specs.Check.{ruleCount, constraintCount, formByte, wellSized, countsFit, sumsToZero}
-use Rattle.image.specs.Layout.{knownForm, checkCount, sum}
+use Rattle.layout.specs.Layout.{knownForm, checkCount, sum}
 use Rattle.image.specs.Lines.{Lines, whole, fault, partLines}
 use Rattle.image.specs.Load.{bodyAnswer, loadWords, load}
 use Rattle.image.specs.Steps.Part.{partAnswer}
-use Rattle.image.specs.declared.line.Part.{Part}
+use Rattle.decode.specs.declared.Part.{Part}
 use Rattle.image.specs.declared.load.PartCheck.{PartCheck}
 use Rattle.image.specs.declared.load.Loaded.{Loaded}
 

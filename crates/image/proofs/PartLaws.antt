@@ -1,42 +1,22 @@
 -- The lines of a part, one after the other, as the code counts them.
 use Prim.Native.Nat.{ℕ, zero, suc, _+_, _-_, _/_, _≤_, _<_}
 use mathlib.Core.List.{List, [], _∷_}
-use mathlib.Core.Option.{Option, none, some}
+use mathlib.Core.Option.{Option}
 use mathlib.Core.Path.{_≡_, refl, sym, ap, _∙_}
 use native.Mathlib.Nat.{add-zero, sub-zero}
 use native.Mathlib.Omega.{arith}
-use lib.ListN.{length, take, drop, length-append, length-drop, length-take}
+use lib.ListN.{length, take, drop, length-drop, length-take}
 use lib.Seq.{drop-drop}
-use Rattle.policy.specs.Line.{PolicyLine, headsOf, comparisonsOf, endingOf}
-use Rattle.image.proofs.DecodeLaws.{line-out}
-use Rattle.image.proofs.LayoutLaws.{part-length, condition-size-limit}
+use Rattle.policy.specs.Line.{PolicyLine}
 use Rattle.word.proofs.WordLaws.{words-length}
 use Rattle.word.specs.Word.{wordsOf}
-use Rattle.image.specs.Layout.{lineWords}
-use Rattle.image.specs.Lines.{lineAt, lineLength, Lines, whole, fault, addLine, afterLine, linesFrom}
+use Rattle.layout.specs.Layout.{lineWords}
+use Rattle.decode.proofs.FoundLaws.{Found, isNone, isLine, found}
+use Rattle.decode.specs.Decode.{lineAt, lineLength}
+use Rattle.image.specs.Lines.{Lines, whole, fault, addLine, afterLine, linesFrom}
 use Rattle.image.specs.Steps.Part.{partAnswer}
-use Rattle.image.specs.declared.line.Part.{Part}
+use Rattle.decode.specs.declared.Part.{Part}
 use Rattle.image.specs.declared.load.PartCheck.{PartCheck}
-
-pub line-some : (l : PolicyLine) → 0 < length (lineWords l)
-unfolding lineWords
-line-some l = omega (arith, part-length (headsOf l) (comparisonsOf l) (endingOf l), condition-size-limit (comparisonsOf l))
-
--- one line, by the number of its words
-pub data Found (part : Part) (ws : List ℕ) (n : ℕ) : Type 0 where
-  isNone : lineAt part ws ≡ none → n ≡ 0 → Found part ws n
-  isLine : (l : PolicyLine) → lineAt part ws ≡ some l → n ≡ length (lineWords l) → 0 < n → n ≤ length ws → Found part ws n
-
-pub found : (part : Part) (ws : List ℕ) (n : ℕ) → n ≡ lineLength (lineAt part ws) → Found part ws n
-unfolding lineLength
-found part ws n e = go (lineAt part ws) refl e
-  where
-    go : (o : Option PolicyLine) → lineAt part ws ≡ o → n ≡ lineLength o → Found part ws n
-    go none q r = isNone q r
-    go (some l) q r =
-        let h = line-out part ws l q in
-        let s = line-some l in
-        isLine l q r (omega arith) (omega (arith, ap length (h .words), length-append (lineWords l) (drop (length (lineWords l)) ws)))
 
 count-line : (n : ℕ) (l : PolicyLine) (x : Lines) → partAnswer n (addLine l x) ≡ partAnswer (n + 1) x
 unfolding partAnswer addLine

@@ -4,8 +4,9 @@ use mathlib.Core.Bool.{Bool, _&&_}
 use mathlib.Core.List.{List}
 use lib.Dec.{eqb, leb}
 use lib.ListN.{length, getD}
-use Rattle.word.specs.Word.{wordLimit, formOf, ruleCountOf, constraintCountOf}
-use Rattle.image.specs.Layout.{checkCount, ruleWordLimit, constraintWordLimit, sizeLimit, sum}
+use Rattle.word.specs.Word.{wordLimit}
+use Rattle.layout.specs.Header.{formOf, ruleCountOf, constraintCountOf}
+use Rattle.layout.specs.Layout.{checkCount, ruleWordLimit, constraintWordLimit, sizeLimit, sum}
 
 -- the fields of word 0
 abbrev pub formByte : List ℕ → ℕ

@@ -9,7 +9,7 @@ use Rattle.policy.specs.declared.fault.Fault.{Fault}
 use Rattle.policy.specs.declared.fault.Refusal.{Refusal}
 use Rattle.word.specs.Word.{wordsOf}
 use Rattle.image.specs.Check.{formByte, ruleCount, constraintCount, wellSized, countsFit, sumsToZero}
-use Rattle.image.specs.Layout.{knownForm}
+use Rattle.layout.specs.Layout.{knownForm}
 use Rattle.image.specs.Lines.{Lines, whole, fault, ruleLines, constraintLines}
 use Rattle.image.specs.declared.load.Contents.{Contents}
 use Rattle.image.specs.declared.load.Loaded.{Loaded}

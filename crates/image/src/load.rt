@@ -2,14 +2,17 @@
 ghost use mathlib.Core.Path.{_≡_};
 ghost use Prim.Native.Nat.{_+_, _/_, _≤_};
 ghost use lib.ListN.{length};
-ghost use Rattle.word.specs.Word.{wordsOf, between, formOf, ruleCountOf, constraintCountOf};
+ghost use Rattle.word.specs.Word.{wordsOf, between};
 ghost use Rattle.image.specs.Check.{wellSized};
 ghost use Rattle.image.specs.Lines.{linesFrom, partLines};
 ghost use Rattle.image.specs.Load.{bodyAnswer, load};
 ghost use Rattle.image.specs.Steps.Part.{partAnswer};
-use crate::checksum::sum_words;
-use crate::line::Part;
 use crate::walker::Walker;
+use decode::Part;
+use layout::constraint_words_of;
+use layout::form_of;
+use layout::rule_words_of;
+use layout::sum_words;
 use policy::Fault;
 use policy::Refusal;
 use word::word_at;
@@ -55,24 +58,6 @@ fn well_sized(size: usize) -> bool
         return false;
     }
     size % 4 == 0
-}
-
-fn form_of(header: u32) -> u32
-    ensures { λ r. ⌜ r ≡ formOf header ⌝ }
-{
-    (header >> 24) % 256
-}
-
-fn rule_words_of(header: u32) -> u32
-    ensures { λ r. ⌜ r ≡ ruleCountOf header ⌝ }
-{
-    (header >> 12) % 4096
-}
-
-fn constraint_words_of(header: u32) -> u32
-    ensures { λ r. ⌜ r ≡ constraintCountOf header ⌝ }
-{
-    header % 4096
 }
 
 // The lines between two words of an image, at most `limit` of them: a walker goes from line to line.

@@ -4,9 +4,9 @@ ghost use mathlib.Core.Path.{_≡_};
 ghost use Prim.Native.Nat.{_+_, _/_, min};
 ghost use lib.ListN.{length};
 ghost use Rattle.word.specs.Word.{wordsOf, between};
-ghost use Rattle.image.specs.Lines.{lineAt, lineLength};
-use crate::line::Part;
-use crate::line::line_length;
+ghost use Rattle.decode.specs.Decode.{lineAt, lineLength};
+use decode::Part;
+use decode::line_length;
 
 pub struct Walker<'a> {
     pub image: &'a [u8],

@@ -1,8 +1,8 @@
 // Runs the loader on cases from standard input and writes what it answers, one line a case, and how many lines are met going over a
 // taken image from line to line. A case is its size in two bytes, the more significant first, and then its bytes.
+use decode::Part;
 use image::Contents;
 use image::Loaded;
-use image::Part;
 use libc::STDIN_FILENO;
 use libc::STDOUT_FILENO;
 
@@ -19,7 +19,7 @@ fn count_lines(image: &[u8], part: Part, start: usize, end: usize) -> usize {
     let mut count = 0;
     let mut at = start;
     while at < end {
-        let found = image::line_at(image, part, at, end);
+        let found = decode::line_at(image, part, at, end);
         let next = found.next;
         if next <= at {
             return count;

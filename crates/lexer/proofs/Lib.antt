@@ -1,8 +1,5 @@
 pub mod ClassLaws
-pub mod ConstantLaws
 pub mod DigitLaws
-pub mod PartLaws
-pub mod WhileLaws
-pub mod SymbolLaws
-pub mod TokenLaws
 pub mod KeywordLaws
+pub mod TokenLaws
+pub mod WhileLaws

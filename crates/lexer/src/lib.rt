@@ -1,8 +1,7 @@
-// The tokens of rule texts and epoch lines: byte classes, keywords, numbers, and the parts of a line that are one token or
-// three. Start with specs/Lines.antt (lines and tokens) and specs/Token.antt (what a token is read as).
+// The tokens of rule texts and epoch lines: byte classes, keywords and numbers. Start with specs/Lines.antt (lines and tokens) and
+// specs/Token.antt (what a token is read as).
 mod class;
 mod scan;
-mod token;
 
 pub use class::Class;
 pub use class::class_of;
@@ -17,10 +16,6 @@ pub use scan::digits_at;
 pub use scan::event_at;
 pub use scan::if_at;
 pub use scan::never_at;
+pub use scan::number_at;
+pub use scan::reading_at;
 pub use scan::skip_spaces;
-pub use token::ComparisonAt;
-pub use token::ConstantAt;
-pub use token::HeadAt;
-pub use token::comparison_at;
-pub use token::constant_at;
-pub use token::head_at;

@@ -6,7 +6,7 @@ ghost use Prim.Native.Nat.{_+_, _*_, _-_, _≤_};
 ghost use Rattle.policy.specs.List.{all};
 ghost use Rattle.lexer.specs.Byte.{bytes, isSpace, isDigit};
 ghost use Rattle.lexer.specs.Number.{isEmpty};
-ghost use Rattle.lexer.specs.Steps.Scan.{tokenAt, keywordAt, inToken, clip, clipLimit, leadingDigits, digitsAt, numberAt, nameAt, eventAt, actionAt};
+ghost use Rattle.lexer.specs.Steps.Scan.{tokenAt, keywordAt, inToken, clip, clipLimit, leadingDigits, digitsAt, numberAt, nameAt, eventAt, actionAt, readingAt};
 ghost use Rattle.lexer.specs.Lines.{skipWhile};
 use crate::class::ends_token;
 use crate::class::is_digit;
@@ -159,7 +159,7 @@ pub fn digits_at(text: &[u8], at: usize) -> NumberAt
 }
 
 // The number that the token at the position is.
-pub(crate) fn number_at(text: &[u8], at: usize) -> NumberAt
+pub fn number_at(text: &[u8], at: usize) -> NumberAt
     ensures { λ r. ⌜ r ≡ numberAt (now (text .entry)) at ⌝ }
 {
     let digits = digits_at(text, at);
@@ -176,7 +176,7 @@ pub(crate) fn number_at(text: &[u8], at: usize) -> NumberAt
 }
 
 // The number of a token that is a letter and a number.
-pub(crate) fn name_at(text: &[u8], at: usize, letter: u8) -> NumberAt
+fn name_at(text: &[u8], at: usize, letter: u8) -> NumberAt
     requires { ⌜ inToken letter ≡ true ⌝ }
     ensures { λ r. ⌜ r ≡ nameAt (now (text .entry)) at letter ⌝ }
 {
@@ -202,4 +202,11 @@ pub fn action_at(text: &[u8], at: usize) -> NumberAt
     ensures { λ r. ⌜ r ≡ actionAt (now (text .entry)) at ⌝ }
 {
     name_at(text, at, b'A')
+}
+
+// The number of a token that names a reading.
+pub fn reading_at(text: &[u8], at: usize) -> NumberAt
+    ensures { λ r. ⌜ r ≡ readingAt (now (text .entry)) at ⌝ }
+{
+    name_at(text, at, b'R')
 }

@@ -7,10 +7,10 @@ use Rattle.policy.specs.Limits.{testNumber}
 use Rattle.policy.specs.Line.{headsOf, comparisonsOf, endingOf}
 use Rattle.policy.specs.List.{any}
 use Rattle.policy.specs.Set.{has, insert}
-use Rattle.word.specs.Word.{pack}
-use Rattle.word.specs.Operation.{operationFrom, relationFrom}
-use Rattle.word.specs.Parts.{testOperation, testWord, operandWord, constantWords, comparisonWord, comparisonWords, endingWord, constantComparison, readingComparison}
-use Rattle.image.specs.Layout.{conditionWords, partWords, lineWords, linesWords, ruleWords, constraintWords}
+use Rattle.operation.specs.Fields.{pack}
+use Rattle.operation.specs.Operation.{operationFrom, relationFrom}
+use Rattle.operation.specs.Parts.{testOperation, testWord, operandWord, constantWords, comparisonWord, comparisonWords, endingWord, constantComparison, readingComparison}
+use Rattle.layout.specs.Layout.{conditionWords, partWords, lineWords, linesWords, ruleWords, constraintWords}
 use Rattle.run.specs.Run.{ran, comparisonTest, ruleTest, constraintTest, proposesAt, runRules, isNever, runConstraints}
 use Rattle.exactness.specs.Examples.{worked}
 use Rattle.meaning.specs.Examples.{runs, computed}

@@ -24,16 +24,16 @@ use Rattle.policy.specs.declared.number.Action.{Action}
 use Rattle.policy.specs.declared.number.Event.{Event}
 use Rattle.policy.specs.declared.set.ActionSet.{ActionSet}
 use Rattle.policy.specs.declared.set.Events.{Events}
-use Rattle.word.proofs.PartsLaws.{Written, withConstant, withReading, written, literalOperation, literal-operation, literal-event, member-operation, member-action, test-skip, causes-operation, causes-action, never-operation}
-use Rattle.image.proofs.LayoutLaws.{condition-length, part-length, condition-size-limit}
+use Rattle.operation.proofs.PartsLaws.{Written, withConstant, withReading, written, literalOperation, literal-operation, literal-event, member-operation, member-action, test-skip, causes-operation, causes-action, never-operation}
+use Rattle.layout.proofs.LayoutLaws.{condition-length, part-length, condition-size-limit}
 use Rattle.run.proofs.RunLaws.{ran-pass}
 use Rattle.policy.proofs.ValidLaws.{valid-out, testInRange}
-use Rattle.image.specs.Layout.{conditionWords, partWords, lineWords, linesWords, ruleWords, constraintWords}
-use Rattle.image.specs.Steps.Size.{comparisonsSize, conditionSize}
-use Rattle.word.specs.Parts.{testWord, comparisonWords, endingWord, eventFrom, constantComparison, readingComparison}
-use Rattle.word.specs.declared.operation.Operation.{Operation}
+use Rattle.layout.specs.Layout.{conditionWords, partWords, lineWords, linesWords, ruleWords, constraintWords}
+use Rattle.layout.specs.Steps.Size.{comparisonsSize, conditionSize}
+use Rattle.operation.specs.Parts.{testWord, comparisonWords, endingWord, eventFrom, constantComparison, readingComparison}
+use Rattle.operation.specs.declared.operation.Operation.{Operation}
 use Rattle.run.specs.Run.{constantCount, passes, ran, comparisonTest, ruleTest, constraintTest, proposesAt, proposing, runRules, isNever, endsConstraint, runConstraints}
-use Rattle.word.specs.Word.{skipOf, operationOf}
+use Rattle.operation.specs.Fields.{skipOf, operationOf}
 
 -- a test that fails passes over `skip` further words
 abbrev passed : Bool → ℕ → ℕ

@@ -7,7 +7,7 @@ use Rattle.policy.specs.Epoch.{Epoch}
 use Rattle.policy.specs.Set.{allEvents}
 use Rattle.policy.specs.declared.set.ActionSet.{ActionSet}
 use Rattle.exactness.specs.Examples.{worked}
-use Rattle.image.specs.Layout.{ruleWords, constraintWords}
+use Rattle.layout.specs.Layout.{ruleWords, constraintWords}
 use Rattle.run.specs.Run.{runRules, runConstraints}
 
 -- events as a set, and the value of R0

@@ -10,10 +10,10 @@ use Rattle.policy.specs.declared.fault.Fault.{Fault}
 use Rattle.policy.specs.declared.fault.Refusal.{Refusal}
 use Rattle.policy.specs.declared.set.ActionSet.{ActionSet}
 use Rattle.policy.specs.declared.set.Events.{Events}
-use Rattle.syntax.specs.Epoch.{EpochAnswer, refused, accepted, readEpoch}
-use Rattle.syntax.specs.Answers.{answerRead, epochRead}
-use Rattle.syntax.specs.declared.epoch.EpochRead.{EpochRead}
-use Rattle.syntax.specs.declared.epoch.EpochStatus.{EpochStatus}
+use Rattle.epoch_line.specs.Epoch.{EpochAnswer, refused, accepted, readEpoch}
+use Rattle.epoch_line.specs.Answer.{answerRead, epochRead}
+use Rattle.epoch_line.specs.declared.EpochRead.{EpochRead}
+use Rattle.epoch_line.specs.declared.EpochStatus.{EpochStatus}
 use Rattle.exactness.proofs.Exact.{took}
 use Rattle.image.specs.Load.{load}
 use Rattle.word.specs.Word.{wordsOf, between}

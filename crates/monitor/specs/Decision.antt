@@ -11,7 +11,7 @@ use Rattle.policy.specs.declared.fault.Refusal.{Refusal}
 use Rattle.policy.specs.declared.set.ActionSet.{ActionSet}
 use Rattle.pdl.specs.Answer.{Answer, refuses, issues}
 use Rattle.pdl.specs.Greedy.{greedy}
-use Rattle.syntax.specs.Epoch.{EpochAnswer, refused, accepted, readEpoch}
+use Rattle.epoch_line.specs.Epoch.{EpochAnswer, refused, accepted, readEpoch}
 use Rattle.word.specs.Word.{wordsOf, between}
 use Rattle.image.specs.Load.{load}
 use Rattle.image.specs.declared.load.Contents.{Contents}

@@ -8,7 +8,7 @@ use Rattle.policy.specs.Set.{noActions, actionsFrom}
 use Rattle.pdl.specs.Answer.{Answer, issues}
 use Rattle.lexer.specs.Byte.{bytes}
 use Rattle.exactness.specs.Examples.{worked}
-use Rattle.image.specs.Layout.{imageOf}
+use Rattle.layout.specs.Layout.{imageOf}
 use Rattle.word.specs.Word.{bytesOf}
 use Rattle.monitor.specs.Decision.{decision, answerOf}
 

@@ -3,6 +3,8 @@ ghost use mathlib.Core.Path.{_≡_};
 ghost use Prim.Native.Nat.{_<_};
 ghost use Rattle.word.specs.Word.{wordsOf, between};
 ghost use Rattle.monitor.specs.Decision.{keptBy, issuedBy, decision};
+use epoch_line::EpochStatus;
+use epoch_line::read_epoch;
 use image::Contents;
 use image::Loaded;
 use image::load_image;
@@ -13,8 +15,6 @@ use policy::ReadingSet;
 use policy::Refusal;
 use run::run_constraints;
 use run::run_rules;
-use syntax::EpochStatus;
-use syntax::read_epoch;
 
 // What was decided: of the proposed actions, those to be executed and all others.
 pub struct Actions {

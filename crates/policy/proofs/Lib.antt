@@ -1,5 +1,5 @@
 pub mod FaultLaws
-pub mod LineLaws
+pub mod FlagLaws
 pub mod ListLaws
 pub mod RelationLaws
 pub mod SeenLaws

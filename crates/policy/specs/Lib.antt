@@ -7,6 +7,5 @@ pub mod Policy
 pub mod Line
 pub mod List
 pub mod Limits
-pub mod Value
 pub mod Fault
 pub mod Steps

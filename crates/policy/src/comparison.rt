@@ -2,6 +2,7 @@
 ghost use mathlib.Core.Path.{_≡_};
 ghost use Rattle.policy.specs.Epoch.{readingValue};
 ghost use Rattle.policy.specs.Comparison.{relationHolds};
+ghost use Rattle.policy.specs.Line.{operandConstants};
 use crate::number::Event;
 use crate::number::Reading;
 use crate::set::ReadingSet;
@@ -44,6 +45,18 @@ impl Relation {
             Relation::LessOrEqual => left <= right,
             Relation::Greater => left > right,
             Relation::GreaterOrEqual => left >= right,
+        }
+    }
+}
+
+impl Operand {
+    // How many constants it is: 1 or 0.
+    pub fn constants(self) -> usize
+        ensures { λ r. ⌜ r ≡ operandConstants self ⌝ }
+    {
+        match self {
+            Operand::Constant(_) => 1,
+            Operand::Reading(_) => 0,
         }
     }
 }

@@ -1,21 +1,8 @@
-// A line of a rule text by value: a rule or a constraint, with its parts in text order.
+// The parts of a line of a rule text, beside its comparisons.
 ghost use mathlib.Core.Path.{_≡_};
-ghost use mathlib.Core.List.{[], map};
-ghost use Prim.Native.Nat.{_≤_};
-ghost use lib.ListN.{take};
-ghost use Rattle.policy.specs.Limits.{testNumber, headNumber};
-ghost use Rattle.policy.specs.Line.{operandConstants, constantCount};
-ghost use Rattle.policy.specs.Steps.Push.{pushHead, pushComparison, endLine};
-ghost use Rattle.policy.specs.Steps.Seen.{seenIn};
-ghost use Rattle.policy.specs.Value.{lineOf};
-use crate::comparison::Comparison;
+ghost use Rattle.policy.specs.Limits.{testNumber};
 use crate::comparison::Literal;
-use crate::comparison::Operand;
-use crate::comparison::Relation;
 use crate::number::Action;
-use crate::number::Reading;
-use crate::set::member;
-use crate::set::with_member;
 
 // What stands before the condition of a line: an event literal of a rule, or an action of a constraint.
 pub enum Test {
@@ -30,16 +17,6 @@ pub enum Ending {
 
 pub struct Head(pub Test);
 
-// Up to eight heads and four comparisons. What is past the counts is filler. A count of nine or five says that there
-// were more, which are not held.
-pub struct Line {
-    pub heads: [Head; 8],
-    pub head_count: usize,
-    pub comparisons: [Comparison; 4],
-    pub comparison_count: usize,
-    pub ending: Ending,
-}
-
 impl Test {
     // The number of the event or the action.
     pub fn number(self) -> u8
@@ -48,130 +25,6 @@ impl Test {
         match self {
             Test::Occurs(literal) => literal.event.0,
             Test::Member(action) => action.0,
-        }
-    }
-}
-
-impl Operand {
-    fn constants(self) -> usize
-        ensures { λ r. ⌜ r ≡ operandConstants self ⌝ }
-    {
-        match self {
-            Operand::Constant(_) => 1,
-            Operand::Reading(_) => 0,
-        }
-    }
-}
-
-impl Line {
-    // Whether some event or action stands twice among the heads.
-    pub fn has_repeats(self) -> bool
-        ensures { λ r. ⌜ r ≡ seenIn 0 (map headNumber (take (self .«head_count») (self .heads))) ⌝ }
-    {
-        let heads = self.heads;
-        let count = self.head_count;
-        let mut seen = 0;
-        let mut i = 0;
-        while i < 8 {
-            if count <= i {
-                return false;
-            }
-            let head = heads[i];
-            let test = head.0;
-            let n = test.number();
-            if member(seen, n) {
-                return true;
-            }
-            seen = with_member(seen, n);
-            i += 1;
-        }
-        false
-    }
-
-    // How many of the comparisons that the line holds have a constant.
-    pub fn constants(self) -> usize
-        ensures { λ r. ⌜ r ≡ constantCount (take (self .«comparison_count») (self .comparisons)) ⌝ }
-        ensures { λ r. ⌜ r ≤ 4 ⌝ }
-    {
-        let comparisons = self.comparisons;
-        let count = self.comparison_count;
-        let mut constants = 0;
-        let mut i = 0;
-        while i < 4 {
-            if count <= i {
-                return constants;
-            }
-            let comparison = comparisons[i];
-            let operand = comparison.operand;
-            constants += operand.constants();
-            i += 1;
-        }
-        constants
-    }
-
-    // A line with no part yet.
-    pub fn new() -> Line
-        ensures { λ r. ⌜ r ≡ lineOf [] [] Ending.Never ⌝ }
-    {
-        let comparison = Comparison {
-            reading: Reading(0),
-            relation: Relation::Equal,
-            operand: Operand::Constant(0),
-        };
-        Line {
-            heads: [Head(Test::Member(Action(0))); 8],
-            head_count: 0,
-            comparisons: [comparison; 4],
-            comparison_count: 0,
-            ending: Ending::Never,
-        }
-    }
-
-    pub fn with_head(self, test: Test) -> Line
-        ensures { λ r. ⌜ r ≡ pushHead self test ⌝ }
-    {
-        let n = self.head_count;
-        let mut line = self;
-        if n < 8 {
-            line.heads[n] = Head(test);
-            line.head_count = n + 1;
-            line
-        } else if n < 9 {
-            line.head_count = n + 1;
-            line
-        } else {
-            line
-        }
-    }
-
-    pub fn with_comparison(self, comparison: Comparison) -> Line
-        ensures { λ r. ⌜ r ≡ pushComparison self comparison ⌝ }
-    {
-        let n = self.comparison_count;
-        let mut line = self;
-        if n < 4 {
-            line.comparisons[n] = comparison;
-            line.comparison_count = n + 1;
-            line
-        } else if n < 5 {
-            line.comparison_count = n + 1;
-            line
-        } else {
-            line
-        }
-    }
-
-    pub fn ended(self, ending: Ending) -> Line
-        ensures { λ r. ⌜ r ≡ endLine self ending ⌝ }
-    {
-        let heads = self.heads;
-        let comparisons = self.comparisons;
-        Line {
-            heads,
-            head_count: self.head_count,
-            comparisons,
-            comparison_count: self.comparison_count,
-            ending,
         }
     }
 }

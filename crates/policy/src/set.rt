@@ -12,14 +12,14 @@ pub struct ActionSet(pub u64);
 pub struct ReadingSet(pub u64);
 
 // Nothing past 63 is a member.
-pub(crate) fn member(set: u64, n: u8) -> bool
+pub fn member(set: u64, n: u8) -> bool
     ensures { λ r. ⌜ r ≡ has set n ⌝ }
 {
     if n < 64 { (set >> n) % 2 == 1 } else { false }
 }
 
 // Past 63 the set stays as it is.
-pub(crate) fn with_member(set: u64, n: u8) -> u64
+pub fn with_member(set: u64, n: u8) -> u64
     ensures { λ r. ⌜ r ≡ insert set n ⌝ }
 {
     if n < 64 { set | (1 << n) } else { set }

@@ -9,8 +9,8 @@ use types.Run.{OneOf, miss}
 use Rattle.policy.specs.Epoch.{Readings}
 use Rattle.policy.specs.declared.set.ActionSet.{ActionSet}
 use Rattle.policy.specs.declared.set.Events.{Events}
-use Rattle.word.proofs.operation.Operation.{the-type}
-use Rattle.word.specs.declared.operation.Operation.{Operation}
+use Rattle.operation.proofs.operation.Operation.{the-type}
+use Rattle.operation.specs.declared.operation.Operation.{Operation}
 use Rattle.run.specs.Run.{constantCount, comparisonTest, ruleTest, constraintTest, proposesAt, isNever}
 use Rattle.run.specs.Steps.Test.{isMember}
 

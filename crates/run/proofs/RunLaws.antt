@@ -17,9 +17,10 @@ use Rattle.policy.specs.Set.{hasEvent, hasAction, insertAction}
 use Rattle.policy.specs.declared.set.ActionSet.{ActionSet}
 use Rattle.policy.specs.declared.set.Events.{Events}
 use Rattle.word.proofs.WordLaws.{words-length}
-use Rattle.word.specs.Parts.{eventFrom, actionFrom, constantComparison, readingComparison}
-use Rattle.word.specs.Word.{firstOf, skipOf, wordsOf, wordAt, operationOf}
-use Rattle.word.specs.declared.operation.Operation.{Operation}
+use Rattle.operation.specs.Parts.{eventFrom, actionFrom, constantComparison, readingComparison}
+use Rattle.operation.specs.Fields.{firstOf, skipOf, operationOf}
+use Rattle.word.specs.Word.{wordsOf, wordAt}
+use Rattle.operation.specs.declared.operation.Operation.{Operation}
 use Rattle.run.proofs.OperationLaws.{Among, comparison-rest, constants-rest, rule-rest, constraint-rest}
 use Rattle.run.specs.Run.{constantCount, passes, ran, comparisonTest, ruleTest, constraintTest, proposesAt, proposing, isNever, endsConstraint}
 use Rattle.run.specs.Steps.Test.{tested, isMember}

@@ -9,9 +9,9 @@ use Rattle.policy.specs.List.{any}
 use Rattle.policy.specs.Set.{hasEvent, noActions, hasAction, insertAction}
 use Rattle.policy.specs.declared.set.ActionSet.{ActionSet}
 use Rattle.policy.specs.declared.set.Events.{Events}
-use Rattle.word.specs.Parts.{eventFrom, actionFrom, constantComparison, readingComparison}
-use Rattle.word.specs.Word.{skipOf, operationOf}
-use Rattle.word.specs.declared.operation.Operation.{Operation}
+use Rattle.operation.specs.Parts.{eventFrom, actionFrom, constantComparison, readingComparison}
+use Rattle.operation.specs.Fields.{skipOf, operationOf}
+use Rattle.operation.specs.declared.operation.Operation.{Operation}
 
 -- ---- which words are run
 

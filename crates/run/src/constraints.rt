@@ -8,13 +8,13 @@ ghost use Rattle.run.specs.Steps.Test.{tested, isMember};
 use crate::test::Tested;
 use crate::test::compare;
 use crate::test::passed;
+use operation::Operation;
+use operation::first;
+use operation::skip;
 use policy::Action;
 use policy::ActionSet;
 use policy::ReadingSet;
-use word::Operation;
 use word::at_most;
-use word::first;
-use word::skip;
 use word::word_at;
 
 fn test_constraint(

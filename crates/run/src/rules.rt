@@ -8,14 +8,14 @@ ghost use Rattle.run.specs.Steps.Test.{tested};
 use crate::test::Tested;
 use crate::test::compare;
 use crate::test::passed;
+use operation::Operation;
+use operation::first;
 use policy::Action;
 use policy::ActionSet;
 use policy::Event;
 use policy::Events;
 use policy::ReadingSet;
-use word::Operation;
 use word::at_most;
-use word::first;
 use word::word_at;
 
 fn test_rule(

@@ -3,14 +3,15 @@ ghost use mathlib.Core.Bool.{cond};
 ghost use mathlib.Core.Path.{_≡_};
 ghost use Prim.Native.Nat.{_+_, _/_, _≤_};
 ghost use lib.ListN.{length};
-ghost use Rattle.word.specs.Word.{skipOf, wordAt};
+ghost use Rattle.operation.specs.Fields.{skipOf};
+ghost use Rattle.word.specs.Word.{wordAt};
 ghost use Rattle.run.specs.Run.{comparisonTest};
 ghost use Rattle.run.specs.Steps.Test.{tested};
+use operation::Operation;
+use operation::constant_holds;
+use operation::reading_holds;
+use operation::skip;
 use policy::ReadingSet;
-use word::Operation;
-use word::constant_holds;
-use word::reading_holds;
-use word::skip;
 use word::word_at;
 
 // Whether the test of a word holds, and the word behind it and its constant.

@@ -13,7 +13,7 @@ use Rattle.policy.specs.declared.fault.Refusal.{Refusal}
 use Rattle.acceptance.proofs.Accepted.{accepted-acceptable}
 use Rattle.syntax.specs.Text.{Progress, reading, stopped, readText}
 use Rattle.exactness.proofs.Exact.{image-size}
-use Rattle.image.specs.Layout.{imageOf, sizeLimit}
+use Rattle.layout.specs.Layout.{imageOf, sizeLimit}
 use Rattle.image.specs.Check.{wellSized}
 use Rattle.codegen.proofs.AcceptedLaws.{newest-known}
 use Rattle.codegen.specs.Compile.{newestForm, Output, deliver, outputOf, compiled}

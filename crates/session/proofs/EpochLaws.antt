@@ -8,7 +8,7 @@ use borrow.Author.Tests.{lt-ltb, ne-eqb}
 use lib.ListN.{length, length-append}
 use Rattle.policy.specs.declared.fault.Fault.{Fault}
 use Rattle.lexer.specs.Lines.{pieces, linesOf}
-use Rattle.syntax.specs.Epoch.{readEpoch, refused, epochLimit}
+use Rattle.epoch_line.specs.Epoch.{readEpoch, refused, epochLimit}
 use Rattle.word.specs.Word.{wordsOf}
 use Rattle.image.specs.Load.{load}
 use Rattle.monitor.specs.Decision.{decision, onImage}

@@ -15,14 +15,17 @@ use Rattle.lexer.specs.Lines.{prepend, pieces, linesOf, nonEmpty, tokensOf, tak
 use Rattle.lexer.specs.Token.{named, literalOf, actionOf, readingOf, relationOf, orElse, operandOf, both, comparisonOf}
 use Rattle.syntax.specs.Grammar.{comparisonsFrom, conditionFrom, joined, ruleAfter, constraintAfter, after, lineFrom}
 use Rattle.syntax.specs.Text.{judgeLine, isComment, tokensAnswer, lineAnswer, advance, readLine, readText, policyOf}
-use Rattle.syntax.specs.Epoch.{toLeft, atEquals, assignmentOf, itemOf, itemsOf, itemInRange, givenBy, addItem, judgeEpoch, readEpoch}
-use Rattle.word.specs.Operation.{operationFrom, relationFrom}
-use Rattle.word.specs.Word.{wordsOf, bytesOf, between, pack, packHeader}
-use Rattle.word.specs.Parts.{testOperation, testWord, operandWord, constantWords, comparisonWord, comparisonWords, constantComparison, readingComparison, endingWord}
-use Rattle.image.specs.Layout.{conditionWords, partWords, lineWords, linesWords, knownForm, checkCount, sum, checkWord, checkWords, headerWord, ruleWords, constraintWords, contentWords, imageWords, imageOf}
+use Rattle.epoch_line.specs.Epoch.{toLeft, atEquals, assignmentOf, itemOf, itemsOf, itemInRange, givenBy, addItem, judgeEpoch, readEpoch}
+use Rattle.operation.specs.Operation.{operationFrom, relationFrom}
+use Rattle.word.specs.Word.{wordsOf, bytesOf, between}
+use Rattle.operation.specs.Fields.{pack}
+use Rattle.layout.specs.Header.{packHeader}
+use Rattle.operation.specs.Parts.{testOperation, testWord, operandWord, constantWords, comparisonWord, comparisonWords, constantComparison, readingComparison, endingWord}
+use Rattle.layout.specs.Layout.{conditionWords, partWords, lineWords, linesWords, knownForm, checkCount, sum, checkWord, checkWords, headerWord, ruleWords, constraintWords, contentWords, imageWords, imageOf}
 use Rattle.image.specs.Check.{wellSized, countsFit, sumsToZero}
-use Rattle.image.specs.Lines.{addLiteral, addMember, addComparison, decodeWord, decode, isPrefix, inPart, standsAt, keepIf, lineAt, lineLength, addLine, afterLine, linesFrom, partLines}
-use Rattle.image.specs.Lines as ImageLines
+use Rattle.decode.specs.Decode.{addLiteral, addMember, addComparison, decodeWord, decode, isPrefix, inPart, standsAt, keepIf, lineAt, lineLength}
+use Rattle.image.specs.Lines.{addLine, afterLine, linesFrom, partLines}
+use Rattle.decode.specs.Decode as Decode
 use Rattle.image.specs.Load.{bodyAnswer, loadWords, load}
 use Rattle.run.specs.Run.{ran, comparisonTest, ruleTest, constraintTest, proposesAt, runRules, isNever, runConstraints}
 use Rattle.monitor.specs.Decision.{keptBy, yieldedBy, issuedBy, onLine, onImage, decision}
@@ -34,9 +37,9 @@ use Rattle.session.specs.Listed.{wordLines, listingOf, listed}
 use Rattle.session.specs.Examples.{sessions, listings, expected, sessionPrinted, textListed}
 
 pub sessions-hold : map sessionPrinted sessions ≡ map expected sessions
-unfolding all any has insert below readingValue eqZ relationHolds operandValue comparisonHolds headsOf comparisonsOf endingOf constantCount isReadingValue testNumber operandInRange comparisonInRange endingInRange inRange crowded repeats repeated valid tryNext keptBelow greedy literalHolds ruleHolds propose proposals constraintHolds conflict resolve accepted cancelled bytes sameBytes is classOf decimalFrom isEmpty numberOf positive negative constantOf prepend pieces linesOf nonEmpty tokensOf takeWhile skipWhile restOfLine lineEnd named literalOf actionOf readingOf relationOf orElse operandOf both comparisonOf comparisonsFrom conditionFrom joined ruleAfter constraintAfter after lineFrom judgeLine isComment tokensAnswer lineAnswer advance readLine readText policyOf toLeft atEquals assignmentOf itemOf itemsOf itemInRange givenBy addItem judgeEpoch readEpoch operationFrom relationFrom wordsOf bytesOf between pack packHeader testOperation testWord operandWord constantWords comparisonWord comparisonWords constantComparison readingComparison endingWord conditionWords partWords lineWords linesWords knownForm checkCount sum checkWord checkWords headerWord ruleWords constraintWords contentWords imageWords imageOf wellSized countsFit sumsToZero addLiteral addMember addComparison decodeWord decode isPrefix inPart standsAt keepIf lineAt lineLength addLine afterLine linesFrom partLines ImageLines.lineAnswer bodyAnswer loadWords load ran comparisonTest ruleTest constraintTest proposesAt runRules isNever runConstraints keptBy yieldedBy issuedBy onLine onImage decision outputOf compiled digits decimal hexDigit hexDigits hexDigitValue membersFrom actionName furtherNames actionNames actionList wordLine refusalLine acceptLine refusedLine toText splitAtRun ended textPart epochPart decisionLine epochLines answersTo printedFor printed wordLines listingOf listed sessions listings expected sessionPrinted textListed
+unfolding all any has insert below readingValue eqZ relationHolds operandValue comparisonHolds headsOf comparisonsOf endingOf constantCount isReadingValue testNumber operandInRange comparisonInRange endingInRange inRange crowded repeats repeated valid tryNext keptBelow greedy literalHolds ruleHolds propose proposals constraintHolds conflict resolve accepted cancelled bytes sameBytes is classOf decimalFrom isEmpty numberOf positive negative constantOf prepend pieces linesOf nonEmpty tokensOf takeWhile skipWhile restOfLine lineEnd named literalOf actionOf readingOf relationOf orElse operandOf both comparisonOf comparisonsFrom conditionFrom joined ruleAfter constraintAfter after lineFrom judgeLine isComment tokensAnswer lineAnswer advance readLine readText policyOf toLeft atEquals assignmentOf itemOf itemsOf itemInRange givenBy addItem judgeEpoch readEpoch operationFrom relationFrom wordsOf bytesOf between pack packHeader testOperation testWord operandWord constantWords comparisonWord comparisonWords constantComparison readingComparison endingWord conditionWords partWords lineWords linesWords knownForm checkCount sum checkWord checkWords headerWord ruleWords constraintWords contentWords imageWords imageOf wellSized countsFit sumsToZero addLiteral addMember addComparison decodeWord decode isPrefix inPart standsAt keepIf lineAt lineLength addLine afterLine linesFrom partLines Decode.lineAnswer bodyAnswer loadWords load ran comparisonTest ruleTest constraintTest proposesAt runRules isNever runConstraints keptBy yieldedBy issuedBy onLine onImage decision outputOf compiled digits decimal hexDigit hexDigits hexDigitValue membersFrom actionName furtherNames actionNames actionList wordLine refusalLine acceptLine refusedLine toText splitAtRun ended textPart epochPart decisionLine epochLines answersTo printedFor printed wordLines listingOf listed sessions listings expected sessionPrinted textListed
 sessions-hold = refl
 
 pub listings-hold : map textListed listings ≡ map expected listings
-unfolding all any has insert below readingValue eqZ relationHolds operandValue comparisonHolds headsOf comparisonsOf endingOf constantCount isReadingValue testNumber operandInRange comparisonInRange endingInRange inRange crowded repeats repeated valid tryNext keptBelow greedy literalHolds ruleHolds propose proposals constraintHolds conflict resolve accepted cancelled bytes sameBytes is classOf decimalFrom isEmpty numberOf positive negative constantOf prepend pieces linesOf nonEmpty tokensOf takeWhile skipWhile restOfLine lineEnd named literalOf actionOf readingOf relationOf orElse operandOf both comparisonOf comparisonsFrom conditionFrom joined ruleAfter constraintAfter after lineFrom judgeLine isComment tokensAnswer lineAnswer advance readLine readText policyOf toLeft atEquals assignmentOf itemOf itemsOf itemInRange givenBy addItem judgeEpoch readEpoch operationFrom relationFrom wordsOf bytesOf between pack packHeader testOperation testWord operandWord constantWords comparisonWord comparisonWords constantComparison readingComparison endingWord conditionWords partWords lineWords linesWords knownForm checkCount sum checkWord checkWords headerWord ruleWords constraintWords contentWords imageWords imageOf wellSized countsFit sumsToZero addLiteral addMember addComparison decodeWord decode isPrefix inPart standsAt keepIf lineAt lineLength addLine afterLine linesFrom partLines ImageLines.lineAnswer bodyAnswer loadWords load ran comparisonTest ruleTest constraintTest proposesAt runRules isNever runConstraints keptBy yieldedBy issuedBy onLine onImage decision outputOf compiled digits decimal hexDigit hexDigits hexDigitValue membersFrom actionName furtherNames actionNames actionList wordLine refusalLine acceptLine refusedLine toText splitAtRun ended textPart epochPart decisionLine epochLines answersTo printedFor printed wordLines listingOf listed sessions listings expected sessionPrinted textListed
+unfolding all any has insert below readingValue eqZ relationHolds operandValue comparisonHolds headsOf comparisonsOf endingOf constantCount isReadingValue testNumber operandInRange comparisonInRange endingInRange inRange crowded repeats repeated valid tryNext keptBelow greedy literalHolds ruleHolds propose proposals constraintHolds conflict resolve accepted cancelled bytes sameBytes is classOf decimalFrom isEmpty numberOf positive negative constantOf prepend pieces linesOf nonEmpty tokensOf takeWhile skipWhile restOfLine lineEnd named literalOf actionOf readingOf relationOf orElse operandOf both comparisonOf comparisonsFrom conditionFrom joined ruleAfter constraintAfter after lineFrom judgeLine isComment tokensAnswer lineAnswer advance readLine readText policyOf toLeft atEquals assignmentOf itemOf itemsOf itemInRange givenBy addItem judgeEpoch readEpoch operationFrom relationFrom wordsOf bytesOf between pack packHeader testOperation testWord operandWord constantWords comparisonWord comparisonWords constantComparison readingComparison endingWord conditionWords partWords lineWords linesWords knownForm checkCount sum checkWord checkWords headerWord ruleWords constraintWords contentWords imageWords imageOf wellSized countsFit sumsToZero addLiteral addMember addComparison decodeWord decode isPrefix inPart standsAt keepIf lineAt lineLength addLine afterLine linesFrom partLines Decode.lineAnswer bodyAnswer loadWords load ran comparisonTest ruleTest constraintTest proposesAt runRules isNever runConstraints keptBy yieldedBy issuedBy onLine onImage decision outputOf compiled digits decimal hexDigit hexDigits hexDigitValue membersFrom actionName furtherNames actionNames actionList wordLine refusalLine acceptLine refusedLine toText splitAtRun ended textPart epochPart decisionLine epochLines answersTo printedFor printed wordLines listingOf listed sessions listings expected sessionPrinted textListed
 listings-hold = refl

@@ -14,7 +14,7 @@ use Rattle.policy.specs.declared.fault.Fault.{Fault}
 use Rattle.policy.specs.declared.fault.Refusal.{Refusal}
 use Rattle.policy.proofs.SetLaws.{has-difference, has-empty}
 use Rattle.lexer.specs.Byte.{bytes}
-use Rattle.syntax.specs.Epoch.{EpochAnswer, refused, accepted, readEpoch}
+use Rattle.epoch_line.specs.Epoch.{EpochAnswer, refused, accepted, readEpoch}
 use Rattle.word.specs.Word.{wordsOf, between}
 use Rattle.image.specs.Load.{load}
 use Rattle.image.specs.declared.load.Loaded.{Loaded}

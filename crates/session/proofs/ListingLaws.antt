@@ -11,7 +11,7 @@ use Rattle.policy.specs.Fault.{refusal}
 use Rattle.policy.specs.declared.fault.Fault.{Fault}
 use Rattle.policy.specs.declared.fault.Refusal.{Refusal}
 use Rattle.word.specs.Word.{wordsOf, wordAt}
-use Rattle.image.specs.Layout.{imageOf}
+use Rattle.layout.specs.Layout.{imageOf}
 use Rattle.word.proofs.WordLaws.{words-length}
 use Rattle.syntax.specs.Text.{Progress, reading, stopped, readText}
 use Rattle.codegen.specs.Compile.{newestForm, compiled}

@@ -3,7 +3,7 @@ use Prim.Native.Nat.{ℕ}
 use mathlib.Core.List.{List, [], _∷_, _++_}
 use Rattle.syntax.specs.Text.{Progress, reading, stopped, readText}
 use Rattle.word.specs.Word.{wordsOf}
-use Rattle.image.specs.Layout.{imageOf}
+use Rattle.layout.specs.Layout.{imageOf}
 use Rattle.codegen.specs.Compile.{newestForm}
 use Rattle.report.specs.Report.{wordLine, refusalLine}
 

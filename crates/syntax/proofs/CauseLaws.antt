@@ -11,7 +11,7 @@ use Rattle.policy.specs.Number.{checkAction}
 use Rattle.policy.specs.declared.line.Ending.{Ending}
 use Rattle.policy.specs.declared.number.Action.{Action}
 use Rattle.policy.specs.declared.number.ActionCheck.{ActionCheck}
-use Rattle.lexer.proofs.PartLaws.{Named, name-some, name-none, action-valid, action-outside, clip-below, clip-same}
+use Rattle.token.proofs.PartLaws.{Named, name-some, name-none, action-valid, action-outside, clip-below, clip-same}
 use Rattle.lexer.proofs.TokenLaws.{tokens-after-spaces, tokens-first, tokens-ended, line-past-spaces, line-past-token}
 use Rattle.lexer.proofs.KeywordLaws.{word-token, word-absent}
 use Rattle.lexer.specs.Byte.{bytes, sameBytes, is, isSpace}

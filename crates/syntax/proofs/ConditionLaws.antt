@@ -7,12 +7,12 @@ use mathlib.Core.Path.{_≡_, refl, sym, ap, ap₂, _∙_}
 use native.Mathlib.Omega.{arith}
 use lib.ListN.{length}
 use Rattle.policy.specs.Limits.{comparisonInRange, comparisonLimit}
-use Rattle.policy.specs.Steps.Push.{pushItem, pushCount}
-use Rattle.policy.specs.Value.{padded, counted, noComparison}
+use Rattle.line_value.specs.Steps.Push.{pushItem, pushCount}
+use Rattle.line_value.specs.Value.{padded, counted, noComparison}
 use Rattle.policy.specs.List.{all}
 use Rattle.policy.specs.declared.comparison.Comparison.{Comparison}
 use Rattle.policy.specs.declared.comparison.Operand.{Operand}
-use Rattle.lexer.proofs.PartLaws.{both-none}
+use Rattle.token.proofs.PartLaws.{both-none}
 use Rattle.lexer.proofs.WhileLaws.{skip-ge}
 use Rattle.lexer.proofs.TokenLaws.{tokens-after-spaces, tokens-first, tokens-ended, line-past-spaces, line-past-token, line-ended}
 use Rattle.lexer.proofs.KeywordLaws.{token-inside, skip-grows, word-token, word-absent}
@@ -22,12 +22,12 @@ use Rattle.syntax.specs.Grammar.{comparisonsFrom, conditionFrom}
 use Rattle.lexer.specs.Number.{isEmpty, constantOf}
 use Rattle.syntax.proofs.FillLaws.{filled, filledCount, filled-all, filled-count-all}
 use Rattle.syntax.specs.Steps.Outcome.{noComparisons, conditionOutcome}
-use Rattle.lexer.specs.Steps.PartAt.{smallComparison, comparisonEnding, nextAt, comparisonAt}
+use Rattle.token.specs.Steps.PartAt.{smallComparison, comparisonEnding, nextAt, comparisonAt}
 use Rattle.lexer.specs.Steps.Scan.{inToken, tokenAt, keywordAt, tokensAt}
 use Rattle.lexer.specs.Lines.{skipWhile, lineEnd}
 use Rattle.syntax.specs.declared.line.Condition.{Condition}
 use Rattle.lexer.specs.declared.scan.KeywordAt.{KeywordAt}
-use Rattle.lexer.specs.declared.token.ComparisonAt.{ComparisonAt}
+use Rattle.token.specs.declared.ComparisonAt.{ComparisonAt}
 
 -- ---- a list of comparisons
 

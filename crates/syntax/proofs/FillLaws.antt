@@ -5,9 +5,9 @@ use mathlib.Core.Path.{_≡_, sym, ap, ap₂, _∙_}
 use native.Mathlib.Omega.{arith}
 use borrow.Author.Tests.{lt-ltb, le-ltb}
 use lib.ListN.{set}
-use Rattle.policy.proofs.LineLaws.{push-item, push-count}
-use Rattle.policy.specs.Steps.Push.{pushItem, pushCount}
-use Rattle.policy.specs.Value.{padded, counted}
+use Rattle.line_value.proofs.LineLaws.{push-item, push-count}
+use Rattle.line_value.specs.Steps.Push.{pushItem, pushCount}
+use Rattle.line_value.specs.Value.{padded, counted}
 
 module _ {A : Type 0} (limit : ℕ) where
   unfoldable pub filled : List A → ℕ → List A → List A

@@ -6,8 +6,8 @@ use mathlib.Core.Option.{Option, none, some, Option·map}
 use mathlib.Core.Path.{_≡_, refl, sym, ap, ap₂, _∙_}
 use native.Mathlib.Omega.{arith}
 use lib.ListN.{length}
-use Rattle.policy.specs.Steps.Push.{pushItem, pushCount}
-use Rattle.policy.specs.Value.{head, padded, noHead}
+use Rattle.line_value.specs.Steps.Push.{pushItem, pushCount}
+use Rattle.line_value.specs.Value.{head, padded, noHead}
 use Rattle.policy.specs.Limits.{headLimit}
 use Rattle.policy.specs.List.{all}
 use Rattle.policy.specs.declared.line.Head.{Head}
@@ -21,11 +21,11 @@ use Rattle.syntax.specs.Grammar.{Joined, last, before, joined}
 use Rattle.lexer.specs.Number.{isEmpty}
 use Rattle.syntax.proofs.FillLaws.{filled, filledCount, filled-all, filled-count-all}
 use Rattle.syntax.specs.Steps.Outcome.{HeadsRead, viewOf, smallHeads, headsOutcome}
-use Rattle.lexer.specs.Steps.PartAt.{testInRange, smallTest, testOf, headEnding, headAt}
+use Rattle.token.specs.Steps.PartAt.{testInRange, smallTest, testOf, headEnding, headAt}
 use Rattle.lexer.specs.Steps.Scan.{inToken, tokenAt, keywordAt, tokensAt}
 use Rattle.lexer.specs.Lines.{skipWhile, lineEnd}
 use Rattle.lexer.specs.declared.scan.KeywordAt.{KeywordAt}
-use Rattle.lexer.specs.declared.token.HeadAt.{HeadAt}
+use Rattle.token.specs.declared.HeadAt.{HeadAt}
 
 -- ---- items joined by `&`
 

@@ -14,13 +14,13 @@ use Rattle.policy.proofs.SeenLaws.{seen-repeats}
 use Rattle.policy.specs.Limits.{inRange, crowded, repeats, repeated, testNumber, headNumber, comparisonInRange, endingInRange, headLimit, comparisonLimit}
 use Rattle.policy.specs.Steps.Seen.{seenIn}
 use Rattle.policy.specs.Line.{PolicyLine, headsOf, comparisonsOf, endingOf}
-use Rattle.policy.specs.Value.{lineOf, lineValue, padded, counted, head, noHead}
+use Rattle.line_value.specs.Value.{lineOf, lineValue, padded, counted, head, noHead}
 use Rattle.policy.specs.List.{all}
 use Rattle.policy.specs.Number.{setLimit}
 use Rattle.policy.specs.declared.fault.Fault.{Fault}
 use Rattle.policy.specs.declared.line.Ending.{Ending}
 use Rattle.policy.specs.declared.line.Head.{Head}
-use Rattle.policy.specs.declared.line.Line.{Line}
+use Rattle.line_value.specs.declared.Line.{Line}
 use Rattle.policy.specs.declared.line.Test.{Test}
 use Rattle.lexer.proofs.TokenLaws.{tokens-after-spaces, tokens-first, tokens-ended, line-past-spaces, line-ended}
 use Rattle.lexer.proofs.KeywordLaws.{token-first}
@@ -31,7 +31,7 @@ use Rattle.syntax.specs.Grammar.{lineFrom}
 use Rattle.lexer.specs.Lines.{tokensOf, skipWhile, restOfLine, lineEnd}
 use Rattle.lexer.specs.Number.{isEmpty}
 use Rattle.syntax.specs.Steps.Outcome.{smallEnding, smallLine, parsedFrom}
-use Rattle.lexer.specs.Steps.PartAt.{testInRange, smallTest, smallComparison}
+use Rattle.token.specs.Steps.PartAt.{testInRange, smallTest, smallComparison}
 use Rattle.lexer.specs.Steps.Scan.{inToken, tokenAt, tokensAt}
 use Rattle.syntax.specs.Text.{LineAnswer, skipped, refused, accepted, judgeLine, isComment, tokensAnswer, lineAnswer}
 use Rattle.syntax.specs.declared.line.LineRead.{LineRead}

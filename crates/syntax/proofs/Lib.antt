@@ -1,10 +1,7 @@
 pub mod CauseLaws
 pub mod ConditionLaws
-pub mod EpochLaws
 pub mod FillLaws
-pub mod FlagLaws
 pub mod HeadLaws
-pub mod ItemLaws
 pub mod JudgeLaws
 pub mod ShapeLaws
 pub mod TextLaws

@@ -7,7 +7,7 @@ use mathlib.Core.Path.{_≡_, refl, ap, ap₂, _∙_}
 use native.Mathlib.Omega.{arith}
 use Rattle.policy.specs.Limits.{inRange, endingInRange, headLimit}
 use Rattle.policy.specs.Line.{PolicyLine, headsOf, comparisonsOf, endingOf}
-use Rattle.policy.specs.Value.{padded, lineOf, counted, noHead}
+use Rattle.line_value.specs.Value.{padded, lineOf, counted, noHead}
 use Rattle.policy.specs.List.{all}
 use Rattle.policy.specs.declared.comparison.Comparison.{Comparison}
 use Rattle.policy.specs.declared.comparison.Literal.{Literal}
@@ -18,7 +18,7 @@ use Rattle.lexer.specs.Byte.{is}
 use Rattle.lexer.specs.Token.{Token, both, literalOf, actionOf}
 use Rattle.syntax.specs.Grammar.{Joined, last, before, joined, conditionFrom, causes, never, ruleAfter, constraintAfter, after}
 use Rattle.syntax.specs.Steps.Outcome.{HeadsRead, failedLine, viewOf, smallHeads, headsOutcome, conditionOutcome, smallEnding, assembledLine, causedLine, causeLine, smallLine, parsedFrom}
-use Rattle.lexer.specs.Steps.PartAt.{testInRange, testOf}
+use Rattle.token.specs.Steps.PartAt.{testInRange, testOf}
 use Rattle.lexer.specs.Steps.Scan.{tokensAt}
 use Rattle.lexer.specs.Lines.{lineEnd}
 use Rattle.syntax.specs.declared.line.Heads.{Heads}

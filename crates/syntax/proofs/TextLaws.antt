@@ -13,7 +13,7 @@ use Rattle.policy.proofs.ListLaws.{true-false}
 use Rattle.policy.specs.Fault.{refusal}
 use Rattle.policy.specs.Limits.{crowded, ruleLimit, constraintLimit, headLimit, comparisonLimit}
 use Rattle.policy.specs.Line.{PolicyLine, rule, constraint, headsOf, comparisonsOf, endingOf, operandConstants, constantCount}
-use Rattle.policy.specs.Value.{lineOf, lineValue, counted, head, noComparison}
+use Rattle.line_value.specs.Value.{lineOf, lineValue, counted, head, noComparison}
 use Rattle.policy.specs.Policy.{Policy, Rule, Constraint}
 use Rattle.policy.specs.declared.comparison.Comparison.{Comparison}
 use Rattle.policy.specs.declared.comparison.Operand.{Operand}

@@ -1,29 +1,20 @@
--- What the reading functions answer for every text, position and epoch line, by the definitions of `Text` and `Epoch`, and what
--- each answer says in the terms of document 01: the fault with its location, if it is a refusal, and what was read, which is
--- empty in a refusal.
+-- What the reading functions answer for every text and position, by the definitions of `Text`, and what each answer says in the
+-- terms of document 01: the fault with its location, if it is a refusal, and what was read, which is empty in a refusal.
 use Prim.Native.Nat.{ℕ, _+_}
 use mathlib.Core.Bool.{cond}
 use mathlib.Core.List.{List, [], _∷_, map}
 use mathlib.Core.Option.{Option, none, some}
 use lib.Dec.{ltb}
-use lib.IntN.{pos}
-use lib.ListN.{length, replicate}
-use Rattle.policy.specs.Epoch.{Epoch}
-use Rattle.policy.specs.Fault.{refusal}
+use lib.ListN.{length}
 use Rattle.policy.specs.Line.{PolicyLine, rule, constraint, headsOf, comparisonsOf, constantCount}
-use Rattle.policy.specs.Number.{readingLimit}
 use Rattle.policy.specs.Policy.{Policy}
-use Rattle.policy.specs.Set.{noEvents, noReadings}
-use Rattle.policy.specs.Value.{lineOf, lineValue}
+use Rattle.line_value.specs.Value.{lineOf, lineValue}
 use Rattle.policy.specs.declared.fault.Fault.{Fault}
 use Rattle.policy.specs.declared.fault.Refusal.{Refusal}
 use Rattle.policy.specs.declared.line.Ending.{Ending}
-use Rattle.policy.specs.declared.line.Line.{Line}
+use Rattle.line_value.specs.declared.Line.{Line}
 use Rattle.lexer.specs.Lines.{restOfLine, lineEnd}
-use Rattle.syntax.specs.Epoch.{EpochAnswer, readEpoch}
 use Rattle.syntax.specs.Text.{LineAnswer, lineAnswer, Progress, reading, stopped, readText}
-use Rattle.syntax.specs.declared.epoch.EpochRead.{EpochRead}
-use Rattle.syntax.specs.declared.epoch.EpochStatus.{EpochStatus}
 use Rattle.syntax.specs.declared.line.LineRead.{LineRead}
 use Rattle.syntax.specs.declared.line.LineStatus.{LineStatus}
 use Rattle.syntax.specs.declared.text.LineCounts.{LineCounts}
@@ -100,30 +91,3 @@ noCounts = record { rules = noLines; constraints = noLines }
 abbrev pub countsInText : TextRead → TextCounts
 countsInText (TextRead.Refused r) = noCounts
 countsInText (TextRead.Accepted c) = c
-
--- ---- an epoch line
-
--- "Sets and returned parts are empty"
-abbrev pub refusedRead : Fault → EpochRead
-refusedRead f = record { status = EpochStatus.Refused f; events = noEvents; given = noReadings; values = replicate readingLimit (pos 0) }
-
-abbrev pub acceptedRead : Epoch → EpochRead
-acceptedRead e = record { status = EpochStatus.Accepted; events = e .events; given = e .readings .given; values = e .readings .values }
-
-unfoldable pub answerRead : EpochAnswer → EpochRead
-answerRead (EpochAnswer.refused f) = refusedRead f
-answerRead (EpochAnswer.accepted e) = acceptedRead e
-
-unfoldable pub epochRead : List ℕ → EpochRead
-epochRead line = answerRead (readEpoch line)
-
--- its fault, which is at no line
-abbrev pub refusalInEpoch : EpochRead → Option Refusal
-refusalInEpoch r = of-status (r .status)
-  where
-    of-status : EpochStatus → Option Refusal
-    of-status (EpochStatus.Refused f) = some (refusal f 0)
-    of-status EpochStatus.Accepted = none
-
-abbrev pub epochIn : EpochRead → Epoch
-epochIn r = record { events = r .events; readings = record { given = r .given; values = r .values } }

@@ -1,6 +1,5 @@
 -- What a reader must believe of this layer, in the order in which to read it. `Steps` needs not be read.
 pub mod Grammar
 pub mod Text
-pub mod Epoch
 pub mod Answers
 pub mod Steps

@@ -2,4 +2,3 @@
 pub mod Outcome
 pub mod Judged
 pub mod Tally
-pub mod EpochScan

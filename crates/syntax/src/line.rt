@@ -3,10 +3,10 @@
 ghost use mathlib.Core.Path.{_≡_};
 ghost use mathlib.Core.Bool.{false};
 ghost use Prim.Native.Nat.{_≤_};
-ghost use Rattle.policy.specs.Steps.Push.{pushCount};
+ghost use Rattle.line_value.specs.Steps.Push.{pushCount};
 ghost use Rattle.lexer.specs.Token.{literalOf, actionOf};
 ghost use Rattle.syntax.specs.Grammar.{joined, comparisonsFrom, conditionFrom, after, ruleAfter, constraintAfter, lineFrom};
-ghost use Rattle.lexer.specs.Steps.PartAt.{testOf};
+ghost use Rattle.token.specs.Steps.PartAt.{testOf};
 ghost use Rattle.lexer.specs.Steps.Scan.{tokenAt, tokensAt};
 ghost use Rattle.lexer.specs.Lines.{lineEnd};
 ghost use Rattle.lexer.specs.Number.{isEmpty};
@@ -14,8 +14,6 @@ ghost use Rattle.syntax.specs.Answers.{behindLine, lineReadOf, lineRead}
 ghost use Rattle.syntax.specs.Steps.Judged.{lineStatus, parsedStatus};
 ghost use Rattle.syntax.specs.Text.{LineAnswer};
 ghost use Rattle.syntax.specs.Steps.Outcome.{failedLine, viewOf, headsOutcome, noComparisons, conditionOutcome, assembledLine, causeLine, parsedFrom};
-use lexer::ComparisonAt;
-use lexer::HeadAt;
 use lexer::KeywordAt;
 use lexer::NumberAt;
 use lexer::action_at;
@@ -23,18 +21,20 @@ use lexer::ampersand_at;
 use lexer::at_token_end;
 use lexer::causes_at;
 use lexer::comma_at;
-use lexer::comparison_at;
-use lexer::head_at;
 use lexer::if_at;
 use lexer::never_at;
 use lexer::skip_spaces;
+use line_value::Line;
 use policy::Action;
 use policy::ActionCheck;
 use policy::Comparison;
 use policy::Ending;
 use policy::Fault;
 use policy::Head;
-use policy::Line;
+use token::ComparisonAt;
+use token::HeadAt;
+use token::comparison_at;
+use token::head_at;
 
 // What was read of a line: whether it has the right shape, whether every number is in range, the parts, and the position
 // behind them.

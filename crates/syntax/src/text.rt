@@ -5,9 +5,9 @@ ghost use Rattle.syntax.specs.Answers.{textRead};
 ghost use Rattle.syntax.specs.Steps.Tally.{Within, Small, Counted, withLine, talliedBy, stepOf};
 use crate::line::LineStatus;
 use crate::line::read_line;
+use line_value::Line;
 use policy::Ending;
 use policy::Fault;
-use policy::Line;
 use policy::Refusal;
 
 // How many lines of a kind a text has, and how many literals or actions, comparisons, and constants among these they have.

@@ -1,9 +1,9 @@
 // Runs the readers on cases from standard input and writes what they answer, one line a case. A case ends at byte 30. Its
 // first byte says what it is: `T` a rule text, any other an epoch line.
+use epoch_line::EpochStatus;
 use libc::STDIN_FILENO;
 use libc::STDOUT_FILENO;
 use std::num::wrapping_add_u64;
-use syntax::EpochStatus;
 use syntax::LineCounts;
 use syntax::TextRead;
 
@@ -78,7 +78,7 @@ fn show_values(values: &[i32; 16]) {
 }
 
 fn show_epoch(line: &[u8]) {
-    let read = syntax::read_epoch(line);
+    let read = epoch_line::read_epoch(line);
     let status = read.status;
     match status {
         EpochStatus::Refused(fault) => {

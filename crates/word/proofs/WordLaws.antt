@@ -5,11 +5,8 @@ use mathlib.Core.Path.{_≡_, refl, sym, ap, ap₂, _∙_}
 use native.Mathlib.Omega.{arith}
 use lib.ListN.{length, getD}
 use lib.Pow.{shr-shr, split}
-use Rattle.word.specs.Word.{wordLimit, Below, InFields, join, wordsOf, bytesOf, byteList, pack, opcodeOf, firstOf, secondOf, relationCodeOf, skipOf, packHeader, formOf, ruleCountOf, constraintCountOf, operationOf}
-use Rattle.word.specs.Operation.{opcode, operationFrom}
+use Rattle.word.specs.Word.{wordLimit, Below, join, wordsOf, bytesOf, byteList}
 use Rattle.word.specs.Steps.Swap.{swap}
-use Rattle.word.specs.declared.operation.Operation.{Operation}
-use Rattle.word.proofs.OperationLaws.{opcode-below, operation-back, operation-there, operation-number}
 
 -- ---- words of bytes
 
@@ -54,10 +51,10 @@ words-below [] h i = omega arith
 -- ---- there and back
 
 -- n is its part above the k lowest bits and its part below; the part above in turn
-parts : (n j k : ℕ) → n / 2 ^ j ≡ n / 2 ^ (j + k) * 2 ^ k + n / 2 ^ j % 2 ^ k
+pub parts : (n j k : ℕ) → n / 2 ^ j ≡ n / 2 ^ (j + k) * 2 ^ k + n / 2 ^ j % 2 ^ k
 parts n j k = sym (split (n / 2 ^ j) k) ∙ ap (λ (q : ℕ). q * 2 ^ k + n / 2 ^ j % 2 ^ k) (shr-shr n j k)
 
-lowest : (n k : ℕ) → n ≡ n / 2 ^ k * 2 ^ k + n % 2 ^ k
+pub lowest : (n k : ℕ) → n ≡ n / 2 ^ k * 2 ^ k + n % 2 ^ k
 lowest n k = sym (split n k)
 
 join-linear : (w a b c d q₈ q₁₆ q₂₄ : ℕ) → w ≡ q₈ * 256 + d → q₈ ≡ q₁₆ * 256 + c → q₁₆ ≡ q₂₄ * 256 + b → q₂₄ ≡ a → join a b c d ≡ w
@@ -126,91 +123,3 @@ pub bytes-append : (a b : List ℕ) → bytesOf (a ++ b) ≡ bytesOf a ++ bytesO
 unfolding bytesOf
 bytes-append [] b = refl
 bytes-append (w ∷ ws) b = ap (λ (xs : List ℕ). byteList w ++ xs) (bytes-append ws b)
-
--- ---- fields
-
-module _ (o : Operation) (first second relation skip : ℕ) (h : InFields first second relation skip) where
-  limit : opcode o < 8
-  limit = opcode-below o
-
-  pub pack-below : pack o first second relation skip < wordLimit
-  unfolding pack
-  pack-below = omega (arith, limit)
-
-  pub opcode-pack : opcodeOf (pack o first second relation skip) ≡ opcode o
-  unfolding pack
-  opcode-pack = omega (arith, limit)
-
-  pub operation-pack : operationOf (pack o first second relation skip) ≡ o
-  operation-pack = ap operationFrom opcode-pack ∙ operation-back o
-
-  pub first-pack : firstOf (pack o first second relation skip) ≡ first
-  unfolding pack
-  first-pack = omega arith
-
-  pub second-pack : secondOf (pack o first second relation skip) ≡ second
-  unfolding pack
-  second-pack = omega arith
-
-  pub relation-pack : relationCodeOf (pack o first second relation skip) ≡ relation
-  unfolding pack
-  relation-pack = omega arith
-
-  pub skip-pack : skipOf (pack o first second relation skip) ≡ skip
-  unfolding pack
-  skip-pack = omega arith
-
-  -- below the relation, and below the first number where the second and the relation are 0
-  pub low-pack : pack o first second relation skip % 2 ^ 13 ≡ skip
-  unfolding pack
-  low-pack = omega arith
-
-pub head-low : (o : Operation) (first skip : ℕ) → skip < 32 → pack o first 0 0 skip % 2 ^ 22 ≡ skip
-unfolding pack
-head-low o first skip h = omega arith
-
--- a word with the number of an operation or 0, whose eight zero bits are 0, is the packing of its own fields
-fields-linear : (w o f s r k q₅ q₁₃ q₁₆ q₂₂ q₂₈ : ℕ) → w ≡ q₅ * 32 + k → q₅ ≡ q₁₃ * 256 + 0 → q₁₃ ≡ q₁₆ * 8 + r → q₁₆ ≡ q₂₂ * 64 + s → q₂₂ ≡ q₂₈ * 64 + f → q₂₈ ≡ o → o * 2 ^ 28 + f * 2 ^ 22 + s * 2 ^ 16 + r * 2 ^ 13 + k ≡ w
-fields-linear w o f s r k q₅ q₁₃ q₁₆ q₂₂ q₂₈ e₁ e₂ e₃ e₄ e₅ e₆ = omega arith
-
-pub pack-fields : (w : ℕ) → w < wordLimit → opcodeOf w < 8 → w / 2 ^ 5 % 2 ^ 8 ≡ 0 → pack (operationOf w) (firstOf w) (secondOf w) (relationCodeOf w) (skipOf w) ≡ w
-unfolding pack
-pack-fields w h o z =
-    let top : w / 2 ^ 28 ≡ opcode (operationOf w) = omega (arith, operation-there (opcodeOf w) o) in
-    let none : w / 2 ^ 5 ≡ w / 2 ^ 13 * 256 + 0 = omega (arith, parts w 5 8) in
-    fields-linear w (opcode (operationOf w)) (firstOf w) (secondOf w) (relationCodeOf w) (skipOf w) (w / 2 ^ 5) (w / 2 ^ 13) (w / 2 ^ 16) (w / 2 ^ 22) (w / 2 ^ 28) (lowest w 5) none (parts w 13 3) (parts w 16 6) (parts w 22 6) top
-
-module _ (form ruleCount constraintCount : ℕ) (f : form < 256) (r : ruleCount < 4096) (c : constraintCount < 4096) where
-  pub header-below : packHeader form ruleCount constraintCount < wordLimit
-  unfolding packHeader
-  header-below = omega arith
-
-  pub form-header : formOf (packHeader form ruleCount constraintCount) ≡ form
-  unfolding packHeader
-  form-header = omega arith
-
-  pub rules-header : ruleCountOf (packHeader form ruleCount constraintCount) ≡ ruleCount
-  unfolding packHeader
-  rules-header = omega arith
-
-  pub constraints-header : constraintCountOf (packHeader form ruleCount constraintCount) ≡ constraintCount
-  unfolding packHeader
-  constraints-header = omega arith
-
-pub header-fields : (w : ℕ) → w < wordLimit → packHeader (formOf w) (ruleCountOf w) (constraintCountOf w) ≡ w
-unfolding packHeader
-header-fields w h = omega (arith, shr-shr w 12 12)
-
--- ---- words put together again from what a scan tests
-
-module _ (o : Operation) (w : ℕ) (known : 0 < opcode o) (h : w < wordLimit) (e : operationOf w ≡ o) where
-  top : w / 2 ^ 28 ≡ opcode o
-  top = let k : w / 2 ^ 28 ≡ opcodeOf w = omega arith in k ∙ operation-number (opcodeOf w) o known e
-
-  pub head-again : (left : ℕ) → w % 2 ^ 22 ≡ left → pack o (firstOf w) 0 0 left ≡ w
-  unfolding pack
-  head-again left q = omega (arith, top, lowest w 22, parts w 22 6)
-
-  pub comparison-again : (low : ℕ) → w % 2 ^ 13 ≡ low → pack o (firstOf w) (secondOf w) (relationCodeOf w) low ≡ w
-  unfolding pack
-  comparison-again low q = omega (arith, top, lowest w 13, parts w 13 3, parts w 16 6, parts w 22 6)

@@ -1,6 +1,3 @@
--- What a reader must believe of this layer, in this order: `Operation`, the numbers of operations and relations; `Word`, words in
--- bytes and the fields of a word; `Parts`, the words of the parts of a line. `Steps` need not be read.
-pub mod Operation
+-- What a reader must believe of this layer: `Word`, words in bytes. `Steps` need not be read.
 pub mod Word
-pub mod Parts
 pub mod Steps

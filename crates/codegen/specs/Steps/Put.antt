@@ -5,8 +5,9 @@ use lib.ListN.{length, take}
 use Rattle.policy.specs.Line.{PolicyLine, endingOf}
 use Rattle.policy.specs.declared.line.Ending.{Ending}
 use Rattle.word.specs.Steps.Write.{putWords}
-use Rattle.word.specs.Word.{wordsOf, packHeader}
-use Rattle.image.specs.Layout.{lineWords, checkWords}
+use Rattle.word.specs.Word.{wordsOf}
+use Rattle.layout.specs.Header.{packHeader}
+use Rattle.layout.specs.Layout.{lineWords, checkWords}
 use Rattle.syntax.specs.Text.{LineAnswer, skipped, refused, accepted, lineAnswer}
 use Rattle.syntax.specs.declared.text.LineCounts.{LineCounts}
 use Rattle.codegen.specs.Compile.{newestForm}

@@ -56,6 +56,9 @@ eventAt text at = nameAt text at (code "E")
 abbrev pub actionAt : List ℕ → ℕ → NumberAt
 actionAt text at = nameAt text at (code "A")
 
+abbrev pub readingAt : List ℕ → ℕ → NumberAt
+readingAt text at = nameAt text at (code "R")
+
 -- the tokens from a position to the end of its line
 unfoldable pub tokensAt : List ℕ → ℕ → List (List ℕ)
 tokensAt text at = tokensOf (restOfLine text at)

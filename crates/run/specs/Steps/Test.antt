@@ -1,7 +1,7 @@
 -- What the functions answer for the test of a word.
 use Prim.Native.Nat.{ℕ, _+_}
 use mathlib.Core.Bool.{Bool, true, false}
-use Rattle.word.specs.declared.operation.Operation.{Operation}
+use Rattle.operation.specs.declared.operation.Operation.{Operation}
 use Rattle.run.specs.Run.{constantCount}
 use Rattle.run.specs.declared.test.Tested.{Tested}
 

@@ -7,7 +7,7 @@ use lib.ListN.{take}
 use Rattle.policy.specs.Limits.{headNumber}
 use Rattle.policy.specs.Steps.Seen.{seenIn}
 use Rattle.policy.specs.declared.fault.Fault.{Fault}
-use Rattle.policy.specs.declared.line.Line.{Line}
+use Rattle.line_value.specs.declared.Line.{Line}
 use Rattle.syntax.specs.declared.line.LineStatus.{LineStatus}
 use Rattle.syntax.specs.declared.line.ParsedLine.{ParsedLine}
 

@@ -6,20 +6,20 @@ use mathlib.Core.Option.{Option, none, some}
 use lib.Dec.{ltb}
 use Rattle.policy.specs.Limits.{inRange, comparisonInRange, endingInRange, headLimit, comparisonLimit}
 use Rattle.policy.specs.Line.{PolicyLine, headsOf, comparisonsOf, endingOf}
-use Rattle.policy.specs.Value.{lineOf, head, padded, counted, noHead, noComparison}
+use Rattle.line_value.specs.Value.{lineOf, head, padded, counted, noHead, noComparison}
 use Rattle.policy.specs.List.{all}
 use Rattle.policy.specs.Number.{setLimit}
 use Rattle.policy.specs.declared.comparison.Comparison.{Comparison}
 use Rattle.policy.specs.declared.line.Ending.{Ending}
 use Rattle.policy.specs.declared.line.Head.{Head}
-use Rattle.policy.specs.declared.line.Line.{Line}
+use Rattle.line_value.specs.declared.Line.{Line}
 use Rattle.policy.specs.declared.line.Test.{Test}
 use Rattle.policy.specs.declared.number.Action.{Action}
 use Rattle.lexer.specs.Byte.{is}
 use Rattle.lexer.specs.Token.{Token, actionOf}
 use Rattle.syntax.specs.Answers.{newLine}
 use Rattle.syntax.specs.Grammar.{Joined, conditionFrom}
-use Rattle.lexer.specs.Steps.PartAt.{testInRange, smallTest, smallComparison}
+use Rattle.token.specs.Steps.PartAt.{testInRange, smallTest, smallComparison}
 use Rattle.lexer.specs.Steps.Scan.{tokensAt}
 use Rattle.lexer.specs.Lines.{lineEnd}
 use Rattle.syntax.specs.declared.line.Condition.{Condition}

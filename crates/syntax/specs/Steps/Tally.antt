@@ -7,7 +7,7 @@ use Rattle.policy.specs.Limits.{headLimit, comparisonLimit, ruleLimit, constrai
 use Rattle.policy.specs.Line.{constantCount}
 use Rattle.policy.specs.declared.fault.Fault.{Fault}
 use Rattle.policy.specs.declared.line.Ending.{Ending}
-use Rattle.policy.specs.declared.line.Line.{Line}
+use Rattle.line_value.specs.declared.Line.{Line}
 use Rattle.syntax.specs.declared.line.LineStatus.{LineStatus}
 use Rattle.syntax.specs.declared.text.LineCounts.{LineCounts}
 use Rattle.syntax.specs.declared.text.Tally.{Tally}

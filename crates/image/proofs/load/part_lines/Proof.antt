@@ -46,15 +46,16 @@ use denote.Triple.Walked.{says, needs, Stays, stay-none, stay-none-slice, walkOf
 use denote.Exit.{yes}
 use denote.Triple.Clauses.{ensured, lasts}
 use Rattle.word.specs.Word.{between, wordsOf}
-use Rattle.image.specs.Lines.{lineAt, lineLength, linesFrom}
+use Rattle.decode.specs.Decode.{lineAt, lineLength}
+use Rattle.image.specs.Lines.{linesFrom}
 use Rattle.image.specs.Steps.Part.{partAnswer}
-use Rattle.image.specs.declared.line.Part.{Part}
+use Rattle.decode.specs.declared.Part.{Part}
 use Rattle.image.specs.declared.load.PartCheck.{PartCheck}
 use Rattle.image.specs.declared.walker.Walker.{Walker}
 use Rattle.image.proofs.PartLaws.{Counted, counted-none, counted-more, counted-full, counted-fault, counted-all}
 use Rattle.image.proofs.WalkerLaws.{Row, Type′, Laws′, slice, Own, SliceOwn, placed, made}
-use Rattle.image.proofs.line.Part as P
-use Rattle.image.proofs.line.Part.Laws as P′
+use Rattle.decode.proofs.Part as P
+use Rattle.decode.proofs.Part.Laws as P′
 use Rattle.image.proofs.load.PartCheck as K
 use Rattle.image.proofs.load.PartCheck.Laws as K′
 use Rattle.image.proofs.walker.Walker as T

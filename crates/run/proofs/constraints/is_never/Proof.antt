@@ -1,5 +1,5 @@
 use mathlib.Core.Path.{_≡_, sym, ap, _∙_}
-use Rattle.word.specs.declared.operation.Operation.{Operation}
+use Rattle.operation.specs.declared.operation.Operation.{Operation}
 use Rattle.run.specs.Run.{isNever}
 use Rattle.run.proofs.OperationLaws.{never-rest}
 use borrow.Author.Needs.{needs}

@@ -2,7 +2,7 @@ use Rattle.run.proofs.RunLaws.{proposes-here}
 use mathlib.Core.Path.{_≡_, sym, ap, _∙_}
 use Prim.Native.Nat.{ℕ}
 use Rattle.policy.specs.Set.{insertAction}
-use Rattle.word.specs.declared.operation.Operation.{Operation}
+use Rattle.operation.specs.declared.operation.Operation.{Operation}
 use Rattle.run.specs.Run.{proposesAt}
 use Rattle.run.proofs.OperationLaws.{proposes-rest}
 use borrow.Author.Needs.{needs}

@@ -1,5 +1,5 @@
 use Rattle.run.proofs.RunLaws.{passed-holds, passed-fails}
-use Rattle.word.specs.Word.{skipOf}
+use Rattle.operation.specs.Fields.{skipOf}
 use native.Mathlib.Omega.{arith}
 use borrow.Author.Needs.{needs}
 use Rattle.run.proofs.test.passed.Statement.{statement}

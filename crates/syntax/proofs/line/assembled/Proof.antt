@@ -1,5 +1,5 @@
 use mathlib.Core.Logic.{⊎-elim}
-use Rattle.syntax.proofs.FlagLaws.{and-yes, and-no}
+use Rattle.policy.proofs.FlagLaws.{and-yes, and-no}
 use Rattle.syntax.specs.Steps.Outcome.{assembledLine}
 use borrow.Author.Needs.{needs}
 use Rattle.syntax.proofs.line.assembled.Statement.{statement}

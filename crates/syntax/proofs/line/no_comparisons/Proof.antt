@@ -1,4 +1,4 @@
-use Rattle.policy.specs.Value.{lineOf}
+use Rattle.line_value.specs.Value.{lineOf}
 use borrow.Author.Needs.{needs}
 use Rattle.syntax.proofs.line.no_comparisons.Statement.{statement}
 use Rattle.syntax.proofs.line.no_comparisons.Tie as tie

@@ -1,14 +1,14 @@
 use mathlib.Core.Logic.{⊎-elim}
-use Rattle.syntax.proofs.FlagLaws.{and-yes, and-no}
+use Rattle.policy.proofs.FlagLaws.{and-yes, and-no}
 use Prim.Native.Nat.{ℕ, _-_}
 use mathlib.Core.Logic.{⊎-elim}
 use mathlib.Core.Path.{_≡_, sym, ap, _∙_}
 use denote.Ref.{now}
 use lib.ListN.{length}
-use Rattle.policy.specs.Value.{lineOf}
+use Rattle.line_value.specs.Value.{lineOf}
 use Rattle.lexer.specs.Byte.{bytes}
 use Rattle.lexer.specs.Number.{isEmpty}
-use Rattle.lexer.specs.Steps.PartAt.{comparisonAt}
+use Rattle.token.specs.Steps.PartAt.{comparisonAt}
 use Rattle.lexer.specs.Steps.Scan.{tokenAt, tokensAt, keywordAt}
 use Rattle.lexer.specs.Lines.{lineEnd}
 use Rattle.syntax.proofs.ConditionLaws.{comparisonsLeft, comparisons-start, comparisons-failed, comparisons-done, comparisons-broken, comparisons-less, comparisons-again}

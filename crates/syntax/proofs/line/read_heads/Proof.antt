@@ -1,13 +1,13 @@
 use mathlib.Core.Logic.{⊎-elim}
-use Rattle.syntax.proofs.FlagLaws.{and-yes, and-no}
+use Rattle.policy.proofs.FlagLaws.{and-yes, and-no}
 use Prim.Native.Nat.{ℕ, _-_}
 use mathlib.Core.Logic.{⊎-elim}
 use mathlib.Core.Path.{_≡_, sym, ap, _∙_}
 use denote.Ref.{now}
 use lib.ListN.{length}
-use Rattle.policy.specs.Value.{head, lineOf}
+use Rattle.line_value.specs.Value.{head, lineOf}
 use Rattle.lexer.specs.Byte.{bytes}
-use Rattle.lexer.specs.Steps.PartAt.{testOf, headAt}
+use Rattle.token.specs.Steps.PartAt.{testOf, headAt}
 use Rattle.lexer.specs.Steps.Scan.{tokensAt, keywordAt}
 use Rattle.lexer.specs.Lines.{lineEnd}
 use Rattle.syntax.proofs.FillLaws.{taken-in, left-out}

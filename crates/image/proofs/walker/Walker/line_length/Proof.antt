@@ -37,17 +37,17 @@ use denote.Triple.Walked.{says, Stays, stay-none, walkOf, goes-none, Walks, ends
 use denote.Exit.{yes}
 use denote.Triple.Clauses.{ensured, lasts}
 use Rattle.word.specs.Word.{between, wordsOf}
-use Rattle.image.specs.Lines.{lineAt, lineLength}
-use Rattle.image.specs.declared.line.Part.{Part}
+use Rattle.decode.specs.Decode.{lineAt, lineLength}
+use Rattle.decode.specs.declared.Part.{Part}
 use Rattle.image.specs.declared.walker.Walker.{Walker}
 use Rattle.image.proofs.WalkerLaws.{Row, Type′, Laws′, mach, slice, Own, SliceOwn, lent}
 use Rattle.image.proofs.walker.Walker.Laws as T′
-use Rattle.image.proofs.line.Part as P
-use Rattle.image.proofs.line.Part.Laws as P′
-use Rattle.image.proofs.line.line_length as callee
-use Rattle.image.proofs.line.line_length.Symbol as callee-def
-use Rattle.image.proofs.line.line_length.Symbol.{name as #callee}
-use Rattle.image.proofs.line.line_length.Met as callee-thm
+use Rattle.decode.proofs.Part as P
+use Rattle.decode.proofs.Part.Laws as P′
+use Rattle.decode.proofs.line_length as callee
+use Rattle.decode.proofs.line_length.Symbol as callee-def
+use Rattle.decode.proofs.line_length.Symbol.{name as #callee}
+use Rattle.decode.proofs.line_length.Met as callee-thm
 use Rattle.image.proofs.walker.Walker.line_length.Key.{name as #length}
 use Rattle.image.proofs.walker.Walker.line_length as length
 use Rattle.image.proofs.walker.Walker.line_length.Statement as stated
@@ -138,4 +138,4 @@ line-length-spec 𝓤 H 𝓜 𝓖 𝓡 =
     entered 𝓤 H (tripleOf 𝓤 H (𝓖 .A) length.signature (length.spec 𝓤 H (𝓖 .A) (𝓜 .mem) (𝓡 .run)))
     (tables 𝓤 H 𝓜 𝓡 code.env .C) (tables 𝓤 H 𝓜 𝓡 code.env .Λ) #length code.function (code.unfolded 𝓤 H 𝓜 𝓡)
     (length-meets 𝓤 H (𝓖 .A) (givenOf 𝓤 H 𝓜 𝓖) (𝓜 .mem) (𝓡 .run) (tablesOf 𝓤 H 𝓜 (tables 𝓤 H 𝓜 𝓡 code.env))
-    (cited 𝓤 H (LineLength 𝓤 H (𝓖 .A) (𝓜 .mem) (𝓡 .run)) 𝓜 𝓡 code.env #callee callee-def.routine code.calls-image·line·line-length (callee-thm.met 𝓤 H 𝓜 𝓖 𝓡)))
+    (cited 𝓤 H (LineLength 𝓤 H (𝓖 .A) (𝓜 .mem) (𝓡 .run)) 𝓜 𝓡 code.env #callee callee-def.routine code.calls-decode·line-length (callee-thm.met 𝓤 H 𝓜 𝓖 𝓡)))

@@ -1,0 +1,284 @@
+// The lines of an image: whether a whole line that an accepted text may have stands at a word, and its value.
+ghost use mathlib.Core.Path.{_≡_};
+ghost use mathlib.Core.Bool.{false};
+ghost use mathlib.Core.List.{[]};
+ghost use Prim.Native.Nat.{_+_, _-_, _/_, _<_, _≤_};
+ghost use lib.ListN.{length, drop};
+ghost use Rattle.line_value.specs.Value.{lineOf};
+ghost use Rattle.policy.specs.Set.{has, insert};
+ghost use Rattle.word.specs.Word.{wordsOf, between};
+ghost use Rattle.decode.specs.Decode.{lineAt, lineLength, lineAnswer};
+ghost use Rattle.decode.specs.Steps.Scan.{isHead, isEnding, headOpcodes, headSound, headCount, constantSound, readingSound, comparisonLength, comparisonsFill, valueFrom};
+ghost use Rattle.operation.specs.Operation.{operationFrom};
+use line_value::Line;
+use operation::Operation;
+use operation::constant_comparison;
+use operation::ending_word;
+use operation::first;
+use operation::opcode;
+use operation::reading_comparison;
+use operation::relation_code_of;
+use operation::second;
+use operation::skip;
+use policy::Action;
+use policy::Ending;
+use policy::Event;
+use policy::Literal;
+use policy::Test;
+use word::at_most;
+use word::word_at;
+use word::word_in;
+
+// The part of an image that a line stands in.
+pub enum Part {
+    Rules,
+    Constraints,
+}
+
+// A line, and the word at which the next one starts: the same word where no line stands.
+pub struct LineAt {
+    pub line: Line,
+    pub next: usize,
+}
+
+// Bit n of the number is 1 where a head of the part may have the operation of number n.
+fn head_opcodes(part: Part) -> u32
+    ensures { λ r. ⌜ r ≡ headOpcodes part ⌝ }
+{
+    match part {
+        Part::Rules => (1 << Operation::Present.opcode()) + (1 << Operation::Absent.opcode()),
+        Part::Constraints => 1 << Operation::Member.opcode(),
+    }
+}
+
+// A test of one bit, which is faster than one of each operation.
+fn is_head(part: Part, opcode: u32) -> bool
+    requires { ⌜ opcode < 16 ⌝ }
+    ensures { λ r. ⌜ r ≡ isHead part (operationFrom opcode) ⌝ }
+{
+    (head_opcodes(part) >> opcode) % 2 == 1
+}
+
+fn is_ending(part: Part, word: u32) -> bool
+    ensures { λ r. ⌜ r ≡ isEnding part word ⌝ }
+{
+    match part {
+        Part::Rules => {
+            if opcode(word) != Operation::Proposes.opcode() {
+                return false;
+            }
+            word % 0x0040_0000 == 0
+        }
+        Part::Constraints => word == ending_word(Ending::Never),
+    }
+}
+
+// Numbers under 64, one bit each.
+fn is_seen(seen: u64, n: u32) -> bool
+    requires { ⌜ n < 64 ⌝ }
+    ensures { λ r. ⌜ r ≡ has seen n ⌝ }
+{
+    (seen >> n) % 2 == 1
+}
+
+fn with_seen(seen: u64, n: u32) -> u64
+    requires { ⌜ n < 64 ⌝ }
+    ensures { λ r. ⌜ r ≡ insert seen n ⌝ }
+{
+    seen | (1 << n)
+}
+
+// Whether the word may stand as a head, with `left` words of the line behind it.
+fn head_sound(part: Part, seen: u64, word: u32, left: u32) -> bool
+    ensures { λ r. ⌜ r ≡ headSound part seen word left ⌝ }
+{
+    if word % 0x0040_0000 != left {
+        return false;
+    }
+    if !is_head(part, opcode(word)) {
+        return false;
+    }
+    !is_seen(seen, first(word))
+}
+
+// Whether a comparison with a constant may stand here, with `left` words of the line behind its first: its constant, and at least
+// one more.
+fn constant_sound(word: u32, left: u32) -> bool
+    ensures { λ r. ⌜ r ≡ constantSound word left ⌝ }
+{
+    if first(word) >= 16 {
+        return false;
+    }
+    if relation_code_of(word) >= 6 {
+        return false;
+    }
+    if second(word) != 0 {
+        return false;
+    }
+    if word % 0x2000 + 1 != left {
+        return false;
+    }
+    1 < left
+}
+
+// Whether a comparison with a reading may stand here, with `left` words of the line behind it.
+fn reading_sound(word: u32, left: u32) -> bool
+    ensures { λ r. ⌜ r ≡ readingSound word left ⌝ }
+{
+    if first(word) >= 16 {
+        return false;
+    }
+    if relation_code_of(word) >= 6 {
+        return false;
+    }
+    if second(word) >= 16 {
+        return false;
+    }
+    word % 0x2000 == left
+}
+
+// How many words the comparison has that the word begins, with `left` words of the line behind it: 0 where none may stand.
+fn comparison_length(word: u32, left: u32) -> usize
+    ensures { λ r. ⌜ r ≡ comparisonLength word left ⌝ }
+{
+    let operation = Operation::of(word);
+    match operation {
+        Operation::AgainstConstant => { if constant_sound(word, left) { 2 } else { 0 } }
+        Operation::AgainstReading => { if reading_sound(word, left) { 1 } else { 0 } }
+        _ => 0,
+    }
+}
+
+// The first word from `at` on that is no head of the line whose ending word is `last`.
+fn heads_end(image: &[u8], part: Part, at: usize, last: usize) -> usize
+    requires { ⌜ (at ≤ last) × (last < at + 32) × (last ≤ length (now image) / 4) ⌝ }
+    ensures { λ r. ⌜ r ≡ at + headCount part 0 (last - at) (drop at (wordsOf (now (image .entry)))) ⌝ }
+{
+    let mut seen: u64 = 0;
+    let mut i = at;
+    while i < last {
+        let word = word_in(image, i);
+        if !head_sound(part, seen, word, (last - i) as u32) {
+            return i;
+        }
+        seen = with_seen(seen, first(word));
+        i += 1;
+    }
+    i
+}
+
+// Whether comparisons, at most four, stand from `from` up to the ending word `last`.
+fn comparisons_sound(image: &[u8], from: usize, last: usize) -> bool
+    requires { ⌜ (from ≤ last) × (last < from + 32) × (last ≤ length (now image) / 4) ⌝ }
+    ensures { λ r. ⌜ r ≡ comparisonsFill 4 (last - from) (drop from (wordsOf (now (image .entry)))) ⌝ }
+{
+    let mut room: usize = 4;
+    let mut i = from;
+    while i < last {
+        if room == 0 {
+            return false;
+        }
+        let words = comparison_length(word_in(image, i), (last - i) as u32);
+        if words == 0 {
+            return false;
+        }
+        room -= 1;
+        i += words;
+    }
+    true
+}
+
+// How many words the line has that starts at the word `at` and ends before the word `end`: 0 where no line that an
+// accepted text may have does.
+pub fn line_length(image: &[u8], part: Part, at: usize, end: usize) -> usize
+    ensures { λ r. ⌜ r ≡ lineLength (lineAt part (between at end (wordsOf (now (image .entry))))) ⌝ }
+{
+    let count = at_most(end, image.len() / 4);
+    if count <= at {
+        return 0;
+    }
+    let size = skip(word_in(image, at)) as usize;
+    if count - at <= size {
+        return 0;
+    }
+    let last = at + size;
+    if !is_ending(part, word_in(image, last)) {
+        return 0;
+    }
+    let middle = heads_end(image, part, at, last);
+    if middle == at {
+        return 0;
+    }
+    if at + 8 < middle {
+        return 0;
+    }
+    if comparisons_sound(image, middle, last) {
+        return size + 1;
+    }
+    0
+}
+
+// The value of the line whose words stand from `start` up to `end`.
+fn read_line(image: &[u8], start: usize, end: usize) -> Line
+    requires { ⌜ (start ≤ end) × (end ≤ length (now image) / 4) ⌝ }
+    ensures { λ r. ⌜ r ≡ valueFrom (lineOf [] [] Ending.Never) (end - start) false (drop start (wordsOf (now (image .entry)))) ⌝ }
+{
+    let mut line = Line::new();
+    let mut at = start;
+    while at < end {
+        let word = word_at(image, at);
+        let number = first(word) as u8;
+        at += 1;
+        let operation = Operation::of(word);
+        match operation {
+            Operation::Present => {
+                line = line.with_head(Test::Occurs(Literal {
+                    event: Event(number),
+                    negated: false,
+                }));
+            }
+            Operation::Absent => {
+                line = line.with_head(Test::Occurs(Literal {
+                    event: Event(number),
+                    negated: true,
+                }));
+            }
+            Operation::AgainstConstant => {
+                line = line.with_comparison(constant_comparison(word, word_at(image, at)));
+                at += 1;
+            }
+            Operation::AgainstReading => {
+                line = line.with_comparison(reading_comparison(word));
+            }
+            Operation::Proposes => {
+                line = line.ended(Ending::Causes(Action(number)));
+            }
+            Operation::Member => {
+                line = line.with_head(Test::Member(Action(number)));
+            }
+            Operation::Never => {
+                line = line.ended(Ending::Never);
+            }
+            Operation::Unknown => {}
+        }
+    }
+    line
+}
+
+// The line of a part that starts at the word `at` and ends before the word `end`.
+pub fn line_at(image: &[u8], part: Part, at: usize, end: usize) -> LineAt
+    ensures { λ r. ⌜ r ≡ lineAnswer at (lineAt part (between at end (wordsOf (now (image .entry))))) ⌝ }
+{
+    let words = line_length(image, part, at, end);
+    if words == 0 {
+        return LineAt {
+            line: Line::new(),
+            next: at,
+        };
+    }
+    let next = at + words;
+    LineAt {
+        line: read_line(image, at, next),
+        next,
+    }
+}

@@ -1,0 +1,2 @@
+pub mod EpochLaws
+pub mod ItemLaws

@@ -1,0 +1,23 @@
+use mathlib.Core.Path.{sym, _∙_}
+use Rattle.epoch_line.proofs.ItemLaws.{event-valid, event-outside}
+use borrow.Author.Needs.{needs}
+use Rattle.epoch_line.proofs.event_item.Statement.{statement}
+use Rattle.epoch_line.proofs.event_item.Tie as tie
+
+new-requires : tie.Need-new-requires
+new-requires c κs = search needs
+
+enum-known-check : tie.Need-enum-known-check
+enum-known-check c = search needs
+
+enum-told : tie.Need-enum-told
+enum-told c = search needs
+
+returns : tie.Need-returns
+returns c = event-valid _ _ _ (sym (c .before .before .before .new .ensures) ∙ c .before .check .given .1)
+
+returns-2 : tie.Need-returns-2
+returns-2 c = event-outside _ _ (sym (c .before .before .new .ensures) ∙ c .enum-told .given .1)
+
+pub event-item-spec : {M : Type 1} → statement M
+event-item-spec = tie.close (tie.spec new-requires enum-known-check enum-told returns returns-2)

@@ -1,0 +1,4 @@
+pub mod ConstantLaws
+pub mod FieldLaws
+pub mod OperationLaws
+pub mod PartsLaws

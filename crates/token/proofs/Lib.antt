@@ -1,0 +1,3 @@
+pub mod ConstantLaws
+pub mod PartLaws
+pub mod SymbolLaws
