@@ -1,4 +1,5 @@
 pub mod ConstantLaws
 pub mod FieldLaws
+pub mod HoldsLaws
 pub mod OperationLaws
 pub mod PartsLaws

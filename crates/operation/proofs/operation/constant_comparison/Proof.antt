@@ -1,7 +1,8 @@
+use mathlib.Core.Path.{_∙_}
 use mir.Facts.{toZ-ofZ}
 use mir.Syntax.{w32}
 use mir.Val.{SFits}
-use Rattle.operation.specs.Parts.{constantComparison}
+use Rattle.operation.proofs.HoldsLaws.{constant-by}
 use borrow.Author.Needs.{needs}
 use Rattle.operation.proofs.operation.constant_comparison.Statement.{statement}
 use Rattle.operation.proofs.operation.constant_comparison.Tie as tie
@@ -22,10 +23,9 @@ constant-from-requires : tie.Need-constant-from-requires
 constant-from-requires c κs = search needs
 
 returns : tie.Need-returns
-unfolding constantComparison
 returns c =
     let f : SFits w32 (c .constant-from .result) = search needs in
-    cc (toZ-ofZ f)
+    constant-by (c .before .before .before .before .args .word) (c .before .before .before .first .result) (c .before .before .relation-code-of .result) (c .before .before .before .first .ensures) (c .before .before .relation-code-of .ensures) (c .before .relation-from .result) (c .before .relation-from .ensures) (c .before .before .before .before .args .constant) _ (toZ-ofZ f ∙ c .constant-from .ensures)
 
 pub constant-comparison-spec : {M : Type 1} → statement M
 constant-comparison-spec =

@@ -1,8 +1,8 @@
+use mathlib.Core.Path.{_∙_}
 use mir.Facts.{toZ-ofZ}
 use mir.Syntax.{w32}
 use mir.Val.{SFits}
-use Rattle.policy.specs.Comparison.{operandValue, comparisonHolds}
-use Rattle.operation.specs.Parts.{constantComparison}
+use Rattle.operation.proofs.HoldsLaws.{constant-holds-by}
 use borrow.Author.Needs.{needs}
 use Rattle.operation.proofs.operation.constant_holds.Statement.{statement}
 use Rattle.operation.proofs.operation.constant_holds.Tie as tie
@@ -26,11 +26,11 @@ relation-holds-requires : tie.Need-relation-holds-requires
 relation-holds-requires c κs = search needs
 
 returns : tie.Need-returns
-unfolding comparisonHolds operandValue constantComparison
 returns c =
     let f : SFits w32 (c .before .before .before .value .result) = search needs in
     let g : SFits w32 (c .before .constant-from .result) = search needs in
-    cc (toZ-ofZ f, toZ-ofZ g)
+    c .relation-holds .ensures
+    ∙ constant-holds-by (c .before .before .before .before .before .args .word) (c .before .before .before .before .first .result) (c .before .before .relation-code-of .result) (c .before .before .before .before .first .ensures) (c .before .before .relation-code-of .ensures) _ _ (toZ-ofZ f ∙ c .before .before .before .value .ensures) (c .before .before .before .before .before .args .constant) _ (toZ-ofZ g ∙ c .before .constant-from .ensures)
 
 pub constant-holds-spec : {M : Type 1} → statement M
 constant-holds-spec =

@@ -1,4 +1,4 @@
-use Rattle.operation.specs.Parts.{readingComparison}
+use Rattle.operation.proofs.HoldsLaws.{reading-by}
 use borrow.Author.Needs.{needs}
 use Rattle.operation.proofs.operation.reading_comparison.Statement.{statement}
 use Rattle.operation.proofs.operation.reading_comparison.Tie as tie
@@ -22,8 +22,7 @@ cast-t8 : tie.Need-cast-t8
 cast-t8 c = search needs
 
 returns : tie.Need-returns
-unfolding readingComparison
-returns c = cc
+returns c = reading-by (c .before .before .before .before .args .word) (c .before .before .before .first .result) (c .before .before .relation-code-of .result) (c .before .before .before .first .ensures) (c .before .before .relation-code-of .ensures) (c .before .relation-from .result) (c .before .relation-from .ensures) (c .second .result) (c .second .ensures)
 
 pub reading-comparison-spec : {M : Type 1} → statement M
 reading-comparison-spec =

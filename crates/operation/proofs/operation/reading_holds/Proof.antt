@@ -1,8 +1,8 @@
+use mathlib.Core.Path.{_∙_}
 use mir.Facts.{toZ-ofZ}
 use mir.Syntax.{w32}
 use mir.Val.{SFits}
-use Rattle.policy.specs.Comparison.{operandValue, comparisonHolds}
-use Rattle.operation.specs.Parts.{readingComparison}
+use Rattle.operation.proofs.HoldsLaws.{reading-holds-by}
 use borrow.Author.Needs.{needs}
 use Rattle.operation.proofs.operation.reading_holds.Statement.{statement}
 use Rattle.operation.proofs.operation.reading_holds.Tie as tie
@@ -32,11 +32,11 @@ relation-holds-requires : tie.Need-relation-holds-requires
 relation-holds-requires c κs = search needs
 
 returns : tie.Need-returns
-unfolding comparisonHolds operandValue readingComparison
 returns c =
     let f : SFits w32 (c .before .before .before .before .value .result) = search needs in
     let g : SFits w32 (c .before .before .value2 .result) = search needs in
-    cc (toZ-ofZ f, toZ-ofZ g)
+    c .relation-holds .ensures
+    ∙ reading-holds-by (c .before .before .before .before .before .before .args .word) (c .before .before .before .before .before .first .result) (c .before .relation-code-of .result) (c .before .before .before .before .before .first .ensures) (c .before .relation-code-of .ensures) _ _ (toZ-ofZ f ∙ c .before .before .before .before .value .ensures) (c .before .before .before .second .result) _ (c .before .before .before .second .ensures) (toZ-ofZ g ∙ c .before .before .value2 .ensures)
 
 pub reading-holds-spec : {M : Type 1} → statement M
 reading-holds-spec =
