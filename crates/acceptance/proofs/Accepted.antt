@@ -24,7 +24,8 @@ use Rattle.lexer.specs.Token.{Token, both, literalOf, actionOf}
 use Rattle.syntax.specs.Grammar.{Joined, last, before, joined, conditionFrom, causes, never, ruleAfter, constraintAfter, after, lineFrom}
 use Rattle.lexer.specs.Byte.{is}
 use Rattle.lexer.specs.Lines.{linesOf, tokensOf}
-use Rattle.syntax.specs.Text.{LineAnswer, skipped, refused, accepted, judgeLine, isComment, tokensAnswer, lineAnswer, Progress, reading, stopped, withRule, withConstraint, advance, readLine, emptyPolicy, textLimit, readText}
+use Rattle.syntax.specs.Judge.{LineAnswer, skipped, refused, accepted, judgeLine, isComment, tokensAnswer, lineAnswer}
+use Rattle.rule_text.specs.Text.{Progress, reading, stopped, withRule, withConstraint, advance, readLine, emptyPolicy, textLimit, readText}
 
 -- ---- a line of either shape has a literal or an action
 

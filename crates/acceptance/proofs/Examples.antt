@@ -12,7 +12,8 @@ use Rattle.lexer.specs.Token.{named, literalOf, actionOf, readingOf, relationOf
 use Rattle.syntax.specs.Grammar.{comparisonsFrom, conditionFrom, joined, ruleAfter, constraintAfter, after, lineFrom}
 use Rattle.lexer.specs.Lines.{prepend, pieces, linesOf, nonEmpty, tokensOf}
 use Rattle.lexer.specs.Number.{decimalFrom, isEmpty, numberOf, positive, negative, constantOf}
-use Rattle.syntax.specs.Text.{judgeLine, isComment, tokensAnswer, lineAnswer, advance, readLine, readText}
+use Rattle.syntax.specs.Judge.{judgeLine, isComment, tokensAnswer, lineAnswer}
+use Rattle.rule_text.specs.Text.{advance, readLine, readText}
 
 pub texts-read : map textAnswer texts ≡ map (λ (x : TextExample). x .answer) texts
 unfolding texts textAnswer bytes sameBytes is named literalOf actionOf readingOf relationOf orElse operandOf both comparisonOf comparisonsFrom conditionFrom joined ruleAfter constraintAfter after lineFrom prepend pieces linesOf nonEmpty tokensOf decimalFrom isEmpty numberOf positive negative constantOf judgeLine isComment tokensAnswer lineAnswer advance readLine readText isReadingValue testNumber operandInRange comparisonInRange endingInRange inRange crowded repeats repeated headsOf comparisonsOf endingOf all any

@@ -15,12 +15,13 @@ use Rattle.policy.specs.Policy.{Policy}
 use Rattle.policy.specs.declared.fault.Fault.{Fault}
 use Rattle.policy.specs.declared.fault.Refusal.{Refusal}
 use Rattle.lexer.specs.Lines.{linesOf, tokensOf}
-use Rattle.syntax.specs.Answers.{textReadOf, textRead, refusalInText}
+use Rattle.rule_text.specs.Answer.{textReadOf, textRead, refusalInText}
 use Rattle.epoch_line.specs.Answer.{answerRead, epochRead, refusalInEpoch}
 use Rattle.epoch_line.specs.Epoch as Epoch
 use Rattle.epoch_line.specs.Epoch.{Item, EpochAnswer, itemsOf, itemInRange, givenBy, judgeEpoch, epochLimit, readEpoch}
 use Rattle.syntax.specs.Grammar.{lineFrom}
-use Rattle.syntax.specs.Text.{LineAnswer, skipped, refused, accepted, judgeLine, isComment, tokensAnswer, lineAnswer, Progress, reading, stopped, withRule, withConstraint, advance, readLine, emptyPolicy, textLimit, readText}
+use Rattle.syntax.specs.Judge.{LineAnswer, skipped, refused, accepted, judgeLine, isComment, tokensAnswer, lineAnswer}
+use Rattle.rule_text.specs.Text.{Progress, reading, stopped, withRule, withConstraint, advance, readLine, emptyPolicy, textLimit, readText}
 use Rattle.acceptance.specs.Refusals.{OfText, too-long, in-line, OfEpoch}
 
 -- ---- the faults of a line

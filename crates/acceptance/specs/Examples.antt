@@ -13,7 +13,7 @@ use Rattle.lexer.specs.Byte.{bytes}
 use Rattle.epoch_line.specs.Epoch as Epoch
 use Rattle.epoch_line.specs.Epoch.{EpochAnswer, readEpoch, emptyEpoch}
 use Rattle.lexer.specs.Token.{literalAs}
-use Rattle.syntax.specs.Text.{Progress, reading, stopped, readText, emptyPolicy}
+use Rattle.rule_text.specs.Text.{Progress, reading, stopped, readText, emptyPolicy}
 
 -- ---- rule texts
 

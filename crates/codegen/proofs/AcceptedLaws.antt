@@ -22,11 +22,12 @@ use Rattle.layout.specs.Layout.{lineWords, linesWords, ruleWords, constraintWor
 use Rattle.operation.specs.Parts.{constantWords, comparisonWord, comparisonWords}
 use Rattle.image.specs.Held.{rulesIn, constraintsIn}
 use Rattle.acceptance.proofs.Accepted.{accepted-acceptable}
-use Rattle.syntax.specs.Answers.{total, countsIn, countsOf, textReadOf, textRead}
+use Rattle.rule_text.specs.Answer.{total, countsIn, countsOf, textReadOf, textRead}
 use Rattle.lexer.specs.Lines.{linesOf}
-use Rattle.syntax.specs.Text.{LineAnswer, skipped, refused, accepted, lineAnswer, Progress, reading, stopped, withRule, withConstraint, advance, readLine, emptyPolicy, textLimit, readText}
-use Rattle.syntax.specs.declared.text.TextCounts.{TextCounts}
-use Rattle.syntax.specs.declared.text.TextRead.{TextRead}
+use Rattle.syntax.specs.Judge.{LineAnswer, skipped, refused, accepted, lineAnswer}
+use Rattle.rule_text.specs.Text.{Progress, reading, stopped, withRule, withConstraint, advance, readLine, emptyPolicy, textLimit, readText}
+use Rattle.rule_text.specs.declared.TextCounts.{TextCounts}
+use Rattle.rule_text.specs.declared.TextRead.{TextRead}
 use Rattle.codegen.specs.Compile.{newestForm}
 use Rattle.codegen.specs.Steps.Put.{wordCount, acceptedLine, acceptedLines}
 

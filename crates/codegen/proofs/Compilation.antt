@@ -21,7 +21,7 @@ use Rattle.image.specs.Load.{load}
 use Rattle.image.specs.Check.{wellSized}
 use Rattle.image.specs.Held.{policyIn}
 use Rattle.acceptance.proofs.Accepted.{accepted-acceptable}
-use Rattle.syntax.specs.Text.{Progress, reading, stopped, readText, policyOf}
+use Rattle.rule_text.specs.Text.{Progress, reading, stopped, readText, policyOf}
 use Rattle.codegen.proofs.AcceptedLaws.{newest-known}
 use Rattle.codegen.specs.Compile.{newestForm, Output, refuse, outputOf, compiled, refusalIn}
 use Rattle.codegen.specs.Written.{writtenIn, Written}

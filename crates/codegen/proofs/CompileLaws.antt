@@ -20,11 +20,11 @@ use Rattle.word.specs.Word.{bytesOf, wordsOf}
 use Rattle.layout.specs.Header.{packHeader}
 use Rattle.image.specs.Held.{rulesIn, constraintsIn}
 use Rattle.layout.specs.Layout.{lineWords, linesWords, ruleWords, constraintWords, headerWord, contentWords, checkWords, imageWords, imageOf}
-use Rattle.syntax.specs.Answers.{textReadOf, textRead}
+use Rattle.rule_text.specs.Answer.{textReadOf, textRead}
 use Rattle.lexer.specs.Lines.{linesOf}
-use Rattle.syntax.specs.Text.{Progress, reading, stopped, readText}
-use Rattle.syntax.specs.declared.text.TextCounts.{TextCounts}
-use Rattle.syntax.specs.declared.text.TextRead.{TextRead}
+use Rattle.rule_text.specs.Text.{Progress, reading, stopped, readText}
+use Rattle.rule_text.specs.declared.TextCounts.{TextCounts}
+use Rattle.rule_text.specs.declared.TextRead.{TextRead}
 use Rattle.codegen.proofs.AcceptedLaws.{newest-known, AcceptedText}
 use Rattle.codegen.specs.Compile.{newestForm, outputOf, compiled}
 use Rattle.codegen.specs.Steps.Put.{wordCount, cursorFor, cursorsAfter, acceptedLines, putLines, putContent, putImage}

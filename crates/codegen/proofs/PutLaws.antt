@@ -22,10 +22,10 @@ use Rattle.word.specs.Steps.Write.{putWords}
 use Rattle.word.specs.Word.{wordsOf}
 use Rattle.layout.specs.Header.{packHeader}
 use Rattle.acceptance.proofs.Accepted.{accepted-valid}
-use Rattle.syntax.proofs.TextLaws.{lines-here, next-later}
-use Rattle.syntax.specs.Answers.{lineReadOf, lineRead, behindLine}
+use Rattle.rule_text.proofs.TextLaws.{lines-here, next-later}
+use Rattle.syntax.specs.Answer.{lineReadOf, lineRead, behindLine}
 use Rattle.lexer.specs.Lines.{pieces, linesOf, restOfLine, lineEnd}
-use Rattle.syntax.specs.Text.{LineAnswer, skipped, refused, accepted, lineAnswer}
+use Rattle.syntax.specs.Judge.{LineAnswer, skipped, refused, accepted, lineAnswer}
 use Rattle.syntax.specs.declared.line.LineRead.{LineRead}
 use Rattle.syntax.specs.declared.line.LineStatus.{LineStatus}
 use Rattle.codegen.specs.Compile.{newestForm}

@@ -10,7 +10,7 @@ use Rattle.policy.specs.Fault.{refusal}
 use Rattle.policy.specs.declared.fault.Fault.{Fault}
 use Rattle.policy.specs.declared.fault.Refusal.{Refusal}
 use Rattle.layout.specs.Layout.{imageOf}
-use Rattle.syntax.specs.Text.{Progress, reading, stopped, readText}
+use Rattle.rule_text.specs.Text.{Progress, reading, stopped, readText}
 use Rattle.codegen.specs.declared.Compiled.{Compiled}
 
 -- the form that the compiler writes

@@ -11,7 +11,7 @@ use Rattle.layout.specs.Layout.{imageOf, sizeLimit}
 use Rattle.image.specs.Load.{load}
 use Rattle.image.specs.Held.{policyIn}
 use Rattle.image.specs.declared.load.Loaded.{Loaded}
-use Rattle.syntax.specs.Text.{policyOf}
+use Rattle.rule_text.specs.Text.{policyOf}
 use Rattle.codegen.specs.Compile.{newestForm, compiled}
 
 -- the bytes that a compilation of so many bytes wrote

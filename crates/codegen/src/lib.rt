@@ -14,11 +14,11 @@ use line_value::Line;
 use policy::Ending;
 use policy::Fault;
 use policy::Refusal;
-use syntax::LineCounts;
+use rule_text::LineCounts;
+use rule_text::TextRead;
+use rule_text::read_text;
 use syntax::LineStatus;
-use syntax::TextRead;
 use syntax::read_line;
-use syntax::read_text;
 use word::put_word;
 
 const FORM: u8 = 1;

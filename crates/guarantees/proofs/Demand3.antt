@@ -10,7 +10,7 @@ use Rattle.policy.specs.Epoch.{Epoch}
 use Rattle.policy.specs.Limits.{Acceptable}
 use Rattle.policy.specs.Policy.{Policy}
 use Rattle.epoch_line.specs.Epoch.{EpochAnswer, refused, accepted, readEpoch}
-use Rattle.syntax.specs.Text.{policyOf}
+use Rattle.rule_text.specs.Text.{policyOf}
 use Rattle.exactness.proofs.Exact.{changed-words, changed-length}
 use Rattle.exactness.specs.Exact.{changed}
 use Rattle.word.proofs.WordLaws.{bytes-length, bytes-below}

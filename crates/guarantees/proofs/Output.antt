@@ -6,7 +6,7 @@ use Rattle.policy.specs.Limits.{Acceptable}
 use Rattle.policy.specs.Policy.{Policy}
 use Rattle.lexer.specs.Lines.{linesOf}
 use Rattle.acceptance.proofs.Accepted.{accepted-acceptable}
-use Rattle.syntax.specs.Text.{Progress, reading, stopped, readText}
+use Rattle.rule_text.specs.Text.{Progress, reading, stopped, readText}
 use Rattle.layout.specs.Layout.{imageOf}
 use Rattle.codegen.specs.Compile.{newestForm}
 use Rattle.monitor.specs.Decision.{decision, answerOf}

@@ -7,7 +7,7 @@ use lib.ListN.{length, take}
 use Rattle.policy.specs.Policy.{Policy}
 use Rattle.policy.specs.declared.fault.Refusal.{Refusal}
 use Rattle.pdl.specs.Answer.{Answer}
-use Rattle.syntax.specs.Text.{stopped, readText, policyOf}
+use Rattle.rule_text.specs.Text.{stopped, readText, policyOf}
 use Rattle.codegen.specs.Compile.{compiled}
 use Rattle.codegen.specs.declared.Compiled.{Compiled}
 use Rattle.monitor.specs.Decision.{decision, answerOf}

@@ -8,7 +8,7 @@ use mathlib.Core.Option.{Option, some, Option·map}
 use Rattle.policy.specs.Set.{noActions, actionsFrom}
 use Rattle.pdl.specs.Answer.{Answer, issues}
 use Rattle.lexer.specs.Byte.{bytes}
-use Rattle.syntax.specs.Text.{policyOf}
+use Rattle.rule_text.specs.Text.{policyOf}
 use Rattle.layout.specs.Layout.{imageWords}
 use Rattle.codegen.specs.Compile.{newestForm}
 use Rattle.guarantees.specs.Machine.{machine}

@@ -8,7 +8,7 @@ use Rattle.policy.specs.Policy.{Policy}
 use Rattle.pdl.specs.Answer.{Answer, refuses, issues}
 use Rattle.pdl.specs.Yield as Yield
 use Rattle.epoch_line.specs.Epoch.{EpochAnswer, refused, accepted, readEpoch}
-use Rattle.syntax.specs.Text.{policyOf}
+use Rattle.rule_text.specs.Text.{policyOf}
 
 unfoldable pub answer : Policy → EpochAnswer → Answer
 answer p (refused f) = refuses (refusal f 0)

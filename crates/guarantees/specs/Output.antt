@@ -4,7 +4,7 @@ use mathlib.Core.Bool.{cond}
 use mathlib.Core.List.{List, [], _∷_, _++_}
 use Rattle.lexer.specs.Byte.{bytes}
 use Rattle.lexer.specs.Lines.{linesOf}
-use Rattle.syntax.specs.Text.{Progress, reading, stopped, readText}
+use Rattle.rule_text.specs.Text.{Progress, reading, stopped, readText}
 use Rattle.output.specs.Number.{decimal}
 use Rattle.report.specs.Report.{refusalLine, acceptLine}
 use Rattle.session.specs.Printed.{Session, splitAtRun, textPart, epochPart, next}

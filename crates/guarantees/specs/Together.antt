@@ -4,7 +4,7 @@ use mathlib.Core.List.{List}
 use mathlib.Core.Option.{Option, none, some, Option·map}
 use Rattle.policy.specs.Policy.{Policy}
 use Rattle.pdl.specs.Answer.{Answer}
-use Rattle.syntax.specs.Text.{policyOf}
+use Rattle.rule_text.specs.Text.{policyOf}
 use Rattle.monitor.specs.Decision.{answerOf}
 use Rattle.guarantees.specs.Machine.{step}
 use Rattle.guarantees.specs.declared.Outcome.{Outcome}

@@ -20,7 +20,7 @@ use Rattle.policy.specs.declared.number.Reading.{Reading}
 use Rattle.lexer.specs.Byte.{bytes, sameBytes, is}
 use Rattle.lexer.specs.Token.{Token, named, literalOf, actionOf, readingOf, relationOf, orElse, operandOf, both, comparisonOf}
 use Rattle.syntax.specs.Grammar.{comparisonsFrom, conditionFrom, joined, causes, never, ruleAfter, constraintAfter, after, lineFrom}
-use Rattle.syntax.specs.Text.{accepted, judgeLine, isComment, tokensAnswer, lineAnswer}
+use Rattle.syntax.specs.Judge.{accepted, judgeLine, isComment, tokensAnswer, lineAnswer}
 use Rattle.printer.proofs.DecimalLaws.{decimal-all, number-read, digits-unnamed, constant-read}
 use Rattle.printer.proofs.SplitLaws.{line-tokens}
 use Rattle.policy.proofs.ValidLaws.{valid-tests}

@@ -15,7 +15,8 @@ use Rattle.policy.specs.Line.{PolicyLine, rule, constraint}
 use Rattle.policy.specs.List.{all}
 use Rattle.policy.specs.Policy.{Policy, Rule, Constraint}
 use Rattle.acceptance.proofs.Accepted.{accepted-acceptable}
-use Rattle.syntax.specs.Text.{accepted, Progress, reading, advance, readLine, emptyPolicy, textLimit, readText, policyOf}
+use Rattle.syntax.specs.Judge.{accepted}
+use Rattle.rule_text.specs.Text.{Progress, reading, advance, readLine, emptyPolicy, textLimit, readText, policyOf}
 use Rattle.printer.proofs.LengthLaws.{line-length}
 use Rattle.printer.proofs.ParseLaws.{line-read}
 use Rattle.printer.proofs.SplitLaws.{text-lines, ascii, lines-ascii}

@@ -4,7 +4,7 @@ use Prim.Native.String.{String}
 use mathlib.Core.List.{List, [], _∷_}
 use mathlib.Core.Option.{Option, Option·map}
 use Rattle.lexer.specs.Byte.{bytes}
-use Rattle.syntax.specs.Text.{policyOf}
+use Rattle.rule_text.specs.Text.{policyOf}
 use Rattle.printer.specs.Printed.{textOf}
 
 unfoldable pub printedTexts : List String

@@ -11,7 +11,7 @@ use Rattle.policy.proofs.ListLaws.{and-out}
 use Rattle.policy.specs.Policy.{Policy}
 use Rattle.policy.specs.declared.fault.Refusal.{Refusal}
 use Rattle.acceptance.proofs.Accepted.{accepted-acceptable}
-use Rattle.syntax.specs.Text.{Progress, reading, stopped, readText}
+use Rattle.rule_text.specs.Text.{Progress, reading, stopped, readText}
 use Rattle.exactness.proofs.Exact.{image-size}
 use Rattle.layout.specs.Layout.{imageOf, sizeLimit}
 use Rattle.image.specs.Check.{wellSized}

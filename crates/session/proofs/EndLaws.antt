@@ -8,7 +8,7 @@ use lib.Seq.{take-add, drop-at, length-take-le}
 use Rattle.policy.specs.List.{any}
 use Rattle.policy.specs.declared.fault.Refusal.{Refusal}
 use Rattle.lexer.specs.Lines.{pieces, linesOf}
-use Rattle.syntax.specs.Text.{Progress}
+use Rattle.rule_text.specs.Text.{Progress}
 use Rattle.codegen.specs.Compile.{compiled}
 use Rattle.codegen.specs.declared.Compiled.{Compiled}
 use Rattle.monitor.specs.Decision.{decision}

@@ -14,7 +14,8 @@ use Rattle.lexer.specs.Number.{decimalFrom, isEmpty, numberOf, positive, negati
 use Rattle.lexer.specs.Lines.{prepend, pieces, linesOf, nonEmpty, tokensOf, takeWhile, skipWhile, restOfLine, lineEnd}
 use Rattle.lexer.specs.Token.{named, literalOf, actionOf, readingOf, relationOf, orElse, operandOf, both, comparisonOf}
 use Rattle.syntax.specs.Grammar.{comparisonsFrom, conditionFrom, joined, ruleAfter, constraintAfter, after, lineFrom}
-use Rattle.syntax.specs.Text.{judgeLine, isComment, tokensAnswer, lineAnswer, advance, readLine, readText, policyOf}
+use Rattle.syntax.specs.Judge.{judgeLine, isComment, tokensAnswer, lineAnswer}
+use Rattle.rule_text.specs.Text.{advance, readLine, readText, policyOf}
 use Rattle.epoch_line.specs.Epoch.{toLeft, atEquals, assignmentOf, itemOf, itemsOf, itemInRange, givenBy, addItem, judgeEpoch, readEpoch}
 use Rattle.operation.specs.Operation.{operationFrom, relationFrom}
 use Rattle.word.specs.Word.{wordsOf, bytesOf, between}

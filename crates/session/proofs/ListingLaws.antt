@@ -13,7 +13,7 @@ use Rattle.policy.specs.declared.fault.Refusal.{Refusal}
 use Rattle.word.specs.Word.{wordsOf, wordAt}
 use Rattle.layout.specs.Layout.{imageOf}
 use Rattle.word.proofs.WordLaws.{words-length}
-use Rattle.syntax.specs.Text.{Progress, reading, stopped, readText}
+use Rattle.rule_text.specs.Text.{Progress, reading, stopped, readText}
 use Rattle.codegen.specs.Compile.{newestForm, compiled}
 use Rattle.codegen.specs.declared.Compiled.{Compiled}
 use Rattle.output.specs.Number.{hexDigits}

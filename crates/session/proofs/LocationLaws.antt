@@ -14,7 +14,8 @@ use Rattle.policy.specs.Fault.{refusal}
 use Rattle.policy.specs.declared.fault.Fault.{Fault}
 use Rattle.policy.specs.declared.fault.Refusal.{Refusal}
 use Rattle.lexer.specs.Lines.{prepend, pieces, linesOf}
-use Rattle.syntax.specs.Text.{LineAnswer, skipped, refused, accepted, lineAnswer, Progress, reading, stopped, withRule, withConstraint, advance, readLine, emptyPolicy, textLimit, readText}
+use Rattle.syntax.specs.Judge.{LineAnswer, skipped, refused, accepted, lineAnswer}
+use Rattle.rule_text.specs.Text.{Progress, reading, stopped, withRule, withConstraint, advance, readLine, emptyPolicy, textLimit, readText}
 
 abbrev reachedLine : Progress → ℕ
 reachedLine (reading n p) = n

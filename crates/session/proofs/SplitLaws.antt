@@ -11,7 +11,7 @@ use Rattle.policy.specs.Fault.{refusal}
 use Rattle.policy.specs.declared.fault.Fault.{Fault}
 use Rattle.lexer.specs.Byte.{is}
 use Rattle.lexer.specs.Lines.{pieces, linesOf}
-use Rattle.syntax.specs.Text.{readText}
+use Rattle.rule_text.specs.Text.{readText}
 use Rattle.report.specs.Report.{refusalLine}
 use Rattle.session.specs.Printed.{Session, textOnly, withEpochs, toText, splitAtRun, ended, textPart, epochPart, answersTo, printedFor}
 use Rattle.session.specs.Owed.{printedBehind}

@@ -1,7 +1,7 @@
 -- Document 01, "The two programs": what the compiler prints for all of its input.
 use Prim.Native.Nat.{ℕ}
 use mathlib.Core.List.{List, [], _∷_, _++_}
-use Rattle.syntax.specs.Text.{Progress, reading, stopped, readText}
+use Rattle.rule_text.specs.Text.{Progress, reading, stopped, readText}
 use Rattle.word.specs.Word.{wordsOf}
 use Rattle.layout.specs.Layout.{imageOf}
 use Rattle.codegen.specs.Compile.{newestForm}

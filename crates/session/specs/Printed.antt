@@ -4,7 +4,7 @@ use mathlib.Core.Bool.{cond}
 use mathlib.Core.List.{List, [], _∷_, _++_}
 use Rattle.lexer.specs.Byte.{is}
 use Rattle.lexer.specs.Lines.{linesOf}
-use Rattle.syntax.specs.Text.{Progress, reading, stopped, readText}
+use Rattle.rule_text.specs.Text.{Progress, reading, stopped, readText}
 use Rattle.layout.specs.Layout.{imageOf}
 use Rattle.codegen.specs.Compile.{newestForm}
 use Rattle.monitor.specs.Decision.{decision}

@@ -8,10 +8,10 @@ ghost use Rattle.session.specs.Owed.{current, Good, Room, Took};
 ghost use Rattle.session.specs.Steps.Held.{lineBehind};
 ghost use Rattle.session.specs.Steps.Ended.{TextEnded};
 ghost use Rattle.session.specs.declared.state.Phase.{Phase};
+use codegen::Compiled;
 use crate::state::Phase;
 use crate::state::State;
 use crate::state::push;
-use codegen::Compiled;
 
 fn is_run(line: &[u8]) -> bool
     ensures { λ r. ⌜ r ≡ is "run" (now (line .entry)) ⌝ }

@@ -24,7 +24,7 @@ use Rattle.line_value.specs.declared.Line.{Line}
 use Rattle.policy.specs.declared.line.Test.{Test}
 use Rattle.lexer.proofs.TokenLaws.{tokens-after-spaces, tokens-first, tokens-ended, line-past-spaces, line-ended}
 use Rattle.lexer.proofs.KeywordLaws.{token-first}
-use Rattle.syntax.specs.Answers.{behindLine, lineReadOf, lineRead, newLine}
+use Rattle.syntax.specs.Answer.{behindLine, lineReadOf, lineRead, newLine}
 use Rattle.syntax.specs.Steps.Judged.{lineStatus, parsedStatus}
 use Rattle.lexer.specs.Byte.{isSpace}
 use Rattle.syntax.specs.Grammar.{lineFrom}
@@ -33,7 +33,7 @@ use Rattle.lexer.specs.Number.{isEmpty}
 use Rattle.syntax.specs.Steps.Outcome.{smallEnding, smallLine, parsedFrom}
 use Rattle.token.specs.Steps.PartAt.{testInRange, smallTest, smallComparison}
 use Rattle.lexer.specs.Steps.Scan.{inToken, tokenAt, tokensAt}
-use Rattle.syntax.specs.Text.{LineAnswer, skipped, refused, accepted, judgeLine, isComment, tokensAnswer, lineAnswer}
+use Rattle.syntax.specs.Judge.{LineAnswer, skipped, refused, accepted, judgeLine, isComment, tokensAnswer, lineAnswer}
 use Rattle.syntax.specs.declared.line.LineRead.{LineRead}
 use Rattle.syntax.specs.declared.line.LineStatus.{LineStatus}
 use Rattle.syntax.specs.declared.line.ParsedLine.{ParsedLine}

@@ -4,4 +4,3 @@ pub mod FillLaws
 pub mod HeadLaws
 pub mod JudgeLaws
 pub mod ShapeLaws
-pub mod TextLaws

@@ -3,9 +3,9 @@
 use epoch_line::EpochStatus;
 use libc::STDIN_FILENO;
 use libc::STDOUT_FILENO;
+use rule_text::LineCounts;
+use rule_text::TextRead;
 use std::num::wrapping_add_u64;
-use syntax::LineCounts;
-use syntax::TextRead;
 
 fn write(text: &[u8]) {
     io::write_all(STDOUT_FILENO, text);
@@ -23,7 +23,7 @@ fn words(counts: LineCounts) -> u64 {
 }
 
 fn show_text(text: &[u8]) {
-    let read = syntax::read_text(text);
+    let read = rule_text::read_text(text);
     match read {
         TextRead::Refused(refusal) => {
             let fault = refusal.fault;

@@ -8,8 +8,8 @@ use Rattle.word.specs.Steps.Write.{putWords}
 use Rattle.word.specs.Word.{wordsOf}
 use Rattle.layout.specs.Header.{packHeader}
 use Rattle.layout.specs.Layout.{lineWords, checkWords}
-use Rattle.syntax.specs.Text.{LineAnswer, skipped, refused, accepted, lineAnswer}
-use Rattle.syntax.specs.declared.text.LineCounts.{LineCounts}
+use Rattle.syntax.specs.Judge.{LineAnswer, skipped, refused, accepted, lineAnswer}
+use Rattle.rule_text.specs.declared.LineCounts.{LineCounts}
 use Rattle.codegen.specs.Compile.{newestForm}
 use Rattle.codegen.specs.declared.Cursors.{Cursors}
 

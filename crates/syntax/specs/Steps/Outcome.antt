@@ -17,7 +17,7 @@ use Rattle.policy.specs.declared.line.Test.{Test}
 use Rattle.policy.specs.declared.number.Action.{Action}
 use Rattle.lexer.specs.Byte.{is}
 use Rattle.lexer.specs.Token.{Token, actionOf}
-use Rattle.syntax.specs.Answers.{newLine}
+use Rattle.syntax.specs.Answer.{newLine}
 use Rattle.syntax.specs.Grammar.{Joined, conditionFrom}
 use Rattle.token.specs.Steps.PartAt.{testInRange, smallTest, smallComparison}
 use Rattle.lexer.specs.Steps.Scan.{tokensAt}

@@ -1,5 +1,5 @@
 use borrow.Author.Tests.{lt-ltb, le-ltb}
-use Rattle.syntax.specs.Answers.{behindLine}
+use Rattle.syntax.specs.Answer.{behindLine}
 use borrow.Author.Needs.{needs}
 use Rattle.syntax.proofs.line.behind_line.Statement.{statement}
 use Rattle.syntax.proofs.line.behind_line.Tie as tie

@@ -4,12 +4,12 @@ use lib.ListN.{getD}
 use denote.Ref.{now}
 use Rattle.syntax.proofs.JudgeLaws.{line-blank, line-comment, line-accepted, line-refused, line-skipped}
 use Rattle.lexer.proofs.KeywordLaws.{token-inside}
-use Rattle.syntax.specs.Answers.{behindLine, lineReadOf}
+use Rattle.syntax.specs.Answer.{behindLine, lineReadOf}
 use Rattle.lexer.specs.Byte.{isSpace}
 use Rattle.lexer.specs.Number.{isEmpty}
 use Rattle.lexer.specs.Steps.Scan.{tokenAt}
 use Rattle.lexer.specs.Lines.{skipWhile, lineEnd}
-use Rattle.syntax.specs.Text.{LineAnswer}
+use Rattle.syntax.specs.Judge.{LineAnswer}
 use borrow.Author.Needs.{needs}
 use Rattle.syntax.proofs.line.read_line.Statement.{statement}
 use Rattle.syntax.proofs.line.read_line.Tie as tie

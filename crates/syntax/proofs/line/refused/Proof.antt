@@ -1,4 +1,4 @@
-use Rattle.syntax.specs.Answers.{lineReadOf}
+use Rattle.syntax.specs.Answer.{lineReadOf}
 use borrow.Author.Needs.{needs}
 use Rattle.syntax.proofs.line.refused.Statement.{statement}
 use Rattle.syntax.proofs.line.refused.Tie as tie

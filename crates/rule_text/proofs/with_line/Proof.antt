@@ -1,8 +1,8 @@
 use native.Mathlib.Omega.{arith}
-use Rattle.syntax.specs.Steps.Tally.{withLine}
+use Rattle.rule_text.specs.Steps.Tally.{withLine}
 use borrow.Author.Needs.{needs}
-use Rattle.syntax.proofs.text.with_line.Statement.{statement}
-use Rattle.syntax.proofs.text.with_line.Tie as tie
+use Rattle.rule_text.proofs.with_line.Statement.{statement}
+use Rattle.rule_text.proofs.with_line.Tie as tie
 
 add-t3 : tie.Need-add-t3
 add-t3 c = search needs

@@ -8,10 +8,10 @@ use Rattle.policy.specs.Line.{constantCount}
 use Rattle.policy.specs.declared.fault.Fault.{Fault}
 use Rattle.policy.specs.declared.line.Ending.{Ending}
 use Rattle.line_value.specs.declared.Line.{Line}
 use Rattle.syntax.specs.declared.line.LineStatus.{LineStatus}
-use Rattle.syntax.specs.declared.text.LineCounts.{LineCounts}
-use Rattle.syntax.specs.declared.text.Tally.{Tally}
-use Rattle.syntax.specs.declared.text.TextCounts.{TextCounts}
+use Rattle.rule_text.specs.declared.LineCounts.{LineCounts}
+use Rattle.rule_text.specs.declared.Tally.{Tally}
+use Rattle.rule_text.specs.declared.TextCounts.{TextCounts}
 
 -- no more parts than so many lines may have
 pub record Within (limit : ℕ) (c : LineCounts) : Type 0 where

@@ -1,47 +1,19 @@
--- Document 01, "Grounds for refusing" 1 to 6 (a ground is a fault here, a place a location): what each line of a rule text is,
--- what the text is refused for, and the policy that an accepted text has.
-use Prim.Native.Char.{code}
+-- Document 01, "Grounds for refusing" 1 to 6 (a ground is a fault here, a place a location): what a rule text is refused for, and the
+-- policy that an accepted text has.
 use Prim.Native.Nat.{ℕ, suc}
-use mathlib.Core.Bool.{Bool, false, not, cond}
+use mathlib.Core.Bool.{cond}
 use mathlib.Core.List.{List, [], _∷_, _++_, foldl}
 use mathlib.Core.Option.{Option, none, some}
-use lib.Dec.{eqb, ltb}
+use lib.Dec.{ltb}
 use lib.ListN.{length}
 use Rattle.policy.specs.Fault.{refusal}
-use Rattle.policy.specs.Limits.{inRange, crowded, repeated, ruleLimit, constraintLimit}
-use Rattle.policy.specs.Line.{PolicyLine, rule, constraint}
+use Rattle.policy.specs.Limits.{ruleLimit, constraintLimit}
+use Rattle.policy.specs.Line.{rule, constraint}
 use Rattle.policy.specs.Policy.{Policy, Rule, Constraint}
 use Rattle.policy.specs.declared.fault.Fault.{Fault}
 use Rattle.policy.specs.declared.fault.Refusal.{Refusal}
-use Rattle.syntax.specs.Grammar.{lineFrom}
-use Rattle.lexer.specs.Lines.{linesOf, tokensOf}
-
-pub data LineAnswer : Type 0 where
-  skipped : LineAnswer
-  refused : Fault → LineAnswer
-  accepted : PolicyLine → LineAnswer
-
--- the faults of a line in their order: 2, 3, 4, 6
-unfoldable pub judgeLine : Option PolicyLine → LineAnswer
-judgeLine none = refused Fault.Syntax
-judgeLine (some l) =
-    cond (not (inRange l)) (refused Fault.OutOfRange)
-    (cond (crowded l) (refused Fault.TooManyParts)
-    (cond (repeated l) (refused Fault.Duplicate) (accepted l)))
-
-unfoldable pub isComment : List ℕ → Bool
-isComment [] = false
-isComment (b ∷ bs) = eqb b (code "#")
-
--- lines with no token, and lines whose first token begins with `#`, are skipped
-unfoldable pub tokensAnswer : List (List ℕ) → LineAnswer
-tokensAnswer [] = skipped
-tokensAnswer (t ∷ ts) = cond (isComment t) skipped (judgeLine (lineFrom (t ∷ ts)))
-
-unfoldable pub lineAnswer : List ℕ → LineAnswer
-lineAnswer line = tokensAnswer (tokensOf line)
-
--- ---- the text
+use Rattle.syntax.specs.Judge.{LineAnswer, skipped, refused, accepted, lineAnswer}
+use Rattle.lexer.specs.Lines.{linesOf}
 
 pub data Progress : Type 0 where
   -- the number of the next line, and the policy so far

@@ -20,17 +20,19 @@ use Rattle.policy.specs.declared.comparison.Operand.{Operand}
 use Rattle.policy.specs.declared.fault.Fault.{Fault}
 use Rattle.policy.specs.declared.fault.Refusal.{Refusal}
 use Rattle.policy.specs.declared.line.Ending.{Ending}
 use Rattle.syntax.proofs.JudgeLaws.{padded-whole, accepted-uncrowded}
 use Rattle.lexer.proofs.WhileLaws.{at-byte, skip-ge}
-use Rattle.syntax.specs.Answers.{total, countsIn, countsOf, textReadOf, textRead, noLines, noCounts, lineReadOf, lineRead, behindLine}
-use Rattle.syntax.specs.Steps.Tally.{Within, Small, Counted, oneMore, withLine, tallyAs, talliedBy, stepOf}
+use Rattle.rule_text.specs.Answer.{total, countsIn, countsOf, textReadOf, textRead, noLines, noCounts}
+use Rattle.syntax.specs.Answer.{lineReadOf, lineRead, behindLine}
+use Rattle.rule_text.specs.Steps.Tally.{Within, Small, Counted, oneMore, withLine, tallyAs, talliedBy, stepOf}
 use Rattle.lexer.specs.Lines.{prepend, pieces, linesOf, takeWhile, skipWhile, inLine, restOfLine, lineEnd}
-use Rattle.syntax.specs.Text.{LineAnswer, skipped, refused, accepted, lineAnswer, Progress, reading, stopped, withRule, withConstraint, advance, readLine, emptyPolicy, textLimit, readText}
+use Rattle.syntax.specs.Judge.{LineAnswer, skipped, refused, accepted, lineAnswer}
+use Rattle.rule_text.specs.Text.{Progress, reading, stopped, withRule, withConstraint, advance, readLine, emptyPolicy, textLimit, readText}
 use Rattle.syntax.specs.declared.line.LineRead.{LineRead}
-use Rattle.syntax.specs.declared.text.LineCounts.{LineCounts}
-use Rattle.syntax.specs.declared.text.Tally.{Tally}
-use Rattle.syntax.specs.declared.text.TextCounts.{TextCounts}
-use Rattle.syntax.specs.declared.text.TextRead.{TextRead}
+use Rattle.rule_text.specs.declared.LineCounts.{LineCounts}
+use Rattle.rule_text.specs.declared.Tally.{Tally}
+use Rattle.rule_text.specs.declared.TextCounts.{TextCounts}
+use Rattle.rule_text.specs.declared.TextRead.{TextRead}
 
 -- ---- the first line of what is left of a text
 

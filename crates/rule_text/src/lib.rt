@@ -1,14 +1,14 @@
-// Reading a whole rule text.
+// Reading a whole rule text. Start with specs/Text.antt.
 ghost use mathlib.Core.Path.{_≡_};
 ghost use Rattle.policy.specs.Limits.{ruleLimit};
-ghost use Rattle.syntax.specs.Answers.{textRead};
-ghost use Rattle.syntax.specs.Steps.Tally.{Within, Small, Counted, withLine, talliedBy, stepOf};
-use crate::line::LineStatus;
-use crate::line::read_line;
+ghost use Rattle.rule_text.specs.Answer.{textRead};
+ghost use Rattle.rule_text.specs.Steps.Tally.{Within, Small, Counted, withLine, talliedBy, stepOf};
 use line_value::Line;
 use policy::Ending;
 use policy::Fault;
 use policy::Refusal;
+use syntax::LineStatus;
+use syntax::read_line;
 
 // How many lines of a kind a text has, and how many literals or actions, comparisons, and constants among these they have.
 pub struct LineCounts {

@@ -1,8 +1,8 @@
 use borrow.Author.Tests.{lt-ltb, le-ltb}
-use Rattle.syntax.specs.Steps.Tally.{tallyAs, talliedBy}
+use Rattle.rule_text.specs.Steps.Tally.{tallyAs, talliedBy}
 use borrow.Author.Needs.{needs}
-use Rattle.syntax.proofs.text.tallied.Statement.{statement}
-use Rattle.syntax.proofs.text.tallied.Tie as tie
+use Rattle.rule_text.proofs.tallied.Statement.{statement}
+use Rattle.rule_text.proofs.tallied.Tie as tie
 
 enum-told : tie.Need-enum-told
 enum-told c = search needs

@@ -1,7 +1,7 @@
-use Rattle.syntax.specs.Steps.Tally.{stepOf}
+use Rattle.rule_text.specs.Steps.Tally.{stepOf}
 use borrow.Author.Needs.{needs}
-use Rattle.syntax.proofs.text.step.Statement.{statement}
-use Rattle.syntax.proofs.text.step.Tie as tie
+use Rattle.rule_text.proofs.step.Statement.{statement}
+use Rattle.rule_text.proofs.step.Tie as tie
 
 enum-told : tie.Need-enum-told
 enum-told c = search needs

@@ -2,14 +2,14 @@ use Prim.Native.Nat.{_-_, _+_, _≤_}
 use mathlib.Core.Path.{_≡_, refl, sym, ap, _∙_}
 use lib.ListN.{length}
 use denote.Ref.{now}
-use Rattle.syntax.proofs.TextLaws.{countRead, countFrom, none-small, read-counted, text-long, text-short, halted-read, going-read, count-stop, count-later, count-go, count-small, count-end}
-use Rattle.syntax.specs.Answers.{noCounts}
-use Rattle.syntax.specs.declared.text.TextRead.{TextRead}
-use Rattle.syntax.specs.Steps.Tally.{Small}
+use Rattle.rule_text.proofs.TextLaws.{countRead, countFrom, none-small, read-counted, text-long, text-short, halted-read, going-read, count-stop, count-later, count-go, count-small, count-end}
+use Rattle.rule_text.specs.Answer.{noCounts}
+use Rattle.rule_text.specs.declared.TextRead.{TextRead}
+use Rattle.rule_text.specs.Steps.Tally.{Small}
 use borrow.Author.Needs.{needs}
 use native.Mathlib.Omega.{arith}
-use Rattle.syntax.proofs.text.read_text.Statement.{statement}
-use Rattle.syntax.proofs.text.read_text.Tie as tie
+use Rattle.rule_text.proofs.read_text.Statement.{statement}
+use Rattle.rule_text.proofs.read_text.Tie as tie
 
 abbrev Inv-loop : tie.InvT-loop
 Inv-loop text counts₀ at₀ number₀ counts at number = (countRead (countFrom text 1 noCounts 0) ≡ countRead (countFrom text number counts at)) × Small counts × (number ≤ at + 1)
