@@ -45,8 +45,10 @@ pub struct Cursors {
 
 // A line put in behind those of its kind.
 fn put_next(out: &mut [u8], cursors: Cursors, line: Line) -> Cursors
-    requires { ⌜ Near cursors × (length (valueWords line) ≤ 17) ⌝ }
-    ensures { λ r. ⌜ (r ≡ cursorsAfter (line .ending) cursors (length (valueWords line))) × (now (out .exit) ≡ putWords (now (out .entry)) (cursorFor (line .ending) cursors) (valueWords line)) ⌝ }
+    requires near { ⌜ Near cursors ⌝ }
+    requires short { ⌜ length (valueWords line) ≤ 17 ⌝ }
+    ensures answer { λ r. ⌜ r ≡ cursorsAfter (line .ending) cursors (length (valueWords line)) ⌝ }
+    ensures buffer { λ _. ⌜ now (out .exit) ≡ putWords (now (out .entry)) (cursorFor (line .ending) cursors) (valueWords line) ⌝ }
 {
     let ending = line.ending;
     match ending {
@@ -69,7 +71,9 @@ fn put_next(out: &mut [u8], cursors: Cursors, line: Line) -> Cursors
 
 // The lines of a text, up to the first that is refused.
 fn put_lines(out: &mut [u8], text: &[u8], start: Cursors)
-    requires { ⌜ (start .rules ≤ 4096) × (start .constraints ≤ 4096) × (length (now text) ≤ 32768) ⌝ }
+    requires rules { ⌜ start .rules ≤ 4096 ⌝ }
+    requires constraints { ⌜ start .constraints ≤ 4096 ⌝ }
+    requires short { ⌜ length (now text) ≤ 32768 ⌝ }
     ensures { λ _. ⌜ now (out .exit) ≡ putLines (acceptedLines (linesOf (now (text .entry)))) start (now (out .entry)) ⌝ }
 {
     let mut cursors = start;
@@ -93,7 +97,9 @@ fn put_lines(out: &mut [u8], text: &[u8], start: Cursors)
 
 // The image of an accepted text, for which there is room.
 fn put_image(out: &mut [u8], text: &[u8], rule_words: usize, constraint_words: usize)
-    requires { ⌜ (length (now text) ≤ 32768) × («rule_words» ≤ 2176) × («constraint_words» ≤ 1088) ⌝ }
+    requires short { ⌜ length (now text) ≤ 32768 ⌝ }
+    requires rules { ⌜ «rule_words» ≤ 2176 ⌝ }
+    requires constraints { ⌜ «constraint_words» ≤ 1088 ⌝ }
     ensures { λ _. ⌜ now (out .exit) ≡ putImage (acceptedLines (linesOf (now (text .entry)))) «rule_words» «constraint_words» (now (out .entry)) ⌝ }
 {
     put_word(out, 0, header(FORM, rule_words, constraint_words));
@@ -111,7 +117,8 @@ fn put_image(out: &mut [u8], text: &[u8], rule_words: usize, constraint_words: u
 
 // The image of a text from the start of the buffer on, or why there is none. A refusal leaves the buffer as it is.
 pub fn compile(text: &[u8], out: &mut [u8]) -> Compiled
-    ensures { λ r. ⌜ (r ≡ compiled (now (text .entry)) (now (out .entry)) .answer) × (now (out .exit) ≡ compiled (now (text .entry)) (now (out .entry)) .buffer) ⌝ }
+    ensures answer { λ r. ⌜ r ≡ compiled (now (text .entry)) (now (out .entry)) .answer ⌝ }
+    ensures buffer { λ _. ⌜ now (out .exit) ≡ compiled (now (text .entry)) (now (out .entry)) .buffer ⌝ }
 {
     let read = read_text(text);
     match read {

@@ -5,7 +5,6 @@ ghost use mathlib.Core.List.{[]};
 ghost use Prim.Native.Nat.{_+_, _-_, _/_, _<_, _≤_};
 ghost use lib.ListN.{length, drop};
 ghost use Rattle.line_value.specs.Value.{lineOf};
-ghost use Rattle.policy.specs.Set.{has, insert};
 ghost use Rattle.word.specs.Word.{wordsOf, between};
 ghost use Rattle.decode.specs.Decode.{lineAt, lineLength, lineAnswer};
 ghost use Rattle.decode.specs.Steps.Scan.{isHead, isEnding, headOpcodes, headSound, headCount, constantSound, readingSound, comparisonLength, comparisonsFill, valueFrom};
@@ -25,6 +24,8 @@ use policy::Ending;
 use policy::Event;
 use policy::Literal;
 use policy::Test;
+use policy::member;
+use policy::with_member;
 use word::at_most;
 use word::word_at;
 use word::word_in;
@@ -64,28 +65,10 @@ fn is_ending(part: Part, word: u32) -> bool
 {
     match part {
         Part::Rules => {
-            if opcode(word) != Operation::Proposes.opcode() {
-                return false;
-            }
-            word % 0x0040_0000 == 0
+            opcode(word) == Operation::Proposes.opcode() && word % 0x0040_0000 == 0
         }
         Part::Constraints => word == ending_word(Ending::Never),
     }
-}
-
-// Numbers under 64, one bit each.
-fn is_seen(seen: u64, n: u32) -> bool
-    requires { ⌜ n < 64 ⌝ }
-    ensures { λ r. ⌜ r ≡ has seen n ⌝ }
-{
-    (seen >> n) % 2 == 1
-}
-
-fn with_seen(seen: u64, n: u32) -> u64
-    requires { ⌜ n < 64 ⌝ }
-    ensures { λ r. ⌜ r ≡ insert seen n ⌝ }
-{
-    seen | (1 << n)
 }
 
 // Whether the word may stand as a head, with `left` words of the line behind it.
@@ -98,7 +81,7 @@ fn head_sound(part: Part, seen: u64, word: u32, left: u32) -> bool
     if !is_head(part, opcode(word)) {
         return false;
     }
-    !is_seen(seen, first(word))
+    !member(seen, first(word) as u8)
 }
 
 // Whether a comparison with a constant may stand here, with `left` words of the line behind its first: its constant, and at least
@@ -151,7 +134,9 @@ fn comparison_length(word: u32, left: u32) -> usize
 
 // The first word from `at` on that is no head of the line whose ending word is `last`.
 fn heads_end(image: &[u8], part: Part, at: usize, last: usize) -> usize
-    requires { ⌜ (at ≤ last) × (last < at + 32) × (last ≤ length (now image) / 4) ⌝ }
+    requires ordered { ⌜ at ≤ last ⌝ }
+    requires short { ⌜ last < at + 32 ⌝ }
+    requires inside { ⌜ last ≤ length (now image) / 4 ⌝ }
     ensures { λ r. ⌜ r ≡ at + headCount part 0 (last - at) (drop at (wordsOf (now (image .entry)))) ⌝ }
 {
     let mut seen: u64 = 0;
@@ -161,7 +146,7 @@ fn heads_end(image: &[u8], part: Part, at: usize, last: usize) -> usize
         if !head_sound(part, seen, word, (last - i) as u32) {
             return i;
         }
-        seen = with_seen(seen, first(word));
+        seen = with_member(seen, first(word) as u8);
         i += 1;
     }
     i
@@ -169,7 +154,9 @@ fn heads_end(image: &[u8], part: Part, at: usize, last: usize) -> usize
 
 // Whether comparisons, at most four, stand from `from` up to the ending word `last`.
 fn comparisons_sound(image: &[u8], from: usize, last: usize) -> bool
-    requires { ⌜ (from ≤ last) × (last < from + 32) × (last ≤ length (now image) / 4) ⌝ }
+    requires ordered { ⌜ from ≤ last ⌝ }
+    requires short { ⌜ last < from + 32 ⌝ }
+    requires inside { ⌜ last ≤ length (now image) / 4 ⌝ }
     ensures { λ r. ⌜ r ≡ comparisonsFill 4 (last - from) (drop from (wordsOf (now (image .entry)))) ⌝ }
 {
     let mut room: usize = 4;
@@ -220,7 +207,8 @@ pub fn line_length(image: &[u8], part: Part, at: usize, end: usize) -> usize
 
 // The value of the line whose words stand from `start` up to `end`.
 fn read_line(image: &[u8], start: usize, end: usize) -> Line
-    requires { ⌜ (start ≤ end) × (end ≤ length (now image) / 4) ⌝ }
+    requires ordered { ⌜ start ≤ end ⌝ }
+    requires inside { ⌜ end ≤ length (now image) / 4 ⌝ }
     ensures { λ r. ⌜ r ≡ valueFrom (lineOf [] [] Ending.Never) (end - start) false (drop start (wordsOf (now (image .entry)))) ⌝ }
 {
     let mut line = Line::new();

@@ -47,7 +47,8 @@ fn fault_number(refusal: Refusal) -> u64
 
 #[no_mangle]
 pub extern "C" fn kinohazel_compile_nonnull(text: &[u8], out: &mut [u8]) -> Compilation
-    ensures { λ r. ⌜ (r ≡ compilationOf (compiled (now (text .entry)) (now (out .entry)) .answer)) × (now (out .exit) ≡ compiled (now (text .entry)) (now (out .entry)) .buffer) ⌝ }
+    ensures answer { λ r. ⌜ r ≡ compilationOf (compiled (now (text .entry)) (now (out .entry)) .answer) ⌝ }
+    ensures buffer { λ _. ⌜ now (out .exit) ≡ compiled (now (text .entry)) (now (out .entry)) .buffer ⌝ }
 {
     let answer = codegen::compile(text, out);
     match answer {

@@ -25,7 +25,8 @@ pub fn sum_words(bytes: &[u8], end: usize) -> u32
 
 // The check words for the words before `index`, put in there, and whether they fit.
 pub fn put_check_words(buffer: &mut [u8], form: u8, index: usize) -> bool
-    ensures { λ r. ⌜ (r ≡ fits (now (buffer .entry)) index (checkCount form)) × (now (buffer .exit) ≡ putWords (now (buffer .entry)) index (checkWords form (take index (wordsOf (now (buffer .entry)))))) ⌝ }
+    ensures answer { λ r. ⌜ r ≡ fits (now (buffer .entry)) index (checkCount form) ⌝ }
+    ensures buffer { λ _. ⌜ now (buffer .exit) ≡ putWords (now (buffer .entry)) index (checkWords form (take index (wordsOf (now (buffer .entry))))) ⌝ }
 {
     let total = sum_words(buffer, index);
     put_word(buffer, index, std::num::wrapping_sub_u32(0, total))

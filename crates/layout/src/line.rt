@@ -56,7 +56,9 @@ fn put_condition(
     ending: Ending,
     size: usize,
 )
-    requires { ⌜ (count ≤ 4) × (size ≡ conditionSize (take count comparisons)) × (index + size ≤ length (now buffer) / 4) ⌝ }
+    requires few { ⌜ count ≤ 4 ⌝ }
+    requires sized { ⌜ size ≡ conditionSize (take count comparisons) ⌝ }
+    requires room { ⌜ index + size ≤ length (now buffer) / 4 ⌝ }
     ensures { λ _. ⌜ now (buffer .exit) ≡ putWords (now (buffer .entry)) index (conditionWords (take count comparisons) ending) ⌝ }
 {
     let mut at = index;
@@ -75,7 +77,10 @@ fn put_condition(
 
 // The words of the first `count` heads of a line of `size` words, for which there is room.
 fn put_heads(buffer: &mut [u8], index: usize, heads: [Head; 8], count: usize, size: usize)
-    requires { ⌜ (count ≤ 8) × (count ≤ size) × (size < 33) × (index + size ≤ length (now buffer) / 4) ⌝ }
+    requires few { ⌜ count ≤ 8 ⌝ }
+    requires within { ⌜ count ≤ size ⌝ }
+    requires short { ⌜ size < 33 ⌝ }
+    requires room { ⌜ index + size ≤ length (now buffer) / 4 ⌝ }
     ensures { λ _. ⌜ now (buffer .exit) ≡ putWords (now (buffer .entry)) index (headWords (testsOf (take count heads)) size) ⌝ }
 {
     let mut i = 0;
@@ -104,7 +109,8 @@ fn condition_size(comparisons: [Comparison; 4], count: usize) -> usize
 
 // The words of a line put in at a word index, and how many they are. Where they do not fit, the buffer stays as it is.
 pub fn put_line(buffer: &mut [u8], index: usize, line: Line) -> usize
-    ensures { λ r. ⌜ (r ≡ length (valueWords line)) × (now (buffer .exit) ≡ putWords (now (buffer .entry)) index (valueWords line)) ⌝ }
+    ensures answer { λ r. ⌜ r ≡ length (valueWords line) ⌝ }
+    ensures buffer { λ _. ⌜ now (buffer .exit) ≡ putWords (now (buffer .entry)) index (valueWords line) ⌝ }
 {
     let heads = line.heads;
     let comparisons = line.comparisons;

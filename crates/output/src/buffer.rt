@@ -5,7 +5,8 @@ ghost use Prim.Native.Nat.{min};
 ghost use Rattle.output.specs.Buffer.{appended, behind};
 
 pub fn put_byte(out: &mut [u8], at: usize, byte: u8) -> usize
-    ensures { λ r. ⌜ (r ≡ behind (now (out .entry)) at (byte ∷ [])) × (now (out .exit) ≡ appended (now (out .entry)) at (byte ∷ [])) ⌝ }
+    ensures answer { λ r. ⌜ r ≡ behind (now (out .entry)) at (byte ∷ []) ⌝ }
+    ensures buffer { λ _. ⌜ now (out .exit) ≡ appended (now (out .entry)) at (byte ∷ []) ⌝ }
 {
     if at < out.len() {
         out[at] = byte;
@@ -22,7 +23,8 @@ pub(crate) fn at_most(n: usize, limit: usize) -> usize
 }
 
 pub fn put_bytes(out: &mut [u8], at: usize, bytes: &[u8]) -> usize
-    ensures { λ r. ⌜ (r ≡ behind (now (out .entry)) at (now (bytes .entry))) × (now (out .exit) ≡ appended (now (out .entry)) at (now (bytes .entry))) ⌝ }
+    ensures answer { λ r. ⌜ r ≡ behind (now (out .entry)) at (now (bytes .entry)) ⌝ }
+    ensures buffer { λ _. ⌜ now (out .exit) ≡ appended (now (out .entry)) at (now (bytes .entry)) ⌝ }
 {
     let mut end = at;
     let mut i = 0;

@@ -11,7 +11,8 @@ use crate::buffer::put_bytes;
 // The digits at the end of the text, and where they start. Twenty digits hold a number of 64 bits.
 fn fill_digits(text: &mut [u8], n: u64) -> usize
     requires { ⌜ length (now text) ≡ 20 ⌝ }
-    ensures { λ r. ⌜ (r ≤ 20) × (drop r (now (text .exit)) ≡ decimal n) ⌝ }
+    ensures start { λ r. ⌜ r ≤ 20 ⌝ }
+    ensures digits { λ r. ⌜ drop r (now (text .exit)) ≡ decimal n ⌝ }
 {
     let mut i = 19;
     let mut rest = n;
@@ -25,7 +26,8 @@ fn fill_digits(text: &mut [u8], n: u64) -> usize
 }
 
 pub fn put_decimal(out: &mut [u8], at: usize, n: u64) -> usize
-    ensures { λ r. ⌜ (r ≡ behind (now (out .entry)) at (decimal n)) × (now (out .exit) ≡ appended (now (out .entry)) at (decimal n)) ⌝ }
+    ensures answer { λ r. ⌜ r ≡ behind (now (out .entry)) at (decimal n) ⌝ }
+    ensures buffer { λ _. ⌜ now (out .exit) ≡ appended (now (out .entry)) at (decimal n) ⌝ }
 {
     let mut text = [0u8; 20];
     let start = fill_digits(&mut text, n);
@@ -45,7 +47,8 @@ fn hex_digit(d: u32) -> u8
 
 // Eight digits, the most significant first.
 pub fn put_hex_word(out: &mut [u8], at: usize, word: u32) -> usize
-    ensures { λ r. ⌜ (r ≡ behind (now (out .entry)) at (hexWord word)) × (now (out .exit) ≡ appended (now (out .entry)) at (hexWord word)) ⌝ }
+    ensures answer { λ r. ⌜ r ≡ behind (now (out .entry)) at (hexWord word) ⌝ }
+    ensures buffer { λ _. ⌜ now (out .exit) ≡ appended (now (out .entry)) at (hexWord word) ⌝ }
 {
     let mut end = at;
     let mut digits: u32 = 8;

@@ -9,7 +9,8 @@ use output::put_decimal;
 use policy::ActionSet;
 
 fn put_name(out: &mut [u8], at: usize, number: u64) -> usize
-    ensures { λ r. ⌜ (r ≡ behind (now (out .entry)) at (actionName number)) × (now (out .exit) ≡ appended (now (out .entry)) at (actionName number)) ⌝ }
+    ensures answer { λ r. ⌜ r ≡ behind (now (out .entry)) at (actionName number) ⌝ }
+    ensures buffer { λ _. ⌜ now (out .exit) ≡ appended (now (out .entry)) at (actionName number) ⌝ }
 {
     let end = put_byte(out, at, b'A');
     put_decimal(out, end, number)
@@ -17,7 +18,8 @@ fn put_name(out: &mut [u8], at: usize, number: u64) -> usize
 
 // A comma stands before each but the first.
 fn put_member(out: &mut [u8], at: usize, number: u64, first: bool) -> usize
-    ensures { λ r. ⌜ (r ≡ behind (now (out .entry)) at (cond first [] (44 ∷ []) ++ actionName number)) × (now (out .exit) ≡ appended (now (out .entry)) at (cond first [] (44 ∷ []) ++ actionName number)) ⌝ }
+    ensures answer { λ r. ⌜ r ≡ behind (now (out .entry)) at (cond first [] (44 ∷ []) ++ actionName number) ⌝ }
+    ensures buffer { λ _. ⌜ now (out .exit) ≡ appended (now (out .entry)) at (cond first [] (44 ∷ []) ++ actionName number) ⌝ }
 {
     if first {
         put_name(out, at, number)
@@ -28,7 +30,8 @@ fn put_member(out: &mut [u8], at: usize, number: u64, first: bool) -> usize
 }
 
 pub fn put_actions(out: &mut [u8], at: usize, set: ActionSet) -> usize
-    ensures { λ r. ⌜ (r ≡ behind (now (out .entry)) at (actionList set)) × (now (out .exit) ≡ appended (now (out .entry)) at (actionList set)) ⌝ }
+    ensures answer { λ r. ⌜ r ≡ behind (now (out .entry)) at (actionList set) ⌝ }
+    ensures buffer { λ _. ⌜ now (out .exit) ≡ appended (now (out .entry)) at (actionList set) ⌝ }
 {
     let mut end = at;
     let mut first = true;

@@ -13,7 +13,8 @@ use policy::Refusal;
 
 // A word of the image.
 pub fn put_word_line(out: &mut [u8], at: usize, word: u32) -> usize
-    ensures { λ r. ⌜ (r ≡ behind (now (out .entry)) at (wordLine word)) × (now (out .exit) ≡ appended (now (out .entry)) at (wordLine word)) ⌝ }
+    ensures answer { λ r. ⌜ r ≡ behind (now (out .entry)) at (wordLine word) ⌝ }
+    ensures buffer { λ _. ⌜ now (out .exit) ≡ appended (now (out .entry)) at (wordLine word) ⌝ }
 {
     let end = put_hex_word(out, at, word);
     put_byte(out, end, b'\n')
@@ -21,7 +22,8 @@ pub fn put_word_line(out: &mut [u8], at: usize, word: u32) -> usize
 
 // A refused text, and where the fault is.
 pub fn put_refusal(out: &mut [u8], at: usize, refusal: Refusal) -> usize
-    ensures { λ r. ⌜ (r ≡ behind (now (out .entry)) at (refusalLine refusal)) × (now (out .exit) ≡ appended (now (out .entry)) at (refusalLine refusal)) ⌝ }
+    ensures answer { λ r. ⌜ r ≡ behind (now (out .entry)) at (refusalLine refusal) ⌝ }
+    ensures buffer { λ _. ⌜ now (out .exit) ≡ appended (now (out .entry)) at (refusalLine refusal) ⌝ }
 {
     let fault = refusal.fault;
     let number = fault.number() as u64;
@@ -40,7 +42,8 @@ pub fn put_accept(
     accepted: ActionSet,
     cancelled: ActionSet,
 ) -> usize
-    ensures { λ r. ⌜ (r ≡ behind (now (out .entry)) at (acceptLine number accepted cancelled)) × (now (out .exit) ≡ appended (now (out .entry)) at (acceptLine number accepted cancelled)) ⌝ }
+    ensures answer { λ r. ⌜ r ≡ behind (now (out .entry)) at (acceptLine number accepted cancelled) ⌝ }
+    ensures buffer { λ _. ⌜ now (out .exit) ≡ appended (now (out .entry)) at (acceptLine number accepted cancelled) ⌝ }
 {
     let start = put_decimal(out, at, number);
     let accept = put_bytes(out, start, b" accept ");
@@ -52,7 +55,8 @@ pub fn put_accept(
 
 // A refused epoch.
 pub fn put_refused(out: &mut [u8], at: usize, number: u64, fault: Fault) -> usize
-    ensures { λ r. ⌜ (r ≡ behind (now (out .entry)) at (refusedLine number fault)) × (now (out .exit) ≡ appended (now (out .entry)) at (refusedLine number fault)) ⌝ }
+    ensures answer { λ r. ⌜ r ≡ behind (now (out .entry)) at (refusedLine number fault) ⌝ }
+    ensures buffer { λ _. ⌜ now (out .exit) ≡ appended (now (out .entry)) at (refusedLine number fault) ⌝ }
 {
     let start = put_decimal(out, at, number);
     let middle = put_bytes(out, start, b" refused ");

@@ -12,7 +12,11 @@ use monitor::Decision;
 
 // The epoch line is complete.
 pub(crate) fn end_line(state: State, held: &[u8], image: &[u8], out: &mut [u8; 65536]) -> State
-    requires { ⌜ (state .start ≡ 0) × (state .count ≤ length (now held)) × (state .size ≤ length (now image)) × (length (now out) ≡ 65536) × Room state ⌝ }
+    requires start { ⌜ state .start ≡ 0 ⌝ }
+    requires inside { ⌜ state .count ≤ length (now held) ⌝ }
+    requires loaded { ⌜ state .size ≤ length (now image) ⌝ }
+    requires out_sized { ⌜ length (now out) ≡ 65536 ⌝ }
+    requires room { ⌜ Room state ⌝ }
     ensures { λ r. ⌜ LineEnded state (now (held .entry)) (now (image .entry)) (now (out .entry)) r (now (out .exit)) ⌝ }
 {
     let size = state.size;
@@ -48,7 +52,9 @@ pub(crate) fn line_byte(
     image: &mut [u8; 13064],
     out: &mut [u8; 65536],
 ) -> State
-    requires { ⌜ Good state (now held) (now image) (now out) × Room state × (state .phase ≡ Phase.Epochs) ⌝ }
+    requires good { ⌜ Good state (now held) (now image) (now out) ⌝ }
+    requires room { ⌜ Room state ⌝ }
+    requires phase { ⌜ state .phase ≡ Phase.Epochs ⌝ }
     ensures { λ r. ⌜ Took state (now (held .entry)) (now (image .entry)) (now (out .entry)) (byte ∷ []) r (now (held .exit)) (now (image .exit)) (now (out .exit)) ⌝ }
 {
     if byte == b'\n' {

@@ -48,7 +48,8 @@ fn step(
     image: &mut [u8; 13064],
     out: &mut [u8; 65536],
 ) -> State
-    requires { ⌜ Good state (now held) (now image) (now out) × Room state ⌝ }
+    requires good { ⌜ Good state (now held) (now image) (now out) ⌝ }
+    requires room { ⌜ Room state ⌝ }
     ensures { λ r. ⌜ Took state (now (held .entry)) (now (image .entry)) (now (out .entry)) (byte ∷ []) r (now (held .exit)) (now (image .exit)) (now (out .exit)) ⌝ }
 {
     let phase = state.phase;
@@ -90,7 +91,8 @@ pub fn feed(
 
 // The input has ended.
 pub fn finish(state: State, held: &[u8], image: &mut [u8; 13064], out: &mut [u8; 65536]) -> State
-    requires { ⌜ Good state (now held) (now image) (now out) × Room state ⌝ }
+    requires good { ⌜ Good state (now held) (now image) (now out) ⌝ }
+    requires room { ⌜ Room state ⌝ }
     ensures { λ r. ⌜ Finished state (now (held .entry)) (now (image .entry)) (now (out .entry)) r (now (out .exit)) ⌝ }
 {
     let phase = state.phase;

@@ -8,7 +8,8 @@ use codegen::Compiled;
 
 // The words of an image, each a line.
 fn put_image(image: &[u8], out: &mut [u8]) -> usize
-    ensures { λ r. ⌜ (r ≡ behind (now (out .entry)) 0 (wordLines (wordsOf (now (image .entry))))) × (now (out .exit) ≡ appended (now (out .entry)) 0 (wordLines (wordsOf (now (image .entry))))) ⌝ }
+    ensures answer { λ r. ⌜ r ≡ behind (now (out .entry)) 0 (wordLines (wordsOf (now (image .entry)))) ⌝ }
+    ensures buffer { λ _. ⌜ now (out .exit) ≡ appended (now (out .entry)) 0 (wordLines (wordsOf (now (image .entry)))) ⌝ }
 {
     let mut end = 0;
     let mut i = 0;
@@ -22,7 +23,8 @@ fn put_image(image: &[u8], out: &mut [u8]) -> usize
 // What the compiler prints for a text. The largest image has 3,266 words, a line of nine bytes each.
 pub fn put_listing(text: &[u8], out: &mut [u8]) -> usize
     ensures { λ r. ⌜ Counts r (now (out .exit)) ⌝ }
-    ensures { λ r. ⌜ (r ≡ behind (now (out .entry)) 0 (listed (now (text .entry)))) × (now (out .exit) ≡ appended (now (out .entry)) 0 (listed (now (text .entry)))) ⌝ }
+    ensures answer { λ r. ⌜ r ≡ behind (now (out .entry)) 0 (listed (now (text .entry))) ⌝ }
+    ensures buffer { λ _. ⌜ now (out .exit) ≡ appended (now (out .entry)) 0 (listed (now (text .entry))) ⌝ }
 {
     let mut image = [0u8; 13064];
     let compiled = codegen::compile(text, &mut image);

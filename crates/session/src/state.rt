@@ -24,7 +24,8 @@ pub struct State {
 
 // One byte more is held, up to a limit.
 pub(crate) fn push(state: State, byte: u8, limit: usize, held: &mut [u8; 32773]) -> State
-    requires { ⌜ (limit ≤ 32773) × (length (now held) ≡ 32773) ⌝ }
+    requires few { ⌜ limit ≤ 32773 ⌝ }
+    requires sized { ⌜ length (now held) ≡ 32773 ⌝ }
     ensures { λ r. ⌜ Pushed limit state byte (now (held .entry)) r (now (held .exit)) ⌝ }
 {
     let count = state.count;

@@ -30,7 +30,8 @@ fn is_run(line: &[u8]) -> bool
 
 // Whether the current line of the text is `run`.
 pub(crate) fn at_run(state: State, held: &[u8]) -> bool
-    requires { ⌜ (state .start ≤ state .count) × (state .count ≤ length (now held)) ⌝ }
+    requires ordered { ⌜ state .start ≤ state .count ⌝ }
+    requires inside { ⌜ state .count ≤ length (now held) ⌝ }
     ensures { λ r. ⌜ r ≡ is "run" (current state (now (held .entry))) ⌝ }
 {
     let start = state.start;
@@ -46,7 +47,10 @@ pub(crate) fn end_text(
     image: &mut [u8; 13064],
     out: &mut [u8; 65536],
 ) -> State
-    requires { ⌜ (end ≤ length (now held)) × (length (now image) ≡ 13064) × (length (now out) ≡ 65536) × Room state ⌝ }
+    requires inside { ⌜ end ≤ length (now held) ⌝ }
+    requires image_sized { ⌜ length (now image) ≡ 13064 ⌝ }
+    requires out_sized { ⌜ length (now out) ≡ 65536 ⌝ }
+    requires room { ⌜ Room state ⌝ }
     ensures { λ r. ⌜ TextEnded (take end (now (held .entry))) state (now (out .entry)) r (now (image .exit)) (now (out .exit)) ⌝ }
 {
     let compiled = codegen::compile(&held[..end], image);
@@ -92,7 +96,9 @@ pub(crate) fn text_byte(
     image: &mut [u8; 13064],
     out: &mut [u8; 65536],
 ) -> State
-    requires { ⌜ Good state (now held) (now image) (now out) × Room state × (state .phase ≡ Phase.Text) ⌝ }
+    requires good { ⌜ Good state (now held) (now image) (now out) ⌝ }
+    requires room { ⌜ Room state ⌝ }
+    requires phase { ⌜ state .phase ≡ Phase.Text ⌝ }
     ensures { λ r. ⌜ Took state (now (held .entry)) (now (image .entry)) (now (out .entry)) (byte ∷ []) r (now (held .exit)) (now (image .exit)) (now (out .exit)) ⌝ }
 {
     if byte == b'\n' {

@@ -61,7 +61,8 @@ pub fn word_in(bytes: &[u8], index: usize) -> u32
 
 // Whether the word fits at the index. Where it does not, the buffer stays as it is.
 pub fn put_word(buffer: &mut [u8], index: usize, word: u32) -> bool
-    ensures { λ r. ⌜ (r ≡ fits (now (buffer .entry)) index 1) × (now (buffer .exit) ≡ putWords (now (buffer .entry)) index (word ∷ [])) ⌝ }
+    ensures answer { λ r. ⌜ r ≡ fits (now (buffer .entry)) index 1 ⌝ }
+    ensures buffer { λ _. ⌜ now (buffer .exit) ≡ putWords (now (buffer .entry)) index (word ∷ []) ⌝ }
 {
     if index < buffer.len() / 4 {
         let at = index * 4;

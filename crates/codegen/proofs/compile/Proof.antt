@@ -51,7 +51,7 @@ returns c =
 put-image-requires : tie.Need-put-image-requires
 put-image-requires c κs =
     let t = accepted-text _ _ (sym (c .before .before .before .before .before .before .before .read-text .ensures) ∙ c .before .before .before .before .before .read2 .given .1) in
-    (t .short, omega (arith, t .rule-limit, t .rule-count, c .before .before .before .words .ensures), omega (arith, t .constraint-limit, t .constraint-count, c .before .before .words2 .ensures))
+    (t .short, (omega (arith, t .rule-limit, t .rule-count, c .before .before .before .words .ensures), omega (arith, t .constraint-limit, t .constraint-count, c .before .before .words2 .ensures)))
 
 returns-2 : tie.Need-returns-2
 returns-2 c = compiled-refused _ _ _ (sym (c .before .before .before .read-text .ensures) ∙ c .before .read .given .1)

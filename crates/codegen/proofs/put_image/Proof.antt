@@ -27,7 +27,7 @@ same-length c = search needs
 returns : tie.Need-returns
 returns c =
     let p = c .before .before .before .before .before .before .before .before .before .before .before .before .before .before .before .pre in
-    image-put _ _ _ _ _ _ _ _ (p .1) (p .2) (c .before .before .before .before .before .before .before .before .before .before .before .header .ensures) (c .before .before .before .before .before .before .before .before .before .before .put-word .ensures .1) (c .before .before .before .before .before .before .put-lines .ensures) (c .before .before .put-check-words .ensures .1)
+    image-put _ _ _ _ _ _ _ _ (p .1 .0) (p .1 .1) (c .before .before .before .before .before .before .before .before .before .before .before .header .ensures) (c .before .before .before .before .before .before .before .before .before .before .put-word .ensures .1) (c .before .before .before .before .before .before .put-lines .ensures) (c .before .before .put-check-words .ensures .1)
 
 pub put-image-spec : {M : Type 1} → statement M
 put-image-spec =

@@ -24,7 +24,7 @@ enum-told c = search needs
 put-next-requires : tie.Need-put-next-requires Inv-loop μ-loop
 put-next-requires c κs =
     let p = c .before .before .before .before .before .before .before .before .before .pre in (
-      putting-near _ _ _ _ _ _ (c .before .before .before .before .before .before .loop .inv) (p .0) (p .1) (p .2) (c .before .before .before .before .before .loop-test .taken),
+      putting-near _ _ _ _ _ _ (c .before .before .before .before .before .before .loop .inv) (p .0) (p .1 .0) (p .1 .1) (c .before .before .before .before .before .loop-test .taken),
       putting-take _ _ _ _ _ _ (c .before .before .before .before .before .before .loop .inv) (c .before .before .before .before .before .loop-test .taken) _ (c .before .before .before .before .read-line .ensures) (c .before .enum-told .given .1) .small,
     )
 

@@ -18,7 +18,7 @@ abbrev μ-loop : tie.MeasureT-loop
 loop-holds : tie.Need-loop-holds Inv-loop μ-loop
 loop-holds c =
     let a = c .before .args in
-    (c .before .pre .1, c .before .pre .2, comparing-none (wordsOf (now (a .image))) (a .from) (a .last) (c .before .pre .0))
+    (c .before .pre .1 .0, c .before .pre .1 .1, comparing-none (wordsOf (now (a .image))) (a .from) (a .last) (c .before .pre .0))
 
 returns : tie.Need-returns Inv-loop μ-loop
 returns c =

@@ -28,14 +28,17 @@ returns-2 c =
 first-requires : tie.Need-first-requires
 first-requires c κs = search needs
 
-is-seen-requires : tie.Need-is-seen-requires
-is-seen-requires c κs = search needs
+cast-member : tie.Need-cast-member
+cast-member c = search needs
+
+member-requires : tie.Need-member-requires
+member-requires c κs = search needs
 
 returns-3 : tie.Need-returns-3
 unfolding headSound
 returns-3 c =
     let a = c .before .before .before .before .before .before .args in
-    rw (eq-eqb (a .word % 2 ^ 22) (a .left) (omega arith), sym (c .before .before .before .is-head .ensures ∙ ap (λ (n : ℕ). isHead (a .part) (operationFrom n)) (c .before .before .before .before .opcode .ensures)) ∙ not-false _ (c .before .before .if2 .left), c .is-seen .ensures ∙ ap (has (a .seen)) (c .before .first .ensures))
+    rw (eq-eqb (a .word % 2 ^ 22) (a .left) (omega arith), sym (c .before .before .before .is-head .ensures ∙ ap (λ (n : ℕ). isHead (a .part) (operationFrom n)) (c .before .before .before .before .opcode .ensures)) ∙ not-false _ (c .before .before .if2 .left), c .member .ensures ∙ ap (has (a .seen)) (c .before .first .ensures))
 
 pub head-sound-spec : {M : Type 1} → statement M
-head-sound-spec = tie.close (tie.spec returns opcode-requires is-head-requires returns-2 first-requires is-seen-requires returns-3)
+head-sound-spec = tie.close (tie.spec returns opcode-requires is-head-requires returns-2 first-requires cast-member member-requires returns-3)

@@ -12,7 +12,6 @@ use Rattle.decode.proofs.heads_end.Tie as tie
 use Rattle.decode.proofs.heads_end.Reads as reads
 use Rattle.decode.proofs.heads_end.Lts as lts
 use Rattle.decode.proofs.head_sound.Reads as head-sound-reads
-use Rattle.decode.proofs.with_seen.Reads as with-seen-reads
 use Rattle.operation.proofs.first.Reads as first-reads
 use Rattle.word.proofs.word_in.Reads as word-in-reads
 
@@ -22,59 +21,50 @@ Inv-loop image part at last seen₀ i₀ seen i = (last < at + 32) × (last ≤ 
 abbrev μ-loop : tie.MeasureT-loop
 μ-loop image part at last seen₀ i₀ seen i = last - i
 
--- src/line.rt:165:5
 loop-holds : tie.Need-loop-holds Inv-loop μ-loop
 loop-holds c =
     let a = c .before .args in
-    (c .before .pre .1, c .before .pre .2, heading-none (a .part) (wordsOf (now (a .image))) (a .at) (a .last) (c .before .pre .0))
+    (c .before .pre .1 .0, c .before .pre .1 .1, heading-none (a .part) (wordsOf (now (a .image))) (a .at) (a .last) (c .before .pre .0))
 
--- src/line.rt:166:13
 word-in-requires : tie.Need-word-in-requires Inv-loop μ-loop
 word-in-requires c κs = search needs
 
--- src/line.rt:167:43
 sub-head-sound : tie.Need-sub-head-sound Inv-loop μ-loop
 sub-head-sound c = search needs
 
--- src/line.rt:167:42
 cast-head-sound : tie.Need-cast-head-sound Inv-loop μ-loop
 cast-head-sound c =
     let h = c .before .before .loop .inv .2 .from in
     omega arith
 
--- src/line.rt:167:13
 head-sound-requires : tie.Need-head-sound-requires Inv-loop μ-loop
 head-sound-requires c κs = search needs
 
--- src/line.rt:168:13
 returns : tie.Need-returns Inv-loop μ-loop
 returns c =
     let a = c .before .before .before .before .before .before .args in
     heading-stop (a .part) (wordsOf (now (a .image))) (a .at) (a .last) _ _ _ _ _ (c .before .before .before .before .loop .inv .2) (c .before .before .before .loop-test .taken) (c .before .before .word-in .ensures) refl (c .before .head-sound .ensures) (not-true _ (c .if1 .taken))
 
--- src/line.rt:170:32
 first-requires : tie.Need-first-requires Inv-loop μ-loop
 first-requires c κs = search needs
 
--- src/line.rt:170:9
-with-seen-requires : tie.Need-with-seen-requires Inv-loop μ-loop
-with-seen-requires c κs = search needs
+cast-with-member : tie.Need-cast-with-member Inv-loop μ-loop
+cast-with-member c = search needs
 
--- src/line.rt:171:9
+with-member-requires : tie.Need-with-member-requires Inv-loop μ-loop
+with-member-requires c κs = search needs
+
 add-i : tie.Need-add-i Inv-loop μ-loop
 add-i c = search needs
 
--- src/line.rt:165:5
 loop-less : tie.Need-loop-less Inv-loop μ-loop
 loop-less c = search needs
 
--- src/line.rt:165:5
 loop-again : tie.Need-loop-again Inv-loop μ-loop
 loop-again c =
     let a = c .before .before .before .before .before .before .before .before .args in
-    (c .before .before .before .before .before .before .loop .inv .0, c .before .before .before .before .before .before .loop .inv .1, heading-more (a .part) (wordsOf (now (a .image))) (a .at) (a .last) _ _ _ _ _ _ _ (c .before .before .before .before .before .before .loop .inv .2) (c .before .before .before .before .before .loop-test .taken) (c .before .before .before .before .word-in .ensures) refl (c .before .before .before .head-sound .ensures) (not-false _ (c .before .before .if1 .left)) (c .before .first .ensures) (c .with-seen .ensures))
+    (c .before .before .before .before .before .before .loop .inv .0, c .before .before .before .before .before .before .loop .inv .1, heading-more (a .part) (wordsOf (now (a .image))) (a .at) (a .last) _ _ _ _ _ _ _ (c .before .before .before .before .before .before .loop .inv .2) (c .before .before .before .before .before .loop-test .taken) (c .before .before .before .before .word-in .ensures) refl (c .before .before .before .head-sound .ensures) (not-false _ (c .before .before .if1 .left)) (c .before .first .ensures) (c .with-member .ensures))
 
--- src/line.rt:159:1
 returns-2 : tie.Need-returns-2 Inv-loop μ-loop
 returns-2 c =
     let a = c .before .before .before .args in
@@ -93,7 +83,8 @@ heads-end-spec =
     head-sound-requires
     returns
     first-requires
-    with-seen-requires
+    cast-with-member
+    with-member-requires
     add-i
     loop-less
     loop-again

@@ -20,11 +20,9 @@ use Rattle.word.proofs.at_most.Reads as at-most-reads
 use Rattle.operation.proofs.skip.Reads as skip-reads
 use Rattle.word.proofs.word_in.Reads as word-in-reads
 
--- src/line.rt:202:9
 at-most-requires : tie.Need-at-most-requires
 at-most-requires c κs = search needs
 
--- src/line.rt:204:9
 returns : tie.Need-returns
 unfolding between
 returns c =
@@ -32,23 +30,18 @@ returns c =
     let n = before-length (now (a .image)) (a .end) _ (c .before .at-most .ensures) in
     length-none (a .part) (now (a .image)) (a .end) (a .at) (omega (arith, c .if1 .taken))
 
--- src/line.rt:206:21
 word-in-requires : tie.Need-word-in-requires
 word-in-requires c κs = search needs
 
--- src/line.rt:206:16
 skip-requires : tie.Need-skip-requires
 skip-requires c κs = search needs
 
--- src/line.rt:206:16
 cast-size : tie.Need-cast-size
 cast-size c = search needs
 
--- src/line.rt:207:8
 sub-if2 : tie.Need-sub-if2
 sub-if2 c = search needs
 
--- src/line.rt:208:9
 returns-2 : tie.Need-returns-2
 unfolding between
 returns-2 c =
@@ -59,19 +52,15 @@ returns-2 c =
     let s = c .before .skip .ensures ∙ ap skipOf (c .before .before .word-in .ensures) in
     length-long (a .part) (now (a .image)) (a .end) (a .at) b l (c .before .skip .result) s (omega (arith, c .if2 .taken))
 
--- src/line.rt:210:16
 add-last : tie.Need-add-last
 add-last c = search needs
 
--- src/line.rt:211:25
 word-in-requires-2 : tie.Need-word-in-requires-2
 word-in-requires-2 c κs = search needs
 
--- src/line.rt:211:9
 is-ending-requires : tie.Need-is-ending-requires
 is-ending-requires c κs = search needs
 
--- src/line.rt:212:9
 returns-3 : tie.Need-returns-3
 unfolding between
 returns-3 c =
@@ -83,11 +72,9 @@ returns-3 c =
     let f : a .at + c .before .before .before .before .skip .result < length (take (a .end) (wordsOf (now (a .image)))) = omega (arith, l, c .before .before .before .if2 .left) in
     length-unended (a .part) (now (a .image)) (a .end) (a .at) b l (c .before .before .before .before .skip .result) s f _ _ (c .before .before .word-in2 .ensures) (c .before .is-ending .ensures) (not-true _ (c .if3 .taken))
 
--- src/line.rt:214:9
 heads-end-requires : tie.Need-heads-end-requires
 heads-end-requires c κs = search needs
 
--- src/line.rt:216:9
 returns-4 : tie.Need-returns-4
 unfolding between
 returns-4 c =
@@ -99,11 +86,9 @@ returns-4 c =
     let f : a .at + c .before .before .before .before .before .before .skip .result < length (take (a .end) (wordsOf (now (a .image)))) = omega (arith, l, c .before .before .before .before .before .if2 .left) in
     length-headless (a .part) (now (a .image)) (a .end) (a .at) b l (c .before .before .before .before .before .before .skip .result) s f _ _ (c .before .before .before .before .word-in2 .ensures) (c .before .before .before .is-ending .ensures) (not-false _ (c .before .before .if3 .left)) _ (c .before .heads-end .ensures) (c .if4 .taken)
 
--- src/line.rt:218:8
 add-if5 : tie.Need-add-if5
 add-if5 c = search needs
 
--- src/line.rt:219:9
 returns-5 : tie.Need-returns-5
 unfolding between
 returns-5 c =
@@ -115,20 +100,17 @@ returns-5 c =
     let f : a .at + c .before .before .before .before .before .before .before .skip .result < length (take (a .end) (wordsOf (now (a .image)))) = omega (arith, l, c .before .before .before .before .before .before .if2 .left) in
     length-crowded (a .part) (now (a .image)) (a .end) (a .at) b l (c .before .before .before .before .before .before .before .skip .result) s f _ _ (c .before .before .before .before .before .word-in2 .ensures) (c .before .before .before .before .is-ending .ensures) (not-false _ (c .before .before .before .if3 .left)) _ (c .before .before .heads-end .ensures) (c .if5 .taken)
 
--- src/line.rt:221:8
 comparisons-sound-requires : tie.Need-comparisons-sound-requires
 comparisons-sound-requires c κs =
     let a = c .before .before .before .before .before .before .before .before .before .before .before .before .args in
     let k = head-count-limit (a .part) (a .at + c .before .before .before .before .before .before .before .skip .result - a .at) 0 (drop (a .at) (wordsOf (now (a .image)))) in
     let m = c .before .before .heads-end .ensures in
     let q : skipOf (c .before .before .before .before .before .before .before .before .word-in .result) < 32 = omega arith in
-    (omega (arith, k, m), omega (arith, k, m, q, c .before .before .before .before .before .before .before .skip .ensures), omega (arith, c .before .before .before .before .before .before .if2 .left, c .before .before .before .before .before .before .before .before .before .if1 .left, c .before .before .before .before .before .before .before .before .before .before .at-most .ensures))
+    (omega (arith, k, m), (omega (arith, k, m, q, c .before .before .before .before .before .before .before .skip .ensures), omega (arith, c .before .before .before .before .before .before .if2 .left, c .before .before .before .before .before .before .before .before .before .if1 .left, c .before .before .before .before .before .before .before .before .before .before .at-most .ensures)))
 
--- src/line.rt:222:16
 add-result : tie.Need-add-result
 add-result c = search needs
 
--- src/line.rt:222:9
 returns-6 : tie.Need-returns-6
 unfolding between
 returns-6 c =
@@ -140,7 +122,6 @@ returns-6 c =
     let f : a .at + c .before .before .before .before .before .before .before .before .before .skip .result < length (take (a .end) (wordsOf (now (a .image)))) = omega (arith, l, c .before .before .before .before .before .before .before .before .if2 .left) in
     length-found (a .part) (now (a .image)) (a .end) (a .at) b l (c .before .before .before .before .before .before .before .before .before .skip .result) s f _ _ (c .before .before .before .before .before .before .before .word-in2 .ensures) (c .before .before .before .before .before .before .is-ending .ensures) (not-false _ (c .before .before .before .before .before .if3 .left)) _ (c .before .before .before .before .heads-end .ensures) (c .before .before .before .if4 .left) (c .before .before .if5 .left) _ (c .before .comparisons-sound .ensures) (c .if6 .taken)
 
--- src/line.rt:199:1
 returns-7 : tie.Need-returns-7
 unfolding between
 returns-7 c =

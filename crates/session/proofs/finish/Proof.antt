@@ -19,12 +19,12 @@ end-text-requires : tie.Need-end-text-requires
 end-text-requires c κs =
     let s = c .before .before .before .before .before .before .before in
     let k = text-count _ _ _ _ (s .pre .0) (c .before .before .before .before .enum-told .given .1) in
-    (omega (arith, k, s .pre .0 .ordered), s .pre .0 .imageLong, s .pre .0 .outLong, s .pre .1)
+    (omega (arith, k, s .pre .0 .ordered), (s .pre .0 .imageLong, (s .pre .0 .outLong, s .pre .1)))
 
 end-text-requires-2 : tie.Need-end-text-requires-2
 end-text-requires-2 c κs =
     let s = c .before .before .before .before .before .before .before in
-    (text-count _ _ _ _ (s .pre .0) (c .before .before .before .before .enum-told .given .1), s .pre .0 .imageLong, s .pre .0 .outLong, s .pre .1)
+    (text-count _ _ _ _ (s .pre .0) (c .before .before .before .before .enum-told .given .1), (s .pre .0 .imageLong, (s .pre .0 .outLong, s .pre .1)))
 
 enum-told-2 : tie.Need-enum-told-2
 enum-told-2 c = search needs
@@ -34,7 +34,7 @@ end-line-requires c κs =
     let s = c .before .before .before .before .before .before .before .before in
     let g = s .pre .0 in
     let t = c .before .before .before .before .before .enum-told2 .given .1 in
-    (limits _ _ _ _ g t .0, epoch-count _ _ _ _ g t, omega (arith, g .sized, g .imageLong), g .outLong, s .pre .1)
+    (limits _ _ _ _ g t .0, (epoch-count _ _ _ _ g t, (omega (arith, g .sized, g .imageLong), (g .outLong, s .pre .1))))
 
 enum-told-3 : tie.Need-enum-told-3
 enum-told-3 c = search needs

@@ -9,43 +9,33 @@ use Rattle.word.proofs.reversed_in.Reads as reads
 use Rattle.word.proofs.reversed_in.Lts as lts
 use Rattle.word.proofs.reversed4.Reads as reversed4-reads
 
--- src/word.rt:57:14
 mul-at : tie.Need-mul-at
 mul-at c = search needs
 
--- src/word.rt:58:15
 shared-slice-read-reversed4 : tie.Need-shared-slice-read-reversed4
 shared-slice-read-reversed4 c = search needs
 
--- src/word.rt:58:32
 add-reversed4 : tie.Need-add-reversed4
 add-reversed4 c = search needs
 
--- src/word.rt:58:26
 shared-slice-read-reversed4-2 : tie.Need-shared-slice-read-reversed4-2
 shared-slice-read-reversed4-2 c = search needs
 
--- src/word.rt:58:47
 add-reversed4-2 : tie.Need-add-reversed4-2
 add-reversed4-2 c = search needs
 
--- src/word.rt:58:41
 shared-slice-read-reversed4-3 : tie.Need-shared-slice-read-reversed4-3
 shared-slice-read-reversed4-3 c = search needs
 
--- src/word.rt:58:62
 add-reversed4-3 : tie.Need-add-reversed4-3
 add-reversed4-3 c = search needs
 
--- src/word.rt:58:56
 shared-slice-read-reversed4-4 : tie.Need-shared-slice-read-reversed4-4
 shared-slice-read-reversed4-4 c = search needs
 
--- src/word.rt:58:5
 reversed4-requires : tie.Need-reversed4-requires
 reversed4-requires c κs = search needs
 
--- src/word.rt:53:1
 returns : tie.Need-returns
 returns c =
     let a = c .before .before .before .before .before .before .args in

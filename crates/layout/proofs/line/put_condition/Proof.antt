@@ -20,7 +20,7 @@ loop-holds c =
     let a = c .before .args in
     let p = c .before .pre in
     let l : length (a .t3) ≡ 4 = search needs in
-    (l, condition-none (a .t3) (a .count) l (p .0) (a .ending) (now (a .buffer)) (a .index) (a .size) (p .1) (p .2))
+    (l, condition-none (a .t3) (a .count) l (p .0) (a .ending) (now (a .buffer)) (a .index) (a .size) (p .1 .0) (p .1 .1))
 
 mul-comparison : tie.Need-mul-comparison Inv-loop μ-loop
 mul-comparison c = omega (arith, c .before .before .before .pre)

@@ -10,10 +10,10 @@ wrapping-add-u64-requires : tie.Need-wrapping-add-u64-requires
 wrapping-add-u64-requires c κs = search needs
 
 slice-aggregate-decide : tie.Need-slice-aggregate-decide
-slice-aggregate-decide c = sym (length-take-le _ _ (c .before .before .before .before .pre .2))
+slice-aggregate-decide c = sym (length-take-le _ _ (c .before .before .before .before .pre .1 .1 .0))
 
 slice-aggregate-decide-2 : tie.Need-slice-aggregate-decide-2
-slice-aggregate-decide-2 c = sym (length-take-le _ _ (c .before .before .before .before .before .pre .1))
+slice-aggregate-decide-2 c = sym (length-take-le _ _ (c .before .before .before .before .before .pre .1 .0))
 
 decide-requires : tie.Need-decide-requires
 decide-requires c κs = search needs
@@ -36,7 +36,7 @@ returns c =
     let decided = c .before .before .before .before .before .decide in
     let number = c .before .before .before .before .before .before .before .before .wrapping-add-u64 in
     let s = c .before .before .before .before .before .before .before .before .before .before .before in
-    line-ended (s .args .state) _ _ _ _ _ _ _ (s .pre .0) (s .pre .3) (s .pre .4) (number .ensures)
+    line-ended (s .args .state) _ _ _ _ _ _ _ (s .pre .0) (s .pre .1 .1 .1 .0) (s .pre .1 .1 .1 .1) (number .ensures)
     (sym (c .before .before .before .decision .given .1) ∙ decided .ensures) (c .put-refused .ensures)
 
 returns-2 : tie.Need-returns-2
@@ -45,7 +45,7 @@ returns-2 c =
     let decided = c .before .before .before .before .before .decide in
     let number = c .before .before .before .before .before .before .before .before .wrapping-add-u64 in
     let s = c .before .before .before .before .before .before .before .before .before .before .before in
-    line-ended (s .args .state) _ _ _ _ _ _ _ (s .pre .0) (s .pre .3) (s .pre .4) (number .ensures)
+    line-ended (s .args .state) _ _ _ _ _ _ _ (s .pre .0) (s .pre .1 .1 .1 .0) (s .pre .1 .1 .1 .1) (number .ensures)
     (sym (c .before .before .before .decision2 .given .1) ∙ decided .ensures) (c .put-accept .ensures)
 
 pub end-line-spec : {M : Type 1} → statement M
