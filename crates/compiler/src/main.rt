@@ -2,11 +2,13 @@
 // text is `session`'s: this program reads and writes, and prints nothing where the text could not be read to its end.
 ghost use Rattle.io.specs.Counts.{Counts};
 use libc::STDERR_FILENO;
+use session::LISTING_SIZE;
+use session::TEXT_HELD;
 use stream::Input;
 
 // Reads to the end of the input, which is asked for once, so that whoever writes it is not cut off. A text over its length is
 // one byte over it here, however long it is.
-fn read_text(text: &mut [u8; 32769]) -> Input
+fn read_text(text: &mut [u8; TEXT_HELD]) -> Input
     ensures { λ r. ⌜ Counts (r .size) (now (text .exit)) ⌝ }
 {
     let mut chunk = io::large_buffer();
@@ -35,14 +37,14 @@ fn main() {
         );
         return;
     }
-    let mut text = [0u8; 32769];
+    let mut text = [0u8; TEXT_HELD];
     let input = read_text(&mut text);
     if input.failed {
         os::fail(b"compiler: standard input");
         return;
     }
     let size = input.size;
-    let mut out = [0u8; 29394];
+    let mut out = [0u8; LISTING_SIZE];
     let end = session::put_listing(&text[..size], &mut out);
     if !stream::write(&out[..end]) {
         os::fail(b"compiler: standard output");

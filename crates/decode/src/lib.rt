@@ -20,8 +20,10 @@ use operation::relation_code_of;
 use operation::second;
 use operation::skip;
 use policy::Action;
+use policy::COMPARISON_LIMIT;
 use policy::Ending;
 use policy::Event;
+use policy::HEAD_LIMIT;
 use policy::Literal;
 use policy::Test;
 use policy::member;
@@ -29,6 +31,16 @@ use policy::with_member;
 use word::at_most;
 use word::word_at;
 use word::word_in;
+
+// What a word has below its first number, and below its relation: the skip, where all between is 0.
+const BELOW_FIRST: u32 = 0x0040_0000;
+
+const BELOW_RELATION: u32 = 0x2000;
+
+// The readings and relations that there are, of the fields' 64 and 8.
+const READINGS: u32 = 16;
+
+const RELATIONS: u32 = 6;
 
 // The part of an image that a line stands in.
 pub enum Part {
@@ -64,9 +76,7 @@ fn is_ending(part: Part, word: u32) -> bool
     ensures { λ r. ⌜ r ≡ isEnding part word ⌝ }
 {
     match part {
-        Part::Rules => {
-            opcode(word) == Operation::Proposes.opcode() && word % 0x0040_0000 == 0
-        }
+        Part::Rules => { opcode(word) == Operation::Proposes.opcode() && word % BELOW_FIRST == 0 }
         Part::Constraints => word == ending_word(Ending::Never),
     }
 }
@@ -75,7 +85,7 @@ fn is_ending(part: Part, word: u32) -> bool
 fn head_sound(part: Part, seen: u64, word: u32, left: u32) -> bool
     ensures { λ r. ⌜ r ≡ headSound part seen word left ⌝ }
 {
-    if word % 0x0040_0000 != left {
+    if word % BELOW_FIRST != left {
         return false;
     }
     if !is_head(part, opcode(word)) {
@@ -89,16 +99,16 @@ fn head_sound(part: Part, seen: u64, word: u32, left: u32) -> bool
 fn constant_sound(word: u32, left: u32) -> bool
     ensures { λ r. ⌜ r ≡ constantSound word left ⌝ }
 {
-    if first(word) >= 16 {
+    if first(word) >= READINGS {
         return false;
     }
-    if relation_code_of(word) >= 6 {
+    if relation_code_of(word) >= RELATIONS {
         return false;
     }
     if second(word) != 0 {
         return false;
     }
-    if word % 0x2000 + 1 != left {
+    if word % BELOW_RELATION + 1 != left {
         return false;
     }
     1 < left
@@ -108,16 +118,16 @@ fn constant_sound(word: u32, left: u32) -> bool
 fn reading_sound(word: u32, left: u32) -> bool
     ensures { λ r. ⌜ r ≡ readingSound word left ⌝ }
 {
-    if first(word) >= 16 {
+    if first(word) >= READINGS {
         return false;
     }
-    if relation_code_of(word) >= 6 {
+    if relation_code_of(word) >= RELATIONS {
         return false;
     }
-    if second(word) >= 16 {
+    if second(word) >= READINGS {
         return false;
     }
-    word % 0x2000 == left
+    word % BELOW_RELATION == left
 }
 
 // How many words the comparison has that the word begins, with `left` words of the line behind it: 0 where none may stand.
@@ -159,7 +169,7 @@ fn comparisons_sound(image: &[u8], from: usize, last: usize) -> bool
     requires inside { ⌜ last ≤ length (now image) / 4 ⌝ }
     ensures { λ r. ⌜ r ≡ comparisonsFill 4 (last - from) (drop from (wordsOf (now (image .entry)))) ⌝ }
 {
-    let mut room: usize = 4;
+    let mut room = COMPARISON_LIMIT;
     let mut i = from;
     while i < last {
         if room == 0 {
@@ -196,7 +206,7 @@ pub fn line_length(image: &[u8], part: Part, at: usize, end: usize) -> usize
     if middle == at {
         return 0;
     }
-    if at + 8 < middle {
+    if at + HEAD_LIMIT < middle {
         return 0;
     }
     if comparisons_sound(image, middle, last) {

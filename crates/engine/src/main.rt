@@ -5,6 +5,9 @@ ghost use Prim.Native.Nat.{_≤_};
 ghost use lib.ListN.{length};
 ghost use Rattle.session.specs.Owed.{emptied, Reached};
 use libc::STDERR_FILENO;
+use session::HELD_SIZE;
+use session::IMAGE_SIZE;
+use session::OUT_SIZE;
 use session::State;
 
 // The output that waited is written, or could not be.
@@ -32,9 +35,9 @@ fn write_out(state: State, out: &[u8]) -> Written
 fn take_chunk(
     start: State,
     chunk: &[u8],
-    held: &mut [u8; 32773],
-    image: &mut [u8; 13064],
-    out: &mut [u8; 65536],
+    held: &mut [u8; HELD_SIZE],
+    image: &mut [u8; IMAGE_SIZE],
+    out: &mut [u8; OUT_SIZE],
 ) -> Written
     requires { ⌜ Reached start (now held) (now image) (now out) × (start .used ≡ 0) ⌝ }
     ensures { λ r. ⌜ Reached (r .state) (now (held .exit)) (now (image .exit)) (now (out .exit)) × (r .state .used ≡ 0) ⌝ }
@@ -61,7 +64,7 @@ fn input_failed() {
 }
 
 // Reads to the end of the input. What was not read whole is not answered.
-fn read_all(held: &mut [u8; 32773], image: &mut [u8; 13064], out: &mut [u8; 65536])
+fn read_all(held: &mut [u8; HELD_SIZE], image: &mut [u8; IMAGE_SIZE], out: &mut [u8; OUT_SIZE])
     requires { ⌜ (length (now held) ≡ 32773) × (length (now image) ≡ 13064) × (length (now out) ≡ 65536) ⌝ }
 {
     let mut chunk = io::large_buffer();
@@ -96,8 +99,8 @@ fn main() {
         );
         return;
     }
-    let mut held = [0u8; 32773];
-    let mut image = [0u8; 13064];
-    let mut out = [0u8; 65536];
+    let mut held = [0u8; HELD_SIZE];
+    let mut image = [0u8; IMAGE_SIZE];
+    let mut out = [0u8; OUT_SIZE];
     read_all(&mut held, &mut image, &mut out);
 }

@@ -17,6 +17,7 @@ use policy::Event;
 use policy::EventCheck;
 use policy::EventSet;
 use policy::Fault;
+use policy::READING_LIMIT;
 use policy::Reading;
 use policy::ReadingCheck;
 use policy::ReadingSet;
@@ -34,7 +35,7 @@ pub struct EpochRead {
     pub events: EventSet,
     // Which readings the line gives, and the value of each by its number.
     pub given: ReadingSet,
-    pub values: [i32; 16],
+    pub values: [i32; READING_LIMIT],
 }
 
 pub enum ItemAt {
@@ -112,7 +113,7 @@ fn refused(fault: Fault) -> EpochRead
         status: EpochStatus::Refused(fault),
         events: EventSet::EMPTY,
         given: ReadingSet::EMPTY,
-        values: [0; 16],
+        values: [0; READING_LIMIT],
     }
 }
 
@@ -122,7 +123,7 @@ fn finished(
     twice: bool,
     events: EventSet,
     given: ReadingSet,
-    values: [i32; 16],
+    values: [i32; READING_LIMIT],
 ) -> EpochRead
     ensures { λ r. ⌜ r ≡ finishRead (scanned «out_of_range» twice events given values) ⌝ }
 {
@@ -148,7 +149,7 @@ fn read_items(line: &[u8]) -> EpochRead
     let mut twice = false;
     let mut events = EventSet::EMPTY;
     let mut given = ReadingSet::EMPTY;
-    let mut values = [0; 16];
+    let mut values = [0; READING_LIMIT];
     let mut at = 0;
     loop {
         let start = skip_spaces(line, at);
@@ -176,6 +177,7 @@ fn read_items(line: &[u8]) -> EpochRead
     }
 }
 
+// Bytes of an epoch line.
 const EPOCH_LIMIT: usize = 1024;
 
 // An epoch line, without its line end.

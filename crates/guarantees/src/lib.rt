@@ -4,6 +4,7 @@
 ghost use mathlib.Core.Path.{_≡_};
 ghost use Rattle.guarantees.specs.Together.{answerIn, machineAnswer};
 use codegen::Compiled;
+use image::IMAGE_SIZE;
 use monitor::Decision;
 use policy::Refusal;
 
@@ -17,7 +18,7 @@ pub enum Outcome {
 pub fn compile_and_decide(text: &[u8], line: &[u8]) -> Outcome
     ensures { λ r. ⌜ answerIn r ≡ machineAnswer (now (text .entry)) (now (line .entry)) ⌝ }
 {
-    let mut image = [0u8; 13064];
+    let mut image = [0u8; IMAGE_SIZE];
     let compiled = codegen::compile(text, &mut image);
     match compiled {
         Compiled::Refused(refusal) => Outcome::TextRefused(refusal),

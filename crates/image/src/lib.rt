@@ -3,6 +3,7 @@ mod load;
 mod walker;
 
 pub use load::Contents;
+pub use load::IMAGE_SIZE;
 pub use load::Loaded;
 pub use load::load_image;
 pub use walker::Walker;

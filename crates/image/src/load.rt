@@ -13,19 +13,19 @@ use layout::constraint_words_of;
 use layout::form_of;
 use layout::rule_words_of;
 use layout::sum_words;
+use policy::CONSTRAINT_LIMIT;
 use policy::Fault;
+use policy::RULE_LIMIT;
 use policy::Refusal;
 use word::word_at;
 
-const SIZE_LIMIT: usize = 13064;
-
+// Words of each part: so many lines of 17 words, eight heads, four comparisons with constants and the ending.
 const RULE_WORD_LIMIT: usize = 2176;
 
 const CONSTRAINT_WORD_LIMIT: usize = 1088;
 
-const RULE_LIMIT: usize = 128;
-
-const CONSTRAINT_LIMIT: usize = 64;
+// Bytes of the largest image: both parts, word 0 and the check word, of four bytes each.
+pub const IMAGE_SIZE: usize = 13064;
 
 // The lines of a part: how many there are, or the first word at which none fits.
 pub enum PartCheck {
@@ -54,7 +54,7 @@ fn well_sized(size: usize) -> bool
     if size < 8 {
         return false;
     }
-    if SIZE_LIMIT < size {
+    if IMAGE_SIZE < size {
         return false;
     }
     size % 4 == 0

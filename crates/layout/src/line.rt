@@ -12,8 +12,10 @@ use operation::comparison_word;
 use operation::constant_word;
 use operation::ending_word;
 use operation::test_word;
+use policy::COMPARISON_LIMIT;
 use policy::Comparison;
 use policy::Ending;
+use policy::HEAD_LIMIT;
 use policy::Head;
 use policy::Operand;
 use word::at_most;
@@ -51,7 +53,7 @@ fn put_comparison(buffer: &mut [u8], index: usize, comparison: Comparison, skip:
 fn put_condition(
     buffer: &mut [u8],
     index: usize,
-    comparisons: [Comparison; 4],
+    comparisons: [Comparison; COMPARISON_LIMIT],
     count: usize,
     ending: Ending,
     size: usize,
@@ -76,7 +78,7 @@ fn put_condition(
 }
 
 // The words of the first `count` heads of a line of `size` words, for which there is room.
-fn put_heads(buffer: &mut [u8], index: usize, heads: [Head; 8], count: usize, size: usize)
+fn put_heads(buffer: &mut [u8], index: usize, heads: [Head; HEAD_LIMIT], count: usize, size: usize)
     requires few { ⌜ count ≤ 8 ⌝ }
     requires within { ⌜ count ≤ size ⌝ }
     requires short { ⌜ size < 33 ⌝ }
@@ -93,7 +95,7 @@ fn put_heads(buffer: &mut [u8], index: usize, heads: [Head; 8], count: usize, si
 }
 
 // How many words the first `count` comparisons and the ending take.
-fn condition_size(comparisons: [Comparison; 4], count: usize) -> usize
+fn condition_size(comparisons: [Comparison; COMPARISON_LIMIT], count: usize) -> usize
     requires { ⌜ count ≤ 4 ⌝ }
     ensures { λ r. ⌜ r ≡ conditionSize (take count comparisons) ⌝ }
 {
@@ -115,8 +117,8 @@ pub fn put_line(buffer: &mut [u8], index: usize, line: Line) -> usize
     let heads = line.heads;
     let comparisons = line.comparisons;
     let ending = line.ending;
-    let head_count = at_most(line.head_count, 8);
-    let comparison_count = at_most(line.comparison_count, 4);
+    let head_count = at_most(line.head_count, HEAD_LIMIT);
+    let comparison_count = at_most(line.comparison_count, COMPARISON_LIMIT);
     let rest = condition_size(comparisons, comparison_count);
     let size = head_count + rest;
     let room = buffer.len() / 4;

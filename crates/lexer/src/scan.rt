@@ -104,16 +104,21 @@ pub fn never_at(text: &[u8], at: usize) -> KeywordAt
     keyword_at(text, at, b"never")
 }
 
+// A number is clipped past every limit, so that one of any length fits.
+const CLIP: u32 = 3_000_000_000;
+
+const CLIP_TENTH: u32 = 300_000_000;
+
 // One digit more.
 fn shifted(value: u32, digit: u8) -> u32
     requires { ⌜ value ≤ clipLimit ⌝ }
     requires { ⌜ isDigit digit ≡ true ⌝ }
     ensures { λ r. ⌜ r ≡ clip (value * 10 + (digit - 48)) ⌝ }
 {
-    if value < 300_000_000 {
+    if value < CLIP_TENTH {
         value * 10 + (digit - b'0') as u32
     } else {
-        3_000_000_000
+        CLIP
     }
 }
 

@@ -9,8 +9,10 @@ ghost use Rattle.policy.specs.Steps.Seen.{seenIn};
 ghost use Rattle.line_value.specs.Steps.Push.{pushHead, pushComparison, endLine};
 ghost use Rattle.line_value.specs.Value.{lineOf};
 use policy::Action;
+use policy::COMPARISON_LIMIT;
 use policy::Comparison;
 use policy::Ending;
+use policy::HEAD_LIMIT;
 use policy::Head;
 use policy::Operand;
 use policy::Reading;
@@ -22,9 +24,9 @@ use policy::with_member;
 // Up to eight heads and four comparisons. What is past the counts is filler. A count of nine or five says that there
 // were more, which are not held.
 pub struct Line {
-    pub heads: [Head; 8],
+    pub heads: [Head; HEAD_LIMIT],
     pub head_count: usize,
-    pub comparisons: [Comparison; 4],
+    pub comparisons: [Comparison; COMPARISON_LIMIT],
     pub comparison_count: usize,
     pub ending: Ending,
 }
@@ -38,7 +40,7 @@ impl Line {
         let count = self.head_count;
         let mut seen = 0;
         let mut i = 0;
-        while i < 8 {
+        while i < HEAD_LIMIT {
             if count <= i {
                 return false;
             }
@@ -63,7 +65,7 @@ impl Line {
         let count = self.comparison_count;
         let mut constants = 0;
         let mut i = 0;
-        while i < 4 {
+        while i < COMPARISON_LIMIT {
             if count <= i {
                 return constants;
             }
@@ -85,9 +87,9 @@ impl Line {
             operand: Operand::Constant(0),
         };
         Line {
-            heads: [Head(Test::Member(Action(0))); 8],
+            heads: [Head(Test::Member(Action(0))); HEAD_LIMIT],
             head_count: 0,
-            comparisons: [comparison; 4],
+            comparisons: [comparison; COMPARISON_LIMIT],
             comparison_count: 0,
             ending: Ending::Never,
         }
@@ -98,11 +100,11 @@ impl Line {
     {
         let n = self.head_count;
         let mut line = self;
-        if n < 8 {
+        if n < HEAD_LIMIT {
             line.heads[n] = Head(test);
             line.head_count = n + 1;
             line
-        } else if n < 9 {
+        } else if n <= HEAD_LIMIT {
             line.head_count = n + 1;
             line
         } else {
@@ -115,11 +117,11 @@ impl Line {
     {
         let n = self.comparison_count;
         let mut line = self;
-        if n < 4 {
+        if n < COMPARISON_LIMIT {
             line.comparisons[n] = comparison;
             line.comparison_count = n + 1;
             line
-        } else if n < 5 {
+        } else if n <= COMPARISON_LIMIT {
             line.comparison_count = n + 1;
             line
         } else {

@@ -2,6 +2,7 @@
 // comparison holds, and the faults for which an input is refused.
 mod comparison;
 mod fault;
+mod limit;
 mod line;
 mod number;
 mod set;
@@ -12,6 +13,11 @@ pub use comparison::Operand;
 pub use comparison::Relation;
 pub use fault::Fault;
 pub use fault::Refusal;
+pub use limit::COMPARISON_LIMIT;
+pub use limit::CONSTRAINT_LIMIT;
+pub use limit::HEAD_LIMIT;
+pub use limit::READING_LIMIT;
+pub use limit::RULE_LIMIT;
 pub use line::Ending;
 pub use line::Head;
 pub use line::Test;

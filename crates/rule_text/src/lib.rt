@@ -4,11 +4,16 @@ ghost use Rattle.policy.specs.Limits.{ruleLimit};
 ghost use Rattle.rule_text.specs.Answer.{textRead};
 ghost use Rattle.rule_text.specs.Steps.Tally.{Within, Small, Counted, withLine, talliedBy, stepOf};
 use line_value::Line;
+use policy::CONSTRAINT_LIMIT;
 use policy::Ending;
 use policy::Fault;
+use policy::RULE_LIMIT;
 use policy::Refusal;
 use syntax::LineStatus;
 use syntax::read_line;
+
+// Bytes of a text.
+const TEXT_LIMIT: usize = 32768;
 
 // How many lines of a kind a text has, and how many literals or actions, comparisons, and constants among these they have.
 pub struct LineCounts {
@@ -58,7 +63,7 @@ fn tallied(counts: TextCounts, line: Line) -> Tally
     let ending = line.ending;
     match ending {
         Ending::Causes(_) => {
-            if rules.lines < 128 {
+            if rules.lines < RULE_LIMIT {
                 Tally::Go(TextCounts {
                     rules: with_line(rules, line),
                     constraints,
@@ -68,7 +73,7 @@ fn tallied(counts: TextCounts, line: Line) -> Tally
             }
         }
         Ending::Never => {
-            if constraints.lines < 64 {
+            if constraints.lines < CONSTRAINT_LIMIT {
                 Tally::Go(TextCounts {
                     rules,
                     constraints: with_line(constraints, line),
@@ -102,7 +107,7 @@ const NO_LINES: LineCounts = LineCounts {
 pub fn read_text(text: &[u8]) -> TextRead
     ensures { λ r. ⌜ r ≡ textRead (now (text .entry)) ⌝ }
 {
-    if 32_768 < text.len() {
+    if TEXT_LIMIT < text.len() {
         return TextRead::Refused(Fault::TooLong.at(0));
     }
     let mut counts = TextCounts {

@@ -6,12 +6,16 @@ ghost use lib.ListN.{length};
 ghost use Rattle.session.specs.Owed.{Good, Room, Took};
 ghost use Rattle.session.specs.Steps.Ended.{LineEnded};
 ghost use Rattle.session.specs.declared.state.Phase.{Phase};
+use crate::state::HELD_SIZE;
+use crate::state::LINE_HELD;
+use crate::state::OUT_SIZE;
 use crate::state::State;
 use crate::state::push;
+use image::IMAGE_SIZE;
 use monitor::Decision;
 
 // The epoch line is complete.
-pub(crate) fn end_line(state: State, held: &[u8], image: &[u8], out: &mut [u8; 65536]) -> State
+pub(crate) fn end_line(state: State, held: &[u8], image: &[u8], out: &mut [u8; OUT_SIZE]) -> State
     requires start { ⌜ state .start ≡ 0 ⌝ }
     requires inside { ⌜ state .count ≤ length (now held) ⌝ }
     requires loaded { ⌜ state .size ≤ length (now image) ⌝ }
@@ -48,9 +52,9 @@ pub(crate) fn end_line(state: State, held: &[u8], image: &[u8], out: &mut [u8; 6
 pub(crate) fn line_byte(
     state: State,
     byte: u8,
-    held: &mut [u8; 32773],
-    image: &mut [u8; 13064],
-    out: &mut [u8; 65536],
+    held: &mut [u8; HELD_SIZE],
+    image: &mut [u8; IMAGE_SIZE],
+    out: &mut [u8; OUT_SIZE],
 ) -> State
     requires good { ⌜ Good state (now held) (now image) (now out) ⌝ }
     requires room { ⌜ Room state ⌝ }
@@ -60,5 +64,5 @@ pub(crate) fn line_byte(
     if byte == b'\n' {
         return end_line(state, held, image, out);
     }
-    push(state, byte, 1025, held)
+    push(state, byte, LINE_HELD, held)
 }

@@ -11,9 +11,15 @@ ghost use mathlib.Core.Path.{_≡_};
 ghost use Rattle.session.specs.Owed.{startState, emptied, Good, Room, Took, Fed, Finished};
 use epoch::end_line;
 use epoch::line_byte;
+pub use image::IMAGE_SIZE;
+pub use listing::LISTING_SIZE;
 pub use listing::put_listing;
+pub use state::HELD_SIZE;
+pub use state::OUT_SIZE;
 pub use state::Phase;
+use state::ROOM_LIMIT;
 pub use state::State;
+pub use state::TEXT_HELD;
 use text::at_run;
 use text::end_text;
 use text::text_byte;
@@ -44,9 +50,9 @@ pub fn flushed(state: State) -> State
 fn step(
     state: State,
     byte: u8,
-    held: &mut [u8; 32773],
-    image: &mut [u8; 13064],
-    out: &mut [u8; 65536],
+    held: &mut [u8; HELD_SIZE],
+    image: &mut [u8; IMAGE_SIZE],
+    out: &mut [u8; OUT_SIZE],
 ) -> State
     requires good { ⌜ Good state (now held) (now image) (now out) ⌝ }
     requires room { ⌜ Room state ⌝ }
@@ -70,9 +76,9 @@ pub struct Taken {
 pub fn feed(
     start: State,
     chunk: &[u8],
-    held: &mut [u8; 32773],
-    image: &mut [u8; 13064],
-    out: &mut [u8; 65536],
+    held: &mut [u8; HELD_SIZE],
+    image: &mut [u8; IMAGE_SIZE],
+    out: &mut [u8; OUT_SIZE],
 ) -> Taken
     requires { ⌜ Good start (now held) (now image) (now out) ⌝ }
     ensures { λ r. ⌜ Fed start (now (held .entry)) (now (image .entry)) (now (out .entry)) (now (chunk .entry)) (r .taken) (r .state) (now (held .exit)) (now (image .exit)) (now (out .exit)) ⌝ }
@@ -80,7 +86,7 @@ pub fn feed(
     let mut state = start;
     let mut i = 0;
     while i < chunk.len() {
-        if 65024 < state.used {
+        if ROOM_LIMIT < state.used {
             return Taken { state, taken: i };
         }
         state = step(state, chunk[i], held, image, out);
@@ -90,7 +96,12 @@ pub fn feed(
 }
 
 // The input has ended.
-pub fn finish(state: State, held: &[u8], image: &mut [u8; 13064], out: &mut [u8; 65536]) -> State
+pub fn finish(
+    state: State,
+    held: &[u8],
+    image: &mut [u8; IMAGE_SIZE],
+    out: &mut [u8; OUT_SIZE],
+) -> State
     requires good { ⌜ Good state (now held) (now image) (now out) ⌝ }
     requires room { ⌜ Room state ⌝ }
     ensures { λ r. ⌜ Finished state (now (held .entry)) (now (image .entry)) (now (out .entry)) r (now (out .exit)) ⌝ }

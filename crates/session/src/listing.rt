@@ -5,6 +5,7 @@ ghost use Rattle.word.specs.Word.{wordsOf};
 ghost use Rattle.output.specs.Buffer.{appended, behind};
 ghost use Rattle.session.specs.Listed.{wordLines, listed};
 use codegen::Compiled;
+use image::IMAGE_SIZE;
 
 // The words of an image, each a line.
 fn put_image(image: &[u8], out: &mut [u8]) -> usize
@@ -20,13 +21,16 @@ fn put_image(image: &[u8], out: &mut [u8]) -> usize
     end
 }
 
-// What the compiler prints for a text. The largest image has 3,266 words, a line of nine bytes each.
+// The longest listing: the largest image has 3,266 words, a line of nine bytes each.
+pub const LISTING_SIZE: usize = 29394;
+
+// What the compiler prints for a text.
 pub fn put_listing(text: &[u8], out: &mut [u8]) -> usize
     ensures { λ r. ⌜ Counts r (now (out .exit)) ⌝ }
     ensures answer { λ r. ⌜ r ≡ behind (now (out .entry)) 0 (listed (now (text .entry))) ⌝ }
     ensures buffer { λ _. ⌜ now (out .exit) ≡ appended (now (out .entry)) 0 (listed (now (text .entry))) ⌝ }
 {
-    let mut image = [0u8; 13064];
+    let mut image = [0u8; IMAGE_SIZE];
     let compiled = codegen::compile(text, &mut image);
     match compiled {
         Compiled::Refused(refusal) => report::put_refusal(out, 0, refusal),

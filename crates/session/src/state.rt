@@ -4,6 +4,20 @@ ghost use Prim.Native.Nat.{_≤_};
 ghost use lib.ListN.{length};
 ghost use Rattle.session.specs.Steps.Held.{Pushed};
 
+// The bytes of the text or of an epoch line. Of a text one byte is held over its limit, which tells that it is too long, and behind it
+// four bytes of a line, which tell whether it is `run`.
+pub const HELD_SIZE: usize = 32773;
+
+pub const TEXT_HELD: usize = 32769;
+
+// An epoch line of the full length and one byte more, which tells that it is too long.
+pub(crate) const LINE_HELD: usize = 1025;
+
+// Output that waits. Up to this many bytes of it, there is room for any line.
+pub const OUT_SIZE: usize = 65536;
+
+pub(crate) const ROOM_LIMIT: usize = 65024;
+
 // What is being read: the text, epoch lines, or, once the text is refused, nothing that counts.
 pub enum Phase {
     Text,
@@ -23,7 +37,7 @@ pub struct State {
 }
 
 // One byte more is held, up to a limit.
-pub(crate) fn push(state: State, byte: u8, limit: usize, held: &mut [u8; 32773]) -> State
+pub(crate) fn push(state: State, byte: u8, limit: usize, held: &mut [u8; HELD_SIZE]) -> State
     requires few { ⌜ limit ≤ 32773 ⌝ }
     requires sized { ⌜ length (now held) ≡ 32773 ⌝ }
     ensures { λ r. ⌜ Pushed limit state byte (now (held .entry)) r (now (held .exit)) ⌝ }

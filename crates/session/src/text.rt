@@ -8,10 +8,14 @@ ghost use Rattle.session.specs.Owed.{current, Good, Room, Took};
 ghost use Rattle.session.specs.Steps.Held.{lineBehind};
 ghost use Rattle.session.specs.Steps.Ended.{TextEnded};
 ghost use Rattle.session.specs.declared.state.Phase.{Phase};
-use codegen::Compiled;
+use crate::state::HELD_SIZE;
+use crate::state::OUT_SIZE;
 use crate::state::Phase;
 use crate::state::State;
+use crate::state::TEXT_HELD;
 use crate::state::push;
+use codegen::Compiled;
+use image::IMAGE_SIZE;
 
 fn is_run(line: &[u8]) -> bool
     ensures { λ r. ⌜ r ≡ is "run" (now (line .entry)) ⌝ }
@@ -44,8 +48,8 @@ pub(crate) fn end_text(
     state: State,
     end: usize,
     held: &[u8],
-    image: &mut [u8; 13064],
-    out: &mut [u8; 65536],
+    image: &mut [u8; IMAGE_SIZE],
+    out: &mut [u8; OUT_SIZE],
 ) -> State
     requires inside { ⌜ end ≤ length (now held) ⌝ }
     requires image_sized { ⌜ length (now image) ≡ 13064 ⌝ }
@@ -80,8 +84,8 @@ fn line_behind(state: State) -> State
     ensures { λ r. ⌜ r ≡ lineBehind state ⌝ }
 {
     let mut next = state;
-    if 32769 < next.count {
-        next.count = 32769;
+    if TEXT_HELD < next.count {
+        next.count = TEXT_HELD;
     }
     next.start = next.count;
     next
@@ -92,9 +96,9 @@ fn line_behind(state: State) -> State
 pub(crate) fn text_byte(
     state: State,
     byte: u8,
-    held: &mut [u8; 32773],
-    image: &mut [u8; 13064],
-    out: &mut [u8; 65536],
+    held: &mut [u8; HELD_SIZE],
+    image: &mut [u8; IMAGE_SIZE],
+    out: &mut [u8; OUT_SIZE],
 ) -> State
     requires good { ⌜ Good state (now held) (now image) (now out) ⌝ }
     requires room { ⌜ Room state ⌝ }
@@ -105,7 +109,7 @@ pub(crate) fn text_byte(
         if at_run(state, held) {
             return end_text(state, state.start, held, image, out);
         }
-        return line_behind(push(state, byte, 32769, held));
+        return line_behind(push(state, byte, TEXT_HELD, held));
     }
-    push(state, byte, 32773, held)
+    push(state, byte, HELD_SIZE, held)
 }

@@ -27,9 +27,11 @@ use lexer::skip_spaces;
 use line_value::Line;
 use policy::Action;
 use policy::ActionCheck;
+use policy::COMPARISON_LIMIT;
 use policy::Comparison;
 use policy::Ending;
 use policy::Fault;
+use policy::HEAD_LIMIT;
 use policy::Head;
 use token::ComparisonAt;
 use token::HeadAt;
@@ -49,7 +51,7 @@ pub struct ParsedLine {
 pub struct Heads {
     pub ok: bool,
     pub in_range: bool,
-    pub heads: [Head; 8],
+    pub heads: [Head; HEAD_LIMIT],
     pub count: usize,
     pub at: usize,
 }
@@ -58,7 +60,7 @@ pub struct Heads {
 pub struct Condition {
     pub ok: bool,
     pub in_range: bool,
-    pub comparisons: [Comparison; 4],
+    pub comparisons: [Comparison; COMPARISON_LIMIT],
     pub count: usize,
     pub at: usize,
 }
@@ -103,10 +105,10 @@ fn read_heads(text: &[u8], from: usize, never: bool) -> Heads
                 at,
             };
         };
-        if count < 8 {
+        if count < HEAD_LIMIT {
             heads[count] = Head(test);
         }
-        count = one_more(count, 8);
+        count = one_more(count, HEAD_LIMIT);
         in_range = in_range && ok;
         let next = skip_spaces(text, end);
         let KeywordAt::Found(behind) = ampersand_at(text, next) else {
@@ -152,10 +154,10 @@ fn read_comparisons(text: &[u8], from: usize) -> Condition
         let ComparisonAt::Comparison(comparison, ok, end) = comparison_at(text, start) else {
             return no_comparisons(false, 0);
         };
-        if count < 4 {
+        if count < COMPARISON_LIMIT {
             comparisons[count] = comparison;
         }
-        count = one_more(count, 4);
+        count = one_more(count, COMPARISON_LIMIT);
         in_range = in_range && ok;
         let next = skip_spaces(text, end);
         if at_token_end(text, next) {
@@ -294,10 +296,10 @@ pub struct LineRead {
 fn judged_line(line: Line) -> LineStatus
     ensures { λ r. ⌜ r ≡ lineStatus line ⌝ }
 {
-    if 8 < line.head_count {
+    if HEAD_LIMIT < line.head_count {
         return LineStatus::Refused(Fault::TooManyParts);
     }
-    if 4 < line.comparison_count {
+    if COMPARISON_LIMIT < line.comparison_count {
         return LineStatus::Refused(Fault::TooManyParts);
     }
     if line.has_repeats() {

@@ -24,6 +24,11 @@ use policy::ReadingCheck;
 use policy::Relation;
 use policy::Test;
 
+// The largest constant, and the smallest without its sign.
+const LARGEST: u32 = 2_147_483_647;
+
+const SMALLEST: u32 = 2_147_483_648;
+
 pub enum ConstantAt {
     // The constant, and the position behind it.
     Value(i32, usize),
@@ -36,7 +41,7 @@ fn positive(number: NumberAt) -> ConstantAt
 {
     match number {
         NumberAt::Number(value, end) => {
-            if value <= 2_147_483_647 {
+            if value <= LARGEST {
                 ConstantAt::Value(value as i32, end)
             } else {
                 ConstantAt::OutOfRange(end)
@@ -55,7 +60,7 @@ fn negative(number: NumberAt) -> ConstantAt
             if value == 0 {
                 return ConstantAt::Malformed;
             }
-            if value <= 2_147_483_648 {
+            if value <= SMALLEST {
                 ConstantAt::Value(-1 - ((value - 1) as i32), end)
             } else {
                 ConstantAt::OutOfRange(end)

@@ -23,11 +23,11 @@ returns c = simp (lt-ltb _ 4 (c .if1 .taken), lt-ltb (c .before .args .self .«c
 
 returns-2 : tie.Need-returns-2
 unfolding pushComparison
-returns-2 c = simp (le-ltb _ _ (c .before .if1 .left), lt-ltb _ _ (c .if2 .taken))
+returns-2 c = simp (le-ltb _ _ (c .before .if1 .left), lt-ltb (c .before .before .args .self .«comparison_count») 5 (omega arith))
 
 returns-3 : tie.Need-returns-3
 unfolding pushComparison
-returns-3 c = simp (le-ltb _ _ (c .before .if1 .left), le-ltb _ _ (c .if2 .left))
+returns-3 c = simp (le-ltb _ _ (c .before .if1 .left), le-ltb (c .before .before .args .self .«comparison_count») 5 (omega arith))
 
 pub with-comparison-spec : {M : Type 1} → statement M
 with-comparison-spec =

@@ -23,11 +23,11 @@ returns c = simp (lt-ltb _ 8 (c .if1 .taken), lt-ltb (c .before .args .self .«h
 
 returns-2 : tie.Need-returns-2
 unfolding pushHead
-returns-2 c = simp (le-ltb _ _ (c .before .if1 .left), lt-ltb _ _ (c .if2 .taken))
+returns-2 c = simp (le-ltb _ _ (c .before .if1 .left), lt-ltb (c .before .before .args .self .«head_count») 9 (omega arith))
 
 returns-3 : tie.Need-returns-3
 unfolding pushHead
-returns-3 c = simp (le-ltb _ _ (c .before .if1 .left), le-ltb _ _ (c .if2 .left))
+returns-3 c = simp (le-ltb _ _ (c .before .if1 .left), le-ltb (c .before .before .args .self .«head_count») 9 (omega arith))
 
 pub with-head-spec : {M : Type 1} → statement M
 with-head-spec =
