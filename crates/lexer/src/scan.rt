@@ -104,9 +104,10 @@ pub fn never_at(text: &[u8], at: usize) -> KeywordAt
     keyword_at(text, at, b"never")
 }
 
-// A number is clipped past every limit, so that one of any length fits.
+// What a number past every limit is clipped to, so that one of any length fits.
 const CLIP: u32 = 3_000_000_000;
 
+// From here on one digit more makes a number that is clipped.
 const CLIP_TENTH: u32 = 300_000_000;
 
 // One digit more.

@@ -4,18 +4,19 @@ ghost use Prim.Native.Nat.{_≤_};
 ghost use lib.ListN.{length};
 ghost use Rattle.session.specs.Steps.Held.{Pushed};
 
-// The bytes of the text or of an epoch line. Of a text one byte is held over its limit, which tells that it is too long, and behind it
-// four bytes of a line, which tell whether it is `run`.
-pub const HELD_SIZE: usize = 32773;
-
+// Bytes of a text that are held: one over its limit, which tells that it is too long.
 pub const TEXT_HELD: usize = 32769;
 
-// An epoch line of the full length and one byte more, which tells that it is too long.
+// The same and, behind it, four bytes of a line, which tell whether it is `run`.
+pub const HELD_SIZE: usize = 32773;
+
+// Bytes of an epoch line that are held: one over its limit, which tells that it is too long.
 pub(crate) const LINE_HELD: usize = 1025;
 
-// Output that waits. Up to this many bytes of it, there is room for any line.
+// Bytes of output that may wait.
 pub const OUT_SIZE: usize = 65536;
 
+// Up to so many bytes of output there is room for any line behind them.
 pub(crate) const ROOM_LIMIT: usize = 65024;
 
 // What is being read: the text, epoch lines, or, once the text is refused, nothing that counts.

@@ -24,9 +24,10 @@ use policy::ReadingCheck;
 use policy::Relation;
 use policy::Test;
 
-// The largest constant, and the smallest without its sign.
+// The largest constant.
 const LARGEST: u32 = 2_147_483_647;
 
+// The smallest constant, without its sign.
 const SMALLEST: u32 = 2_147_483_648;
 
 pub enum ConstantAt {

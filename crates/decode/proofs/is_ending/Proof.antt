@@ -23,7 +23,7 @@ opcode-requires-2 c κs = search needs
 returns : tie.Need-returns
 unfolding isEnding
 returns c =
-    rw (c .before .before .before .enum-told .given .1, eq-eqb (opcodeOf (c .before .before .before .before .before .args .word)) (opcode Operation.Proposes) (sym (c .before .before .opcode .ensures) ∙ c .if1 .taken ∙ c .before .opcode2 .ensures))
+    rw (c .before .before .before .enum-told .given .1, ne-eqb (opcodeOf (c .before .before .before .before .before .args .word)) (opcode Operation.Proposes) (λ q. c .if1 .taken (c .before .before .opcode .ensures ∙ q ∙ sym (c .before .opcode2 .ensures))))
 
 enum-told-2 : tie.Need-enum-told-2
 enum-told-2 c = search needs
@@ -34,7 +34,7 @@ ending-word-requires c κs = search needs
 returns-2 : tie.Need-returns-2
 unfolding isEnding
 returns-2 c =
-    rw (c .before .before .before .enum-told .given .1, ne-eqb (opcodeOf (c .before .before .before .before .before .args .word)) (opcode Operation.Proposes) (λ q. c .if1 .left (c .before .before .opcode .ensures ∙ q ∙ sym (c .before .opcode2 .ensures))), ne-eqb (c .before .before .opcode .result) (c .before .opcode2 .result) (c .if1 .left))
+    rw (c .before .before .before .enum-told .given .1, eq-eqb (opcodeOf (c .before .before .before .before .before .args .word)) (opcode Operation.Proposes) (sym (c .before .before .opcode .ensures) ∙ c .if1 .left ∙ c .before .opcode2 .ensures))
 
 returns-3 : tie.Need-returns-3
 unfolding isEnding
@@ -47,8 +47,8 @@ is-ending-spec =
     enum-told
     opcode-requires
     opcode-requires-2
+    returns
     enum-told-2
     ending-word-requires
-    returns
     returns-2
     returns-3)
