@@ -1,4 +1,4 @@
--- What a reader must believe of this layer, in the order in which to read it. `Steps` needs not be read.
+-- What a reader must believe of this layer, in the order in which to read it. `Steps` need not be read.
 pub mod Number
 pub mod Set
 pub mod Epoch
