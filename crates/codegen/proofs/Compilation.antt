@@ -11,6 +11,8 @@ use lib.Dec.{leb}
 use lib.ListN.{length, take, drop}
 use lib.Seq.{take-append-seam, drop-append-seam}
 use Rattle.policy.proofs.ListLaws.{and-out}
+use Rattle.policy.proofs.FillLaws.{Delivered, fill-delivered, fill-unchanged}
+use Rattle.policy.specs.Fill.{Filled, deliver}
 use Rattle.policy.specs.Fault.{refusal}
 use Rattle.policy.specs.Policy.{Policy}
 use Rattle.policy.specs.declared.fault.Fault.{Fault}
@@ -23,27 +25,26 @@ use Rattle.image.specs.Held.{policyIn}
 use Rattle.acceptance.proofs.Accepted.{accepted-acceptable}
 use Rattle.rule_text.specs.Text.{Progress, reading, stopped, readText, policyOf}
 use Rattle.codegen.proofs.AcceptedLaws.{newest-known}
-use Rattle.codegen.specs.Compile.{newestForm, Output, refuse, outputOf, compiled, refusalIn}
+use Rattle.codegen.specs.Compile.{newestForm, outputOf, compiled, refusalIn, sizeOf}
 use Rattle.codegen.specs.Written.{writtenIn, Written}
 use Rattle.codegen.specs.declared.Compiled.{Compiled}
 
 module _ (text buffer : List ℕ) where
-  written-by : (n : ℕ) (p : Policy) → readText text ≡ reading n p → length (imageOf newestForm p) ≤ length buffer → Written text buffer (length (imageOf newestForm p))
-  unfolding compiled outputOf policyOf wellSized
-  written-by n p r room =
+  written-by : (n : ℕ) (p : Policy) (size : ℕ) → readText text ≡ reading n p → Delivered (imageOf newestForm p) buffer (compiled text buffer .buffer) size → Written text buffer size
+  unfolding policyOf wellSized
+  written-by n p size r d =
       let ok = accepted-acceptable text n p r in
       let bytes : List ℕ = imageOf newestForm p in
-      let e : compiled text buffer .buffer ≡ bytes ++ drop (length bytes) buffer = rw (r, le-leb (length bytes) (length buffer) room) in
-      let w : writtenIn (length bytes) text buffer ≡ bytes = ap (take (length bytes)) e ∙ take-append-seam bytes (drop (length bytes) buffer) in
+      let w : writtenIn size text buffer ≡ bytes = d .front in
       let sized = and-out (leb 8 (length bytes)) (leb (length bytes) sizeLimit) (and-out _ _ (image-size newestForm newest-known p ok) .0) in
       record {
         policy = p;
         read = rw r;
         acceptable = ok;
         image = w;
-        long = ap length w;
-        behind = ap (drop (length bytes)) e ∙ drop-append-seam bytes (drop (length bytes) buffer);
-        largest = leb-true (length bytes) sizeLimit (sized .1);
+        long = ap length w ∙ d .long;
+        behind = d .behind;
+        largest = omega (arith, d .long, leb-true (length bytes) sizeLimit (sized .1));
         taken = ap load w ∙ image-taken newestForm newest-known p ok;
         holds = ap policyIn w ∙ image-holds newestForm newest-known p ok;
         again = ap (λ (b : List ℕ). imageOf newestForm (policyIn b)) w ∙ ap (imageOf newestForm) (image-holds newestForm newest-known p ok) ∙ sym w;
@@ -54,17 +55,8 @@ module _ (text buffer : List ℕ) where
   unfolding compiled outputOf
   image-written size e = go (readText text) refl e
     where
-      room : (n : ℕ) (p : Policy) (b : Bool) → readText text ≡ reading n p → leb (length (imageOf newestForm p)) (length buffer) ≡ b → outputOf (reading n p) buffer .answer ≡ Compiled.Image size → Written text buffer size
-      room n p true r h k =
-          let s : Compiled.Image (length (imageOf newestForm p)) ≡ Compiled.Image size = sym (rw h) ∙ k in
-          let m : length (imageOf newestForm p) ≡ size = cc in
-          rw (← m) (written-by n p r (leb-true (length (imageOf newestForm p)) (length buffer) h))
-      room n p false r h k =
-          let s : Compiled.Refused (refusal Fault.BufferTooSmall 0) ≡ Compiled.Image size = sym (rw h) ∙ k in
-          let w : _≡_ {A = ℕ} 0 1 = cc in absurd (omega arith)
-
       go : (s : Progress) → readText text ≡ s → outputOf s buffer .answer ≡ Compiled.Image size → Written text buffer size
-      go (reading n p) r k = room n p (leb (length (imageOf newestForm p)) (length buffer)) r refl k
+      go (reading n p) r k = written-by n p size r (rw r (fill-delivered Compiled.Refused Compiled.Image refusalIn sizeOf (λ x. refl) (λ m. refl) (λ m. refl) (imageOf newestForm p) buffer size k))
       go (stopped x) r k = let w : _≡_ {A = ℕ} 0 1 = cc in absurd (omega arith)
 
   -- ---- when it is refused, and that a refusal changes no byte of the buffer
@@ -80,23 +72,20 @@ module _ (text buffer : List ℕ) where
     unfolding compiled outputOf
     room-refused h = rw (r, lt-leb (length (imageOf newestForm p)) (length buffer) h)
 
-    -- every other text is accepted
-    pub text-compiled : length (imageOf newestForm p) ≤ length buffer → compiled text buffer .answer ≡ Compiled.Image (length (imageOf newestForm p))
+    -- every other text is accepted, and its image delivered
+    pub text-delivered : length (imageOf newestForm p) ≤ length buffer → compiled text buffer ≡ deliver Compiled.Refused Compiled.Image (imageOf newestForm p) buffer
     unfolding compiled outputOf
-    text-compiled h = rw (r, le-leb (length (imageOf newestForm p)) (length buffer) h)
+    text-delivered h = rw (r, le-leb (length (imageOf newestForm p)) (length buffer) h)
+
+    pub text-compiled : length (imageOf newestForm p) ≤ length buffer → compiled text buffer .answer ≡ Compiled.Image (length (imageOf newestForm p))
+    text-compiled h = ap (λ (o : Filled Compiled). o .answer) (text-delivered h)
 
   pub refused-unchanged : (r : Refusal) → refusalIn (compiled text buffer .answer) ≡ some r → compiled text buffer .buffer ≡ buffer
   unfolding compiled outputOf
   refused-unchanged r e = go (readText text) e
     where
-      delivered : (b : Bool) (full : Output) (size : ℕ) → full .answer ≡ Compiled.Image size → refusalIn (cond b full (refuse (refusal Fault.BufferTooSmall 0) buffer) .answer) ≡ some r → cond b full (refuse (refusal Fault.BufferTooSmall 0) buffer) .buffer ≡ buffer
-      delivered true full size q k =
-          let none-some : refusalIn (Compiled.Image size) ≡ some r = ap refusalIn (sym q) ∙ k in
-          let w : _≡_ {A = ℕ} 0 1 = cc in absurd (omega arith)
-      delivered false full size q k = refl
-
       go : (s : Progress) → refusalIn (outputOf s buffer .answer) ≡ some r → outputOf s buffer .buffer ≡ buffer
-      go (reading n p) k = delivered (leb (length (imageOf newestForm p)) (length buffer)) _ (length (imageOf newestForm p)) refl k
+      go (reading n p) k = fill-unchanged Compiled.Refused Compiled.Image refusalIn sizeOf (λ x. refl) (λ m. refl) (λ m. refl) (imageOf newestForm p) buffer r k
       go (stopped x) k = refl
 
 -- ---- what an image keeps of a text: its rules in their order and its constraints in theirs, and nothing else

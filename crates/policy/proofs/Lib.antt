@@ -1,4 +1,5 @@
 pub mod FaultLaws
+pub mod FillLaws
 pub mod FlagLaws
 pub mod ListLaws
 pub mod RelationLaws

@@ -8,4 +8,5 @@ pub mod Line
 pub mod List
 pub mod Limits
 pub mod Fault
+pub mod Fill
 pub mod Steps

@@ -31,7 +31,7 @@ pub enum Fault {
     EpochRange,
     // An epoch line gives a reading twice (twice).
     DuplicateReading,
-    // The buffer lent for an image has too few bytes (room).
+    // The buffer lent for an image, or for the text of one, has too few bytes (room).
     BufferTooSmall,
 }
 
