@@ -30,7 +30,7 @@ below-take k n xs z h i = go (ltb i (length (take n xs))) refl
     go true q = let l = ltb-true i (length (take n xs)) q in rw (getD-take n xs i 0 (omega (arith, length-take n xs))) (h i)
     go false q = rw (List·getD-eq-default (take n xs) 0 {n = i} (ltb-false i (length (take n xs)) q)) z
 
-word-here : (words : List ℕ) (i : ℕ) → getD (drop i words) 0 0 ≡ getD words i 0
+pub word-here : (words : List ℕ) (i : ℕ) → getD (drop i words) 0 0 ≡ getD words i 0
 word-here words i = getD-drop i words 0 0 ∙ ap (λ (k : ℕ). getD words k 0) (add-zero i)
 
 -- ---- the first n words decide

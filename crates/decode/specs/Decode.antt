@@ -1,5 +1,5 @@
 -- The line that words of an image begin with.
-use Prim.Native.Nat.{ℕ, _+_}
+use Prim.Native.Nat.{ℕ}
 use mathlib.Core.Bool.{Bool, true, false, cond, _&&_}
 use mathlib.Core.List.{List, [], _∷_, _++_}
 use mathlib.Core.Option.{Option, none, some}
@@ -8,16 +8,13 @@ use lib.Dec.{eqb}
 use lib.ListN.{length, drop}
 use Rattle.policy.specs.Limits.{valid}
 use Rattle.policy.specs.Line.{PolicyLine, rule, constraint}
-use Rattle.line_value.specs.Value.{lineOf, lineValue}
 use Rattle.policy.specs.declared.comparison.Comparison.{Comparison}
 use Rattle.policy.specs.declared.comparison.Literal.{Literal}
-use Rattle.policy.specs.declared.line.Ending.{Ending}
 use Rattle.policy.specs.declared.number.Action.{Action}
 use Rattle.operation.specs.Parts.{eventFrom, actionFrom, constantComparison, readingComparison}
 use Rattle.operation.specs.Fields.{operationOf}
 use Rattle.operation.specs.declared.operation.Operation.{Operation}
 use Rattle.layout.specs.Layout.{lineWords}
-use Rattle.decode.specs.declared.LineAt.{LineAt}
 use Rattle.decode.specs.declared.Part.{Part}
 
 -- one part more in front: a literal before a rule, an action before a constraint, a comparison before either
@@ -87,10 +84,3 @@ pub record Stands (part : Part) (ws : List ℕ) (l : PolicyLine) : Type 0 where
 unfoldable pub lineLength : Option PolicyLine → ℕ
 lineLength none = 0
 lineLength (some l) = length (lineWords l)
-
--- ---- one line by its value
-
--- a line's value and where the next line starts; where there is none, a line with no part, and the same index
-unfoldable pub lineAnswer : ℕ → Option PolicyLine → LineAt
-lineAnswer at none = record { line = lineOf [] [] Ending.Never; next = at }
-lineAnswer at (some l) = record { line = lineValue l; next = at + length (lineWords l) }

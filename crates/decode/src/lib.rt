@@ -1,13 +1,12 @@
 // The lines of an image: whether a whole line that an accepted text may have stands at a word, and its value.
 ghost use mathlib.Core.Path.{_≡_};
-ghost use mathlib.Core.Bool.{false};
 ghost use mathlib.Core.List.{[]};
 ghost use Prim.Native.Nat.{_+_, _-_, _/_, _<_, _≤_};
 ghost use lib.ListN.{length, drop};
 ghost use Rattle.line_value.specs.Value.{lineOf};
 ghost use Rattle.word.specs.Word.{wordsOf, between};
-ghost use Rattle.decode.specs.Decode.{lineAt, lineLength, lineAnswer};
-ghost use Rattle.decode.specs.Steps.Scan.{isHead, isEnding, headOpcodes, headSound, headCount, constantSound, readingSound, comparisonLength, comparisonsFill, valueFrom};
+ghost use Rattle.decode.specs.Decode.{lineAt, lineLength};
+ghost use Rattle.decode.specs.Steps.Scan.{isHead, isEnding, headOpcodes, headSound, headCount, constantSound, readingSound, comparisonLength, comparisonsFill, partAt, valueFrom, lineAnswer};
 ghost use Rattle.operation.specs.Operation.{operationFrom};
 use line_value::Line;
 use operation::Operation;
@@ -21,9 +20,11 @@ use operation::second;
 use operation::skip;
 use policy::Action;
 use policy::COMPARISON_LIMIT;
+use policy::Comparison;
 use policy::Ending;
 use policy::Event;
 use policy::HEAD_LIMIT;
+use policy::Head;
 use policy::Literal;
 use policy::Test;
 use policy::member;
@@ -217,66 +218,100 @@ pub fn line_length(image: &[u8], part: Part, at: usize, end: usize) -> usize
     0
 }
 
-// The value of the line whose words stand from `start` up to `end`.
-fn read_line(image: &[u8], start: usize, end: usize) -> Line
-    requires ordered { ⌜ start ≤ end ⌝ }
-    requires inside { ⌜ end ≤ length (now image) / 4 ⌝ }
-    ensures { λ r. ⌜ r ≡ valueFrom (lineOf [] [] Ending.Never) (end - start) false (drop start (wordsOf (now (image .entry)))) ⌝ }
-{
-    let mut line = Line::new();
-    let mut at = start;
-    while at < end {
-        let word = word_at(image, at);
-        let number = first(word) as u8;
-        at += 1;
-        let operation = Operation::of(word);
-        match operation {
-            Operation::Present => {
-                line = line.with_head(Test::Occurs(Literal {
-                    event: Event(number),
-                    negated: false,
-                }));
-            }
-            Operation::Absent => {
-                line = line.with_head(Test::Occurs(Literal {
-                    event: Event(number),
-                    negated: true,
-                }));
-            }
-            Operation::AgainstConstant => {
-                line = line.with_comparison(constant_comparison(word, word_at(image, at)));
-                at += 1;
-            }
-            Operation::AgainstReading => {
-                line = line.with_comparison(reading_comparison(word));
-            }
-            Operation::Proposes => {
-                line = line.ended(Ending::Causes(Action(number)));
-            }
-            Operation::Member => {
-                line = line.with_head(Test::Member(Action(number)));
-            }
-            Operation::Never => {
-                line = line.ended(Ending::Never);
-            }
-            Operation::Unknown => {}
-        }
-    }
-    line
+// What a word of a line stands for.
+enum LinePart {
+    Head(Test),
+    Comparison(Comparison),
+    Ending(Ending),
+    Nothing,
 }
 
-// The line of a part that starts at the word `at` and ends before the word `end`.
-pub fn line_at(image: &[u8], part: Part, at: usize, end: usize) -> LineAt
-    ensures { λ r. ⌜ r ≡ lineAnswer at (lineAt part (between at end (wordsOf (now (image .entry))))) ⌝ }
+// What the word `at` stands for. The constant of a comparison is the next word.
+fn part_at(image: &[u8], at: usize) -> LinePart
+    requires { ⌜ at < length (now image) / 4 ⌝ }
+    ensures { λ r. ⌜ r ≡ partAt (wordsOf (now (image .entry))) at ⌝ }
 {
-    let words = line_length(image, part, at, end);
-    if words == 0 {
+    let word = word_in(image, at);
+    let number = first(word) as u8;
+    let operation = Operation::of(word);
+    match operation {
+        Operation::Present => LinePart::Head(Test::Occurs(Literal {
+            event: Event(number),
+            negated: false,
+        })),
+        Operation::Absent => LinePart::Head(Test::Occurs(Literal {
+            event: Event(number),
+            negated: true,
+        })),
+        Operation::AgainstConstant => LinePart::Comparison(constant_comparison(
+            word,
+            word_at(image, at + 1),
+        )),
+        Operation::AgainstReading => LinePart::Comparison(reading_comparison(word)),
+        Operation::Proposes => LinePart::Ending(Ending::Causes(Action(number))),
+        Operation::Member => LinePart::Head(Test::Member(Action(number))),
+        Operation::Never => LinePart::Ending(Ending::Never),
+        Operation::Unknown => LinePart::Nothing,
+    }
+}
+
+// The value of the line whose words stand from `start` up to `end`.
+fn read_line(image: &[u8], start: usize, end: usize) -> Line
+    requires inside { ⌜ end ≤ length (now image) / 4 ⌝ }
+    ensures { λ r. ⌜ r ≡ valueFrom (lineOf [] [] Ending.Never) (end - start) 0 (drop start (wordsOf (now (image .entry)))) ⌝ }
+{
+    let empty = Line::new();
+    let mut heads = empty.heads;
+    let mut comparisons = empty.comparisons;
+    let mut head_count = 0;
+    let mut comparison_count = 0;
+    let mut ending = Ending::Never;
+    let mut at = start;
+    while at < end {
+        let part = part_at(image, at);
+        at += 1;
+        match part {
+            LinePart::Head(test) => {
+                if head_count < HEAD_LIMIT {
+                    heads[head_count] = Head(test);
+                    head_count += 1;
+                }
+            }
+            LinePart::Comparison(comparison) => {
+                let operand = comparison.operand;
+                at += operand.constants();
+                if comparison_count < COMPARISON_LIMIT {
+                    comparisons[comparison_count] = comparison;
+                    comparison_count += 1;
+                }
+            }
+            LinePart::Ending(last) => ending = last,
+            LinePart::Nothing => {}
+        }
+    }
+    Line {
+        heads,
+        head_count,
+        comparisons,
+        comparison_count,
+        ending,
+    }
+}
+
+// The line that starts at the word `at`: its first skip tells where it ends. Nothing is checked, so it is for images that the loader
+// takes.
+pub fn line_at(image: &[u8], at: usize) -> LineAt
+    ensures { λ r. ⌜ r ≡ lineAnswer (wordsOf (now (image .entry))) at ⌝ }
+{
+    let count = image.len() / 4;
+    if count <= at {
         return LineAt {
             line: Line::new(),
             next: at,
         };
     }
-    let next = at + words;
+    let size = skip(word_in(image, at)) as usize + 1;
+    let next = at_most(at + size, count);
     LineAt {
         line: read_line(image, at, next),
         next,

@@ -193,6 +193,8 @@ pub record Took (bytes : List ℕ) (contents : Contents) : Type 0 where
   pub form-is : contents .form ≡ formByte (wordsOf bytes)
   pub rule-words-are : contents .«rule_words» ≡ ruleCount (wordsOf bytes)
   pub constraint-words-are : contents .«constraint_words» ≡ constraintCount (wordsOf bytes)
+  pub rules-are : contents .rules ≡ length rules
+  pub constraints-are : contents .constraints ≡ length constraints
 
 pub took : (bytes : List ℕ) (contents : Contents) → load bytes ≡ Loaded.Image contents → Took bytes contents
 unfolding bodyAnswer
@@ -206,7 +208,18 @@ took bytes contents e = go (answered bytes)
     body c (whole rs) (fault n) p q r = let z : _≡_ {A = ℕ} 0 1 = cc in absurd (omega arith)
     body c (whole rs) (whole cs) p q r =
         let same : record { form = formByte ws; «rule_words» = ruleCount ws; «constraint_words» = constraintCount ws; rules = length rs; constraints = length cs } ≡ contents = cc in
-        record { checked = c; rules = rs; constraints = cs; rules-whole = p; constraints-whole = q; form-is = sym (ap (λ (x : Contents). x .form) same); rule-words-are = sym (ap (λ (x : Contents). x .«rule_words») same); constraint-words-are = sym (ap (λ (x : Contents). x .«constraint_words») same) }
+        record {
+          checked = c;
+          rules = rs;
+          constraints = cs;
+          rules-whole = p;
+          constraints-whole = q;
+          form-is = sym (ap (λ (x : Contents). x .form) same);
+          rule-words-are = sym (ap (λ (x : Contents). x .«rule_words») same);
+          constraint-words-are = sym (ap (λ (x : Contents). x .«constraint_words») same);
+          rules-are = sym (ap (λ (x : Contents). x .rules) same);
+          constraints-are = sym (ap (λ (x : Contents). x .constraints) same);
+        }
 
     go : Answered bytes → Took bytes contents
     go (early r) = let a : none ≡ some (refusal (r .fault) 0) = sym (ap refusalIn e) ∙ r .refused in let z : _≡_ {A = ℕ} 0 1 = cc in absurd (omega arith)
@@ -229,6 +242,8 @@ pub record HeldParts (bytes : List ℕ) (contents : Contents) : Type 0 where
   pub size : length (wordsOf bytes) ≡ 1 + contents .«rule_words» + contents .«constraint_words» + 1
   pub rule-part : AreLines Part.Rules 128 (between 1 (1 + contents .«rule_words») (wordsOf bytes)) (map rule (policyIn bytes .rules))
   pub constraint-part : AreLines Part.Constraints 64 (between (1 + contents .«rule_words») (1 + contents .«rule_words» + contents .«constraint_words») (wordsOf bytes)) (map constraint (policyIn bytes .constraints))
+  pub rule-count : contents .rules ≡ length (map rule (policyIn bytes .rules))
+  pub constraint-count : contents .constraints ≡ length (map constraint (policyIn bytes .constraints))
 
 pub held-parts : (bytes : List ℕ) (contents : Contents) → load bytes ≡ Loaded.Image contents → HeldParts bytes contents
 unfolding partLines policyIn linesIn
@@ -244,6 +259,8 @@ held-parts bytes contents taken =
       size = omega (arith, counts-add (wordsOf bytes) (t .checked .count));
       rule-part = same-lines Part.Rules 128 (ap (λ (k : ℕ). between 1 (1 + k) (wordsOf bytes)) (sym n)) rs r;
       constraint-part = same-lines Part.Constraints 64 (ap₂ (λ (k j : ℕ). between (1 + k) (1 + k + j) (wordsOf bytes)) (sym n) (sym m)) cs c;
+      rule-count = t .rules-are ∙ ap length rs;
+      constraint-count = t .constraints-are ∙ ap length cs;
     }
 
 module _ (bytes : List ℕ) (bounded : Bytes bytes) (contents : Contents) (taken : load bytes ≡ Loaded.Image contents) where

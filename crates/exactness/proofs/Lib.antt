@@ -2,4 +2,3 @@ pub mod Exact
 pub mod Examples
 pub mod ImageLaws
 pub mod PartLines
-pub mod Walk

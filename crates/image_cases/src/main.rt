@@ -1,6 +1,5 @@
 // Runs the loader on cases from standard input and writes what it answers, one line a case, and how many lines are met going over a
 // taken image from line to line. A case is its size in two bytes, the more significant first, and then its bytes.
-use decode::Part;
 use image::Contents;
 use image::Loaded;
 use libc::STDIN_FILENO;
@@ -15,11 +14,11 @@ fn write_number(n: usize) {
 }
 
 // How many lines stand between two words, going from each to the next.
-fn count_lines(image: &[u8], part: Part, start: usize, end: usize) -> usize {
+fn count_lines(image: &[u8], start: usize, end: usize) -> usize {
     let mut count = 0;
     let mut at = start;
     while at < end {
-        let found = decode::line_at(image, part, at, end);
+        let found = decode::line_at(image, at);
         let next = found.next;
         if next <= at {
             return count;
@@ -36,9 +35,9 @@ fn show_lines(image: &[u8], contents: Contents) {
     if rules < 4096 && constraints < 4096 {
         let middle = 1 + rules;
         write(b" lines ");
-        write_number(count_lines(image, Part::Rules, 1, middle));
+        write_number(count_lines(image, 1, middle));
         write(b" ");
-        write_number(count_lines(image, Part::Constraints, middle, middle + constraints));
+        write_number(count_lines(image, middle, middle + constraints));
     }
 }
 

@@ -11,6 +11,7 @@ use lib.ListN.{length, take, drop, getD, length-append, length-drop, drop-of-len
 use lib.Seq.{drop-cons, take-all, getD-take, length-take-le, take-append-seam}
 use Rattle.layout.specs.Steps.Size.{operandSize, comparisonsSize, conditionSize}
 use Rattle.policy.specs.Line.{PolicyLine, headsOf, comparisonsOf, endingOf}
+use Rattle.line_value.proofs.LineLaws.{all-held}
 use Rattle.line_value.specs.Value.{padded, counted, head, noHead, noComparison, lineOf, lineValue}
 use Rattle.policy.specs.declared.comparison.Comparison.{Comparison}
 use Rattle.policy.specs.declared.comparison.Operand.{Operand}
@@ -347,13 +348,6 @@ module _ (line : Line) (heads-long : length (line .heads) ≡ 8) (comparisons-lo
       count = head-length (testsOf (take m (line .heads))) (m + conditionSize (take n (line .comparisons))) ∙ tests-length (take m (line .heads)) ∙ taken-length (line .heads) m 8 heads-long (omega arith)
 
 -- ---- the value of a line that is not crowded holds all of it
-
-module _ {A : Type 0} (limit : ℕ) (filler : A) (xs : List A) (few : length xs ≤ limit) where
-  all-held : take (counted limit xs) (padded limit filler xs) ≡ xs
-  unfolding counted padded
-  all-held =
-      let n : min (length xs) (suc limit) ≡ length xs = omega arith in
-      ap₂ (λ (k : ℕ) (l : List A). take k (l ++ replicate (limit - length xs) filler)) n (take-all limit xs few) ∙ take-append-seam xs (replicate (limit - length xs) filler)
 
 heads-back : (ts : List Test) → testsOf (map head ts) ≡ ts
 unfolding testsOf

@@ -1,19 +1,15 @@
--- Laws of line values: adding a part to the value of a line is the value of the line with that part.
+-- Laws of the lists that the value of a line holds: a list with one item more, and a list within its limit.
 use Prim.Native.Nat.{ℕ, suc, _+_, _-_, _≤_, _<_, min}
 use mathlib.Core.Bool.{Bool, true, false}
-use mathlib.Core.List.{List, [], _∷_, _++_, map, map-append}
+use mathlib.Core.List.{List, [], _∷_, _++_}
 use mathlib.Core.Path.{_≡_, refl, sym, ap, ap₂, _∙_}
 use native.Mathlib.Omega.{arith}
-use borrow.Author.Tests.{ltb-true, ltb-false, le-ltb}
+use borrow.Author.Tests.{lt-ltb, le-ltb, ltb-true, ltb-false}
 use lib.Dec.{ltb}
-use lib.ListN.{length, set, replicate, length-append}
-use lib.Seq.{take-all, take-append-le, set-at, append-snoc}
-use Rattle.line_value.specs.Steps.Push.{pushItem, pushCount, pushHead, pushComparison, endLine}
-use Rattle.line_value.specs.Value.{padded, counted, lineOf, head, noHead, noComparison}
-use Rattle.policy.specs.Limits.{headLimit, comparisonLimit}
-use Rattle.policy.specs.declared.comparison.Comparison.{Comparison}
-use Rattle.policy.specs.declared.line.Ending.{Ending}
-use Rattle.policy.specs.declared.line.Test.{Test}
+use lib.ListN.{length, take, set, replicate, length-append}
+use lib.Seq.{take-all, take-append-le, take-append-seam, set-at, append-snoc}
+use Rattle.line_value.specs.Steps.Push.{pushItem, pushCount}
+use Rattle.line_value.specs.Value.{padded, counted}
 
 module _ {A : Type 0} (limit : ℕ) (filler : A) (xs : List A) (x : A) where
   length-snoc : length (xs ++ x ∷ []) ≡ length xs + 1
@@ -39,21 +35,30 @@ module _ {A : Type 0} (limit : ℕ) (filler : A) (xs : List A) (x : A) where
   unfolding counted
   counted-room h = omega arith
 
-  counted-full : limit < length xs → counted limit xs ≡ suc limit
-  unfolding counted
-  counted-full h = omega arith
-
   counted-past : limit ≤ length xs → limit ≤ counted limit xs
   unfolding counted
   counted-past h = omega arith
 
+  -- with room for one more
+  pub room-counted : length xs < limit → counted limit xs < limit
+  unfolding counted
+  room-counted h = omega arith
+
+  pub item-more : length xs < limit → set (padded limit filler xs) (counted limit xs) x ≡ padded limit filler (xs ++ x ∷ [])
+  item-more h = rw (counted-room (omega arith)) (padded-room (limit - suc (length xs)) (omega arith) h)
+
+  pub count-more : length xs < limit → counted limit xs + 1 ≡ counted limit (xs ++ x ∷ [])
+  unfolding counted
+  count-more h = omega (arith, length-snoc)
+
+  -- with room or not
   pub push-item : pushItem limit (padded limit filler xs) (counted limit xs) x ≡ padded limit filler (xs ++ x ∷ [])
   push-item = go (ltb (length xs) limit) refl
     where
       go : (b : Bool) → ltb (length xs) limit ≡ b → pushItem limit (padded limit filler xs) (counted limit xs) x ≡ padded limit filler (xs ++ x ∷ [])
       go true e =
           let h : length xs < limit = ltb-true (length xs) limit e in
-          rw (counted-room (omega arith), e) (padded-room (limit - suc (length xs)) (omega arith) h)
+          rw (lt-ltb (counted limit xs) limit (room-counted h)) (item-more h)
       go false e =
           let h : limit ≤ length xs = ltb-false (length xs) limit e in
           rw (le-ltb (counted limit xs) limit (counted-past h)) (padded-full h)
@@ -72,16 +77,11 @@ module _ {A : Type 0} (limit : ℕ) (filler : A) (xs : List A) (x : A) where
           let m : min (length xs) (suc limit) ≡ suc limit = omega arith in
           rw (m, le-ltb (suc limit) (suc limit) (omega arith)) (omega (arith, length-snoc))
 
-pub push-head : (heads : List Test) (comparisons : List Comparison) (ending : Ending) (t : Test) → pushHead (lineOf heads comparisons ending) t ≡ lineOf (heads ++ t ∷ []) comparisons ending
-unfolding lineOf pushHead
-push-head heads comparisons ending t =
-    rw (map-append head heads (t ∷ []), push-item headLimit noHead (map head heads) (head t), push-count headLimit noHead (map head heads) (head t))
+-- ---- the value of a line that is not crowded holds all of it
 
-pub push-comparison : (heads : List Test) (comparisons : List Comparison) (ending : Ending) (c : Comparison) → pushComparison (lineOf heads comparisons ending) c ≡ lineOf heads (comparisons ++ c ∷ []) ending
-unfolding lineOf pushComparison
-push-comparison heads comparisons ending c =
-    rw (push-item comparisonLimit noComparison comparisons c, push-count comparisonLimit noComparison comparisons c)
-
-pub end-line : (heads : List Test) (comparisons : List Comparison) (ending ending′ : Ending) → endLine (lineOf heads comparisons ending) ending′ ≡ lineOf heads comparisons ending′
-unfolding lineOf
-end-line heads comparisons ending ending′ = refl
+module _ {A : Type 0} (limit : ℕ) (filler : A) (xs : List A) (few : length xs ≤ limit) where
+  pub all-held : take (counted limit xs) (padded limit filler xs) ≡ xs
+  unfolding counted padded
+  all-held =
+      let n : min (length xs) (suc limit) ≡ length xs = omega arith in
+      ap₂ (λ (k : ℕ) (l : List A). take k (l ++ replicate (limit - length xs) filler)) n (take-all limit xs few) ∙ take-append-seam xs (replicate (limit - length xs) filler)

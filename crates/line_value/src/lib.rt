@@ -6,7 +6,6 @@ ghost use lib.ListN.{take};
 ghost use Rattle.policy.specs.Limits.{headNumber};
 ghost use Rattle.policy.specs.Line.{constantCount};
 ghost use Rattle.policy.specs.Steps.Seen.{seenIn};
-ghost use Rattle.line_value.specs.Steps.Push.{pushHead, pushComparison, endLine};
 ghost use Rattle.line_value.specs.Value.{lineOf};
 use policy::Action;
 use policy::COMPARISON_LIMIT;
@@ -92,54 +91,6 @@ impl Line {
             comparisons: [comparison; COMPARISON_LIMIT],
             comparison_count: 0,
             ending: Ending::Never,
-        }
-    }
-
-    pub fn with_head(self, test: Test) -> Line
-        ensures { λ r. ⌜ r ≡ pushHead self test ⌝ }
-    {
-        let n = self.head_count;
-        let mut line = self;
-        if n < HEAD_LIMIT {
-            line.heads[n] = Head(test);
-            line.head_count = n + 1;
-            line
-        } else if n <= HEAD_LIMIT {
-            line.head_count = n + 1;
-            line
-        } else {
-            line
-        }
-    }
-
-    pub fn with_comparison(self, comparison: Comparison) -> Line
-        ensures { λ r. ⌜ r ≡ pushComparison self comparison ⌝ }
-    {
-        let n = self.comparison_count;
-        let mut line = self;
-        if n < COMPARISON_LIMIT {
-            line.comparisons[n] = comparison;
-            line.comparison_count = n + 1;
-            line
-        } else if n <= COMPARISON_LIMIT {
-            line.comparison_count = n + 1;
-            line
-        } else {
-            line
-        }
-    }
-
-    pub fn ended(self, ending: Ending) -> Line
-        ensures { λ r. ⌜ r ≡ endLine self ending ⌝ }
-    {
-        let heads = self.heads;
-        let comparisons = self.comparisons;
-        Line {
-            heads,
-            head_count: self.head_count,
-            comparisons,
-            comparison_count: self.comparison_count,
-            ending,
         }
     }
 }

@@ -21,7 +21,7 @@ use Rattle.layout.specs.Header.{packHeader}
 use Rattle.operation.specs.Parts.{testOperation, testWord, operandWord, constantWords, comparisonWord, comparisonWords, constantComparison, readingComparison, endingWord}
 use Rattle.layout.specs.Layout.{conditionWords, partWords, lineWords, linesWords, knownForm, checkCount, sum, checkWord, checkWords, headerWord, ruleWords, constraintWords, contentWords, imageWords, imageOf}
 use Rattle.image.specs.Check.{wellSized, countsFit, sumsToZero}
-use Rattle.decode.specs.Decode.{addLiteral, addMember, addComparison, decodeWord, decode, isPrefix, inPart, standsAt, keepIf, lineAt, lineLength, lineAnswer}
+use Rattle.decode.specs.Decode.{addLiteral, addMember, addComparison, decodeWord, decode, isPrefix, inPart, standsAt, keepIf, lineAt, lineLength}
 use Rattle.image.specs.Lines.{addLine, afterLine, linesFrom, partLines}
 use Rattle.image.specs.Load.{bodyAnswer, loadWords, load}
 use Rattle.run.specs.Run.{ran, comparisonTest, ruleTest, constraintTest, proposesAt, runRules, isNever, runConstraints}
@@ -30,5 +30,5 @@ use Rattle.exactness.specs.Examples.{worked, nothing, policies, images, imageFo
 use Rattle.monitor.specs.Examples.{decisions, decided}
 
 pub decisions-hold : map decided decisions ≡ decisions
-unfolding all any has insert below readingValue eqZ relationHolds operandValue comparisonHolds headsOf comparisonsOf endingOf constantCount isReadingValue testNumber operandInRange comparisonInRange endingInRange inRange crowded repeats repeated valid tryNext keptBelow greedy literalHolds ruleHolds propose proposals constraintHolds conflict resolve accepted cancelled bytes sameBytes is classOf decimalFrom isEmpty numberOf positive negative constantOf prepend pieces linesOf nonEmpty tokensOf takeWhile skipWhile restOfLine lineEnd named literalOf actionOf readingOf relationOf orElse operandOf both comparisonOf toLeft atEquals assignmentOf itemOf itemsOf itemInRange givenBy addItem judgeEpoch readEpoch operationFrom relationFrom wordsOf bytesOf between pack packHeader testOperation testWord operandWord constantWords comparisonWord comparisonWords constantComparison readingComparison endingWord conditionWords partWords lineWords linesWords knownForm checkCount sum checkWord checkWords headerWord ruleWords constraintWords contentWords imageWords imageOf wellSized countsFit sumsToZero addLiteral addMember addComparison decodeWord decode isPrefix inPart standsAt keepIf lineAt lineLength addLine afterLine linesFrom partLines lineAnswer bodyAnswer loadWords load ran comparisonTest ruleTest constraintTest proposesAt runRules isNever runConstraints keptBy yieldedBy issuedBy onLine onImage decision worked nothing policies images imageFor decisions decided
+unfolding all any has insert below readingValue eqZ relationHolds operandValue comparisonHolds headsOf comparisonsOf endingOf constantCount isReadingValue testNumber operandInRange comparisonInRange endingInRange inRange crowded repeats repeated valid tryNext keptBelow greedy literalHolds ruleHolds propose proposals constraintHolds conflict resolve accepted cancelled bytes sameBytes is classOf decimalFrom isEmpty numberOf positive negative constantOf prepend pieces linesOf nonEmpty tokensOf takeWhile skipWhile restOfLine lineEnd named literalOf actionOf readingOf relationOf orElse operandOf both comparisonOf toLeft atEquals assignmentOf itemOf itemsOf itemInRange givenBy addItem judgeEpoch readEpoch operationFrom relationFrom wordsOf bytesOf between pack packHeader testOperation testWord operandWord constantWords comparisonWord comparisonWords constantComparison readingComparison endingWord conditionWords partWords lineWords linesWords knownForm checkCount sum checkWord checkWords headerWord ruleWords constraintWords contentWords imageWords imageOf wellSized countsFit sumsToZero addLiteral addMember addComparison decodeWord decode isPrefix inPart standsAt keepIf lineAt lineLength addLine afterLine linesFrom partLines bodyAnswer loadWords load ran comparisonTest ruleTest constraintTest proposesAt runRules isNever runConstraints keptBy yieldedBy issuedBy onLine onImage decision worked nothing policies images imageFor decisions decided
 decisions-hold = refl

@@ -1,198 +1,142 @@
-use Prim.Native.Nat.{ℕ, _-_}
-use mathlib.Core.Bool.{true, false}
-use mathlib.Core.Path.{refl, ap, _∙_}
+use Prim.Native.Nat.{_-_, _≤_}
+use mathlib.Core.Path.{refl, sym, _∙_}
+use borrow.Author.Tests.{lt-ltb, le-ltb}
 use denote.Ref.{now}
-use Rattle.line_value.specs.Steps.Push.{pushHead, pushComparison, endLine}
-use Rattle.policy.specs.declared.line.Ending.{Ending}
-use Rattle.policy.specs.declared.line.Test.{Test}
-use Rattle.operation.specs.declared.operation.Operation.{Operation}
-use Rattle.decode.specs.Steps.Scan.{readWord, hasConstant}
-use Rattle.decode.proofs.ReadLaws.{Remains, remains-none, remains-all, read-plain, read-constant}
+use Rattle.policy.proofs.SeenLaws.{one-constant}
+use Rattle.line_value.specs.Value.{lineOf, counted}
+use Rattle.decode.specs.Steps.Scan.{constantsOf, withPart}
+use Rattle.decode.proofs.ReadLaws.{Remains, remains-none, remains-past, remains-all}
 use borrow.Author.Needs.{needs}
+use native.Mathlib.Omega.{arith}
 use Rattle.decode.proofs.read_line.Statement.{statement}
 use Rattle.decode.proofs.read_line.Tie as tie
 
 abbrev Inv-loop : tie.InvT-loop
-Inv-loop image start end line₀ at₀ line at = Remains image start end line at
+Inv-loop image start end heads₀ comparisons₀ head-count₀ comparison-count₀ ending₀ at₀ heads comparisons head-count comparison-count ending at = Remains image start end (record { heads = heads; «head_count» = head-count; comparisons = comparisons; «comparison_count» = comparison-count; ending = ending }) at
 
 abbrev μ-loop : tie.MeasureT-loop
-μ-loop image start end line₀ at₀ line at = end - at
+μ-loop image start end heads₀ comparisons₀ head-count₀ comparison-count₀ ending₀ at₀ heads comparisons head-count comparison-count ending at = end - at
 
 new-requires : tie.Need-new-requires Inv-loop μ-loop
 new-requires c κs = search needs
 
 loop-holds : tie.Need-loop-holds Inv-loop μ-loop
-loop-holds c = let a = c .before .before .args in remains-none (now (a .image)) (a .start) (a .end) _ (c .new .ensures)
+unfolding lineOf counted
+loop-holds c =
+    let a = c .before .before .before .before .args in
+    remains-none (now (a .image)) (a .start) (a .end) _ (rw (c .before .before .new .ensures) refl)
 
-word-at-requires : tie.Need-word-at-requires Inv-loop μ-loop
-word-at-requires c κs = search needs
-
-first-requires : tie.Need-first-requires Inv-loop μ-loop
-first-requires c κs = search needs
-
-cast-number : tie.Need-cast-number Inv-loop μ-loop
-cast-number c = search needs
+part-at-requires : tie.Need-part-at-requires Inv-loop μ-loop
+part-at-requires c κs = search needs
 
 add-at : tie.Need-add-at Inv-loop μ-loop
 add-at c = search needs
 
-of-requires : tie.Need-of-requires Inv-loop μ-loop
-of-requires c κs = search needs
+enum-known-part : tie.Need-enum-known-part Inv-loop μ-loop
+enum-known-part c = search needs
 
-enum-told : tie.Need-enum-told Inv-loop μ-loop
-enum-told c = search needs
+mul-heads : tie.Need-mul-heads Inv-loop μ-loop
+mul-heads c = search needs
 
-with-head-requires : tie.Need-with-head-requires Inv-loop μ-loop
-with-head-requires c κs = search needs
+array-set-from-heads : tie.Need-array-set-from-heads Inv-loop μ-loop
+array-set-from-heads c = search needs
+
+add-head-count : tie.Need-add-head-count Inv-loop μ-loop
+add-head-count c = search needs
 
 loop-less : tie.Need-loop-less Inv-loop μ-loop
 loop-less c = search needs
 
 loop-again : tie.Need-loop-again Inv-loop μ-loop
-unfolding readWord hasConstant
+unfolding withPart constantsOf
 loop-again c =
-    let t = c .before in
-    let l = t .before .before .before .before .before .before in
-    let a = l .before .before .before .args in
-    read-plain (now (a .image)) (a .start) (a .end) (l .loop .line) (l .loop .at) _ _ (l .loop .inv) (t .before .before .before .before .before .loop-test .taken) (t .before .before .before .before .word-at .ensures) (t .before .before .of .ensures)
-    Operation.Present _ (t .enum-told .given .1) refl (c .with-head .ensures ∙ ap (λ (k : ℕ). pushHead (l .loop .line) (Test.Occurs (record { event = record { 0 = k }; negated = false }))) (t .before .before .before .first .ensures))
-
-enum-told-2 : tie.Need-enum-told-2 Inv-loop μ-loop
-enum-told-2 c = search needs
-
-with-head-requires-2 : tie.Need-with-head-requires-2 Inv-loop μ-loop
-with-head-requires-2 c κs = search needs
+    let t = c .before .before in
+    let l = t .before .before .before .before in
+    let a = l .before .before .before .before .before .args in
+    remains-past (now (a .image)) (a .start) (a .end) _ (l .loop .at) (l .loop .inv) (t .before .before .before .loop-test .taken) _ _ _ (sym (t .part .given .1) ∙ t .before .before .part-at .ensures) (rw (lt-ltb _ 8 (c .if1 .taken))) (omega arith)
 
 loop-less-2 : tie.Need-loop-less-2 Inv-loop μ-loop
 loop-less-2 c = search needs
 
 loop-again-2 : tie.Need-loop-again-2 Inv-loop μ-loop
-unfolding readWord hasConstant
+unfolding withPart constantsOf
 loop-again-2 c =
-    let t = c .before in
-    let l = t .before .before .before .before .before .before in
-    let a = l .before .before .before .args in
-    read-plain (now (a .image)) (a .start) (a .end) (l .loop .line) (l .loop .at) _ _ (l .loop .inv) (t .before .before .before .before .before .loop-test .taken) (t .before .before .before .before .word-at .ensures) (t .before .before .of .ensures)
-    Operation.Absent _ (t .enum-told2 .given .1) refl (c .with-head2 .ensures ∙ ap (λ (k : ℕ). pushHead (l .loop .line) (Test.Occurs (record { event = record { 0 = k }; negated = true }))) (t .before .before .before .first .ensures))
+    let t = c .before .before in
+    let l = t .before .before .before .before in
+    let a = l .before .before .before .before .before .args in
+    remains-past (now (a .image)) (a .start) (a .end) _ (l .loop .at) (l .loop .inv) (t .before .before .before .loop-test .taken) _ _ _ (sym (t .part .given .1) ∙ t .before .before .part-at .ensures) (rw (le-ltb _ 8 (c .if1 .left))) (omega arith)
 
-enum-told-3 : tie.Need-enum-told-3 Inv-loop μ-loop
-enum-told-3 c = search needs
+enum-known-part-2 : tie.Need-enum-known-part-2 Inv-loop μ-loop
+enum-known-part-2 c = search needs
 
-word-at-requires-2 : tie.Need-word-at-requires-2 Inv-loop μ-loop
-word-at-requires-2 c κs = search needs
-
-constant-comparison-requires : tie.Need-constant-comparison-requires Inv-loop μ-loop
-constant-comparison-requires c κs = search needs
-
-with-comparison-requires : tie.Need-with-comparison-requires Inv-loop μ-loop
-with-comparison-requires c κs = search needs
+constants-requires : tie.Need-constants-requires Inv-loop μ-loop
+constants-requires c κs = search needs
 
 add-at-2 : tie.Need-add-at-2 Inv-loop μ-loop
-add-at-2 c = search needs
+add-at-2 c = let k : c .constants .result ≤ 1 = one-constant (c .before .before .part2 .given .0 .0 .operand) _ (c .constants .ensures) in omega arith
+
+mul-comparisons : tie.Need-mul-comparisons Inv-loop μ-loop
+mul-comparisons c = search needs
+
+array-set-from-comparisons : tie.Need-array-set-from-comparisons Inv-loop μ-loop
+array-set-from-comparisons c = search needs
+
+add-comparison-count : tie.Need-add-comparison-count Inv-loop μ-loop
+add-comparison-count c = search needs
 
 loop-less-3 : tie.Need-loop-less-3 Inv-loop μ-loop
 loop-less-3 c = search needs
 
 loop-again-3 : tie.Need-loop-again-3 Inv-loop μ-loop
+unfolding withPart constantsOf
 loop-again-3 c =
     let t = c .before .before .before in
-    let l = t .before .before .before .before .before .before in
-    let a = l .before .before .before .args in
-    read-constant (now (a .image)) (a .start) (a .end) (l .loop .line) (l .loop .at) _ _ (l .loop .inv) (t .before .before .before .before .before .loop-test .taken) (t .before .before .before .before .word-at .ensures) (t .before .before .of .ensures)
-    _ _ _ (t .enum-told3 .given .1) (c .before .before .word-at2 .ensures) (c .before .constant-comparison .ensures) (c .with-comparison .ensures)
-
-enum-told-4 : tie.Need-enum-told-4 Inv-loop μ-loop
-enum-told-4 c = search needs
-
-reading-comparison-requires : tie.Need-reading-comparison-requires Inv-loop μ-loop
-reading-comparison-requires c κs = search needs
-
-with-comparison-requires-2 : tie.Need-with-comparison-requires-2 Inv-loop μ-loop
-with-comparison-requires-2 c κs = search needs
+    let l = t .before .before .before .before in
+    let a = l .before .before .before .before .before .args in
+    remains-past (now (a .image)) (a .start) (a .end) _ (l .loop .at) (l .loop .inv) (t .before .before .before .loop-test .taken) _ _ _ (sym (t .part2 .given .1) ∙ t .before .before .part-at .ensures) (rw (lt-ltb _ 4 (c .if2 .taken))) (rw (c .before .constants .ensures))
 
 loop-less-4 : tie.Need-loop-less-4 Inv-loop μ-loop
 loop-less-4 c = search needs
 
 loop-again-4 : tie.Need-loop-again-4 Inv-loop μ-loop
-unfolding readWord hasConstant
+unfolding withPart constantsOf
 loop-again-4 c =
-    let t = c .before .before in
-    let l = t .before .before .before .before .before .before in
-    let a = l .before .before .before .args in
-    read-plain (now (a .image)) (a .start) (a .end) (l .loop .line) (l .loop .at) _ _ (l .loop .inv) (t .before .before .before .before .before .loop-test .taken) (t .before .before .before .before .word-at .ensures) (t .before .before .of .ensures)
-    Operation.AgainstReading _ (t .enum-told4 .given .1) refl (c .with-comparison2 .ensures ∙ ap (pushComparison (l .loop .line)) (c .before .reading-comparison .ensures))
+    let t = c .before .before .before in
+    let l = t .before .before .before .before in
+    let a = l .before .before .before .before .before .args in
+    remains-past (now (a .image)) (a .start) (a .end) _ (l .loop .at) (l .loop .inv) (t .before .before .before .loop-test .taken) _ _ _ (sym (t .part2 .given .1) ∙ t .before .before .part-at .ensures) (rw (le-ltb _ 4 (c .if2 .left))) (rw (c .before .constants .ensures))
 
-enum-told-5 : tie.Need-enum-told-5 Inv-loop μ-loop
-enum-told-5 c = search needs
-
-ended-requires : tie.Need-ended-requires Inv-loop μ-loop
-ended-requires c κs = search needs
+enum-known-part-3 : tie.Need-enum-known-part-3 Inv-loop μ-loop
+enum-known-part-3 c = search needs
 
 loop-less-5 : tie.Need-loop-less-5 Inv-loop μ-loop
 loop-less-5 c = search needs
 
 loop-again-5 : tie.Need-loop-again-5 Inv-loop μ-loop
-unfolding readWord hasConstant
+unfolding withPart constantsOf
 loop-again-5 c =
     let t = c .before in
-    let l = t .before .before .before .before .before .before in
-    let a = l .before .before .before .args in
-    read-plain (now (a .image)) (a .start) (a .end) (l .loop .line) (l .loop .at) _ _ (l .loop .inv) (t .before .before .before .before .before .loop-test .taken) (t .before .before .before .before .word-at .ensures) (t .before .before .of .ensures)
-    Operation.Proposes _ (t .enum-told5 .given .1) refl (c .ended .ensures ∙ ap (λ (k : ℕ). endLine (l .loop .line) (Ending.Causes (record { 0 = k }))) (t .before .before .before .first .ensures))
+    let l = t .before .before .before .before in
+    let a = l .before .before .before .before .before .args in
+    remains-past (now (a .image)) (a .start) (a .end) _ (l .loop .at) (l .loop .inv) (t .before .before .before .loop-test .taken) _ _ _ (sym (t .part3 .given .1) ∙ t .before .before .part-at .ensures) refl (omega arith)
 
-enum-told-6 : tie.Need-enum-told-6 Inv-loop μ-loop
-enum-told-6 c = search needs
-
-with-head-requires-3 : tie.Need-with-head-requires-3 Inv-loop μ-loop
-with-head-requires-3 c κs = search needs
+enum-told : tie.Need-enum-told Inv-loop μ-loop
+enum-told c = search needs
 
 loop-less-6 : tie.Need-loop-less-6 Inv-loop μ-loop
 loop-less-6 c = search needs
 
 loop-again-6 : tie.Need-loop-again-6 Inv-loop μ-loop
-unfolding readWord hasConstant
+unfolding withPart constantsOf
 loop-again-6 c =
-    let t = c .before in
-    let l = t .before .before .before .before .before .before in
-    let a = l .before .before .before .args in
-    read-plain (now (a .image)) (a .start) (a .end) (l .loop .line) (l .loop .at) _ _ (l .loop .inv) (t .before .before .before .before .before .loop-test .taken) (t .before .before .before .before .word-at .ensures) (t .before .before .of .ensures)
-    Operation.Member _ (t .enum-told6 .given .1) refl (c .with-head3 .ensures ∙ ap (λ (k : ℕ). pushHead (l .loop .line) (Test.Member (record { 0 = k }))) (t .before .before .before .first .ensures))
-
-enum-told-7 : tie.Need-enum-told-7 Inv-loop μ-loop
-enum-told-7 c = search needs
-
-ended-requires-2 : tie.Need-ended-requires-2 Inv-loop μ-loop
-ended-requires-2 c κs = search needs
-
-loop-less-7 : tie.Need-loop-less-7 Inv-loop μ-loop
-loop-less-7 c = search needs
-
-loop-again-7 : tie.Need-loop-again-7 Inv-loop μ-loop
-unfolding readWord hasConstant
-loop-again-7 c =
-    let t = c .before in
-    let l = t .before .before .before .before .before .before in
-    let a = l .before .before .before .args in
-    read-plain (now (a .image)) (a .start) (a .end) (l .loop .line) (l .loop .at) _ _ (l .loop .inv) (t .before .before .before .before .before .loop-test .taken) (t .before .before .before .before .word-at .ensures) (t .before .before .of .ensures)
-    Operation.Never _ (t .enum-told7 .given .1) refl (c .ended2 .ensures)
-
-enum-told-8 : tie.Need-enum-told-8 Inv-loop μ-loop
-enum-told-8 c = search needs
-
-loop-less-8 : tie.Need-loop-less-8 Inv-loop μ-loop
-loop-less-8 c = search needs
-
-loop-again-8 : tie.Need-loop-again-8 Inv-loop μ-loop
-unfolding readWord hasConstant
-loop-again-8 c =
-    let t = c in
-    let l = t .before .before .before .before .before .before in
-    let a = l .before .before .before .args in
-    read-plain (now (a .image)) (a .start) (a .end) (l .loop .line) (l .loop .at) _ _ (l .loop .inv) (t .before .before .before .before .before .loop-test .taken) (t .before .before .before .before .word-at .ensures) (t .before .before .of .ensures)
-    Operation.Unknown _ (t .enum-told8 .given .1) refl (refl)
+    let l = c .before .before .before .before in
+    let a = l .before .before .before .before .before .args in
+    remains-past (now (a .image)) (a .start) (a .end) _ (l .loop .at) (l .loop .inv) (c .before .before .before .loop-test .taken) _ _ _ (sym (c .enum-told .given .1) ∙ c .before .before .part-at .ensures) refl (omega arith)
 
 returns : tie.Need-returns Inv-loop μ-loop
-returns c = let a = c .before .before .before .before .args in remains-all (now (a .image)) (a .start) (a .end) _ _ (c .before .loop .inv) (c .loop-test .left)
+returns c =
+    let a = c .before .before .before .before .before .before .args in
+    remains-all (now (a .image)) (a .start) (a .end) _ _ (c .before .loop .inv) (c .loop-test .left)
 
 pub read-line-spec : {M : Type 1} → statement M
 read-line-spec =
@@ -202,44 +146,30 @@ read-line-spec =
     μ-loop
     new-requires
     loop-holds
-    word-at-requires
-    first-requires
-    cast-number
+    part-at-requires
     add-at
-    of-requires
-    enum-told
-    with-head-requires
+    enum-known-part
+    mul-heads
+    array-set-from-heads
+    add-head-count
     loop-less
     loop-again
-    enum-told-2
-    with-head-requires-2
     loop-less-2
     loop-again-2
-    enum-told-3
-    word-at-requires-2
-    constant-comparison-requires
-    with-comparison-requires
+    enum-known-part-2
+    constants-requires
     add-at-2
+    mul-comparisons
+    array-set-from-comparisons
+    add-comparison-count
     loop-less-3
     loop-again-3
-    enum-told-4
-    reading-comparison-requires
-    with-comparison-requires-2
     loop-less-4
     loop-again-4
-    enum-told-5
-    ended-requires
+    enum-known-part-3
     loop-less-5
     loop-again-5
-    enum-told-6
-    with-head-requires-3
+    enum-told
     loop-less-6
     loop-again-6
-    enum-told-7
-    ended-requires-2
-    loop-less-7
-    loop-again-7
-    enum-told-8
-    loop-less-8
-    loop-again-8
     returns)

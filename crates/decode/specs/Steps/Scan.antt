@@ -1,11 +1,13 @@
 -- How the code goes over a line, word by word. That this finds the lines that `lineAt` finds, and their values, is proved
--- (`scan-line` in proofs/ScanLines.antt, `read-line` in proofs/ReadLaws.antt): a reader need not believe this file.
-use Prim.Native.Nat.{ℕ, zero, suc, _+_, _-_, _*_, _%_, _^_}
+-- (`scan-line` in proofs/ScanLines.antt, `line-answer` in proofs/ReadLaws.antt): a reader need not believe this file.
+use Prim.Native.Nat.{ℕ, zero, suc, _+_, _-_, _%_, _^_, min}
 use mathlib.Core.Bool.{Bool, true, false, not, cond, _&&_, _||_}
-use mathlib.Core.List.{List}
+use mathlib.Core.List.{List, []}
 use lib.Dec.{eqb, ltb, leb}
-use lib.ListN.{length, drop, getD}
-use Rattle.line_value.specs.Steps.Push.{pushHead, pushComparison, endLine}
+use lib.ListN.{length, drop, getD, set}
+use Rattle.line_value.specs.Value.{head, lineOf}
+use Rattle.policy.specs.Limits.{headLimit, comparisonLimit}
+use Rattle.policy.specs.Line.{operandConstants}
 use Rattle.policy.specs.Set.{has, insert}
 use Rattle.policy.specs.declared.line.Ending.{Ending}
 use Rattle.line_value.specs.declared.Line.{Line}
@@ -14,6 +16,8 @@ use Rattle.operation.specs.Operation.{opcode}
 use Rattle.operation.specs.Parts.{endingWord, eventFrom, actionFrom, constantComparison, readingComparison}
 use Rattle.operation.specs.Fields.{opcodeOf, operationOf, firstOf, secondOf, relationCodeOf, skipOf}
 use Rattle.operation.specs.declared.operation.Operation.{Operation}
+use Rattle.decode.specs.declared.LineAt.{LineAt}
+use Rattle.decode.specs.declared.LinePart.{LinePart}
 use Rattle.decode.specs.declared.Part.{Part}
 
 -- whether an operation is that of a head in its part
@@ -92,30 +96,50 @@ scanLine part ws =
 
 -- ---- the value of a line, word by word
 
--- one part more, with the word that follows
-unfoldable pub readWord : Operation → ℕ → ℕ → Line → Line
-readWord Operation.Present w k l = pushHead l (Test.Occurs (record { event = eventFrom w; negated = false }))
-readWord Operation.Absent w k l = pushHead l (Test.Occurs (record { event = eventFrom w; negated = true }))
-readWord Operation.AgainstConstant w k l = pushComparison l (constantComparison w k)
-readWord Operation.AgainstReading w k l = pushComparison l (readingComparison w)
-readWord Operation.Proposes w k l = endLine l (Ending.Causes (actionFrom w))
-readWord Operation.Member w k l = pushHead l (Test.Member (actionFrom w))
-readWord Operation.Never w k l = endLine l Ending.Never
-readWord Operation.Unknown w k l = l
+-- what a word stands for, with the word that follows
+unfoldable pub partOf : Operation → ℕ → ℕ → LinePart
+partOf Operation.Present w k = LinePart.Head (Test.Occurs (record { event = eventFrom w; negated = false }))
+partOf Operation.Absent w k = LinePart.Head (Test.Occurs (record { event = eventFrom w; negated = true }))
+partOf Operation.AgainstConstant w k = LinePart.Comparison (constantComparison w k)
+partOf Operation.AgainstReading w k = LinePart.Comparison (readingComparison w)
+partOf Operation.Proposes w k = LinePart.Ending (Ending.Causes (actionFrom w))
+partOf Operation.Member w k = LinePart.Head (Test.Member (actionFrom w))
+partOf Operation.Never w k = LinePart.Ending Ending.Never
+partOf Operation.Unknown w k = LinePart.Nothing
 
-unfoldable pub hasConstant : Operation → Bool
-hasConstant Operation.AgainstConstant = true
-hasConstant Operation.Present = false
-hasConstant Operation.Absent = false
-hasConstant Operation.AgainstReading = false
-hasConstant Operation.Proposes = false
-hasConstant Operation.Member = false
-hasConstant Operation.Never = false
-hasConstant Operation.Unknown = false
+unfoldable pub partAt : List ℕ → ℕ → LinePart
+partAt ws at = partOf (operationOf (getD ws at 0)) (getD ws at 0) (getD ws (at + 1) 0)
 
--- so many words, of which the first may be a constant
-unfoldable pub valueFrom : Line → ℕ → Bool → List ℕ → Line
-valueFrom l zero constant ws = l
-valueFrom l (suc n) true ws = valueFrom l n false (drop 1 ws)
-valueFrom l (suc n) false ws =
-    valueFrom (readWord (operationOf (getD ws 0 0)) (getD ws 0 0) (getD ws 1 0) l) n (hasConstant (operationOf (getD ws 0 0))) (drop 1 ws)
+-- how many constants follow the word
+unfoldable pub constantsOf : LinePart → ℕ
+constantsOf (LinePart.Head t) = 0
+constantsOf (LinePart.Comparison c) = operandConstants (c .operand)
+constantsOf (LinePart.Ending e) = 0
+constantsOf LinePart.Nothing = 0
+
+-- a line with one part more, where there is room for it
+unfoldable pub withPart : LinePart → Line → Line
+withPart (LinePart.Head t) l =
+    cond (ltb (l .«head_count») headLimit)
+    (record { heads = set (l .heads) (l .«head_count») (head t); «head_count» = l .«head_count» + 1; comparisons = l .comparisons; «comparison_count» = l .«comparison_count»; ending = l .ending })
+    l
+withPart (LinePart.Comparison c) l =
+    cond (ltb (l .«comparison_count») comparisonLimit)
+    (record { heads = l .heads; «head_count» = l .«head_count»; comparisons = set (l .comparisons) (l .«comparison_count») c; «comparison_count» = l .«comparison_count» + 1; ending = l .ending })
+    l
+withPart (LinePart.Ending e) l =
+    record { heads = l .heads; «head_count» = l .«head_count»; comparisons = l .comparisons; «comparison_count» = l .«comparison_count»; ending = e }
+withPart LinePart.Nothing l = l
+
+-- so many words, of which the first k are constants
+unfoldable pub valueFrom : Line → ℕ → ℕ → List ℕ → Line
+valueFrom l zero k ws = l
+valueFrom l (suc n) (suc k) ws = valueFrom l n k (drop 1 ws)
+valueFrom l (suc n) zero ws = valueFrom (withPart (partAt ws 0) l) n (constantsOf (partAt ws 0)) (drop 1 ws)
+
+-- the line at a word, up to the word that its first skip tells, and where the next one starts; past the last word a line with no part
+unfoldable pub lineAnswer : List ℕ → ℕ → LineAt
+lineAnswer ws at =
+    let next : ℕ = min (at + (skipOf (getD ws at 0) + 1)) (length ws) in
+    cond (ltb at (length ws)) (record { line = valueFrom (lineOf [] [] Ending.Never) (next - at) 0 (drop at ws); next = next })
+    (record { line = lineOf [] [] Ending.Never; next = at })

@@ -5,10 +5,10 @@ use Rattle.image_cases.proofs.count_lines.Statement.{statement}
 use Rattle.image_cases.proofs.count_lines.Tie as tie
 
 abbrev Inv-loop : tie.InvT-loop
-Inv-loop image part start end count₀ at₀ count at = count ≤ at
+Inv-loop image start end count₀ at₀ count at = count ≤ at
 
 abbrev μ-loop : tie.MeasureT-loop
-μ-loop image part start end count₀ at₀ count at = end - at
+μ-loop image start end count₀ at₀ count at = end - at
 
 loop-holds : tie.Need-loop-holds Inv-loop μ-loop
 loop-holds c = search needs
