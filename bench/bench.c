@@ -1,4 +1,5 @@
-/* Measures the library on the same inputs against C: checks and decisions against plain.c, compilations against the reference.
+/* Measures the library on the same inputs against C: checks and decisions against plain.c, compilations and texts of images
+ * against the reference.
  *
  *   bench check      both sides give the same answers on all inputs, on damaged ones and on others made by chance
  *   bench count      calls each side once on each input, for callgrind: bench/run reads the counts
@@ -10,6 +11,7 @@
 #include <string.h>
 #include <time.h>
 
+#include "../tests/library/fill.h"
 #include "../tests/reference/inputs.h"
 #include "plain.h"
 
@@ -168,25 +170,31 @@ static void growth(struct buffer *text, struct epochs *e, int rules, int constra
 
 struct side {
     const char *name;
-    struct kinohazel_compilation (*compile)(const uint8_t *, size_t, uint8_t *, size_t);
+    fill_function *compile, *text;
     struct kinohazel_image_check (*check)(const uint8_t *, size_t);
     struct kinohazel_decision (*decide)(const uint8_t *, size_t, const uint8_t *, size_t);
 };
 
-static struct kinohazel_compilation reference_compile(
-    const uint8_t *text, size_t text_length, uint8_t *out, size_t out_length)
+static struct filled reference_compile(const uint8_t *text, size_t length, uint8_t *out, size_t room)
 {
     size_t size;
-    struct verdict verdict = compile(text, text_length, out, out_length, &size);
-    return (struct kinohazel_compilation){.fault = verdict.fault, .line = verdict.location, .size = size};
+    struct verdict verdict = compile(text, length, out, room, &size);
+    return (struct filled){verdict.fault, verdict.location, size};
+}
+
+static struct filled reference_text(const uint8_t *image, size_t length, uint8_t *out, size_t room)
+{
+    size_t size;
+    struct verdict verdict = decompile(image, length, out, room, &size);
+    return (struct filled){verdict.fault, verdict.location, size};
 }
 
 static const struct side sides[2] = {
-    {"Rattle", kinohazel_compile_nonnull, kinohazel_check_nonnull, kinohazel_decide_nonnull},
-    {"C", reference_compile, plain_check, plain_decide},
+    {"Rattle", fill_with_image, fill_with_text, kinohazel_check_nonnull, kinohazel_decide_nonnull},
+    {"C", reference_compile, reference_text, plain_check, plain_decide},
 };
 
-enum task { DECIDE, CHECK, COMPILE };
+enum task { DECIDE, CHECK, COMPILE, TEXT };
 
 /* A row of a table. */
 struct row {
@@ -236,7 +244,8 @@ static void add_sample(const char *name, void (*make)(struct buffer *, struct ep
     add_row("main", DECIDE, s, quiet, "decide, ", name, ", quiet");
     add_row("main", DECIDE, s, busy, "decide, ", name, ", busy");
     add_row("main", CHECK, s, NULL, "load, ", name, "");
-    add_row("compile", COMPILE, s, NULL, "compile, ", name, "");
+    add_row("reference", COMPILE, s, NULL, "compile, ", name, "");
+    add_row("reference", TEXT, s, NULL, "text, ", name, "");
 }
 
 static void add_heaviest(void)
@@ -283,10 +292,12 @@ static int calls_of(const struct row *r)
 /* Every call of the row, once. */
 static void turn(const struct row *r, const struct side *side)
 {
-    static uint8_t out[IMAGE_BYTES];
+    static uint8_t out[WRITTEN_BYTES];
     const struct sample *s = r->sample;
     if (r->task == COMPILE) {
         sink += side->compile(s->text.bytes, s->text.length, out, sizeof out).size;
+    } else if (r->task == TEXT) {
+        sink += side->text(s->image, s->image_length, out, sizeof out).size;
     } else if (r->task == CHECK) {
         sink += side->check(s->image, s->image_length).rules;
     } else {
@@ -325,16 +336,28 @@ static struct kinohazel_image_check same_check(const uint8_t *image, size_t size
     return a;
 }
 
-static struct kinohazel_compilation same_compilation(const uint8_t *text, size_t length, size_t size)
+/* Both fill a buffer alike. */
+static struct filled same_filling(
+    fill_function *mine, fill_function *plain, const uint8_t *input, size_t length, size_t room, const char *what)
 {
-    static uint8_t one[IMAGE_BYTES], other[IMAGE_BYTES];
+    static uint8_t one[WRITTEN_BYTES], other[WRITTEN_BYTES];
     memset(one, 0xa5, sizeof one);
     memset(other, 0xa5, sizeof other);
-    struct kinohazel_compilation a = kinohazel_compile(text, length, one, size);
-    struct kinohazel_compilation b = reference_compile(text, length, other, size);
-    same(memcmp(&a, &b, sizeof a) == 0, "a text");
-    same(memcmp(one, other, sizeof one) == 0, "the bytes of an image");
+    struct filled a = mine(input, length, one, room);
+    struct filled b = plain(input, length, other, room);
+    same(memcmp(&a, &b, sizeof a) == 0, what);
+    same(memcmp(one, other, sizeof one) == 0, "the bytes of an image or a text");
     return a;
+}
+
+static struct filled same_compilation(const uint8_t *text, size_t length, size_t room)
+{
+    return same_filling(sides[0].compile, sides[1].compile, text, length, room, "a text");
+}
+
+static struct filled same_text(const uint8_t *image, size_t size, size_t room)
+{
+    return same_filling(sides[0].text, sides[1].text, image, size, room, "the text of an image");
 }
 
 /* The faults that were met: bit n is fault n. */
@@ -358,6 +381,7 @@ static void check_damaged_images(const struct sample *s, struct dice *dice)
             put_sum(image, words);
         size_t length = s->image_length - (chance(dice, 60) ? below(dice, 9) : 0);
         met |= 1ul << same_check(image, length).fault;
+        met |= 1ul << same_text(image, length, chance(dice, 875) ? WRITTEN_BYTES : below(dice, WRITTEN_BYTES)).fault;
         met |= 1ul << same_decision(image, length, (const uint8_t *)"E1 E3 R0=41", 11).fault;
     }
 }
@@ -400,6 +424,7 @@ static void check_made(struct buffer *work, struct dice *dice)
         met |= 1ul << same_compilation(work->bytes, text_length, IMAGE_BYTES).fault;
         compile(work->bytes, text_length, image, sizeof image, &size);
         same_check(image, size);
+        same_text(image, size, WRITTEN_BYTES);
         while (next_line(work->bytes, work->length, &at, &line, &length))
             met |= 1ul << same_decision(image, size, line, length).fault;
     }
@@ -425,6 +450,7 @@ static void check_all(void)
         const struct sample *s = rows[i].sample;
         same(same_compilation(s->text.bytes, s->text.length, IMAGE_BYTES).fault == KINOHAZEL_OK, "a good text");
         same(same_check(s->image, s->image_length).fault == KINOHAZEL_OK, "a good image");
+        same(same_text(s->image, s->image_length, WRITTEN_BYTES).fault == KINOHAZEL_OK, "the text of a good image");
         if (rows[i].task != DECIDE)
             continue;
         check_lines(s, rows[i].epochs, &work, &dice);
@@ -525,7 +551,7 @@ int main(int argc, char **argv)
         count();
     } else if (strcmp(mode, "time") == 0) {
         for (int i = 0; i < row_count; i++)
-            if (strcmp(rows[i].table, "main") == 0 || strcmp(rows[i].table, "compile") == 0)
+            if (strcmp(rows[i].table, "main") == 0 || strcmp(rows[i].table, "reference") == 0)
                 measure(&rows[i]);
     } else if (strcmp(mode, "proposed") == 0) {
         for (int i = 0; i < row_count; i++)

@@ -1,4 +1,4 @@
-/* Kinohazel for C and C++: compile a rule text to an image, check an image, decide an epoch on it.
+/* Kinohazel for C and C++: compile a rule text to an image, check an image, write its text, decide an epoch on it.
  *
  * The header is for C99, C++11 and later. The library is for x86-64 with the System V calling convention, as Linux has it; it uses
  * the red zone and the SSE2 registers of that convention. `rt staticlib kinohazel` builds it as target/staticlib/libkinohazel.a.
@@ -26,14 +26,16 @@ extern "C" {
 #endif
 
 #define KINOHAZEL_VERSION_MAJOR 1
-#define KINOHAZEL_VERSION_MINOR 0
+#define KINOHAZEL_VERSION_MINOR 1
 #define KINOHAZEL_VERSION_PATCH 0
-#define KINOHAZEL_VERSION "1.0.0"
+#define KINOHAZEL_VERSION "1.1.0"
 
-/* Limits. A buffer of KINOHAZEL_IMAGE_LIMIT bytes has room for every image. */
+/* Limits. A buffer of KINOHAZEL_IMAGE_LIMIT bytes has room for every image, one of KINOHAZEL_WRITTEN_TEXT_LIMIT bytes for the text
+ * of every image. */
 #define KINOHAZEL_TEXT_LIMIT 32768   /* bytes of a rule text */
 #define KINOHAZEL_EPOCH_LIMIT 1024   /* bytes of an epoch line, without its line end */
 #define KINOHAZEL_IMAGE_LIMIT 13064  /* bytes of an image */
+#define KINOHAZEL_WRITTEN_TEXT_LIMIT 27968 /* bytes of the text of an image: 128 rules of 150, 64 never lines of 137 */
 #define KINOHAZEL_RULE_LIMIT 128
 #define KINOHAZEL_CONSTRAINT_LIMIT 64 /* never lines */
 
@@ -42,6 +44,7 @@ extern "C" {
  * to the library as the kit builds it. */
 #define KINOHAZEL_COMPILE_STACK 1152
 #define KINOHAZEL_CHECK_STACK 640
+#define KINOHAZEL_TEXT_STACK 1024
 #define KINOHAZEL_DECIDE_STACK 896
 
 /* Why something is refused. The words for each stand in kinohazel_fault_words. */
@@ -83,7 +86,7 @@ static inline const char *kinohazel_fault_words(uint64_t fault)
     case KINOHAZEL_EPOCH_SYNTAX: return "part of an epoch line of neither shape";
     case KINOHAZEL_EPOCH_RANGE: return "number in an epoch line out of range";
     case KINOHAZEL_DUPLICATE_READING: return "a reading given twice";
-    case KINOHAZEL_BUFFER_TOO_SMALL: return "buffer lent for an image has too few bytes";
+    case KINOHAZEL_BUFFER_TOO_SMALL: return "buffer lent for an image or a text has too few bytes";
     default: return "unknown fault";
     }
 }
@@ -101,6 +104,12 @@ struct kinohazel_image_check {
     uint64_t constraints; /* never lines; 0 on a refusal */
 };
 
+struct kinohazel_text_written {
+    uint64_t fault; /* enum kinohazel_fault */
+    uint64_t word;  /* the index of the word at fault for 11; otherwise 0 */
+    uint64_t size;  /* bytes of the text; 0 on a refusal */
+};
+
 struct kinohazel_decision {
     uint64_t fault;     /* enum kinohazel_fault */
     uint64_t word;      /* the index of the word at fault for 11; otherwise 0 */
@@ -113,6 +122,8 @@ struct kinohazel_decision {
 struct kinohazel_compilation kinohazel_compile_nonnull(
     const uint8_t *text, size_t text_length, uint8_t *out, size_t out_length);
 struct kinohazel_image_check kinohazel_check_nonnull(const uint8_t *image, size_t image_length);
+struct kinohazel_text_written kinohazel_text_nonnull(
+    const uint8_t *image, size_t image_length, uint8_t *out, size_t out_length);
 struct kinohazel_decision kinohazel_decide_nonnull(
     const uint8_t *image, size_t image_length, const uint8_t *line, size_t line_length);
 
@@ -142,6 +153,17 @@ static inline struct kinohazel_image_check kinohazel_check(const uint8_t *image,
 {
     uint8_t none = 0;
     return kinohazel_check_nonnull(kinohazel_lent(image, image_length, &none), image_length);
+}
+
+/* Writes the rule text of an image: its rules, then its never lines, each on a line that ends with byte 10, with one space between
+ * tokens. It compiles to the image again. On success the text stands at the start of `out` and what lies behind it is unchanged; no
+ * byte 0 is put behind it. On a refusal `out` is unchanged. The whole image is checked first. */
+static inline struct kinohazel_text_written kinohazel_text(
+    const uint8_t *image, size_t image_length, uint8_t *out, size_t out_length)
+{
+    uint8_t none = 0;
+    return kinohazel_text_nonnull(kinohazel_lent(image, image_length, &none), image_length,
+        kinohazel_lent_out(out, out_length, &none), out_length);
 }
 
 /* Decides an epoch line, such as `E1 E3 R0=41` with no line end, on an image. The whole image is checked each time. */

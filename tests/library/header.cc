@@ -20,6 +20,8 @@ static void print(const kinohazel_image_check &answer)
     print("check", answer.fault, answer.word, answer.rules, answer.constraints);
 }
 
+static void print(const kinohazel_text_written &answer) { print("text", answer.fault, answer.word, answer.size, 0); }
+
 static void print(const kinohazel_decision &answer)
 {
     print("decide", answer.fault, answer.word, answer.accepted, answer.cancelled);
@@ -30,13 +32,14 @@ int main()
     static const char text[] = "E1 causes A3\nE1 causes A4\nnever A3 & A4\n", line[] = "E1";
     const size_t text_length = std::strlen(text), line_length = std::strlen(line);
     const std::vector<uint8_t> nothing;
-    std::vector<uint8_t> no_room, image(KINOHAZEL_IMAGE_LIMIT);
+    std::vector<uint8_t> no_room, image(KINOHAZEL_IMAGE_LIMIT), written(KINOHAZEL_WRITTEN_TEXT_LIMIT);
 
     std::cout << "version " << KINOHAZEL_VERSION << ", " << KINOHAZEL_VERSION_MAJOR << ' ' << KINOHAZEL_VERSION_MINOR << ' '
               << KINOHAZEL_VERSION_PATCH << '\n';
     std::cout << "limits " << KINOHAZEL_TEXT_LIMIT << ' ' << KINOHAZEL_EPOCH_LIMIT << ' ' << KINOHAZEL_IMAGE_LIMIT << ' '
-              << KINOHAZEL_RULE_LIMIT << ' ' << KINOHAZEL_CONSTRAINT_LIMIT << '\n';
-    std::cout << "stack " << KINOHAZEL_COMPILE_STACK << ' ' << KINOHAZEL_CHECK_STACK << ' ' << KINOHAZEL_DECIDE_STACK << '\n';
+              << KINOHAZEL_WRITTEN_TEXT_LIMIT << ' ' << KINOHAZEL_RULE_LIMIT << ' ' << KINOHAZEL_CONSTRAINT_LIMIT << '\n';
+    std::cout << "stack " << KINOHAZEL_COMPILE_STACK << ' ' << KINOHAZEL_CHECK_STACK << ' ' << KINOHAZEL_TEXT_STACK << ' '
+              << KINOHAZEL_DECIDE_STACK << '\n';
 
     const kinohazel_compilation compilation = kinohazel_compile(bytes_of(text), text_length, &image[0], image.size());
     const size_t size = static_cast<size_t>(compilation.size);
@@ -48,6 +51,12 @@ int main()
     print(check);
     print(kinohazel_check_nonnull(&image[0], size - 1));
     print(kinohazel_check(nothing.data(), nothing.size()));
+    const kinohazel_text_written answer = kinohazel_text(&image[0], size, &written[0], written.size());
+    print(answer);
+    std::cout.write(reinterpret_cast<const char *>(&written[0]), static_cast<std::streamsize>(answer.size));
+    print(kinohazel_text_nonnull(&image[0], size, &written[0], text_length - 1));
+    print(kinohazel_text(&image[0], size, no_room.data(), no_room.size()));
+    print(kinohazel_text(nothing.data(), nothing.size(), no_room.data(), no_room.size()));
     const kinohazel_decision decision = kinohazel_decide(&image[0], size, bytes_of(line), line_length);
     print(decision);
     print(kinohazel_decide_nonnull(&image[0], size, bytes_of("R0=1 R0=1"), 9));

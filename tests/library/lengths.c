@@ -3,7 +3,7 @@
    have over 4 GiB, of which few pages are ever used. They can be read to their end, and written at their start alone. */
 #define _DEFAULT_SOURCE
 #include "../reference/inputs.h"
-#include "kinohazel.h"
+#include "fill.h"
 
 #include <inttypes.h>
 #include <signal.h>
@@ -58,47 +58,45 @@ static bool painted(const uint8_t *out, size_t from)
     return from == START;
 }
 
-/* Texts too long by any power of 2 are refused under 1, into a short buffer and into a long one. */
-static void try_texts(uint8_t *area, uint8_t *out)
+/* Inputs too long by any power of 2 are refused under this fault, into a short buffer and into a long one. */
+static void try_long(uint8_t *area, uint8_t *out, fill_function *fill, const void *input, size_t size, unsigned first_bit,
+    enum kinohazel_fault fault)
 {
-    static const char *const texts[] = {"", "E1 causes A2\n", "E64 causes A2\n", "x"};
-    size_t i, length;
+    size_t length;
     unsigned bit, k;
-    for (i = 0; i < sizeof texts / sizeof *texts; i++)
-        for (bit = 16; bit <= LAST_BIT; bit++)
-            for (k = 0; k < 2; k++) {
-                struct kinohazel_compilation answer;
-                length = ((size_t)1 << bit) + strlen(texts[i]);
-                put(area, texts[i], strlen(texts[i]));
-                paint(out);
-                answer = kinohazel_compile(area, length, out, k == 0 ? KINOHAZEL_IMAGE_LIMIT : length);
-                if (answer.fault != KINOHAZEL_TOO_LONG || answer.line != 0 || answer.size != 0)
-                    fail("a text too long is not refused under 1", length);
-                if (!painted(out, 0))
-                    fail("a refused text changed the buffer", length);
-                calls++;
-            }
+    put(area, input, size);
+    for (bit = first_bit; bit <= LAST_BIT; bit++)
+        for (k = 0; k < 2; k++) {
+            struct filled answer;
+            length = ((size_t)1 << bit) + size;
+            paint(out);
+            answer = fill(area, length, out, k == 0 ? KINOHAZEL_IMAGE_LIMIT : length);
+            if (answer.fault != (uint64_t)fault || answer.location != 0 || answer.size != 0)
+                fail("a text or an image too long is not refused under 1 or 7", length);
+            if (!painted(out, 0))
+                fail("a refused text or image changed the buffer", length);
+            calls++;
+        }
 }
 
-/* Rooms of any power of 2 and somewhat less than the image are enough for it. */
-static void try_rooms(uint8_t *area, uint8_t *out, const char *text)
+/* Rooms of any power of 2 and somewhat less than the output are enough for it. */
+static void try_rooms(uint8_t *area, uint8_t *out, fill_function *fill, const void *input, size_t length,
+    const void *output, size_t size)
 {
-    static uint8_t image[IMAGE_BYTES];
-    size_t size, room;
+    size_t room;
     unsigned bit, k;
-    compile((const uint8_t *)text, strlen(text), image, sizeof image, &size);
-    put(area, text, strlen(text));
+    put(area, input, length);
     for (bit = 14; bit <= LAST_BIT; bit++) {
         const size_t more[] = {0, 1, size - 4, size - 1, size, size + 1};
         for (k = 0; k < sizeof more / sizeof *more; k++) {
-            struct kinohazel_compilation answer;
+            struct filled answer;
             room = ((size_t)1 << bit) + more[k];
             paint(out);
-            answer = kinohazel_compile(area, strlen(text), out, room);
-            if (answer.fault != KINOHAZEL_OK || answer.line != 0 || answer.size != size)
+            answer = fill(area, length, out, room);
+            if (answer.fault != KINOHAZEL_OK || answer.location != 0 || answer.size != size)
                 fail("a large room is not enough", room);
-            if (memcmp(out, image, size) != 0 || !painted(out, size))
-                fail("wrong bytes in a large room, or changed ones behind the image", room);
+            if (memcmp(out, output, size) != 0 || !painted(out, size))
+                fail("wrong bytes in a large room, or changed ones behind the output", room);
             calls++;
         }
     }
@@ -152,22 +150,30 @@ static void try_lines(uint8_t *area, const uint8_t *image, size_t size)
             }
 }
 
+/* A text that is written so, and its image. */
+static void try_text(uint8_t *area, uint8_t *out, const char *text)
+{
+    static uint8_t image[IMAGE_BYTES];
+    size_t size;
+    compile((const uint8_t *)text, strlen(text), image, sizeof image, &size);
+    try_rooms(area, out, fill_with_image, text, strlen(text), image, size);
+    try_rooms(area, out, fill_with_text, image, size, text, strlen(text));
+    try_long(area, out, fill_with_text, image, size, 14, KINOHAZEL_IMAGE_SIZE);
+    try_images(area, image, size);
+    try_lines(area, image, size);
+}
+
 int main(void)
 {
-    static const char text[] = EXAMPLE;
-    static uint8_t image[IMAGE_BYTES], empty[8];
+    static const char *const texts[] = {"", "E1 causes A2\n", "E64 causes A2\n", "x"};
     uint8_t *area = new_area(), *out = new_area();
-    size_t size, empty_size;
+    size_t i;
     signal(SIGSEGV, stop);
     signal(SIGBUS, stop);
-    compile((const uint8_t *)text, strlen(text), image, sizeof image, &size);
-    compile(NULL, 0, empty, sizeof empty, &empty_size);
-    try_texts(area, out);
-    try_rooms(area, out, text);
-    try_rooms(area, out, "");
-    try_images(area, image, size);
-    try_images(area, empty, empty_size);
-    try_lines(area, image, size);
+    for (i = 0; i < sizeof texts / sizeof *texts; i++)
+        try_long(area, out, fill_with_image, texts[i], strlen(texts[i]), 16, KINOHAZEL_TOO_LONG);
+    try_text(area, out, EXAMPLE);
+    try_text(area, out, "");
     printf("library: %lu calls with lengths up to 2 to the power of %d and more agree\n", calls, LAST_BIT);
     return 0;
 }

@@ -20,6 +20,7 @@ static struct {
 static struct {
     struct kinohazel_compilation compilation;
     struct kinohazel_image_check check;
+    struct kinohazel_text_written written;
     struct kinohazel_decision decision;
 } answer;
 
@@ -35,6 +36,13 @@ static void call_check(void)
     answer.check = kinohazel_check(call.image, call.image_length);
 }
 
+static void call_text(void)
+{
+    static uint8_t text[KINOHAZEL_WRITTEN_TEXT_LIMIT];
+    call.frame = __builtin_frame_address(0);
+    answer.written = kinohazel_text(call.image, call.image_length, text, sizeof text);
+}
+
 static void call_decide(void)
 {
     call.frame = __builtin_frame_address(0);
@@ -48,6 +56,7 @@ static struct function {
     unsigned long calls;
 } compiling = {"compile", call_compile, KINOHAZEL_COMPILE_STACK, 0, 0},
   checking = {"check", call_check, KINOHAZEL_CHECK_STACK, 0, 0},
+  writing = {"text", call_text, KINOHAZEL_TEXT_STACK, 0, 0},
   deciding = {"decide", call_decide, KINOHAZEL_DECIDE_STACK, 0, 0};
 
 static void measure(struct function *function)
@@ -77,6 +86,7 @@ static void measure_image(const uint8_t *image, size_t length, const uint8_t *li
     call.line = line;
     call.line_length = line_length;
     measure(&checking);
+    measure(&writing);
     measure(&deciding);
 }
 
@@ -107,7 +117,7 @@ static void measure_input(const struct buffer *input, struct dice *dice)
     }
 }
 
-/* The largest text and image, and on them epoch lines of the largest length. */
+/* The largest text and image, and on them epoch lines of the largest length; then the image with the longest text. */
 static void measure_largest(struct buffer *input, struct dice *dice)
 {
     unsigned i;
@@ -120,6 +130,9 @@ static void measure_largest(struct buffer *input, struct dice *dice)
             add(input, " ");
         add(input, i == 1 ? "R0=-2147483648\n" : "R15=2147483647\n");
     }
+    measure_input(input, dice);
+    input->length = 0;
+    add_widest(input);
     measure_input(input, dice);
 }
 
@@ -150,6 +163,8 @@ int main(void)
     right = report(&compiling);
     printf("; ");
     right = report(&checking) && right;
+    printf("; ");
+    right = report(&writing) && right;
     printf("; ");
     right = report(&deciding) && right;
     printf("\n");

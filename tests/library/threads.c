@@ -1,5 +1,5 @@
 /* Calls the functions of include/kinohazel.h from several threads at once, on the same texts, images and lines, each thread with
-   a buffer of its own. The answers must be those that one thread alone had before. */
+   buffers of its own. The answers must be those that one thread alone had before. */
 #define _POSIX_C_SOURCE 200112L
 #include "../reference/inputs.h"
 #include "kinohazel.h"
@@ -13,8 +13,9 @@ enum { THREADS = 8, CASES = 24, LINES = 16, TURNS = 100 };
 struct answers {
     struct kinohazel_compilation compilation;
     struct kinohazel_image_check check;
+    struct kinohazel_text_written written;
     struct kinohazel_decision decisions[LINES];
-    uint8_t out[IMAGE_BYTES];
+    uint8_t out[IMAGE_BYTES], text[WRITTEN_BYTES];
 };
 
 /* An input of the engine, the image of its text, and what one thread answers. */
@@ -35,6 +36,7 @@ static void answer(const struct sample *sample, struct answers *to)
     memset(to, 0, sizeof *to);
     to->compilation = kinohazel_compile(sample->input.bytes, sample->text_length, to->out, sizeof to->out);
     to->check = kinohazel_check(sample->image, sample->size);
+    to->written = kinohazel_text(sample->image, sample->size, to->text, sizeof to->text);
     for (i = 0; i < sample->count; i++)
         to->decisions[i] = kinohazel_decide(sample->image, sample->size, sample->lines[i], sample->lengths[i]);
 }

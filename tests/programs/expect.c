@@ -1,7 +1,5 @@
-/* Prints what a program has to print for the input on standard input: `expect compiler` or `expect engine`. */
+/* `expect PROGRAM` prints what the program has to print for the input on standard input. */
 #include "../reference/reference.h"
-
-#include <string.h>
 
 enum { ROOM = 1 << 20 };
 
@@ -11,11 +9,5 @@ int main(int argc, char **argv)
     size_t length = fread(input, 1, ROOM, stdin);
     if (length == ROOM || argc != 2)
         return 2;
-    if (strcmp(argv[1], "compiler") == 0)
-        print_compiler(input, length, stdout);
-    else if (strcmp(argv[1], "engine") == 0)
-        print_engine(input, length, stdout);
-    else
-        return 2;
-    return 0;
+    return print_program(argv[1], input, length, stdout) ? 0 : 2;
 }

@@ -1,11 +1,11 @@
-/* The two programs where reads and writes fail, are interrupted or move few bytes, and before clients that wait:
-   `failures PROGRAMS SHIM REPORT` runs PROGRAMS/compiler and PROGRAMS/engine and prints the number of cases. What no
-   real descriptor does is done by the shared object SHIM (shim.c), which is put before the C library; REPORT is a file
-   that may be written. What has to be printed is computed by the reference.
+/* The programs where reads and writes fail, are interrupted or move few bytes, and before clients that wait:
+   `failures PROGRAMS SHIM REPORT` runs PROGRAMS/compiler, PROGRAMS/decompiler and PROGRAMS/engine and prints the number
+   of cases. What no real descriptor does is done by the shared object SHIM (shim.c), which is put before the C library;
+   REPORT is a file that may be written. What has to be printed is computed by the reference.
 
    A failing read or write is reported by one line on standard error; after it nothing is read and nothing printed. Of
-   the input only what was read whole counts: the compiler prints nothing for a part of a text, the engine nothing for a
-   part of a line. A call that is interrupted is made again. */
+   the input only what was read whole counts: the compiler and the decompiler print nothing for a part of their input, the
+   engine nothing for a part of a line. A call that is interrupted is made again. */
 #define _XOPEN_SOURCE 700
 #include "../reference/inputs.h"
 #include "shim.h"
@@ -107,10 +107,8 @@ static const char *shown(const char *bytes, size_t length)
     return line;
 }
 
-static bool is_compiler(const char *program)
-{
-    return strcmp(program, "compiler") == 0;
-}
+static const char *const program_names[] = {"compiler", "decompiler", "engine"};
+enum { PROGRAMS = sizeof program_names / sizeof *program_names };
 
 static struct bytes due_of(const char *program, const uint8_t *input, size_t length)
 {
@@ -118,22 +116,20 @@ static struct bytes due_of(const char *program, const uint8_t *input, size_t len
     FILE *out = open_memstream(&due.at, &due.length);
     if (out == NULL)
         fail("no memory");
-    if (is_compiler(program))
-        print_compiler(input, length, out);
-    else
-        print_engine(input, length, out);
+    print_program(program, input, length, out);
     fclose(out);
     return due;
 }
 
-/* What is printed when the input breaks off after `length` bytes: the answers to whole lines behind a line `run`. */
+/* What is printed when the input breaks off after `length` bytes: by the engine the answers to whole lines behind a line
+   `run`, by the others nothing. */
 static struct bytes due_of_part(const char *program, const uint8_t *input, size_t length)
 {
     struct bytes none = {NULL, 0};
     size_t text, epochs;
     while (length > 0 && input[length - 1] != '\n')
         length--;
-    if (is_compiler(program) || !find_run(input, length, &text, &epochs))
+    if (strcmp(program, "engine") != 0 || !find_run(input, length, &text, &epochs))
         return none;
     return due_of(program, input, length);
 }
@@ -413,7 +409,7 @@ struct sample {
     int file; /* with the input */
 };
 
-static struct sample samples[40];
+static struct sample samples[48];
 static size_t sample_count;
 
 /* A further input, which begins with this text. */
@@ -443,6 +439,32 @@ static void add_compiler_samples(void)
     add_length(input, 33000 - input->length, true);
     add_length(add_sample("compiler", "65,536 bytes", ""), 65536, true);
     add_length(add_sample("compiler", "200,000 bytes", ""), 200000, false);
+}
+
+static void add_decompiler_samples(void)
+{
+    static uint8_t image[IMAGE_BYTES];
+    struct buffer text = new_buffer(), *input;
+    size_t size;
+    add_sample("decompiler", "nothing", "");
+    add_sample("decompiler", "the empty text", "01000000\nFF000000\n");
+    add(&text, EXAMPLE);
+    compile(text.bytes, text.length, image, sizeof image, &size);
+    add_dump(add_sample("decompiler", "the example", ""), image, size);
+    add_sample("decompiler", "a last line without its end", "01002000\n10400001\n50400000\n9e7fdfff");
+    add_sample("decompiler", "a line that is no word", "01000000\nFF00000\nFF000000\nx\n");
+    text.length = 0;
+    add_widest(&text);
+    compile(text.bytes, text.length, image, sizeof image, &size);
+    add_dump(add_sample("decompiler", "the longest text", ""), image, size);
+    image[size - 1] ^= 1;
+    add_dump(add_sample("decompiler", "a changed word", ""), image, size);
+    add_times(add_sample("decompiler", "3,267 words", ""), "01000000\n", IMAGE_WORDS + 1);
+    input = add_sample("decompiler", "22,222 words, then none", "");
+    add_times(input, "01000000\n", 22222);
+    add(input, "0");
+    add_times(add_sample("decompiler", "200,000 digits", ""), "0", 200000);
+    free(text.bytes);
 }
 
 static void add_engine_samples(void)
@@ -485,6 +507,7 @@ static void make_samples(void)
     size_t i;
     strcpy(title, "samples");
     add_compiler_samples();
+    add_decompiler_samples();
     add_engine_samples();
     for (i = 0; i < sample_count; i++) {
         struct sample *sample = &samples[i];
@@ -611,7 +634,8 @@ static void test_failing_writes(void)
                 const struct sample *sample = &samples[i];
                 bool fails = places[n] < sample->due.length;
                 struct run run;
-                char script[200];
+                char script[200], beginning[40];
+                snprintf(beginning, sizeof beginning, "%s: standard output: ", sample->program);
                 snprintf(script, sizeof script, "write_stop=%lu write_error=%d%s", (unsigned long)places[n],
                     ways[k].error, ways[k].script);
                 run = run_script(sample, script);
@@ -620,8 +644,7 @@ static void test_failing_writes(void)
                 else if (ways[k].error != 0)
                     check_error(&run, "output", ways[k].error);
                 else
-                    check_said_line(&run, is_compiler(sample->program) ? "compiler: standard output: "
-                                                                       : "engine: standard output: ");
+                    check_said_line(&run, beginning);
                 check_printed(&run, sample->due.at, places[n]);
                 check_calls(0, fails);
                 forget(&run);
@@ -641,13 +664,12 @@ static void test_unreadable(void)
         {"input only for writing", "/dev/null", O_WRONLY, EBADF, true},
         {"closed input and output", NULL, 0, EBADF, false},
         {"a directory and closed output", "/", O_RDONLY, EISDIR, false}};
-    static const char *const names[] = {"compiler", "engine"};
     size_t i, k;
-    for (i = 0; i < 2; i++)
+    for (i = 0; i < PROGRAMS; i++)
         for (k = 0; k < sizeof ways / sizeof *ways; k++) {
-            struct setting setting = setting_of(names[i]);
+            struct setting setting = setting_of(program_names[i]);
             struct run run;
-            begin("%s, %s", names[i], ways[k].name);
+            begin("%s, %s", program_names[i], ways[k].name);
             if (ways[k].path != NULL)
                 setting.in = open_file(ways[k].path, ways[k].flags);
             run = ways[k].prints ? start_piped(setting) : start(setting, CLOSED);
@@ -686,6 +708,8 @@ static void test_blocking_input(void)
 {
     static const char *const texts[] = {
         "", "E1", "E1 causes A1\n", "E1 causes A1\nnever A", "E64 causes A1\n", "E1\nE1\n"};
+    static const char *const dumps[] = {"", "01000000", "01000000\n", "01000000\nFF000000\n", "01000000\nFF000000\n0",
+        "x\n", "01000000\n\n"};
     static const char *const inputs[] = {"", "E1 causes A1\n", "E1 causes A1\nrun", "E1 causes A1\nrun\n",
         "E1 causes A1\nrun\nE1", "E1 causes A1\nrun\nE1\n", "E1 causes A1\nrun\nE1\n\nE64\nE1 E2", "E64 causes A1\n",
         "E64 causes A1\nru", "E64 causes A1\nrun\nE1\nE", "run\n\n\n "};
@@ -694,6 +718,8 @@ static void test_blocking_input(void)
     size_t i;
     for (i = 0; i < sizeof texts / sizeof *texts; i++)
         block_behind("compiler", texts[i], strlen(texts[i]));
+    for (i = 0; i < sizeof dumps / sizeof *dumps; i++)
+        block_behind("decompiler", dumps[i], strlen(dumps[i]));
     for (i = 0; i < sizeof inputs / sizeof *inputs; i++)
         block_behind("engine", inputs[i], strlen(inputs[i]));
     for (i = 0; i < sizeof names / sizeof *names; i++) {
@@ -701,6 +727,8 @@ static void test_blocking_input(void)
         block_behind("engine", sample->input.bytes, sample->input.length);
         block_behind("compiler", sample->input.bytes, sample->input.length);
     }
+    block_behind("decompiler", sample_of("decompiler", "the longest text")->input.bytes,
+        sample_of("decompiler", "the longest text")->input.length);
 }
 
 /* Outputs that take nothing. */
@@ -883,26 +911,26 @@ static void test_leaving_reader(void)
 /* Any argument: nothing is read. */
 static void test_arguments(void)
 {
-    static const struct {
-        const char *program, *beginning;
-    } ways[] = {{"compiler", "usage: compiler"}, {"engine", "usage: engine"}};
+    static const char *const beginnings[PROGRAMS] = {"usage: compiler, with a rule text on standard input",
+        "usage: decompiler, with the words of an image on standard input",
+        "usage: engine, with a rule text, a line run and epoch lines on standard input"};
     static char x[] = "x", none[] = "", help[] = "--help", dash[] = "-";
     char *const lists[][3] = {{x, NULL, NULL}, {none, NULL, NULL}, {help, NULL, NULL}, {dash, NULL, NULL}, {x, x, NULL},
         {none, none, help}};
     static const char input[] = "E1 causes A1\nrun\nE1\n";
     size_t i, k;
-    for (i = 0; i < 2; i++)
+    for (i = 0; i < PROGRAMS; i++)
         for (k = 0; k < sizeof lists / sizeof *lists; k++) {
-            struct setting setting = setting_of(ways[i].program);
+            struct setting setting = setting_of(program_names[i]);
             struct run run;
             int writer;
-            begin("%s with the argument '%s'", ways[i].program, lists[k][0]);
+            begin("%s with the argument '%s'", program_names[i], lists[k][0]);
             memcpy(setting.arguments, lists[k], sizeof setting.arguments);
             setting.in = pipe_of(input, strlen(input), &writer);
             run = start_piped(setting);
             end(&run);
             check_status(&run);
-            check_said_line(&run, ways[i].beginning);
+            check_said_line(&run, beginnings[i]);
             check_printed(&run, "", 0);
             if (held(setting.in) != (int)strlen(input))
                 fail("input was read");
@@ -1093,6 +1121,10 @@ static void test_terminal(void)
     type("compiler", EXAMPLE "\4", EXAMPLE);
     type("compiler", "E64 causes A1\n\4", "E64 causes A1\n");
     type("compiler", "E1 causes A1\4\4", "E1 causes A1"); /* the first EOT only sends the line */
+    type("decompiler", "\4", "");
+    type("decompiler", "01000000\nff000000\n\4", "01000000\nff000000\n");
+    type("decompiler", "01000000\nff000000\4\4", "01000000\nff000000");
+    type("decompiler", "01000000\n\nff000000\n\4", "01000000\n\nff000000\n");
     type("engine", "\4", "");
     type("engine", EXAMPLE "\4", EXAMPLE);
     type("engine", EXAMPLE "run\nE1 E3 R0=41\n\nE64\n\4", EXAMPLE "run\nE1 E3 R0=41\n\nE64\n");

@@ -1,12 +1,11 @@
-/* Makes inputs for the two programs and the outputs that the reference expects, the same on each run:
-   `generate DIR` writes DIR/compiler/NAME.in, .out and DIR/engine/NAME.in, .out, and prints how often each fault was
-   met. It fails if one was never met. */
+/* Makes inputs for the programs and the outputs that the reference expects, the same on each run: `generate DIR` writes
+   DIR/PROGRAM/NAME.in and .out, and prints how often each fault was met. It fails if one was never met. */
 #include "../reference/inputs.h"
 
 #include <stdlib.h>
 #include <string.h>
 
-enum { COMPILER_CASES = 3200, ENGINE_CASES = 3200 };
+enum { COMPILER_CASES = 3200, DECOMPILER_CASES = 1600, ENGINE_CASES = 3200 };
 
 static void fail(const char *message, const char *name)
 {
@@ -17,7 +16,7 @@ static void fail(const char *message, const char *name)
 /* Writing cases, and counting what they meet */
 
 struct tally {
-    unsigned long text[FAULTS], epoch[FAULTS];
+    unsigned long text[FAULTS], epoch[FAULTS], dump[FAULTS], no_words;
     unsigned long decisions, cancelling, loaded, bodies;
     unsigned long most_accepted, most_cancelled, most_epochs; /* in one decision, in one input */
 };
@@ -69,6 +68,17 @@ static void raise_to(unsigned long *most, unsigned long number)
         *most = number;
 }
 
+/* The text of an image compiles to it. */
+static void check_writer(const uint8_t *image, size_t length, const char *name)
+{
+    static uint8_t text[WRITTEN_BYTES], again[IMAGE_BYTES];
+    size_t size, written;
+    if (decompile(image, length, text, sizeof text, &size).fault != FAULT_NONE
+        || compile(text, size, again, sizeof again, &written).fault != FAULT_NONE || written != length
+        || memcmp(again, image, length) != 0)
+        fail("the text of the image does not compile to it", name);
+}
+
 /* The image of a text loads as the policy of the text; running it and the plain machine agree on each epoch line. A
    changed word is refused under 7 to 10. */
 static void check_reference(const struct buffer *input, const char *name, bool engine, struct tally *tally)
@@ -90,6 +100,7 @@ static void check_reference(const struct buffer *input, const char *name, bool e
     if (load_image(image, written, &loaded).fault != FAULT_NONE || write_image(&loaded, changed) != written
         || memcmp(changed, image, written) != 0)
         fail("the image does not load as it was written", name);
+    check_writer(image, written, name);
     verdict = compile(input->bytes, text_length, changed, written - 1, &byte);
     if (verdict.fault != FAULT_ROOM || byte != 0)
         fail("a buffer with too little room was taken", name);
@@ -116,25 +127,49 @@ static void check_reference(const struct buffer *input, const char *name, bool e
     }
 }
 
-static void write_files(const char *folder, bool engine, const char *name, const struct buffer *input)
+static void write_files(const char *folder, const char *program, const char *name, const struct buffer *input)
 {
-    const char *program = engine ? "engine" : "compiler";
     FILE *file = open_file(folder, program, name, "in");
     fwrite(input->bytes, 1, input->length, file);
     close_file(file, name);
     file = open_file(folder, program, name, "out");
-    if (engine)
-        print_engine(input->bytes, input->length, file);
-    else
-        print_compiler(input->bytes, input->length, file);
+    print_program(program, input->bytes, input->length, file);
     close_file(file, name);
+}
+
+/* A dump, for the decompiler. */
+static void write_dump(const char *folder, const char *name, const struct buffer *dump, struct tally *tally)
+{
+    static uint8_t image[DUMP_BYTES], text[WRITTEN_BYTES];
+    size_t size, written;
+    write_files(folder, "decompiler", name, dump);
+    if (read_dump(dump->bytes, dump->length, image, &size) > 0)
+        tally->no_words++;
+    else
+        tally->dump[decompile(image, size, text, sizeof text, &written).fault]++;
+}
+
+/* The image of a text, as the compiler prints it, if the text is accepted. */
+static void write_dump_of(const char *folder, const char *name, const struct buffer *text, struct tally *tally)
+{
+    static uint8_t image[IMAGE_BYTES];
+    struct buffer dump;
+    size_t size;
+    if (compile(text->bytes, text->length, image, sizeof image, &size).fault != FAULT_NONE)
+        return;
+    dump = new_buffer();
+    add_dump(&dump, image, size);
+    write_dump(folder, name, &dump, tally);
+    free(dump.bytes);
 }
 
 static void write_case(
     const char *folder, bool engine, const char *name, const struct buffer *input, struct tally *tally)
 {
-    write_files(folder, engine, name, input);
+    write_files(folder, engine ? "engine" : "compiler", name, input);
     check_reference(input, name, engine, tally);
+    if (!engine)
+        write_dump_of(folder, name, input, tally);
 }
 
 /* Cases at the limits, by name */
@@ -142,7 +177,7 @@ static void write_case(
 static void write_limits(const char *folder, struct buffer *input, struct tally *tally)
 {
     static struct policy policy;
-    static uint8_t image[IMAGE_BYTES];
+    static uint8_t image[IMAGE_BYTES], text[WRITTEN_BYTES];
     unsigned i;
     size_t k;
 
@@ -164,6 +199,19 @@ static void write_limits(const char *folder, struct buffer *input, struct tally 
         if (read_epoch(line, length, &epoch).fault != FAULT_NONE || proposed(&policy, &epoch) != UINT64_MAX)
             fail("not all actions are proposed", "largest");
     }
+    input->length = 0;
+    add_widest(input);
+    if (read_text(input->bytes, input->length, &policy).fault != FAULT_NONE
+        || write_text(&policy, text) != WRITTEN_BYTES || WRITTEN_BYTES != 27968)
+        fail("the longest text has not 27,968 bytes", "widest");
+    write_case(folder, false, "widest", input, tally);
+    compile(input->bytes, input->length, image, sizeof image, &k);
+    input->length = 0; /* the largest image and a word more, and a line that is none */
+    add_dump(input, image, k);
+    add(input, "00000000\n");
+    write_dump(folder, "widest_and_word", input, tally);
+    add(input, "\n");
+    write_dump(folder, "widest_and_blank", input, tally);
 
     for (i = 0; i < 4; i++) {
         static const char *const names[] = {"rules_128", "rules_129", "nevers_64", "nevers_65"};
@@ -405,7 +453,7 @@ static void write_floods(const char *folder, struct buffer *input, struct tally 
             add(input, i < k / 16 ? "E2\n" : i < k / 16 + k % 16 ? "E3\n" : "E1\n");
         add_times(input, "E0\n", 260);
         sprintf(name, "shift_%03u", k);
-        write_files(folder, true, name, input);
+        write_files(folder, "engine", name, input);
     }
 }
 
@@ -467,28 +515,163 @@ static void write_runs(const char *folder, struct buffer *input, struct tally *t
         }
 }
 
+/* Dumps */
+
+/* Every byte in the place of a digit. */
+static void write_bytes(const char *folder, struct buffer *input, struct tally *tally)
+{
+    unsigned byte;
+    for (byte = 0; byte < 256; byte++) {
+        char name[32];
+        input->length = 0;
+        add(input, "01000000\nFF0000"); /* with a 0 the image of the empty text */
+        add_byte(input, byte);
+        add(input, "0\n");
+        sprintf(name, "byte_%03u", byte);
+        write_dump(folder, name, input, tally);
+    }
+}
+
+/* Words about as many as there may be, and far more; then a line that is no word, no line end, or one line alone. */
+static void write_long_dumps(const char *folder, struct buffer *input, struct tally *tally)
+{
+    static const unsigned counts[] = {
+        3264, 3265, 3266, 3267, 3268, 3640, 3641, 3642, 4096, 7280, 7281, 7282, 7283, 14563, 32768, 65536, 65538, 110000};
+    static const char *const ends[] = {"", "00000000", "0000000", "000000000", "\n", "x\n00000000\n", "\n00000000\n\n"};
+    unsigned i, k;
+    char name[40];
+    for (i = 0; i < sizeof counts / sizeof *counts; i++) {
+        struct header header = {FORM, RULE_WORDS, CONSTRAINT_WORDS};
+        for (k = 0; k < sizeof ends / sizeof *ends; k++) {
+            input->length = 0;
+            add_format(input, "%08lX\n", (unsigned long)pack_header(header));
+            add_times(input, "00000000\n", counts[i] - 2);
+            add_format(input, "%08lX\n", (unsigned long)(UINT32_MAX - pack_header(header) + 1));
+            add(input, ends[k]);
+            sprintf(name, "large_words_%u_%u", counts[i], k);
+            write_dump(folder, name, input, tally);
+        }
+        input->length = 0;
+        add_times(input, "0", counts[i] * 9);
+        sprintf(name, "large_line_%u", counts[i]);
+        write_dump(folder, name, input, tally);
+        input->length = 0;
+        add_times(input, "\n", counts[i]);
+        sprintf(name, "large_blank_%u", counts[i]);
+        write_dump(folder, name, input, tally);
+    }
+}
+
+/* An image with words changed, put in or taken out, its sum mended or not. */
+static void damage_words(struct buffer *image, struct dice *dice)
+{
+    unsigned times = 1 + below(dice, 3);
+    while (times-- > 0) {
+        unsigned count = (unsigned)(image->length / WORD_BYTES);
+        size_t at = WORD_BYTES * below(dice, count);
+        uint8_t word[WORD_BYTES], bit = (uint8_t)(1 << below(dice, 8));
+        put_word(word, 0, chance(dice, 300) ? (uint32_t)roll(dice) : word_at(image->bytes, below(dice, count)));
+        switch (below(dice, 5)) {
+        case 0: image->bytes[below(dice, (unsigned)image->length)] ^= bit; break;
+        case 1: image->bytes[1 + below(dice, WORD_BYTES - 1)] ^= bit; break; /* in the counts */
+        case 2: splice(image, at, at, word, WORD_BYTES); break;
+        case 3: splice(image, at, at + WORD_BYTES, word, count > 1 ? 0 : WORD_BYTES); break;
+        default: splice(image, at, at + WORD_BYTES, word, WORD_BYTES); break;
+        }
+    }
+    if (chance(dice, 800))
+        put_sum(image->bytes, image->length / WORD_BYTES);
+}
+
+/* A dump with letters in the other case, and maybe without its last line end. */
+static void vary_dump(struct buffer *dump, struct dice *dice)
+{
+    unsigned lower = chance(dice, 500) ? 500 : below(dice, 2) * 1000;
+    size_t i;
+    for (i = 0; i < dump->length; i++)
+        if (dump->bytes[i] >= 'A' && dump->bytes[i] <= 'F' && chance(dice, lower))
+            dump->bytes[i] = (uint8_t)(dump->bytes[i] + 'a' - 'A');
+    if (chance(dice, 300))
+        dump->length--;
+}
+
+/* A dump with bytes put in, taken out or replaced. */
+static void damage_dump(struct buffer *dump, struct dice *dice)
+{
+    static const char *const parts[] = {"", "", "\n", "\n\n", " ", "\r", "\t", "0", "F", "G", "g", "/", ":", "@", "`", "x",
+        "-", "0x", "00000000\n", "\n00000000", "#", "\xFF", "\x80"};
+    unsigned times = 1 + (chance(dice, 300) ? below(dice, 6) : 0);
+    while (times-- > 0) {
+        size_t at = below(dice, (unsigned)dump->length), end = at + below(dice, 2);
+        const char *part = CHOOSE(dice, parts);
+        uint8_t byte = (uint8_t)below(dice, 256);
+        if (chance(dice, 300))
+            splice(dump, at, end, &byte, 1);
+        else
+            splice(dump, at, end, part, strlen(part));
+        if (dump->length == 0)
+            return;
+    }
+}
+
+/* A dump of a kind from 0 to 7: of the image of a text, of a damaged image, damaged itself, or by chance. */
+static void add_any_dump(struct buffer *to, struct dice *dice, unsigned kind)
+{
+    struct buffer text = new_buffer(), image = new_buffer();
+    struct taste taste = make_taste(dice);
+    unsigned i;
+    if (kind < 7) {
+        if (kind == 0)
+            add_lines(&text, dice, &taste, 0, RULES, 0, CONSTRAINTS, true);
+        else
+            add_lines(&text, dice, &taste, 0, 6, 0, 4, true);
+        compile(text.bytes, text.length, image.bytes, IMAGE_BYTES, &image.length);
+    } else {
+        for (i = below(dice, 12) * WORD_BYTES; i > 0; i--)
+            add_byte(&image, below(dice, 256));
+    }
+    if (kind >= 2 && kind < 5)
+        damage_words(&image, dice);
+    add_dump(to, image.bytes, image.length);
+    if (to->length > 0)
+        vary_dump(to, dice);
+    if (kind == 5 || kind == 6)
+        damage_dump(to, dice);
+    free(text.bytes);
+    free(image.bytes);
+}
+
+/* Prints how often each of these faults was met. False if one never was. */
+static bool print_counts(const unsigned long counts[FAULTS], const enum fault *faults, size_t size)
+{
+    bool all = true;
+    size_t i;
+    for (i = 0; i < size; i++) {
+        printf(" %d: %lu", (int)faults[i], counts[faults[i]]);
+        all = all && counts[faults[i]] > 0;
+    }
+    return all;
+}
+
 /* Prints the counts. False if a fault was never met, or a set of all actions, or an epoch over 100,000. */
 static bool report(const struct tally *tally)
 {
     static const enum fault text[] = {FAULT_LONG, FAULT_SHAPE, FAULT_RANGE, FAULT_CROWD, FAULT_FULL, FAULT_REPEAT};
+    static const enum fault dump[] = {FAULT_SIZE, FAULT_FORM, FAULT_COUNT, FAULT_SUM, FAULT_BODY};
     static const enum fault epoch[] = {FAULT_LONG, FAULT_EPOCH_SHAPE, FAULT_EPOCH_RANGE, FAULT_TWICE};
     bool all = true;
-    size_t i;
     printf("texts accepted %lu, refused under", tally->text[FAULT_NONE]);
-    for (i = 0; i < sizeof text / sizeof *text; i++) {
-        printf(" %d: %lu", (int)text[i], tally->text[text[i]]);
-        all = all && tally->text[text[i]] > 0;
-    }
+    all = print_counts(tally->text, text, sizeof text / sizeof *text) && all;
+    printf("; dumps written as texts %lu, with a line that is no word %lu, refused under", tally->dump[FAULT_NONE],
+        tally->no_words);
+    all = print_counts(tally->dump, dump, sizeof dump / sizeof *dump) && all;
     printf("; epochs decided %lu (%lu accept an action, %lu cancel one), refused under", tally->epoch[FAULT_NONE],
         tally->decisions, tally->cancelling);
-    for (i = 0; i < sizeof epoch / sizeof *epoch; i++) {
-        printf(" %d: %lu", (int)epoch[i], tally->epoch[epoch[i]]);
-        all = all && tally->epoch[epoch[i]] > 0;
-    }
+    all = print_counts(tally->epoch, epoch, sizeof epoch / sizeof *epoch) && all;
     printf("\n");
-    return all && tally->text[FAULT_NONE] > 0 && tally->decisions > 0 && tally->cancelling > 0 && tally->loaded > 0
-        && tally->bodies > 0 && tally->most_accepted == ACTIONS && tally->most_cancelled == ACTIONS
-        && tally->most_epochs > 100000;
+    return all && tally->text[FAULT_NONE] > 0 && tally->dump[FAULT_NONE] > 0 && tally->no_words > 0
+        && tally->decisions > 0 && tally->cancelling > 0 && tally->loaded > 0 && tally->bodies > 0
+        && tally->most_accepted == ACTIONS && tally->most_cancelled == ACTIONS && tally->most_epochs > 100000;
 }
 
 int main(int argc, char **argv)
@@ -507,12 +690,21 @@ int main(int argc, char **argv)
     write_floods(argv[1], &input, &tally);
     write_long_texts(argv[1], &input, &tally);
     write_runs(argv[1], &input, &tally);
+    write_bytes(argv[1], &input, &tally);
+    write_long_dumps(argv[1], &input, &tally);
     for (i = 0; i < COMPILER_CASES; i++) {
         struct dice dice = {UINT64_C(0xC0) << 32 | i};
         input.length = 0;
         add_text(&input, &dice, i % 10, false);
         sprintf(name, "seed_%04u", i);
         write_case(argv[1], false, name, &input, &tally);
+    }
+    for (i = 0; i < DECOMPILER_CASES; i++) {
+        struct dice dice = {UINT64_C(0xD0) << 32 | i};
+        input.length = 0;
+        add_any_dump(&input, &dice, i % 8);
+        sprintf(name, "seed_dump_%04u", i);
+        write_dump(argv[1], name, &input, &tally);
     }
     for (i = 0; i < ENGINE_CASES; i++) {
         struct dice dice = {UINT64_C(0xE0) << 32 | i};

@@ -498,6 +498,42 @@ void add_text(struct buffer *to, struct dice *dice, unsigned kind, bool closed)
     }
 }
 
+void add_variant(struct buffer *to, const uint8_t *text, size_t length, struct dice *dice)
+{
+    struct taste taste = {.loose = chance(dice, 500) ? 300 : 0};
+    const uint8_t *line;
+    size_t line_length, from = to->length, i, at[2] = {0, 0}, ends[2] = {0, length}; /* rules and constraints */
+    while (ends[0] < length && text[ends[0]] != 'n')
+        next_line(text, length, &ends[0], &line, &line_length);
+    at[1] = ends[0];
+    while (at[0] < ends[0] || at[1] < ends[1]) {
+        unsigned part = at[0] == ends[0] ? 1 : at[1] == ends[1] ? 0 : below(dice, 2);
+        if (chance(dice, 80)) {
+            add_skipped(to, dice, &taste);
+            add(to, "\n");
+        }
+        next_line(text, length, &at[part], &line, &line_length);
+        add_edge(to, dice, &taste);
+        for (i = 0; i < line_length; i++) {
+            if (line[i] == ' ')
+                add_gap(to, dice, &taste);
+            else
+                add_byte(to, line[i]);
+        }
+        add_edge(to, dice, &taste);
+        add(to, "\n");
+    }
+    if (to->length > from && chance(dice, 300))
+        to->length--;
+}
+
+void add_dump(struct buffer *to, const uint8_t *image, size_t length)
+{
+    size_t i;
+    for (i = 0; i < length / WORD_BYTES; i++)
+        add_format(to, "%08lX\n", (unsigned long)word_at(image, i));
+}
+
 void add_epoch(struct buffer *to, struct dice *dice, const struct taste *taste)
 {
     static const char *const odd[] = {
@@ -629,6 +665,21 @@ void add_largest_input(struct buffer *to)
     add_largest(to);
     add(to, "run\n");
     add_epochs_of_largest(to);
+}
+
+void add_widest(struct buffer *to)
+{
+    static const char condition[] =
+        " if R10 >= -2147483648 , R11 <= -2147483647 , R12 != -1000000000 , R15 >= -2000000000\n";
+    unsigned i, k;
+    for (i = 0; i < RULES + CONSTRAINTS; i++) {
+        add(to, i < RULES ? "" : "never ");
+        for (k = 0; k < 8; k++) /* of the 54 numbers with two digits */
+            add_format(to, "%s%s%u", k == 0 ? "" : " & ", i < RULES ? "!E" : "A", 10 + (i + 7 * k) % 54);
+        if (i < RULES)
+            add_format(to, " causes A%u", 10 + i % 54);
+        add(to, condition);
+    }
 }
 
 void add_longest_line(struct buffer *to)

@@ -62,6 +62,13 @@ void damage(struct buffer *in, size_t from, struct dice *dice);
 /* One rule text, of a kind from 0 to 9. */
 void add_text(struct buffer *to, struct dice *dice, unsigned kind, bool closed);
 
+/* The lines of a text that was written from a policy, as someone else would write them: with other spaces, skipped lines
+   between them, and rules and constraints mixed, each in their order. */
+void add_variant(struct buffer *to, const uint8_t *text, size_t length, struct dice *dice);
+
+/* The words of an image as the compiler prints them. */
+void add_dump(struct buffer *to, const uint8_t *image, size_t length);
+
 /* One epoch line, without its line end. */
 void add_epoch(struct buffer *to, struct dice *dice, const struct taste *taste);
 
@@ -75,6 +82,9 @@ void add_epochs_of_largest(struct buffer *to);
 
 /* An input of the engine with that text and its epochs. */
 void add_largest_input(struct buffer *to);
+
+/* 128 rules and 64 constraints of 17 words each, every token as long as it can be. */
+void add_widest(struct buffer *to);
 
 /* One line, a list as long as a text may be. */
 void add_longest_line(struct buffer *to);

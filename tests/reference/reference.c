@@ -385,21 +385,26 @@ size_t write_image(const struct policy *policy, uint8_t image[IMAGE_BYTES])
     return WORD_BYTES * (at + 1);
 }
 
+/* Copies what was made into a lent buffer. */
+static struct verdict hand_over(const uint8_t *bytes, size_t size, uint8_t *buffer, size_t room, size_t *written)
+{
+    if (room < size)
+        return refuse(FAULT_ROOM, 0);
+    if (size > 0)
+        memcpy(buffer, bytes, size);
+    *written = size;
+    return ACCEPTED;
+}
+
 struct verdict compile(const uint8_t *text, size_t length, uint8_t *buffer, size_t room, size_t *written)
 {
     struct policy policy;
     uint8_t image[IMAGE_BYTES];
     struct verdict verdict = read_text(text, length, &policy);
-    size_t size;
     *written = 0;
     if (verdict.fault != FAULT_NONE)
         return verdict;
-    size = write_image(&policy, image);
-    if (room < size)
-        return refuse(FAULT_ROOM, 0);
-    memcpy(buffer, image, size);
-    *written = size;
-    return ACCEPTED;
+    return hand_over(image, write_image(&policy, image), buffer, room, written);
 }
 
 /* Loading. A line is read from its operations and numbers, then written again: the words have to be the same. */
@@ -523,6 +528,102 @@ struct verdict load_image(const uint8_t *image, size_t length, struct policy *po
     }
     *policy = result;
     return ACCEPTED;
+}
+
+/* Writing texts. Each part is put behind what is there. */
+
+struct writing {
+    uint8_t *text;
+    size_t length;
+};
+
+static void put_string(struct writing *to, const char *string)
+{
+    while (*string != '\0')
+        to->text[to->length++] = (uint8_t)*string++;
+}
+
+static void put_number(struct writing *to, uint32_t number)
+{
+    if (number > 9)
+        put_number(to, number / 10);
+    to->text[to->length++] = (uint8_t)('0' + number % 10);
+}
+
+static void put_name(struct writing *to, const char *letter, unsigned number)
+{
+    put_string(to, letter);
+    put_number(to, number);
+}
+
+static void put_constant(struct writing *to, int32_t constant)
+{
+    if (constant < 0)
+        put_string(to, "-");
+    put_number(to, constant < 0 ? 0 - (uint32_t)constant : (uint32_t)constant);
+}
+
+/* `if` and the comparisons, or nothing, and the end of the line. */
+static void put_option(struct writing *to, const struct condition *condition)
+{
+    size_t i;
+    for (i = 0; i < condition->count; i++) {
+        const struct comparison *comparison = &condition->comparisons[i];
+        put_string(to, i == 0 ? " if " : " , ");
+        put_name(to, "R", comparison->reading);
+        put_string(to, " ");
+        put_string(to, relation_names[comparison->relation]);
+        put_string(to, " ");
+        if (comparison->with_reading)
+            put_name(to, "R", comparison->other);
+        else
+            put_constant(to, comparison->constant);
+    }
+    put_string(to, "\n");
+}
+
+static void put_rule(struct writing *to, const struct rule *rule)
+{
+    size_t i;
+    for (i = 0; i < rule->count; i++) {
+        put_string(to, i == 0 ? "" : " & ");
+        put_name(to, rule->literals[i].negated ? "!E" : "E", rule->literals[i].event);
+    }
+    put_string(to, " causes ");
+    put_name(to, "A", rule->action);
+    put_option(to, &rule->condition);
+}
+
+static void put_constraint(struct writing *to, const struct constraint *constraint)
+{
+    size_t i;
+    for (i = 0; i < constraint->count; i++) {
+        put_string(to, i == 0 ? "never " : " & ");
+        put_name(to, "A", constraint->members[i]);
+    }
+    put_option(to, &constraint->condition);
+}
+
+size_t write_text(const struct policy *policy, uint8_t text[WRITTEN_BYTES])
+{
+    struct writing to = {text, 0};
+    size_t i;
+    for (i = 0; i < policy->rule_count; i++)
+        put_rule(&to, &policy->rules[i]);
+    for (i = 0; i < policy->constraint_count; i++)
+        put_constraint(&to, &policy->constraints[i]);
+    return to.length;
+}
+
+struct verdict decompile(const uint8_t *image, size_t length, uint8_t *buffer, size_t room, size_t *written)
+{
+    struct policy policy;
+    uint8_t text[WRITTEN_BYTES];
+    struct verdict verdict = load_image(image, length, &policy);
+    *written = 0;
+    if (verdict.fault != FAULT_NONE)
+        return verdict;
+    return hand_over(text, write_text(&policy, text), buffer, room, written);
 }
 
 /* Epochs */
@@ -704,7 +805,7 @@ struct decision decide(const uint8_t *image, size_t image_length, const uint8_t 
     return decision;
 }
 
-/* The two programs */
+/* The programs */
 
 bool find_run(const uint8_t *input, size_t length, size_t *text_length, size_t *epochs)
 {
@@ -723,9 +824,10 @@ bool find_run(const uint8_t *input, size_t length, size_t *text_length, size_t *
     return false;
 }
 
-static void print_refusal(struct verdict verdict, FILE *out)
+/* The location is a line or a word. */
+static void print_refusal(struct verdict verdict, const char *unit, FILE *out)
 {
-    fprintf(out, "refused %d line %lu\n", (int)verdict.fault, (unsigned long)verdict.location);
+    fprintf(out, "refused %d %s %lu\n", (int)verdict.fault, unit, (unsigned long)verdict.location);
 }
 
 static void print_set(action_set set, FILE *out)
@@ -754,20 +856,74 @@ void print_decision(unsigned long number, struct decision decision, FILE *out)
     fputs("\n", out);
 }
 
-void print_compiler(const uint8_t *input, size_t length, FILE *out)
+static void print_compiler(const uint8_t *input, size_t length, FILE *out)
 {
     uint8_t image[IMAGE_BYTES];
     size_t written, i;
     struct verdict verdict = compile(input, length, image, sizeof image, &written);
     if (verdict.fault != FAULT_NONE) {
-        print_refusal(verdict, out);
+        print_refusal(verdict, "line", out);
         return;
     }
     for (i = 0; i < written / WORD_BYTES; i++)
         fprintf(out, "%08" PRIX32 "\n", word_at(image, i));
 }
 
-void print_engine(const uint8_t *input, size_t length, FILE *out)
+/* Eight hexadecimal digits of either case. */
+static bool read_word(struct slice line, uint32_t *word)
+{
+    size_t i;
+    *word = 0;
+    for (i = 0; i < line.length; i++) {
+        uint8_t byte = line.bytes[i];
+        if (byte >= '0' && byte <= '9')
+            byte = (uint8_t)(byte - '0');
+        else if (byte >= 'A' && byte <= 'F')
+            byte = (uint8_t)(byte - 'A' + 10);
+        else if (byte >= 'a' && byte <= 'f')
+            byte = (uint8_t)(byte - 'a' + 10);
+        else
+            return false;
+        *word = *word << 4 | byte;
+    }
+    return line.length == 8;
+}
+
+size_t read_dump(const uint8_t *input, size_t length, uint8_t image[DUMP_BYTES], size_t *size)
+{
+    struct slice line;
+    uint32_t word;
+    size_t at = 0, number = 0;
+    *size = 0;
+    while (next_line(input, length, &at, &line.bytes, &line.length)) {
+        number++;
+        if (!read_word(line, &word))
+            return number;
+        if (*size < DUMP_BYTES) {
+            put_word(image, *size / WORD_BYTES, word);
+            *size += WORD_BYTES;
+        }
+    }
+    return 0;
+}
+
+static void print_decompiler(const uint8_t *input, size_t length, FILE *out)
+{
+    uint8_t image[DUMP_BYTES], text[WRITTEN_BYTES];
+    size_t size, written, line = read_dump(input, length, image, &size);
+    struct verdict verdict;
+    if (line > 0) {
+        fprintf(out, "line %lu is not a word\n", (unsigned long)line);
+        return;
+    }
+    verdict = decompile(image, size, text, sizeof text, &written);
+    if (verdict.fault != FAULT_NONE)
+        print_refusal(verdict, "word", out);
+    else
+        fwrite(text, 1, written, out);
+}
+
+static void print_engine(const uint8_t *input, size_t length, FILE *out)
 {
     uint8_t image[IMAGE_BYTES];
     size_t written, text_length, at, line_length;
@@ -777,9 +933,24 @@ void print_engine(const uint8_t *input, size_t length, FILE *out)
     find_run(input, length, &text_length, &at);
     verdict = compile(input, text_length, image, sizeof image, &written);
     if (verdict.fault != FAULT_NONE) {
-        print_refusal(verdict, out);
+        print_refusal(verdict, "line", out);
         return;
     }
     while (next_line(input, length, &at, &line, &line_length))
         print_decision(++number, decide(image, written, line, line_length), out);
+}
+
+bool print_program(const char *program, const uint8_t *input, size_t length, FILE *out)
+{
+    static const struct {
+        const char *name;
+        void (*print)(const uint8_t *, size_t, FILE *);
+    } programs[] = {{"compiler", print_compiler}, {"decompiler", print_decompiler}, {"engine", print_engine}};
+    size_t i;
+    for (i = 0; i < sizeof programs / sizeof *programs; i++)
+        if (strcmp(program, programs[i].name) == 0) {
+            programs[i].print(input, length, out);
+            return true;
+        }
+    return false;
 }

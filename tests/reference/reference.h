@@ -1,5 +1,5 @@
-/* Rule texts, images and epochs as document 01 defines them, in plain C, written from the document alone. The programs
-   and the library are compared with it. */
+/* Rule texts, images and epochs as document 01 defines them, and the text of an image as request L1 of document 02 does, in
+   plain C, written from the documents alone. The programs and the library are compared with it. */
 #ifndef REFERENCE_H
 #define REFERENCE_H
 
@@ -7,7 +7,14 @@
 
 #include <stdio.h>
 
-enum { TEXT_BYTES = 32768, EPOCH_BYTES = 1024 };
+enum {
+    TEXT_BYTES = 32768,
+    EPOCH_BYTES = 1024,
+    RULE_TEXT_BYTES = 150, /* of the longest rule that is written, its line end included; the longest never line has 137 */
+    CONSTRAINT_TEXT_BYTES = 137,
+    WRITTEN_BYTES = RULES * RULE_TEXT_BYTES + CONSTRAINTS * CONSTRAINT_TEXT_BYTES,
+    DUMP_BYTES = IMAGE_BYTES + WORD_BYTES /* what is kept of the words of a dump: if they are too many, one too many */
+};
 
 /* Why something is refused: the grounds of document 01, by their numbers. */
 enum fault {
@@ -106,6 +113,17 @@ struct verdict compile(const uint8_t *text, size_t length, uint8_t *buffer, size
 /* Loads an image as the policy that compiles to it. A refused one leaves the policy as it was. */
 struct verdict load_image(const uint8_t *bytes, size_t length, struct policy *policy);
 
+/* Writes the text of a policy; the number of its bytes is returned. */
+size_t write_text(const struct policy *policy, uint8_t text[WRITTEN_BYTES]);
+
+/* Writes the text of an image into a lent buffer; `written` is the number of its bytes. A refused call leaves the buffer as
+   it was and writes 0 bytes. */
+struct verdict decompile(const uint8_t *image, size_t length, uint8_t *buffer, size_t room, size_t *written);
+
+/* Reads the words of an image, one a line, as the compiler prints them. The number of the first line that is no word is
+   returned, or 0. */
+size_t read_dump(const uint8_t *input, size_t length, uint8_t image[DUMP_BYTES], size_t *size);
+
 /* Reads an epoch line. A refused one leaves the epoch as it was. */
 struct verdict read_epoch(const uint8_t *line, size_t length, struct epoch *epoch);
 
@@ -125,9 +143,8 @@ bool find_run(const uint8_t *input, size_t length, size_t *text_length, size_t *
 /* The next line of `input` from `*at` on, without its line end; `*at` moves behind it. False at the end. */
 bool next_line(const uint8_t *input, size_t length, size_t *at, const uint8_t **line, size_t *line_length);
 
-/* What the two programs print for their input. */
-void print_compiler(const uint8_t *input, size_t length, FILE *out);
-void print_engine(const uint8_t *input, size_t length, FILE *out);
+/* What a program, `compiler`, `decompiler` or `engine`, prints for its input. False if there is no such program. */
+bool print_program(const char *program, const uint8_t *input, size_t length, FILE *out);
 void print_decision(unsigned long number, struct decision decision, FILE *out);
 
 #endif

@@ -41,7 +41,7 @@ ascii-bytes (b ∷ s) h ℕ.zero = let l = ltb-true b 128 (and-out (ascii b) (al
 ascii-bytes (b ∷ s) h (ℕ.suc i) = ascii-bytes s (and-out (ascii b) (all ascii s) h .1) i
 
 -- the text printed from a policy compiles to the policy's image
-printed-compiles : (p : Policy) → Acceptable p → CompilesTo (textOf p) (imageOf newestForm p)
+pub printed-compiles : (p : Policy) → Acceptable p → CompilesTo (textOf p) (imageOf newestForm p)
 printed-compiles p ok =
     let image : List ℕ = imageOf newestForm p in
     let e = text-compiled (textOf p) image _ p (text-read p ok) (omega arith) in
@@ -50,7 +50,7 @@ printed-compiles p ok =
     let same : p ≡ w .policy = cc in
     record { buffer = image; size = length image; accepted = e; written = w .image ∙ ap (imageOf newestForm) (sym same) }
 
-newest-only : (form : ℕ) → knownForm form ≡ true → form ≡ newestForm
+pub newest-only : (form : ℕ) → knownForm form ≡ true → form ≡ newestForm
 unfolding knownForm
 newest-only form k = eqb-true form newestForm k
 

@@ -1,10 +1,12 @@
--- What the claims about the whole speak of, in terms of what the contracts of `compile`, `load_image` and `decide` say.
+-- What the claims about the whole speak of, in terms of what the contracts of `compile`, `load_image`, `decide` and `decompile` say.
 use Prim.Native.Nat.{ℕ}
 use mathlib.Core.List.{List, map}
 use mathlib.Core.Path.{_≡_}
 use lib.ListN.{take}
 use Rattle.codegen.specs.Compile.{compiled}
 use Rattle.codegen.specs.declared.Compiled.{Compiled}
+use Rattle.decompile.specs.Decompile.{decompiled}
+use Rattle.decompile.specs.declared.Decompiled.{Decompiled}
 use Rattle.monitor.specs.Decision.{decision, answerOf}
 use Rattle.pdl.specs.Answer.{Answer}
 use Rattle.word.specs.Word.{Bytes}
@@ -15,6 +17,13 @@ pub record CompilesTo (text image : List ℕ) : Type 0 where
   pub size : ℕ
   pub accepted : compiled text buffer .answer ≡ Compiled.Image size
   pub written : take size (compiled text buffer .buffer) ≡ image
+
+-- the decompiler's call on the image was accepted, and the text is the bytes that it wrote, no more and no fewer
+pub record DecompilesTo (image text : List ℕ) : Type 0 where
+  pub buffer : List ℕ
+  pub size : ℕ
+  pub accepted : decompiled image buffer .answer ≡ Decompiled.Text size
+  pub written : take size (decompiled image buffer .buffer) ≡ text
 
 -- the decisions on an image, line after line, in document 01's terms
 unfoldable pub answers : List ℕ → List (List ℕ) → List Answer

@@ -4,11 +4,12 @@ use mathlib.Core.Path.{_≡_, sym, ap, _∙_}
 use Rattle.policy.specs.Fault.{faultNumber}
 use Rattle.policy.specs.declared.fault.Refusal.{Refusal}
 use Rattle.codegen.specs.declared.Compiled.{Compiled}
+use Rattle.decompile.specs.declared.Decompiled.{Decompiled}
 use Rattle.image.specs.declared.load.Loaded.{Loaded}
 use Rattle.image.specs.declared.load.Contents.{Contents}
 use Rattle.monitor.specs.declared.decision.Actions.{Actions}
 use Rattle.monitor.specs.declared.decision.Decision.{Decision}
-use Rattle.kinohazel.specs.Export.{compilationOf, checkOf, decisionOf}
+use Rattle.kinohazel.specs.Export.{compilationOf, textWrittenOf, checkOf, decisionOf}
 
 module _ (a x : Compiled) (e : x ≡ a) where
   pub compile-refused : (r : Refusal) (k : ℕ) → x ≡ Compiled.Refused r → k ≡ faultNumber (r .fault) → record { fault = k; line = r .location; size = 0 } ≡ compilationOf a
@@ -18,6 +19,15 @@ module _ (a x : Compiled) (e : x ≡ a) where
   pub compile-image : (size : ℕ) → x ≡ Compiled.Image size → record { fault = 0; line = 0; size = size } ≡ compilationOf a
   unfolding compilationOf
   compile-image size q = ap compilationOf (sym q ∙ e)
+
+module _ (a x : Decompiled) (e : x ≡ a) where
+  pub text-refused : (r : Refusal) (k : ℕ) → x ≡ Decompiled.Refused r → k ≡ faultNumber (r .fault) → record { fault = k; word = r .location; size = 0 } ≡ textWrittenOf a
+  unfolding textWrittenOf
+  text-refused r k q h = ap (λ (n : ℕ). record { fault = n; word = r .location; size = 0 }) h ∙ ap textWrittenOf (sym q ∙ e)
+
+  pub text-written : (size : ℕ) → x ≡ Decompiled.Text size → record { fault = 0; word = 0; size = size } ≡ textWrittenOf a
+  unfolding textWrittenOf
+  text-written size q = ap textWrittenOf (sym q ∙ e)
 
 module _ (a x : Loaded) (e : x ≡ a) where
   pub check-refused : (r : Refusal) (k : ℕ) → x ≡ Loaded.Refused r → k ≡ faultNumber (r .fault) → record { fault = k; word = r .location; rules = 0; constraints = 0 } ≡ checkOf a

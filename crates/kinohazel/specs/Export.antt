@@ -2,15 +2,21 @@
 -- nothing is refused.
 use Rattle.policy.specs.Fault.{faultNumber}
 use Rattle.codegen.specs.declared.Compiled.{Compiled}
+use Rattle.decompile.specs.declared.Decompiled.{Decompiled}
 use Rattle.image.specs.declared.load.Loaded.{Loaded}
 use Rattle.monitor.specs.declared.decision.Decision.{Decision}
 use Rattle.kinohazel.specs.declared.Compilation.{Compilation}
+use Rattle.kinohazel.specs.declared.TextWritten.{TextWritten}
 use Rattle.kinohazel.specs.declared.ImageCheck.{ImageCheck}
 use Rattle.kinohazel.specs.declared.EpochDecision.{EpochDecision}
 
 unfoldable pub compilationOf : Compiled → Compilation
 compilationOf (Compiled.Refused r) = record { fault = faultNumber (r .fault); line = r .location; size = 0 }
 compilationOf (Compiled.Image size) = record { fault = 0; line = 0; size = size }
+
+unfoldable pub textWrittenOf : Decompiled → TextWritten
+textWrittenOf (Decompiled.Refused r) = record { fault = faultNumber (r .fault); word = r .location; size = 0 }
+textWrittenOf (Decompiled.Text size) = record { fault = 0; word = 0; size = size }
 
 unfoldable pub checkOf : Loaded → ImageCheck
 checkOf (Loaded.Refused r) = record { fault = faultNumber (r .fault); word = r .location; rules = 0; constraints = 0 }

@@ -1,13 +1,15 @@
-// The functions for C: compile a text, check an image, decide an epoch. Each answers a struct of numbers. Start with
-// specs/Export.antt; include/kinohazel.h is the C side. A slice is never null, not even an empty one: the functions of the header
-// take null pointers and call these.
+// The functions for C: compile a text, write the text of an image, check an image, decide an epoch. Each answers a struct of
+// numbers. Start with specs/Export.antt; include/kinohazel.h is the C side. A slice is never null, not even an empty one: the
+// functions of the header take null pointers and call these.
 ghost use mathlib.Core.Path.{_≡_};
 ghost use Rattle.policy.specs.Fault.{faultNumber};
 ghost use Rattle.codegen.specs.Compile.{compiled};
+ghost use Rattle.decompile.specs.Decompile.{decompiled};
 ghost use Rattle.image.specs.Load.{load};
 ghost use Rattle.monitor.specs.Decision.{decision};
-ghost use Rattle.kinohazel.specs.Export.{compilationOf, checkOf, decisionOf};
+ghost use Rattle.kinohazel.specs.Export.{compilationOf, textWrittenOf, checkOf, decisionOf};
 use codegen::Compiled;
+use decompile::Decompiled;
 use image::Loaded;
 use monitor::Decision;
 use policy::Refusal;
@@ -27,6 +29,14 @@ pub struct ImageCheck {
     pub word: u64,
     pub rules: u64,
     pub constraints: u64,
+}
+
+// The fault's number, or 0; the word of the image at fault; how many bytes of text were written.
+#[repr(C)]
+pub struct TextWritten {
+    pub fault: u64,
+    pub word: u64,
+    pub size: u64,
 }
 
 // The fault's number, or 0; the word of the image at fault; the accepted and the cancelled actions, action n as bit n.
@@ -82,6 +92,26 @@ pub extern "C" fn kinohazel_check_nonnull(image: &[u8]) -> ImageCheck
             word: 0,
             rules: contents.rules as u64,
             constraints: contents.constraints as u64,
+        },
+    }
+}
+
+#[no_mangle]
+pub extern "C" fn kinohazel_text_nonnull(image: &[u8], out: &mut [u8]) -> TextWritten
+    ensures answer { λ r. ⌜ r ≡ textWrittenOf (decompiled (now (image .entry)) (now (out .entry)) .answer) ⌝ }
+    ensures buffer { λ _. ⌜ now (out .exit) ≡ decompiled (now (image .entry)) (now (out .entry)) .buffer ⌝ }
+{
+    let answer = decompile::decompile(image, out);
+    match answer {
+        Decompiled::Refused(refusal) => TextWritten {
+            fault: fault_number(refusal),
+            word: refusal.location as u64,
+            size: 0,
+        },
+        Decompiled::Text(size) => TextWritten {
+            fault: 0,
+            word: 0,
+            size: size as u64,
         },
     }
 }

@@ -1,6 +1,6 @@
 -- What the class of a byte says of it.
 use Prim.Native.Nat.{ℕ, _+_, _≤_}
-use mathlib.Core.Bool.{Bool, true, false, _||_, cond}
+use mathlib.Core.Bool.{Bool, true, false, _&&_, _||_, cond}
 use mathlib.Core.List.{List, [], _∷_}
 use mathlib.Core.Logic.{_⊎_, inl, inr, ⊎-elim}
 use mathlib.Core.Path.{_≡_, refl, sym, ap, _∙_}
@@ -15,8 +15,11 @@ use Rattle.lexer.specs.declared.class.Class.{Class}
 use Rattle.policy.specs.List.{any}
 use Rattle.lexer.specs.Byte.{bytes, isSpace, isLineEnd, endsToken, isDigit, isLetter, isSign, classOf}
 
+pub range-bounds : (low b high : ℕ) → leb low b && leb b high ≡ true → (low ≤ b) × (b ≤ high)
+range-bounds low b high e = let p = and-out (leb low b) (leb b high) e in (leb-true low b (p .0), leb-true b high (p .1))
+
 pub digit-bounds : (b : ℕ) → isDigit b ≡ true → (48 ≤ b) × (b ≤ 57)
-digit-bounds b e = let p = and-out (leb 48 b) (leb b 57) e in (leb-true 48 b (p .0), leb-true b 57 (p .1))
+digit-bounds b e = range-bounds 48 b 57 e
 
 -- the number that a `match` on a class tests
 abbrev pub classTag : Class → ℕ

@@ -1,6 +1,6 @@
 -- Bytes: their classes, and texts written out.
 use Prim.Native.Char.{code}
-use Prim.Native.Nat.{ℕ}
+use Prim.Native.Nat.{ℕ, _+_, _-_}
 use Prim.Native.String as String
 use Prim.Native.String.{String}
 use mathlib.Core.Bool.{Bool, true, false, _&&_, _||_, cond}
@@ -50,3 +50,10 @@ classOf b =
     (cond (isDigit b) Class.Digit
     (cond (isLetter b) Class.Letter
     (cond (isSign b) Class.Sign Class.Other))))
+
+-- the value of a hexadecimal digit of either case; 16 for any other byte
+unfoldable pub hexValue : ℕ → ℕ
+hexValue b =
+    cond (isDigit b) (b - code "0")
+    (cond (leb (code "A") b && leb b (code "F")) (b - code "A" + 10)
+    (cond (leb (code "a") b && leb b (code "f")) (b - code "a" + 10) 16))

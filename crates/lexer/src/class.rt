@@ -2,7 +2,7 @@
 ghost use mathlib.Core.Path.{_≡_};
 ghost use mathlib.Core.Bool.{_&&_};
 ghost use lib.Dec.{leb};
-ghost use Rattle.lexer.specs.Byte.{classOf, isSpace, endsToken, isDigit, isLetter, isSign};
+ghost use Rattle.lexer.specs.Byte.{classOf, isSpace, endsToken, isDigit, isLetter, isSign, hexValue};
 
 pub enum Class {
     Space,
@@ -80,5 +80,20 @@ pub(crate) fn ends_token(b: u8) -> bool
     match class {
         Class::Space | Class::LineEnd => true,
         _ => false,
+    }
+}
+
+// The value of a hexadecimal digit of either case; 16 for any other byte.
+pub fn hex_value(b: u8) -> u8
+    ensures { λ r. ⌜ r ≡ hexValue b ⌝ }
+{
+    if within(b, b'0', b'9') {
+        b - b'0'
+    } else if within(b, b'A', b'F') {
+        b - b'A' + 10
+    } else if within(b, b'a', b'f') {
+        b - b'a' + 10
+    } else {
+        16
     }
 }

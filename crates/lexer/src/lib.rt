@@ -5,6 +5,7 @@ mod scan;
 
 pub use class::Class;
 pub use class::class_of;
+pub use class::hex_value;
 pub use scan::KeywordAt;
 pub use scan::NumberAt;
 pub use scan::action_at;

@@ -7,8 +7,8 @@ use native.Mathlib.Numerals.{add-one}
 use native.Mathlib.Omega.{arith}
 use borrow.Author.Tests.{leb-true, leb-false}
 use lib.Dec.{leb}
-use lib.ListN.{length, set, getD, drop, length-set, length-append}
-use lib.Seq.{set-out, drop-cons}
+use lib.ListN.{length, set, getD, take, drop, length-set, length-append}
+use lib.Seq.{set-out, drop-cons, sets, sets-eq}
 use Rattle.output.specs.Buffer.{appended, behind}
 
 pub append-length : (buffer : List ℕ) (at : ℕ) (bytes : List ℕ) → length (appended buffer at bytes) ≡ length buffer
@@ -126,3 +126,13 @@ module _ {buffer : List ℕ} {at : ℕ} {all out : List ℕ} {end : ℕ} where
 pub put-within : (buffer : List ℕ) (at : ℕ) (x after : List ℕ) (end : ℕ) → Put buffer at x after end → end ≤ length after
 unfolding behind
 put-within buffer at x after end (e, a) = rw a (rw (append-length buffer at x) (omega (arith, e)))
+
+-- where there is room for all, the bytes stand in place of those that stood there
+append-sets : (buffer : List ℕ) (at : ℕ) (bytes : List ℕ) → appended buffer at bytes ≡ sets buffer at bytes
+unfolding appended
+append-sets buffer at [] = refl
+append-sets buffer at (b ∷ bs) = append-sets (set buffer at b) (suc at) bs
+
+pub append-whole : (buffer : List ℕ) (at : ℕ) (bytes : List ℕ) → at + length bytes ≤ length buffer
+    → appended buffer at bytes ≡ take at buffer ++ bytes ++ drop (at + length bytes) buffer
+append-whole buffer at bytes h = append-sets buffer at bytes ∙ sets-eq bytes buffer at h

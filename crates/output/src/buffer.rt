@@ -16,7 +16,7 @@ pub fn put_byte(out: &mut [u8], at: usize, byte: u8) -> usize
     }
 }
 
-pub(crate) fn at_most(n: usize, limit: usize) -> usize
+pub fn at_most(n: usize, limit: usize) -> usize
     ensures { λ r. ⌜ r ≡ min n limit ⌝ }
 {
     if n < limit { n } else { limit }

@@ -4,6 +4,7 @@
 mod buffer;
 mod number;
 
+pub use buffer::at_most;
 pub use buffer::put_byte;
 pub use buffer::put_bytes;
 pub use number::put_decimal;

@@ -42,20 +42,21 @@ unfolding room
 room-append [] us = omega arith
 room-append (t ∷ ts) us = omega (arith, room-append ts us)
 
-joined-short : (ts : List Token) → length (joinedBy 32 ts) ≤ room ts
+joined-short : (ts : List Token) → 0 < length ts → length (joinedBy 32 ts) + 1 ≤ room ts
 unfolding joinedBy room
-joined-short [] = omega arith
-joined-short (t ∷ []) = omega arith
-joined-short (t ∷ u ∷ us) = omega (arith, length-append t (32 ∷ joinedBy 32 (u ∷ us)), joined-short (u ∷ us))
+joined-short [] h = absurd (omega arith)
+joined-short (t ∷ []) h = omega arith
+joined-short (t ∷ u ∷ us) h = omega (arith, length-append t (32 ∷ joinedBy 32 (u ∷ us)), joined-short (u ∷ us) (omega arith))
 
+-- there is one separator fewer than there are elements
 module _ {A : Type 0} (p : A → Bool) (f : A → List Token) (sep : Token) (w : ℕ) (fits : (x : A) → p x ≡ true → room (f x) ≤ w) where
-  joined-room : (xs : List A) → all p xs ≡ true → room (joinedBy sep (map f xs)) ≤ length xs * (w + (length sep + 1))
+  joined-room : (xs : List A) → 0 < length xs → all p xs ≡ true → room (joinedBy sep (map f xs)) + (length sep + 1) ≤ length xs * (w + (length sep + 1))
   unfolding joinedBy room all
-  joined-room [] h = omega arith
-  joined-room (x ∷ []) h = omega (arith, fits x (and-out (p x) true h .0))
-  joined-room (x ∷ y ∷ ys) h =
+  joined-room [] n h = absurd (omega arith)
+  joined-room (x ∷ []) n h = omega (arith, fits x (and-out (p x) true h .0))
+  joined-room (x ∷ y ∷ ys) n h =
       let r = and-out (p x) (all p (y ∷ ys)) h in
-      omega (arith, room-append (f x) (sep ∷ joinedBy sep (map f (y ∷ ys))), fits x (r .0), joined-room (y ∷ ys) (r .1))
+      omega (arith, room-append (f x) (sep ∷ joinedBy sep (map f (y ∷ ys))), fits x (r .0), joined-room (y ∷ ys) (omega arith) (r .1))
 
 -- ---- the parts of a line
 
@@ -107,38 +108,50 @@ comparison-room c h =
     let r = and-out (ltb (c .reading .0) 16) (operandInRange (c .operand)) h in
     omega (arith, reading-short (c .reading) (r .0), relation-short (c .relation), operand-short (c .operand) (r .1))
 
-condition-room : (cs : List Comparison) → all comparisonInRange cs ≡ true → length cs ≤ 4 → room (conditionTokens cs) ≤ 87
+condition-room : (cs : List Comparison) → all comparisonInRange cs ≡ true → length cs ≤ 4 → room (conditionTokens cs) ≤ 85
 unfolding conditionTokens room bytes
 condition-room [] h k = omega arith
-condition-room (c ∷ cs) h k = omega (arith, joined-room comparisonInRange comparisonTokens (bytes ",") 19 comparison-room (c ∷ cs) h)
+condition-room (c ∷ cs) h k = omega (arith, joined-room comparisonInRange comparisonTokens (bytes ",") 19 comparison-room (c ∷ cs) (omega arith) h)
 
 -- eight literals or actions
-module _ {A : Type 0} (token : A → Token) (test : A → Test) (short : (x : A) → testInRange (test x) ≡ true → length (token x) ≤ 4) where
-  heads-room : (xs : List A) → all testInRange (map test xs) ≡ true → length (map test xs) ≤ 8 → room (headTokens token xs) ≤ 56
+module _ {A : Type 0} (token : A → Token) (test : A → Test) (w : ℕ) (short : (x : A) → testInRange (test x) ≡ true → length (token x) ≤ w) where
+  heads-room : (xs : List A) → 0 < length (map test xs) → all testInRange (map test xs) ≡ true → length (map test xs) ≤ 8 → room (headTokens token xs) + 2 ≤ length xs * (w + 3)
   unfolding headTokens bytes room
-  heads-room xs h k =
-      let one : (x : A) → testInRange (test x) ≡ true → room (token x ∷ []) ≤ 5 = λ x q. omega (arith, short x q) in
-      omega
-      (arith, length-map xs test, joined-room (λ x. testInRange (test x)) (λ x. token x ∷ []) (bytes "&") 5 one xs (sym (all-map testInRange test xs) ∙ h))
+  heads-room xs n h k =
+      let one : (x : A) → testInRange (test x) ≡ true → room (token x ∷ []) ≤ w + 1 = λ x q. omega (arith, short x q) in
+      let e : w + 1 + 2 ≡ w + 3 = omega arith in
+      rw (← e) (joined-room (λ x. testInRange (test x)) (λ x. token x ∷ []) (bytes "&") (w + 1) one xs (omega (arith, length-map xs test)) (sym (all-map testInRange test xs) ∙ h))
 
 -- ---- the line
 
-line-room : (l : PolicyLine) → ValidParts (headsOf l) (comparisonsOf l) (endingOf l) → room (lineTokens l) ≤ 154
+-- the most bytes that a line of each kind may have, with its end
+abbrev pub widest : PolicyLine → ℕ
+widest (rule r) = 150
+widest (constraint c) = 137
+
+line-room : (l : PolicyLine) → ValidParts (headsOf l) (comparisonsOf l) (endingOf l) → room (lineTokens l) ≤ widest l
 unfolding lineTokens headsOf comparisonsOf endingOf endingInRange testNumber room bytes
 line-room (rule r) v =
-    let heads : room (headTokens literalToken (r .literals)) ≤ 56 = heads-room literalToken Test.Occurs literal-short (r .literals) (v .tests) (v .few-tests) in
-    let condition : room (conditionTokens (r .comparisons)) ≤ 87 = condition-room (r .comparisons) (v .comparisons) (v .few-comparisons) in
+    let heads = heads-room literalToken Test.Occurs 4 literal-short (r .literals) (v .some) (v .tests) (v .few-tests) in
+    let condition = condition-room (r .comparisons) (v .comparisons) (v .few-comparisons) in
+    let few = v .few-tests in
     omega (
       arith,
+      length-map (r .literals) Test.Occurs,
       action-short (r .action) (v .ending),
       room-append (headTokens literalToken (r .literals)) (bytes "causes" ∷ actionToken (r .action) ∷ conditionTokens (r .comparisons)),
     )
 line-room (constraint c) v =
-    let short : (a : Action) → testInRange (Test.Member a) ≡ true → length (actionToken a) ≤ 4 = λ a q. omega (arith, action-short a q) in
-    let heads : room (headTokens actionToken (c .actions)) ≤ 56 = heads-room actionToken Test.Member short (c .actions) (v .tests) (v .few-tests) in
-    let condition : room (conditionTokens (c .comparisons)) ≤ 87 = condition-room (c .comparisons) (v .comparisons) (v .few-comparisons) in
-    omega (arith, room-append (headTokens actionToken (c .actions)) (conditionTokens (c .comparisons)))
+    let heads = heads-room actionToken Test.Member 3 action-short (c .actions) (v .some) (v .tests) (v .few-tests) in
+    let condition = condition-room (c .comparisons) (v .comparisons) (v .few-comparisons) in
+    let few = v .few-tests in
+    omega (arith, length-map (c .actions) Test.Member, room-append (headTokens actionToken (c .actions)) (conditionTokens (c .comparisons)))
 
-pub line-length : (l : PolicyLine) → valid l ≡ true → length (lineBytes l) ≤ 154
+some-tokens : (l : PolicyLine) → 0 < length (lineTokens l)
+unfolding lineTokens
+some-tokens (rule r) = omega (arith, length-append (headTokens literalToken (r .literals)) (bytes "causes" ∷ actionToken (r .action) ∷ conditionTokens (r .comparisons)))
+some-tokens (constraint c) = omega arith
+
+pub line-length : (l : PolicyLine) → valid l ≡ true → length (lineBytes l) + 1 ≤ widest l
 unfolding lineBytes
-line-length l v = omega (arith, joined-short (lineTokens l), line-room l (valid-out l v))
+line-length l v = omega (arith, joined-short (lineTokens l) (some-tokens l), line-room l (valid-out l v))

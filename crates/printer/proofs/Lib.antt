@@ -1,6 +1,10 @@
+pub mod ConstantLaws
 pub mod DecimalLaws
 pub mod Examples
 pub mod LengthLaws
+pub mod LinkLaws
+pub mod Longest
 pub mod ParseLaws
 pub mod Printing
 pub mod SplitLaws
+pub mod ValueLaws

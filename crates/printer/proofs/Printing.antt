@@ -1,10 +1,10 @@
 -- The text of an acceptable policy: it is within the limit, reading it back yields the policy, and no other policy has it.
 use Prim.Native.Nat.{ℕ, suc, _+_, _*_, _≤_, _<_}
 use mathlib.Core.Bool.{true}
-use mathlib.Core.List.{List, [], _∷_, _++_, map, foldl, foldl-append, map-append, append-nil}
+use mathlib.Core.List.{List, [], _∷_, _++_, map, foldl, foldl-append, map-append, append-assoc, append-nil}
 use mathlib.Core.Logic.{_↔_}
 use mathlib.Core.Option.{some}
-use mathlib.Core.Path.{_≡_, sym, ap, _∙_}
+use mathlib.Core.Path.{_≡_, refl, sym, ap, _∙_}
 use native.Mathlib.Omega.{arith}
 use borrow.Author.Tests.{lt-ltb, le-ltb}
 use lib.ListN.{length, length-append, length-map}
@@ -17,29 +17,40 @@ use Rattle.policy.specs.Policy.{Policy, Rule, Constraint}
 use Rattle.acceptance.proofs.Accepted.{accepted-acceptable}
 use Rattle.syntax.specs.Judge.{accepted}
 use Rattle.rule_text.specs.Text.{Progress, reading, advance, readLine, emptyPolicy, textLimit, readText, policyOf}
-use Rattle.printer.proofs.LengthLaws.{line-length}
+use Rattle.printer.proofs.LengthLaws.{widest, line-length}
 use Rattle.printer.proofs.ParseLaws.{line-read}
 use Rattle.printer.proofs.SplitLaws.{text-lines, ascii, lines-ascii}
-use Rattle.printer.specs.Printed.{lineBytes, linesText, policyLines, textOf}
+use Rattle.printer.specs.Printed.{lineBytes, linesText, policyLines, longestText, textOf}
 
 -- ---- the length
 
-lines-length : (ls : List PolicyLine) → all valid ls ≡ true → length (linesText ls) ≤ length ls * 155
+lines-length : {A : Type 0} (line : A → PolicyLine) (w : ℕ) → ((x : A) → widest (line x) ≡ w) → (xs : List A) → all valid (map line xs) ≡ true
+    → length (linesText (map line xs)) ≤ length xs * w
 unfolding linesText all
-lines-length [] h = omega arith
-lines-length (l ∷ ls) h =
-    let r = and-out (valid l) (all valid ls) h in
-    omega (arith, length-append (lineBytes l) (10 ∷ linesText ls), line-length l (r .0), lines-length ls (r .1))
+lines-length line w width [] h = omega arith
+lines-length line w width (x ∷ xs) h =
+    let r = and-out (valid (line x)) (all valid (map line xs)) h in
+    omega (arith, width x, length-append (lineBytes (line x)) (10 ∷ linesText (map line xs)), line-length (line x) (r .0), lines-length line w width xs (r .1))
 
-pub text-length : (p : Policy) → Acceptable p → length (textOf p) ≤ textLimit
+pub lines-append : (ls ms : List PolicyLine) → linesText (ls ++ ms) ≡ linesText ls ++ linesText ms
+unfolding linesText
+lines-append [] ms = refl
+lines-append (l ∷ ls) ms = ap (λ (s : List ℕ). lineBytes l ++ 10 ∷ s) (lines-append ls ms) ∙ sym (append-assoc (lineBytes l) (10 ∷ linesText ls) (linesText ms))
+
+pub text-length : (p : Policy) → Acceptable p → length (textOf p) ≤ longestText
 unfolding textOf
 text-length p a =
     let rs : List PolicyLine = map rule (p .rules) in
     let cs : List PolicyLine = map constraint (p .constraints) in
-    let v : all valid (policyLines p) ≡ true = all-append valid rs cs (a .rules-valid) (a .constraints-valid) in
-    let r : length rs ≤ ruleLimit = rw (length-map (p .rules) rule) (a .few-rules) in
-    let c : length cs ≤ constraintLimit = rw (length-map (p .constraints) constraint) (a .few-constraints) in
-    omega (arith, lines-length (policyLines p) v, length-append rs cs)
+    let few = a .few-rules in
+    let few′ = a .few-constraints in
+    omega (
+      arith,
+      ap length (lines-append rs cs),
+      length-append (linesText rs) (linesText cs),
+      lines-length rule 150 (λ r. refl) (p .rules) (a .rules-valid),
+      lines-length constraint 137 (λ c. refl) (p .constraints) (a .constraints-valid),
+    )
 
 -- ---- reading it back, one part after the other
 
@@ -86,7 +97,7 @@ lines-read p a =
 -- the number is that of the line that would come next
 pub text-read : (p : Policy) → Acceptable p → readText (textOf p) ≡ reading (1 + length (p .rules) + length (p .constraints)) p
 unfolding readText textOf
-text-read p a = rw (le-ltb textLimit (length (textOf p)) (text-length p a), text-lines (policyLines p)) (lines-read p a)
+text-read p a = rw (le-ltb textLimit (length (textOf p)) (omega (arith, text-length p a)), text-lines (policyLines p)) (lines-read p a)
 
 pub text-policy : (p : Policy) → Acceptable p → policyOf (textOf p) ≡ some p
 unfolding policyOf

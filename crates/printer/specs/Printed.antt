@@ -87,3 +87,7 @@ policyLines p = map rule (p .rules) ++ map constraint (p .constraints)
 
 unfoldable pub textOf : Policy → List ℕ
 textOf p = linesText (policyLines p)
+
+-- the most bytes that the text of an acceptable policy has: 128 rules of 150 bytes and 64 constraints of 137, with their ends
+abbrev pub longestText : ℕ
+longestText = 27968

@@ -6,7 +6,7 @@ use Rattle.policy.specs.Fault.{refusal}
 use Rattle.policy.specs.Set.{actionsFrom}
 use Rattle.policy.specs.declared.fault.Fault.{Fault}
 use Rattle.lexer.specs.Byte.{bytes}
-use Rattle.report.specs.Report.{wordLine, refusalLine, acceptLine, refusedLine}
+use Rattle.report.specs.Report.{wordLine, refusalLine, imageRefusalLine, notWordLine, acceptLine, refusedLine}
 
 pub record Example : Type 0 where
   pub line : List ℕ
@@ -31,6 +31,8 @@ examples =
     ∷ row (wordLine 3120500681) "B9FF0FC9\n"
     ∷ row (refusalLine (refusal Fault.Syntax 3)) "refused 2 line 3\n"
     ∷ row (refusalLine (refusal Fault.BufferTooSmall 0)) "refused 15 line 0\n"
+    ∷ row (imageRefusalLine (refusal Fault.ImageBody 6)) "refused 11 word 6\n"
+    ∷ row (notWordLine 3267) "line 3267 is not a word\n"
     ∷ row (acceptLine 1 (actionsFrom (3 ∷ [])) (actionsFrom (4 ∷ []))) "1 accept A3 cancel A4\n"
     ∷ row (acceptLine 2 (actionsFrom (4 ∷ [])) (actionsFrom [])) "2 accept A4 cancel -\n"
     ∷ row (acceptLine 3 (actionsFrom (4 ∷ [])) (actionsFrom [])) "3 accept A4 cancel -\n"

@@ -1,3 +1,3 @@
--- What a reader must believe of this layer. Start with `Report`: the lines that the two programs print.
+-- What a reader must believe of this layer. Start with `Report`: the lines that the programs print.
 pub mod Report
 pub mod Examples

@@ -1,4 +1,4 @@
--- The lines that the two programs print: document 01, "The two programs".
+-- The lines that the programs print: document 01, "The two programs", and those of the decompiler.
 use Prim.Native.Char.{code}
 use Prim.Native.Nat.{ℕ, zero, suc}
 use mathlib.Core.Bool.{cond}
@@ -43,10 +43,21 @@ newline = 10 ∷ []
 unfoldable pub wordLine : ℕ → List ℕ
 wordLine w = hexWord w ++ newline
 
--- a refused text, with the location (document 01: the place)
+-- a refusal, with the word that tells what its location (document 01: the place) counts
+abbrev pub locatedLine : List ℕ → Refusal → List ℕ
+locatedLine unit r = bytes "refused " ++ decimal (faultNumber (r .fault)) ++ unit ++ decimal (r .location) ++ newline
+
+-- a refused text
 unfoldable pub refusalLine : Refusal → List ℕ
-refusalLine r =
-    bytes "refused " ++ decimal (faultNumber (r .fault)) ++ bytes " line " ++ decimal (r .location) ++ newline
+refusalLine r = locatedLine (bytes " line ") r
+
+-- a refused image
+unfoldable pub imageRefusalLine : Refusal → List ℕ
+imageRefusalLine r = locatedLine (bytes " word ") r
+
+-- the line of that number, of what should be the words of an image, is none
+unfoldable pub notWordLine : ℕ → List ℕ
+notWordLine n = bytes "line " ++ decimal n ++ bytes " is not a word" ++ newline
 
 -- the epoch of that number, decided
 unfoldable pub acceptLine : ℕ → ActionSet → ActionSet → List ℕ

@@ -1,7 +1,7 @@
-// The lines that the two programs print.
+// The lines that the programs print.
 ghost use mathlib.Core.Path.{_≡_};
 ghost use Rattle.output.specs.Buffer.{appended, behind};
-ghost use Rattle.report.specs.Report.{wordLine, refusalLine, acceptLine, refusedLine};
+ghost use Rattle.report.specs.Report.{wordLine, locatedLine, refusalLine, imageRefusalLine, notWordLine, acceptLine, refusedLine};
 use crate::action::put_actions;
 use output::put_byte;
 use output::put_bytes;
@@ -20,17 +20,44 @@ pub fn put_word_line(out: &mut [u8], at: usize, word: u32) -> usize
     put_byte(out, end, b'\n')
 }
 
-// A refused text, and where the fault is.
-pub fn put_refusal(out: &mut [u8], at: usize, refusal: Refusal) -> usize
-    ensures answer { λ r. ⌜ r ≡ behind (now (out .entry)) at (refusalLine refusal) ⌝ }
-    ensures buffer { λ _. ⌜ now (out .exit) ≡ appended (now (out .entry)) at (refusalLine refusal) ⌝ }
+// A refusal and where the fault is; the unit tells what the location counts.
+fn put_located(out: &mut [u8], at: usize, unit: &[u8], refusal: Refusal) -> usize
+    ensures answer { λ r. ⌜ r ≡ behind (now (out .entry)) at (locatedLine (now (unit .entry)) refusal) ⌝ }
+    ensures buffer { λ _. ⌜ now (out .exit) ≡ appended (now (out .entry)) at (locatedLine (now (unit .entry)) refusal) ⌝ }
 {
     let fault = refusal.fault;
     let number = fault.number() as u64;
     let start = put_bytes(out, at, b"refused ");
     let middle = put_decimal(out, start, number);
-    let location = put_bytes(out, middle, b" line ");
+    let location = put_bytes(out, middle, unit);
     let end = put_decimal(out, location, refusal.location as u64);
+    put_byte(out, end, b'\n')
+}
+
+// A refused text.
+pub fn put_refusal(out: &mut [u8], at: usize, refusal: Refusal) -> usize
+    ensures answer { λ r. ⌜ r ≡ behind (now (out .entry)) at (refusalLine refusal) ⌝ }
+    ensures buffer { λ _. ⌜ now (out .exit) ≡ appended (now (out .entry)) at (refusalLine refusal) ⌝ }
+{
+    put_located(out, at, b" line ", refusal)
+}
+
+// A refused image.
+pub fn put_image_refusal(out: &mut [u8], at: usize, refusal: Refusal) -> usize
+    ensures answer { λ r. ⌜ r ≡ behind (now (out .entry)) at (imageRefusalLine refusal) ⌝ }
+    ensures buffer { λ _. ⌜ now (out .exit) ≡ appended (now (out .entry)) at (imageRefusalLine refusal) ⌝ }
+{
+    put_located(out, at, b" word ", refusal)
+}
+
+// A line that should be a word of an image and is none. Lines are numbered from 1.
+pub fn put_not_word(out: &mut [u8], at: usize, line: u64) -> usize
+    ensures answer { λ r. ⌜ r ≡ behind (now (out .entry)) at (notWordLine line) ⌝ }
+    ensures buffer { λ _. ⌜ now (out .exit) ≡ appended (now (out .entry)) at (notWordLine line) ⌝ }
+{
+    let start = put_bytes(out, at, b"line ");
+    let middle = put_decimal(out, start, line);
+    let end = put_bytes(out, middle, b" is not a word");
     put_byte(out, end, b'\n')
 }
 

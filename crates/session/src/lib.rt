@@ -1,6 +1,6 @@
-// What the two programs print: from all bytes of the input to all bytes of the output. The engine's session takes its input in
-// chunks of any size and its caller hands the output out whenever it likes. Start with specs/Printed.antt; the compiler's is
-// specs/Listed.antt.
+// What the compiler and the engine print: from all bytes of the input to all bytes of the output. The engine's session takes its
+// input in chunks of any size and its caller hands the output out whenever it likes. Start with specs/Printed.antt; the compiler's
+// is specs/Listed.antt.
 mod epoch;
 mod listing;
 mod state;

@@ -15,38 +15,62 @@ static unsigned nulls(const uint8_t *first, const uint8_t *second)
     return (first == NULL ? 1 : 0) + (second == NULL ? 2 : 0);
 }
 
-struct verdict compare_compile(const uint8_t *text, size_t length, size_t room)
+const struct filler compiling = {
+    "kinohazel_compile", compile, fill_with_image, IMAGE_BYTES, tally.compile, tally.compile_nulls};
+const struct filler writing = {"kinohazel_text", decompile, fill_with_text, WRITTEN_BYTES, tally.text, tally.text_nulls};
+
+static void count_location(unsigned long locations[4], struct verdict verdict, const uint8_t *image)
 {
-    static uint8_t image[IMAGE_BYTES], wanted[OUT_BYTES];
-    static const char name[] = "kinohazel_compile";
+    size_t rules_end;
+    if (verdict.fault != FAULT_BODY)
+        return;
+    rules_end = 1 + unpack_header(word_at(image, 0)).rule_words;
+    locations[verdict.location < rules_end ? verdict.location > 1 : 2 + (verdict.location > rules_end)]++;
+}
+
+struct verdict compare_filler(const struct filler *filler, const uint8_t *input, size_t length, size_t room)
+{
+    static uint8_t output[OUT_BYTES], wanted[OUT_BYTES];
     char what[200];
     size_t size;
-    struct verdict verdict = compile(text, length, image, room, &size);
-    struct kinohazel_compilation answer;
-    const uint8_t *lent = lend(text_pen, text, length);
+    struct verdict verdict = filler->reference(input, length, output, room, &size);
+    struct filled answer;
+    const uint8_t *lent = lend(text_pen, input, length);
     uint8_t *out = tally.comparisons % 3 == 0 ? out_pen.from + GUARD
         : tally.comparisons % 3 == 1          ? out_pen.end - GUARD - room
                                               : out_pen.end - room;
     uint8_t *lent_out = room == 0 && out_pen.null ? NULL : out;
     memcpy(out_pen.from, pattern, OUT_BYTES);
     memcpy(wanted, pattern, OUT_BYTES);
-    memcpy(wanted + (out - out_pen.from), image, size);
+    memcpy(wanted + (out - out_pen.from), output, size);
     start_call(true);
-    answer = kinohazel_compile(lent, length, lent_out, room);
+    answer = filler->library(lent, length, lent_out, room);
     end_call();
-    if (answer.fault != (uint64_t)verdict.fault || answer.line != verdict.location || answer.size != size) {
-        sprintf(what, "room %lu, fault %" PRIu64 " line %" PRIu64 " size %" PRIu64 ", expected %d, %lu, %lu",
-            (unsigned long)room, answer.fault, answer.line, answer.size, (int)verdict.fault,
+    if (answer.fault != (uint64_t)verdict.fault || answer.location != verdict.location || answer.size != size) {
+        sprintf(what, "room %lu, fault %" PRIu64 " location %" PRIu64 " size %" PRIu64 ", expected %d, %lu, %lu",
+            (unsigned long)room, answer.fault, answer.location, answer.size, (int)verdict.fault,
             (unsigned long)verdict.location, (unsigned long)size);
-        fail_on(name, what, text, length);
+        fail_on(filler->name, what, input, length);
     }
     if (!same(out_pen.from, wanted, OUT_BYTES))
-        fail_on(name, "wrong bytes in the buffer, or changed ones outside the image", text, length);
-    if (!same(lent, text, length))
-        fail_on(name, "the text was changed", text, length);
-    tally.compile[verdict.fault]++;
-    tally.compile_nulls[nulls(lent, lent_out)]++;
+        fail_on(filler->name, "wrong bytes in the buffer, or changed ones outside the output", input, length);
+    if (!same(lent, input, length))
+        fail_on(filler->name, "the input was changed", input, length);
+    filler->faults[verdict.fault]++;
+    filler->nulls[nulls(lent, lent_out)]++;
     tally.comparisons++;
+    return verdict;
+}
+
+struct verdict compare_compile(const uint8_t *text, size_t length, size_t room)
+{
+    return compare_filler(&compiling, text, length, room);
+}
+
+struct verdict compare_text(const uint8_t *image, size_t length, size_t room)
+{
+    struct verdict verdict = compare_filler(&writing, image, length, room);
+    count_location(tally.text_locations, verdict, image);
     return verdict;
 }
 
@@ -76,10 +100,7 @@ struct verdict compare_check(const uint8_t *image, size_t length)
     }
     if (!same(lent, image, length))
         fail_on(name, "the image was changed", image, length);
-    if (verdict.fault == FAULT_BODY) {
-        size_t rules_end = 1 + unpack_header(word_at(image, 0)).rule_words;
-        tally.locations[verdict.location < rules_end ? verdict.location > 1 : 2 + (verdict.location > rules_end)]++;
-    }
+    count_location(tally.check_locations, verdict, image);
     tally.check[verdict.fault]++;
     tally.check_nulls[lent == NULL]++;
     tally.comparisons++;

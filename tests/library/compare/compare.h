@@ -3,7 +3,7 @@
 #define COMPARE_H
 
 #include "../../reference/inputs.h"
-#include "kinohazel.h"
+#include "../fill.h"
 
 #define COUNT(list) (sizeof(list) / sizeof *(list))
 
@@ -51,9 +51,10 @@ enum extreme {
 /* What was met. Locations of fault 11: the first line of the rules, a later one, and the same of the constraints. Nulls: 1 if the
    first area of a call is null, and 2 more if the second one is. */
 struct tally {
-    unsigned long comparisons, compile[FAULTS], check[FAULTS], decide[FAULTS];
-    unsigned long locations[4], flaws[2][FLAWS], accepting, cancelling, extremes[EXTREMES];
-    unsigned long compile_nulls[4], check_nulls[4], decide_nulls[4], lines_in_images;
+    unsigned long comparisons, compile[FAULTS], check[FAULTS], text[FAULTS], decide[FAULTS];
+    unsigned long check_locations[4], text_locations[4], flaws[2][FLAWS], accepting, cancelling, extremes[EXTREMES];
+    unsigned long compile_nulls[4], check_nulls[4], text_nulls[4], decide_nulls[4], lines_in_images;
+    unsigned long written, empty, longest; /* texts that compile to their image again; those of 0 and of 27,968 bytes */
 };
 
 extern struct tally tally;
@@ -75,7 +76,7 @@ void fail_on(const char *function, const char *what, const uint8_t *bytes, size_
 
 enum {
     GUARD = 64,
-    OUT_BYTES = 20480, /* the buffer lent for an image, and what lies before and behind it */
+    OUT_BYTES = 32768, /* the buffer lent for an image or a text, and what lies before and behind it */
     MOST_ROOM = OUT_BYTES - 2 * GUARD
 };
 
@@ -87,7 +88,7 @@ struct pen {
 
 extern struct pen text_pen, line_pen, out_pen;
 
-/* What the buffer for an image holds before a call. */
+/* What the buffer holds before a call. */
 extern uint8_t pattern[OUT_BYTES];
 
 void make_pens(void);
@@ -99,15 +100,28 @@ void make_pattern(struct dice *dice);
 /* A copy of the bytes, mostly at the end of the pen, else near it or at the start. */
 const uint8_t *lend(struct pen pen, const uint8_t *bytes, size_t length);
 
-/* Before and after a call: nothing but the buffer, and that by a compilation alone, can be written to during the call. One call
-   of 499 is made so, since it takes long. */
-void start_call(bool compilation);
+/* Before and after a call: nothing but the buffer, and that only by a call that fills it, can be written to during the call. One
+   call of 499 is made so, since it takes long. */
+void start_call(bool filling);
 void end_call(void);
 
-/* calls.c: the three functions. The answers of the reference are returned. */
+/* calls.c: the functions. The answers of the reference are returned. */
+
+/* A function that fills a buffer. */
+struct filler {
+    const char *name;
+    struct verdict (*reference)(const uint8_t *, size_t, uint8_t *, size_t, size_t *);
+    fill_function *library;
+    size_t limit; /* bytes that it writes at most */
+    unsigned long *faults, *nulls;
+};
+
+extern const struct filler compiling, writing;
 
 bool same(const uint8_t *one, const uint8_t *other, size_t length);
+struct verdict compare_filler(const struct filler *filler, const uint8_t *input, size_t length, size_t room);
 struct verdict compare_compile(const uint8_t *text, size_t length, size_t room);
+struct verdict compare_text(const uint8_t *image, size_t length, size_t room);
 struct verdict compare_check(const uint8_t *image, size_t length);
 
 /* The policy, if there is one, is that of the text the image was compiled from. */
@@ -117,9 +131,17 @@ bool agree(struct kinohazel_decision answer, struct decision wanted);
 
 /* texts.c */
 
-/* A text with buffers of several lengths. */
+/* A text or an image with buffers of several lengths. */
+struct verdict compare_filler_rooms(const struct filler *filler, const uint8_t *input, size_t length, struct dice *dice);
 struct verdict compare_rooms(const uint8_t *text, size_t length, struct dice *dice);
 void compare_limit_texts(struct buffer *input, struct dice *dice);
+
+/* written.c */
+
+/* The text of an image that is accepted: it compiles to the image again, and so does the text as someone else would write it,
+   which gives the same text again. */
+void compare_written(const uint8_t *image, size_t length, struct buffer *work, struct dice *dice);
+void compare_limit_written(struct buffer *input, struct buffer *work, struct dice *dice);
 
 /* images.c */
 
@@ -139,7 +161,7 @@ void compare_repeated(unsigned number, struct dice *dice);
 
 uint32_t other_word(struct dice *dice, uint32_t word);
 
-/* A decision on a damaged image: no epoch line counts, since the image is looked at first. */
+/* A decision on a damaged image and its text: no epoch line and no room counts, since the image is looked at first. */
 void compare_damaged(const uint8_t *image, size_t length, struct dice *dice);
 
 /* An image with damages; `share` of 1000 words, bits and lengths are tried in damages of one place. */

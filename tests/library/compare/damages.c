@@ -21,15 +21,17 @@ uint32_t other_word(struct dice *dice, uint32_t word)
 void compare_damaged(const uint8_t *image, size_t length, struct dice *dice)
 {
     static const char *const lines[] = {"", "E1", "E0 E1 E2 E3 R0=41", "x", "E64", "R0=1 R0=1"};
+    static const size_t rooms[] = {0, 1, 100, WRITTEN_BYTES, MOST_ROOM};
     static uint8_t blanks[EPOCH_BYTES + 1];
     const char *line = CHOOSE(dice, lines);
     if (chance(dice, 100))
         compare_decide(image, length, memset(blanks, ' ', sizeof blanks), sizeof blanks, NULL);
     else
         compare_decide(image, length, (const uint8_t *)line, strlen(line), NULL);
+    compare_text(image, length, CHOOSE(dice, rooms));
 }
 
-/* The check of a damaged image, and in `per_mille` of 1000 cases a decision on it. */
+/* The check of a damaged image, and in `per_mille` of 1000 cases a decision on it and its text. */
 static struct verdict compare_check_damaged(const uint8_t *image, size_t length, struct dice *dice, unsigned per_mille)
 {
     struct verdict verdict = compare_check(image, length);

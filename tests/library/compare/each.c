@@ -38,6 +38,7 @@ void compare_each_byte(struct buffer *input)
             put_sum(changed, size / WORD_BYTES);
             compare_check(changed, size);
             compare_decide(changed, size, (const uint8_t *)line, line_length, NULL);
+            compare_text(changed, size, text_length + 8);
         }
     }
 }
@@ -71,6 +72,7 @@ void compare_each_number(struct buffer *input, struct buffer *work, struct dice 
                 continue;
             make_subject(&subject, input->bytes, input->length);
             compare_check(subject.image, subject.size);
+            compare_text(subject.image, subject.size, WRITTEN_BYTES);
             for (k = 0; k < COUNT(lines); k++) {
                 fill_in(work, lines[k], number);
                 compare_line(&subject, work->bytes, work->length);

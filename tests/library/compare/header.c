@@ -6,7 +6,8 @@
 static void compare_limits(void)
 {
     static const int pairs[][2] = {{KINOHAZEL_TEXT_LIMIT, TEXT_BYTES}, {KINOHAZEL_EPOCH_LIMIT, EPOCH_BYTES},
-        {KINOHAZEL_IMAGE_LIMIT, IMAGE_BYTES}, {KINOHAZEL_RULE_LIMIT, RULES}, {KINOHAZEL_CONSTRAINT_LIMIT, CONSTRAINTS},
+        {KINOHAZEL_IMAGE_LIMIT, IMAGE_BYTES}, {KINOHAZEL_WRITTEN_TEXT_LIMIT, WRITTEN_BYTES},
+        {KINOHAZEL_RULE_LIMIT, RULES}, {KINOHAZEL_CONSTRAINT_LIMIT, CONSTRAINTS},
         {KINOHAZEL_OK, FAULT_NONE}, {KINOHAZEL_TOO_LONG, FAULT_LONG}, {KINOHAZEL_SYNTAX, FAULT_SHAPE},
         {KINOHAZEL_OUT_OF_RANGE, FAULT_RANGE}, {KINOHAZEL_TOO_MANY_PARTS, FAULT_CROWD},
         {KINOHAZEL_TOO_MANY_LINES, FAULT_FULL}, {KINOHAZEL_DUPLICATE, FAULT_REPEAT}, {KINOHAZEL_IMAGE_SIZE, FAULT_SIZE},
@@ -65,6 +66,9 @@ void compare_nulls(void)
             compare_compile(text, strlen(texts[i]), IMAGE_BYTES);
             compile(text, strlen(texts[i]), image, sizeof image, &size);
             compare_check(image, size);
+            compare_text(image, size, 0);
+            compare_text(image, size, 7);
+            compare_text(image, size, WRITTEN_BYTES);
             compare_decide(image, size, NULL, 0, NULL);
             compare_decide(image, size, (const uint8_t *)"E1", 2, NULL);
             compare_decide(image, size, (const uint8_t *)"E64", 3, NULL);
@@ -73,6 +77,7 @@ void compare_nulls(void)
                 continue;
             memcpy(changed, image, size);
             changed[size - 1] ^= 1;
+            compare_text(changed, size, 0);
             compare_decide(changed, size, NULL, 0, NULL);
         }
         compare_compile(blanks, sizeof blanks, 0);

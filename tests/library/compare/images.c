@@ -3,58 +3,19 @@
 
 #include <string.h>
 
-static void add_condition_of(struct buffer *to, const struct condition *condition)
-{
-    size_t i;
-    for (i = 0; i < condition->count; i++) {
-        const struct comparison *comparison = &condition->comparisons[i];
-        add_format(to, " %s R%u %s ", i == 0 ? "if" : ",", comparison->reading, relation_names[comparison->relation]);
-        if (comparison->with_reading)
-            add_format(to, "R%u", comparison->other);
-        else
-            add_number(to, comparison->constant);
-    }
-    add(to, "\n");
-}
-
-/* A text with this policy; its constraints come first. */
-static void add_policy(struct buffer *to, const struct policy *policy)
-{
-    size_t i, k;
-    for (i = 0; i < policy->constraint_count; i++) {
-        for (k = 0; k < policy->constraints[i].count; k++)
-            add_format(to, "%s A%u", k == 0 ? "never" : " &", policy->constraints[i].members[k]);
-        add_condition_of(to, &policy->constraints[i].condition);
-    }
-    for (i = 0; i < policy->rule_count; i++) {
-        for (k = 0; k < policy->rules[i].count; k++) {
-            const struct literal *literal = &policy->rules[i].literals[k];
-            add_format(to, "%s%sE%u", k == 0 ? "" : " & ", literal->negated ? "!" : "", literal->event);
-        }
-        add_format(to, " causes A%u", policy->rules[i].action);
-        add_condition_of(to, &policy->rules[i].condition);
-    }
-}
-
 /* For an image made otherwise than from a text: if it is accepted, its text compiles to it and decides alike. */
 static struct verdict compare_image(const uint8_t *image, size_t length, struct buffer *work, struct dice *dice)
 {
     static struct policy policy;
-    static uint8_t compiled[IMAGE_BYTES];
     struct verdict verdict = compare_check(image, length);
     struct taste taste = make_taste(dice);
     if (verdict.fault != FAULT_NONE) {
+        compare_text(image, length, below(dice, MOST_ROOM + 1));
         if (chance(dice, 200))
             compare_damaged(image, length, dice);
         return verdict;
     }
-    load_image(image, length, &policy);
-    work->length = 0;
-    add_policy(work, &policy);
-    if (compare_compile(work->bytes, work->length, length).fault != FAULT_NONE
-        || kinohazel_compile(work->bytes, work->length, compiled, sizeof compiled).size != length
-        || !same(compiled, image, length))
-        fail_on("kinohazel_compile", "the text of an accepted image does not compile to it", image, length);
+    compare_written(image, length, work, dice);
     read_text(work->bytes, work->length, &policy);
     work->length = 0;
     add_epoch(work, dice, &taste);

@@ -73,13 +73,13 @@ static void let_write(struct pen pen, bool allowed)
         fail("mprotect", "no rights");
 }
 
-void start_call(bool compilation)
+void start_call(bool filling)
 {
     if (tally.comparisons % 499 != 0)
         return;
     let_write(text_pen, false);
     let_write(line_pen, false);
-    let_write(out_pen, compilation);
+    let_write(out_pen, filling);
 }
 
 void end_call(void)
@@ -95,9 +95,11 @@ void end_call(void)
 
 struct kinohazel_compilation __real_kinohazel_compile_nonnull(const uint8_t *, size_t, uint8_t *, size_t);
 struct kinohazel_image_check __real_kinohazel_check_nonnull(const uint8_t *, size_t);
+struct kinohazel_text_written __real_kinohazel_text_nonnull(const uint8_t *, size_t, uint8_t *, size_t);
 struct kinohazel_decision __real_kinohazel_decide_nonnull(const uint8_t *, size_t, const uint8_t *, size_t);
 struct kinohazel_compilation __wrap_kinohazel_compile_nonnull(const uint8_t *, size_t, uint8_t *, size_t);
 struct kinohazel_image_check __wrap_kinohazel_check_nonnull(const uint8_t *, size_t);
+struct kinohazel_text_written __wrap_kinohazel_text_nonnull(const uint8_t *, size_t, uint8_t *, size_t);
 struct kinohazel_decision __wrap_kinohazel_decide_nonnull(const uint8_t *, size_t, const uint8_t *, size_t);
 
 static void refuse_null(const uint8_t *pointer)
@@ -118,6 +120,14 @@ struct kinohazel_image_check __wrap_kinohazel_check_nonnull(const uint8_t *image
 {
     refuse_null(image);
     return __real_kinohazel_check_nonnull(image, image_length);
+}
+
+struct kinohazel_text_written __wrap_kinohazel_text_nonnull(
+    const uint8_t *image, size_t image_length, uint8_t *out, size_t out_length)
+{
+    refuse_null(image);
+    refuse_null(out);
+    return __real_kinohazel_text_nonnull(image, image_length, out, out_length);
 }
 
 struct kinohazel_decision __wrap_kinohazel_decide_nonnull(

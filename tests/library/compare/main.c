@@ -6,7 +6,7 @@
 
 #include <stdlib.h>
 
-/* A text, its image with and without damages, and epoch lines, from an input of the engine. */
+/* A text, its image with and without damages, the text of that, and epoch lines, from an input of the engine. */
 static void compare_input(const struct buffer *input, struct buffer *work, struct dice *dice, unsigned share)
 {
     static struct subject subject;
@@ -19,6 +19,8 @@ static void compare_input(const struct buffer *input, struct buffer *work, struc
     if (compare_check(subject.image, subject.size).fault != FAULT_NONE)
         fail_on("reference", "the image of a text is refused", subject.image, subject.size);
     compare_lines(&subject, input, at, work, dice);
+    step = "written texts";
+    compare_written(subject.image, subject.size, work, dice);
     damage_image(subject.image, subject.size, dice, share);
 }
 
@@ -57,6 +59,7 @@ static void run_limits(struct buffer *input, struct buffer *work)
     compare_header();
     compare_limit_texts(input, &dice);
     compare_limit_images(input, work, &dice);
+    compare_limit_written(input, work, &dice);
     compare_limit_epochs(input);
     compare_nulls();
     compare_lines_in_image();

@@ -36,10 +36,18 @@ void fail_on(const char *function, const char *what, const uint8_t *bytes, size_
     exit(1);
 }
 
+static void print_locations(const char *function, const unsigned long locations[4])
+{
+    printf("; %s 11 at the first rule %lu, a later one %lu, the first constraint %lu, a later one %lu", function,
+        locations[0], locations[1], locations[2], locations[3]);
+}
+
 bool report(void)
 {
     static const enum fault compile_faults[] = {FAULT_NONE, FAULT_LONG, FAULT_SHAPE, FAULT_RANGE, FAULT_CROWD,
         FAULT_FULL, FAULT_REPEAT, FAULT_ROOM};
+    static const enum fault text_faults[] = {
+        FAULT_NONE, FAULT_SIZE, FAULT_FORM, FAULT_COUNT, FAULT_SUM, FAULT_BODY, FAULT_ROOM};
     static const enum fault check_faults[] = {FAULT_NONE, FAULT_SIZE, FAULT_FORM, FAULT_COUNT, FAULT_SUM, FAULT_BODY};
     static const enum fault decide_faults[] = {FAULT_NONE, FAULT_LONG, FAULT_SIZE, FAULT_FORM, FAULT_COUNT, FAULT_SUM,
         FAULT_BODY, FAULT_EPOCH_SHAPE, FAULT_EPOCH_RANGE, FAULT_TWICE};
@@ -51,6 +59,7 @@ bool report(void)
     } functions[] = {
         {"compile", tally.compile, compile_faults, COUNT(compile_faults)},
         {"check", tally.check, check_faults, COUNT(check_faults)},
+        {"text", tally.text, text_faults, COUNT(text_faults)},
         {"decide", tally.decide, decide_faults, COUNT(decide_faults)}};
     static const char *const extremes[EXTREMES] = {[ALL_ACCEPTED] = "all actions accepted",
         [ALL_CANCELLED] = "all cancelled",
@@ -59,7 +68,8 @@ bool report(void)
         [ALL_READINGS] = "all readings",
         [FAR_EVENT] = "E63 at the end of 1,024 bytes",
         [FAR_READING] = "R15 there"};
-    bool all = tally.accepting > 0 && tally.cancelling > 0 && tally.lines_in_images > 0;
+    bool all = tally.accepting > 0 && tally.cancelling > 0 && tally.lines_in_images > 0 && tally.empty > 0
+        && tally.longest > 0;
     size_t i, k;
     printf("library: %lu comparisons agree", tally.comparisons);
     for (i = 0; i < COUNT(functions); i++) {
@@ -70,17 +80,19 @@ bool report(void)
             all = all && count > 0;
         }
     }
-    printf("; %lu accept an action, %lu cancel one; 11 at the first rule %lu, a later one %lu, the first constraint "
-           "%lu, a later one %lu; decided with",
-        tally.accepting, tally.cancelling, tally.locations[0], tally.locations[1], tally.locations[2], tally.locations[3]);
+    print_locations("check", tally.check_locations);
+    print_locations("text", tally.text_locations);
+    printf("; %lu written texts compile again, %lu of them of 0 bytes, %lu of %d; %lu accept an action, %lu cancel one; "
+           "decided with",
+        tally.written, tally.empty, tally.longest, (int)WRITTEN_BYTES, tally.accepting, tally.cancelling);
     for (i = 0; i < EXTREMES; i++) {
         printf("%s %s %lu", i == 0 ? "" : ",", extremes[i], tally.extremes[i]);
         all = all && tally.extremes[i] > 0;
     }
     printf("\n");
     for (i = 0; i < 4; i++)
-        all = all && tally.locations[i] > 0 && tally.compile_nulls[i] > 0 && tally.decide_nulls[i] > 0
-            && (tally.check_nulls[i] > 0 || i > 1);
+        all = all && tally.check_locations[i] > 0 && tally.text_locations[i] > 0 && tally.compile_nulls[i] > 0
+            && tally.text_nulls[i] > 0 && tally.decide_nulls[i] > 0 && (tally.check_nulls[i] > 0 || i > 1);
     for (i = 0; i < FLAWS; i++)
         all = all && tally.flaws[0][i] > 0 && (tally.flaws[1][i] > 0 || i == FIRST_UNUSED);
     return all;

@@ -1,25 +1,32 @@
-/* Rule texts, and buffers of several lengths for their images. */
+/* Rule texts, and buffers of several lengths. */
 #include "compare.h"
 
 #include <string.h>
 
-struct verdict compare_rooms(const uint8_t *text, size_t length, struct dice *dice)
+struct verdict compare_filler_rooms(const struct filler *filler, const uint8_t *input, size_t length, struct dice *dice)
 {
-    static uint8_t image[IMAGE_BYTES];
+    static uint8_t output[OUT_BYTES];
     size_t size;
-    struct verdict verdict = compile(text, length, image, sizeof image, &size);
-    compare_compile(text, length, IMAGE_BYTES);
-    compare_compile(text, length, 0);
-    compare_compile(text, length, below(dice, MOST_ROOM + 1));
+    struct verdict verdict = filler->reference(input, length, output, sizeof output, &size);
+    compare_filler(filler, input, length, filler->limit);
+    compare_filler(filler, input, length, 0);
+    compare_filler(filler, input, length, below(dice, MOST_ROOM + 1));
     if (verdict.fault != FAULT_NONE)
         return verdict;
-    compare_compile(text, length, size);
-    compare_compile(text, length, size - 1);
-    compare_compile(text, length, size + 1);
-    compare_compile(text, length, below(dice, (unsigned)size));
-    compare_compile(text, length, chance(dice, 500) ? size - WORD_BYTES : WORD_BYTES);
-    compare_compile(text, length, MOST_ROOM);
+    compare_filler(filler, input, length, size);
+    compare_filler(filler, input, length, size + 1);
+    compare_filler(filler, input, length, MOST_ROOM);
+    if (size == 0)
+        return verdict;
+    compare_filler(filler, input, length, size - 1);
+    compare_filler(filler, input, length, below(dice, (unsigned)size));
+    compare_filler(filler, input, length, chance(dice, 500) ? size - WORD_BYTES : WORD_BYTES);
     return verdict;
+}
+
+struct verdict compare_rooms(const uint8_t *text, size_t length, struct dice *dice)
+{
+    return compare_filler_rooms(&compiling, text, length, dice);
 }
 
 void compare_limit_texts(struct buffer *input, struct dice *dice)

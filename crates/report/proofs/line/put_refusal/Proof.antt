@@ -1,68 +1,22 @@
-use mathlib.Core.Path.{ap}
 use Rattle.lexer.specs.Byte.{bytes}
-use Rattle.output.specs.Number.{decimal}
 use Rattle.report.specs.Report.{refusalLine}
-use Rattle.output.proofs.AppendLaws.{put-same, put-then}
 use borrow.Author.Needs.{needs}
 use Rattle.report.proofs.line.put_refusal.Statement.{statement}
 use Rattle.report.proofs.line.put_refusal.Tie as tie
 
-number-requires : tie.Need-number-requires
-number-requires c κs = search needs
+slice-aggregate-put-located : tie.Need-slice-aggregate-put-located
+slice-aggregate-put-located c = search needs
 
-cast-number : tie.Need-cast-number
-cast-number c = search needs
-
-slice-aggregate-put-bytes : tie.Need-slice-aggregate-put-bytes
-slice-aggregate-put-bytes c = search needs
-
-put-bytes-requires : tie.Need-put-bytes-requires
-put-bytes-requires c κs = search needs
-
-put-decimal-requires : tie.Need-put-decimal-requires
-put-decimal-requires c κs = search needs
-
-slice-aggregate-put-bytes-2 : tie.Need-slice-aggregate-put-bytes-2
-slice-aggregate-put-bytes-2 c = search needs
-
-put-bytes-requires-2 : tie.Need-put-bytes-requires-2
-put-bytes-requires-2 c κs = search needs
-
-put-decimal-requires-2 : tie.Need-put-decimal-requires-2
-put-decimal-requires-2 c κs = search needs
-
-put-byte-requires : tie.Need-put-byte-requires
-put-byte-requires c κs = search needs
+put-located-requires : tie.Need-put-located-requires
+put-located-requires c κs = search needs
 
 same-length : tie.Need-same-length
 same-length c = search needs
 
 returns : tie.Need-returns
 unfolding refusalLine bytes
-returns c =
-    let end = c .before .before in
-    let location = end .before .before .before .before in
-    let middle = location .before .before .before .before in
-    let number = middle .before .before .before .before .before in
-    let start = number .before .before .before .before in
-    let n = ap decimal (start .before .before .before .number .ensures) in
-    let p₁ = put-then _ _ _ _ _ _ _ _ (start .put-bytes .ensures) (put-same _ _ _ _ _ _ n (number .put-decimal .ensures)) in
-    let p₂ = put-then _ _ _ _ _ _ _ _ p₁ (middle .put-bytes2 .ensures) in
-    let p₃ = put-then _ _ _ _ _ _ _ _ p₂ (location .put-decimal2 .ensures) in
-    put-then _ _ _ _ _ _ _ _ p₃ (end .put-byte .ensures)
+returns c = c .before .before .put-located .ensures
 
 pub put-refusal-spec : {M : Type 1} → statement M
 put-refusal-spec =
-    tie.close
-    (tie.spec
-    number-requires
-    cast-number
-    slice-aggregate-put-bytes
-    put-bytes-requires
-    put-decimal-requires
-    slice-aggregate-put-bytes-2
-    put-bytes-requires-2
-    put-decimal-requires-2
-    put-byte-requires
-    same-length
-    returns)
+    tie.close (tie.spec slice-aggregate-put-located put-located-requires same-length returns)
