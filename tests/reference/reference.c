@@ -530,89 +530,89 @@ struct verdict load_image(const uint8_t *image, size_t length, struct policy *po
     return ACCEPTED;
 }
 
-/* Writing texts. Each part is put behind what is there. */
+/* Writing texts */
 
-struct writing {
-    uint8_t *text;
+/* A text in the making: what is put goes behind `length`, where there is room for it. */
+struct draft {
+    uint8_t *bytes;
     size_t length;
 };
 
-static void put_string(struct writing *to, const char *string)
+static void put_string(struct draft *draft, const char *string)
 {
-    while (*string != '\0')
-        to->text[to->length++] = (uint8_t)*string++;
+    size_t length = strlen(string);
+    memcpy(draft->bytes + draft->length, string, length);
+    draft->length += length;
 }
 
-static void put_number(struct writing *to, uint32_t number)
+static void put_number(struct draft *draft, int32_t number)
 {
-    if (number > 9)
-        put_number(to, number / 10);
-    to->text[to->length++] = (uint8_t)('0' + number % 10);
+    char decimal[sizeof "-2147483648"];
+    snprintf(decimal, sizeof decimal, "%" PRId32, number);
+    put_string(draft, decimal);
 }
 
-static void put_name(struct writing *to, const char *letter, unsigned number)
+/* A letter, or `!E`, and a number. */
+static void put_name(struct draft *draft, const char *letter, unsigned number)
 {
-    put_string(to, letter);
-    put_number(to, number);
+    put_string(draft, letter);
+    put_number(draft, (int32_t)number);
 }
 
-static void put_constant(struct writing *to, int32_t constant)
+static void put_comparison(struct draft *draft, const struct comparison *comparison)
 {
-    if (constant < 0)
-        put_string(to, "-");
-    put_number(to, constant < 0 ? 0 - (uint32_t)constant : (uint32_t)constant);
+    put_name(draft, "R", comparison->reading);
+    put_string(draft, " ");
+    put_string(draft, relation_names[comparison->relation]);
+    put_string(draft, " ");
+    if (comparison->with_reading)
+        put_name(draft, "R", comparison->other);
+    else
+        put_number(draft, comparison->constant);
 }
 
-/* `if` and the comparisons, or nothing, and the end of the line. */
-static void put_option(struct writing *to, const struct condition *condition)
+/* The end of the line, with `if` and the comparisons before it if there are any. */
+static void put_option(struct draft *draft, const struct condition *condition)
 {
     size_t i;
     for (i = 0; i < condition->count; i++) {
-        const struct comparison *comparison = &condition->comparisons[i];
-        put_string(to, i == 0 ? " if " : " , ");
-        put_name(to, "R", comparison->reading);
-        put_string(to, " ");
-        put_string(to, relation_names[comparison->relation]);
-        put_string(to, " ");
-        if (comparison->with_reading)
-            put_name(to, "R", comparison->other);
-        else
-            put_constant(to, comparison->constant);
+        put_string(draft, i == 0 ? " if " : " , ");
+        put_comparison(draft, &condition->comparisons[i]);
     }
-    put_string(to, "\n");
+    put_string(draft, "\n");
 }
 
-static void put_rule(struct writing *to, const struct rule *rule)
+static void put_rule(struct draft *draft, const struct rule *rule)
 {
     size_t i;
     for (i = 0; i < rule->count; i++) {
-        put_string(to, i == 0 ? "" : " & ");
-        put_name(to, rule->literals[i].negated ? "!E" : "E", rule->literals[i].event);
+        put_string(draft, i == 0 ? "" : " & ");
+        put_name(draft, rule->literals[i].negated ? "!E" : "E", rule->literals[i].event);
     }
-    put_string(to, " causes ");
-    put_name(to, "A", rule->action);
-    put_option(to, &rule->condition);
+    put_string(draft, " causes ");
+    put_name(draft, "A", rule->action);
+    put_option(draft, &rule->condition);
 }
 
-static void put_constraint(struct writing *to, const struct constraint *constraint)
+static void put_constraint(struct draft *draft, const struct constraint *constraint)
 {
     size_t i;
     for (i = 0; i < constraint->count; i++) {
-        put_string(to, i == 0 ? "never " : " & ");
-        put_name(to, "A", constraint->members[i]);
+        put_string(draft, i == 0 ? "never " : " & ");
+        put_name(draft, "A", constraint->members[i]);
     }
-    put_option(to, &constraint->condition);
+    put_option(draft, &constraint->condition);
 }
 
 size_t write_text(const struct policy *policy, uint8_t text[WRITTEN_BYTES])
 {
-    struct writing to = {text, 0};
+    struct draft draft = {text, 0};
     size_t i;
     for (i = 0; i < policy->rule_count; i++)
-        put_rule(&to, &policy->rules[i]);
+        put_rule(&draft, &policy->rules[i]);
     for (i = 0; i < policy->constraint_count; i++)
-        put_constraint(&to, &policy->constraints[i]);
-    return to.length;
+        put_constraint(&draft, &policy->constraints[i]);
+    return draft.length;
 }
 
 struct verdict decompile(const uint8_t *image, size_t length, uint8_t *buffer, size_t room, size_t *written)
@@ -869,24 +869,32 @@ static void print_compiler(const uint8_t *input, size_t length, FILE *out)
         fprintf(out, "%08" PRIX32 "\n", word_at(image, i));
 }
 
-/* Eight hexadecimal digits of either case. */
-static bool read_word(struct slice line, uint32_t *word)
+/* The value of a hexadecimal digit of either case; 16 if the byte is none. */
+static unsigned digit_value(uint8_t byte)
+{
+    if (byte >= '0' && byte <= '9')
+        return (unsigned)(byte - '0');
+    if (byte >= 'A' && byte <= 'F')
+        return (unsigned)(byte - 'A' + 10);
+    if (byte >= 'a' && byte <= 'f')
+        return (unsigned)(byte - 'a' + 10);
+    return 16;
+}
+
+/* Exactly eight hexadecimal digits. */
+static bool read_word(struct slice slice, uint32_t *word)
 {
     size_t i;
+    if (slice.length != 2 * WORD_BYTES)
+        return false;
     *word = 0;
-    for (i = 0; i < line.length; i++) {
-        uint8_t byte = line.bytes[i];
-        if (byte >= '0' && byte <= '9')
-            byte = (uint8_t)(byte - '0');
-        else if (byte >= 'A' && byte <= 'F')
-            byte = (uint8_t)(byte - 'A' + 10);
-        else if (byte >= 'a' && byte <= 'f')
-            byte = (uint8_t)(byte - 'a' + 10);
-        else
+    for (i = 0; i < slice.length; i++) {
+        unsigned digit = digit_value(slice.bytes[i]);
+        if (digit == 16)
             return false;
-        *word = *word << 4 | byte;
+        *word = *word << 4 | digit;
     }
-    return line.length == 8;
+    return true;
 }
 
 size_t read_dump(const uint8_t *input, size_t length, uint8_t image[DUMP_BYTES], size_t *size)
@@ -899,10 +907,10 @@ size_t read_dump(const uint8_t *input, size_t length, uint8_t image[DUMP_BYTES],
         number++;
         if (!read_word(line, &word))
             return number;
-        if (*size < DUMP_BYTES) {
-            put_word(image, *size / WORD_BYTES, word);
-            *size += WORD_BYTES;
-        }
+        if (*size == DUMP_BYTES)
+            continue;
+        put_word(image, *size / WORD_BYTES, word);
+        *size += WORD_BYTES;
     }
     return 0;
 }

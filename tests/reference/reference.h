@@ -1,5 +1,5 @@
 /* Rule texts, images and epochs as document 01 defines them, and the text of an image as request L1 of document 02 does, in
-   plain C, written from the documents alone. The programs and the library are compared with it. */
+   plain C, written from the documents. The programs and the library are compared with it. */
 #ifndef REFERENCE_H
 #define REFERENCE_H
 

@@ -16,7 +16,7 @@ use Rattle.image.specs.Load.{load}
 use Rattle.image.specs.declared.load.Contents.{Contents}
 use Rattle.image.specs.declared.load.Loaded.{Loaded}
 use Rattle.output.specs.Buffer.{appended}
-use Rattle.output.proofs.AppendLaws.{append-whole}
+use Rattle.output.proofs.AppendLaws.{append-start}
 use Rattle.printer.specs.Printed.{textOf}
 use Rattle.decompile.proofs.TextLaws.{TakenText, taken-text}
 use Rattle.decompile.specs.Decompile.{outputOf, decompiled}
@@ -29,11 +29,6 @@ Answers image buffer answer after = (answer ≡ decompiled image buffer .answer)
 
 answers : (image buffer : List ℕ) (answer : Decompiled) (after : List ℕ) → decompiled image buffer ≡ record { answer = answer; buffer = after } → Answers image buffer answer after
 answers image buffer answer after e = (sym (ap (λ (o : Filled Decompiled). o .answer) e), sym (ap (λ (o : Filled Decompiled). o .buffer) e))
-
-from-start : (buffer bytes : List ℕ) → length bytes ≤ length buffer → appended buffer 0 bytes ≡ bytes ++ drop (length bytes) buffer
-from-start buffer bytes h =
-    let n : 0 + length bytes ≡ length bytes = omega arith in
-    append-whole buffer 0 bytes (omega arith) ∙ rw n
 
 module _ (image buffer : List ℕ) where
   pub refused : (r : Refusal) → load image ≡ Loaded.Refused r → Answers image buffer (Decompiled.Refused r) buffer
@@ -64,6 +59,6 @@ module _ (image buffer : List ℕ) where
         let t = taken-text image contents taken in
         let n : length (textOf (policyIn image)) ≡ size = sym (e ∙ t .size) in
         let whole : after ≡ textOf (policyIn image) ++ drop (length (textOf (policyIn image))) buffer =
-        (rw (t .text) at q) ∙ from-start buffer (textOf (policyIn image)) (omega arith) in
+        (rw (t .text) at q) ∙ append-start buffer (textOf (policyIn image)) (omega arith) in
         answers image buffer (Decompiled.Text size) after
         (on-text ∙ rw (le-leb (length (textOf (policyIn image))) (length buffer) (omega arith)) (rw (whole, n)))

@@ -15,7 +15,7 @@ use Rattle.image.specs.Load.{load}
 use Rattle.image.specs.declared.load.Loaded.{Loaded}
 use Rattle.printer.specs.Printed.{textOf}
 use Rattle.output.specs.Buffer.{behind}
-use Rattle.output.proofs.AppendLaws.{Put, put-same, append-whole}
+use Rattle.output.proofs.AppendLaws.{Put, put-same, append-start}
 use Rattle.report.specs.Report.{imageRefusalLine, notWordLine}
 use Rattle.decompile.specs.Decompile.{outputOf, decompiled}
 use Rattle.decompile.specs.declared.Decompiled.{Decompiled}
@@ -44,9 +44,7 @@ module _ (text out between : List ℕ) where
 
   from-start : length text ≤ length out → Put out 0 text (text ++ drop (length text) out) (length text)
   unfolding behind
-  from-start h =
-      let n : 0 + length text ≡ length text = omega arith in
-      (omega arith, sym (append-whole out 0 text (omega arith) ∙ rw n))
+  from-start h = (omega arith, sym (append-start out text h))
 
   text-same : (l : Loaded) (n : ℕ) → Decompiled.Text n ≡ outputOf l text out .answer → between ≡ outputOf l text out .buffer
       → Put out 0 (answerWithin (length out) l text) between n

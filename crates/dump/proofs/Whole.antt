@@ -30,8 +30,8 @@ use Rattle.printer.specs.Printed.{textOf}
 use Rattle.printer.proofs.Printing.{text-length}
 use Rattle.output.specs.Buffer.{appended, behind}
 use Rattle.output.specs.Number.{decimal}
-use Rattle.output.proofs.DecimalLaws.{decimal-few}
-use Rattle.output.proofs.AppendLaws.{append-whole}
+use Rattle.output.proofs.DecimalLaws.{decimal-short}
+use Rattle.output.proofs.AppendLaws.{append-start}
 use Rattle.report.specs.Report.{imageRefusalLine, notWordLine}
 use Rattle.dump.specs.Dump.{wordIn, Dump, words, notWord, next, behindWords, readLine, readDump, answerTo, imageAnswer, dumpAnswer, restored}
 use Rattle.dump.specs.Calls.{Held, held, startState, stepped, fed, closed, answerWithin, imageWithin, finished}
@@ -95,9 +95,6 @@ fed-joined h (chunk ∷ chunks) = fed-joined (fed h chunk) chunks ∙ sym (foldl
 
 -- ---- all of it has room
 
-number-short : (n : ℕ) → n < 2 ^ 64 → length (decimal n) ≤ 20
-number-short n h = decimal-few n 19 (omega arith)
-
 sized-few : (n : ℕ) → wellSized n ≡ true → n ≤ 13064
 unfolding wellSized
 sized-few n e = leb-true n 13064 (and-out (leb 8 n) (leb n 13064) (and-out (leb 8 n && leb n 13064) (eqb (n % 4) 0) e .0) .1)
@@ -119,7 +116,7 @@ refusal-small image r e = go (wellSized (length image)) refl
 
 refusal-short : (r : Refusal) → faultNumber (r .fault) < 2 ^ 64 → r .location < 2 ^ 64 → length (imageRefusalLine r) ≤ 27968
 unfolding imageRefusalLine bytes
-refusal-short r f l = simp length-append (omega (arith, number-short (faultNumber (r .fault)) f, number-short (r .location) l))
+refusal-short r f l = simp length-append (omega (arith, decimal-short (faultNumber (r .fault)) f, decimal-short (r .location) l))
 
 image-short : (ws : List ℕ) → length (imageAnswer (bytesOf ws)) ≤ 27968
 unfolding imageAnswer answerTo
@@ -141,7 +138,7 @@ number-small n (line ∷ lines) m e = go (wordIn line) (readDump (next n) lines)
 
 line-short : (n : ℕ) → n < 2 ^ 64 → length (notWordLine n) ≤ 27968
 unfolding notWordLine bytes
-line-short n h = simp length-append (omega (arith, number-short n h))
+line-short n h = simp length-append (omega (arith, decimal-short n h))
 
 -- what is printed for any input is no longer than the longest text
 pub restored-short : (input : List ℕ) → length (restored input) ≤ 27968
@@ -166,5 +163,5 @@ all-restored chunks image out after end long large p q =
     ∙ ends-answer image (readDump 0 (linesOf input)) (closed (fed (held startState image) input)) (length out) long large (reads-all image input) in
     let short = restored-short input in
     let n : end ≡ length (restored input) = (rw e at p) ∙ omega arith in
-    let here : after ≡ restored input ++ drop (0 + length (restored input)) out = (rw e at q) ∙ append-whole out 0 (restored input) (omega arith) in
-    rw here (take-at (restored input) (drop (0 + length (restored input)) out) end (sym n))
+    let here : after ≡ restored input ++ drop (length (restored input)) out = (rw e at q) ∙ append-start out (restored input) (omega arith) in
+    rw here (take-at (restored input) (drop (length (restored input)) out) end (sym n))

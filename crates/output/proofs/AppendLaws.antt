@@ -133,6 +133,12 @@ unfolding appended
 append-sets buffer at [] = refl
 append-sets buffer at (b ∷ bs) = append-sets (set buffer at b) (suc at) bs
 
-pub append-whole : (buffer : List ℕ) (at : ℕ) (bytes : List ℕ) → at + length bytes ≤ length buffer
+append-whole : (buffer : List ℕ) (at : ℕ) (bytes : List ℕ) → at + length bytes ≤ length buffer
     → appended buffer at bytes ≡ take at buffer ++ bytes ++ drop (at + length bytes) buffer
 append-whole buffer at bytes h = append-sets buffer at bytes ∙ sets-eq bytes buffer at h
+
+-- the same from the start of the buffer
+pub append-start : (buffer bytes : List ℕ) → length bytes ≤ length buffer → appended buffer 0 bytes ≡ bytes ++ drop (length bytes) buffer
+append-start buffer bytes h =
+    let n : 0 + length bytes ≡ length bytes = omega arith in
+    append-whole buffer 0 bytes (omega arith) ∙ rw n

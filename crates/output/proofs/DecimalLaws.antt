@@ -89,3 +89,7 @@ decimal-few = decimal-by (λ n ds. (w : ℕ) → n < 10 ^ suc w → length ds �
     longer : (n : ℕ) → 10 ≤ n → (ds : List ℕ) → ((w : ℕ) → n / 10 < 10 ^ suc w → length ds ≤ suc w) → (w : ℕ) → n < 10 ^ suc w → length (ds ++ digit (n % 10) ∷ []) ≤ suc w
     longer n h ds f zero l = absurd (omega arith)
     longer n h ds f (suc w) l = omega (arith, length-append ds (digit (n % 10) ∷ []), f w (omega arith))
+
+-- a number of 64 bits has at most twenty
+pub decimal-short : (n : ℕ) → n < 2 ^ 64 → length (decimal n) ≤ 20
+decimal-short n h = decimal-few n 19 (omega arith)

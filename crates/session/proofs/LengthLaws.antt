@@ -1,11 +1,9 @@
 -- No printed line has more than 512 bytes.
-use Prim.Native.Nat.{ℕ, zero, suc, _+_, _*_, _/_, _%_, _≤_, _<_}
+use Prim.Native.Nat.{ℕ, zero, suc, _+_, _*_, _≤_, _<_}
 use mathlib.Core.Bool.{Bool, true, false, cond, not, _&&_}
 use mathlib.Core.List.{List, [], _∷_, _++_}
 use mathlib.Core.Path.{_≡_, refl}
 use native.Mathlib.Omega.{arith}
-use borrow.Author.Tests.{ltb-true, ltb-false}
-use lib.Dec.{ltb}
 use lib.ListN.{length, length-append}
 use Rattle.policy.specs.Epoch.{Epoch}
 use Rattle.policy.specs.Fault.{faultNumber}
@@ -20,29 +18,10 @@ use Rattle.image.specs.Load.{load}
 use Rattle.image.specs.declared.load.Loaded.{Loaded}
 use Rattle.monitor.specs.Decision.{decision, onImage, onLine, issuedBy, yieldedBy, proposedBy, keptBy, answerOf}
 use Rattle.monitor.specs.declared.decision.Decision.{Decision}
-use Rattle.output.specs.Number.{digit, decimal}
-use Rattle.output.proofs.DecimalLaws.{decimal-one, decimal-more}
+use Rattle.output.specs.Number.{decimal}
+use Rattle.output.proofs.DecimalLaws.{decimal-few, decimal-short}
 use Rattle.report.specs.Report.{membersFrom, actionName, furtherNames, actionNames, actionList, refusalLine, acceptLine, refusedLine}
 use Rattle.session.specs.Printed.{decisionLine}
-
--- ---- numbers
-
-abbrev limit : ℕ → ℕ
-limit zero = 10
-limit (suc k) = 10 * limit k
-
-digits-few : (k n : ℕ) → n < limit k → length (decimal n) ≤ suc k
-digits-few k n h = go k n h (ltb n 10) refl
-  where
-    go : (k n : ℕ) → n < limit k → (b : Bool) → ltb n 10 ≡ b → length (decimal n) ≤ suc k
-    go zero n h b e = rw (decimal-one n h) (omega arith)
-    go (suc k) n h true e = rw (decimal-one n (ltb-true n 10 e)) (omega arith)
-    go (suc k) n h false e =
-        let m : length (decimal (n / 10)) ≤ suc k = go k (n / 10) (omega arith) (ltb (n / 10) 10) refl in
-        rw (decimal-more n (ltb-false n 10 e), length-append (decimal (n / 10)) (digit (n % 10) ∷ [])) (omega arith)
-
-decimal-short : (n : ℕ) → n < 18446744073709551616 → length (decimal n) ≤ 20
-decimal-short n h = digits-few 19 n (omega arith)
 
 -- ---- actions: no number is in both lists
 
@@ -53,7 +32,7 @@ members-short : (k n s t : ℕ) → n + k ≤ 64 → Apart s t
     → length (furtherNames (membersFrom k n s)) + length (furtherNames (membersFrom k n t)) ≤ 4 * k
 unfolding membersFrom furtherNames actionName
 members-short zero n s t h a = omega arith
-members-short (suc k) n s t h a = go (has s n) (has t n) (a n) (members-short k (suc n) s t (omega arith) a) (digits-few 1 n (omega arith))
+members-short (suc k) n s t h a = go (has s n) (has t n) (a n) (members-short k (suc n) s t (omega arith) a) (decimal-few n 1 (omega arith))
   where
     go : (b c : Bool) → (b && c) ≡ false → length (furtherNames (membersFrom k (suc n) s)) + length (furtherNames (membersFrom k (suc n) t)) ≤ 4 * k
         → length (decimal n) ≤ 2
