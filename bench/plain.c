@@ -219,12 +219,22 @@ static uint64_t read_epoch(const uint8_t *line, size_t line_length, struct epoch
     return !in_range ? KINOHAZEL_EPOCH_RANGE : twice ? KINOHAZEL_DUPLICATE_READING : KINOHAZEL_OK;
 }
 
-/* The loader has seen to it that the number is that of a reading. */
-static int32_t reading(const struct epoch *epoch, unsigned n)
+/* Comparisons with a constant and with a reading. One that names a missing reading counts as `missing`: false in a rule, true in a
+   never line. The loader has seen to it that the numbers are those of readings. */
+static bool constant_holds(const struct epoch *epoch, uint32_t word, uint32_t constant, bool missing)
 {
+    unsigned n = first_of(word);
     if (!epoch->given[n])
-        return 0;
-    return epoch->values[n];
+        return missing;
+    return relation_holds(relation_of(word), epoch->values[n], value_of(constant));
+}
+
+static bool reading_holds(const struct epoch *epoch, uint32_t word, bool missing)
+{
+    unsigned n = first_of(word), other = second_of(word);
+    if (!epoch->given[n] || !epoch->given[other])
+        return missing;
+    return relation_holds(relation_of(word), epoch->values[n], epoch->values[other]);
 }
 
 /* What the rule words from `at` up to `end` propose. */
@@ -243,13 +253,13 @@ static uint64_t run_rules(const uint8_t *image, size_t at, size_t end, const str
                 at += skip_of(word);
             break;
         case AGAINST_CONSTANT: {
-            int32_t constant = value_of(word_at(image, at++));
-            if (!relation_holds(relation_of(word), reading(epoch, first_of(word)), constant))
+            uint32_t constant = word_at(image, at++);
+            if (!constant_holds(epoch, word, constant, false))
                 at += skip_of(word);
             break;
         }
         case AGAINST_READING:
-            if (!relation_holds(relation_of(word), reading(epoch, first_of(word)), reading(epoch, second_of(word))))
+            if (!reading_holds(epoch, word, false))
                 at += skip_of(word);
             break;
         case PROPOSE: proposed |= (uint64_t)1 << first_of(word); break;
@@ -273,11 +283,9 @@ static bool is_violated(const uint8_t *image, size_t at, size_t end, uint64_t se
             bool held;
             switch (operation_of(word)) {
             case AGAINST_CONSTANT:
-                held = relation_holds(relation_of(word), reading(epoch, first_of(word)), value_of(word_at(image, at++)));
+                held = constant_holds(epoch, word, word_at(image, at++), true);
                 break;
-            case AGAINST_READING:
-                held = relation_holds(relation_of(word), reading(epoch, first_of(word)), reading(epoch, second_of(word)));
-                break;
+            case AGAINST_READING: held = reading_holds(epoch, word, true); break;
             default: return true;
             }
             if (!held) {

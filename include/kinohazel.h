@@ -25,10 +25,10 @@
 extern "C" {
 #endif
 
-#define KINOHAZEL_VERSION_MAJOR 1
-#define KINOHAZEL_VERSION_MINOR 1
+#define KINOHAZEL_VERSION_MAJOR 2
+#define KINOHAZEL_VERSION_MINOR 0
 #define KINOHAZEL_VERSION_PATCH 0
-#define KINOHAZEL_VERSION "1.1.0"
+#define KINOHAZEL_VERSION "2.0.0"
 
 /* Limits. A buffer of KINOHAZEL_IMAGE_LIMIT bytes has room for every image, one of KINOHAZEL_WRITTEN_TEXT_LIMIT bytes for the text
  * of every image. */
@@ -166,7 +166,9 @@ static inline struct kinohazel_text_written kinohazel_text(
         kinohazel_lent_out(out, out_length, &none), out_length);
 }
 
-/* Decides an epoch line, such as `E1 E3 R0=41` with no line end, on an image. The whole image is checked each time. */
+/* Decides an epoch line, such as `E1 E3 R0=41` with no line end, on an image. The whole image is checked each time. A reading that the
+ * line does not give is missing, which is not 0: a comparison that names it does not hold in a rule and holds in a never line. So
+ * leave out the reading of a sensor that is dead, and give 0 only where 0 was measured. */
 static inline struct kinohazel_decision kinohazel_decide(
     const uint8_t *image, size_t image_length, const uint8_t *line, size_t line_length)
 {

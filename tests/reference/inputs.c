@@ -228,6 +228,8 @@ static void add_list(struct buffer *to, struct dice *dice, const struct taste *t
     unsigned count = 1 + below(dice, chance(dice, 250) ? 8 : 3), i, number, first = 0;
     uint64_t seen = 0;
     bool repeat = chance(dice, taste->repeat);
+    if (!events && chance(dice, 300))
+        count = 1;
     if (chance(dice, 40))
         count = 8;
     if (repeat && count == 1)
@@ -272,10 +274,10 @@ static void add_keyword(struct buffer *to, struct dice *dice, const struct taste
     add(to, chance(dice, taste->shape) ? CHOOSE(dice, odd) : word);
 }
 
-/* `if` and a condition, or nothing, to the end of the line. */
-static void add_option(struct buffer *to, struct dice *dice, const struct taste *taste)
+/* `if` and a condition in `per_mille` of 1000 cases, or nothing, to the end of the line. */
+static void add_option(struct buffer *to, struct dice *dice, const struct taste *taste, unsigned per_mille)
 {
-    if (chance(dice, 400)) {
+    if (chance(dice, per_mille)) {
         add_gap(to, dice, taste);
         add_keyword(to, dice, taste, "if");
         add_gap(to, dice, taste);
@@ -292,7 +294,7 @@ static void add_rule(struct buffer *to, struct dice *dice, const struct taste *t
     add_keyword(to, dice, taste, "causes");
     add_gap(to, dice, taste);
     add_name(to, dice, taste, 'A', taste->actions, ACTIONS);
-    add_option(to, dice, taste);
+    add_option(to, dice, taste, 400);
 }
 
 static void add_constraint(struct buffer *to, struct dice *dice, const struct taste *taste)
@@ -301,7 +303,7 @@ static void add_constraint(struct buffer *to, struct dice *dice, const struct ta
     add_keyword(to, dice, taste, "never");
     add_gap(to, dice, taste);
     add_list(to, dice, taste, false);
-    add_option(to, dice, taste);
+    add_option(to, dice, taste, 600);
 }
 
 static void add_skipped(struct buffer *to, struct dice *dice, const struct taste *taste)
@@ -534,6 +536,17 @@ void add_dump(struct buffer *to, const uint8_t *image, size_t length)
         add_format(to, "%08lX\n", (unsigned long)word_at(image, i));
 }
 
+static void add_reading(struct buffer *to, struct dice *dice, const struct taste *taste, unsigned number)
+{
+    add_byte(to, 'R');
+    if (chance(dice, taste->range))
+        add_index(to, dice, taste, READINGS, READINGS);
+    else
+        add_number(to, (long)number);
+    add(to, "=");
+    add_constant(to, dice, taste);
+}
+
 void add_epoch(struct buffer *to, struct dice *dice, const struct taste *taste)
 {
     static const char *const odd[] = {
@@ -567,15 +580,15 @@ void add_epoch(struct buffer *to, struct dice *dice, const struct taste *taste)
             if (in_set(given, number) && !chance(dice, taste->repeat))
                 continue;
             given |= UINT64_C(1) << number;
-            add_byte(to, 'R');
-            if (chance(dice, taste->range))
-                add_index(to, dice, taste, READINGS, READINGS);
-            else
-                add_number(to, (long)number);
-            add(to, "=");
-            add_constant(to, dice, taste);
+            add_reading(to, dice, taste, number);
         }
     }
+    if (chance(dice, 200)) /* every reading is given */
+        for (number = 0; number < READINGS; number++)
+            if (!in_set(given, number)) {
+                add_gap(to, dice, taste);
+                add_reading(to, dice, taste, number);
+            }
     add_edge(to, dice, taste);
     if (chance(dice, 20)) { /* about as long as it may be */
         size_t length = from + CHOOSE(dice, lengths);
@@ -653,11 +666,11 @@ void add_largest(struct buffer *to)
 void add_epochs_of_largest(struct buffer *to)
 {
     add_events(to, 0, 32);
-    add(to, "R0=7\n\nE1 E3 R0=7\n");
+    add(to, "R0=7 R1=0 R2=0 R3=0\n\nE1 E3 R0=7\n");
     add_events(to, 0, 31);
     add(to, "E31\n");
     add_events(to, 1, 31);
-    add(to, "R0=7 R3=-1 R2=-5\n");
+    add(to, "R0=7 R1=1 R3=-1 R2=-5\n");
 }
 
 void add_largest_input(struct buffer *to)

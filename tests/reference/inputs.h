@@ -75,8 +75,8 @@ void add_epoch(struct buffer *to, struct dice *dice, const struct taste *taste);
 /* A whole input of the engine, of a kind from 0 to 15. */
 void add_engine_input(struct buffer *to, struct dice *dice, unsigned kind);
 
-/* 128 rules and 64 constraints of 17 words each. With E0 to E31 and R0=7 every rule proposes its action, and all 64
-   actions are proposed. */
+/* 128 rules and 64 constraints of 17 words each. With E0 to E31 and R0=7 R1=0 R2=0 R3=0 every rule proposes its
+   action, and all 64 actions are proposed. */
 void add_largest(struct buffer *to);
 void add_epochs_of_largest(struct buffer *to);
 

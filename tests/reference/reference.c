@@ -669,26 +669,36 @@ struct verdict read_epoch(const uint8_t *line, size_t length, struct epoch *epoc
     return ACCEPTED;
 }
 
-/* What an epoch yields, by the policy */
+/* Comparisons. A reading that the epoch does not give has no value. */
 
-/* A reading that the epoch does not give is 0. */
-static int32_t reading_of(const struct epoch *epoch, unsigned reading)
+enum line_kind { IN_RULE, IN_CONSTRAINT };
+
+/* Whether a comparison that names a reading without a value holds. */
+static const bool holds_if_missing[] = {[IN_RULE] = false, [IN_CONSTRAINT] = true};
+
+static bool names_missing(const struct comparison *comparison, const struct epoch *epoch)
 {
-    return in_set(epoch->given, reading) ? epoch->readings[reading] : 0;
+    return !in_set(epoch->given, comparison->reading)
+        || (comparison->with_reading && !in_set(epoch->given, comparison->other));
 }
 
-static bool comparison_holds(const struct comparison *comparison, const struct epoch *epoch)
+static bool comparison_holds(const struct comparison *comparison, enum line_kind kind, const struct epoch *epoch)
 {
-    int32_t left = reading_of(epoch, comparison->reading);
-    int32_t right = comparison->with_reading ? reading_of(epoch, comparison->other) : comparison->constant;
+    int32_t left, right;
+    if (names_missing(comparison, epoch))
+        return holds_if_missing[kind];
+    left = epoch->readings[comparison->reading];
+    right = comparison->with_reading ? epoch->readings[comparison->other] : comparison->constant;
     return relation_holds(comparison->relation, left, right);
 }
 
-static bool condition_holds(const struct condition *condition, const struct epoch *epoch)
+/* What an epoch yields, by the policy */
+
+static bool condition_holds(const struct condition *condition, enum line_kind kind, const struct epoch *epoch)
 {
     size_t i;
     for (i = 0; i < condition->count; i++)
-        if (!comparison_holds(&condition->comparisons[i], epoch))
+        if (!comparison_holds(&condition->comparisons[i], kind, epoch))
             return false;
     return true;
 }
@@ -699,7 +709,7 @@ action_set proposed(const struct policy *policy, const struct epoch *epoch)
     size_t i, k;
     for (i = 0; i < policy->rule_count; i++) {
         const struct rule *rule = &policy->rules[i];
-        bool holds = condition_holds(&rule->condition, epoch);
+        bool holds = condition_holds(&rule->condition, IN_RULE, epoch);
         for (k = 0; k < rule->count; k++)
             if (in_set(epoch->events, rule->literals[k].event) == rule->literals[k].negated)
                 holds = false;
@@ -714,7 +724,7 @@ static bool violated(const struct policy *policy, const struct epoch *epoch, act
     size_t i, k;
     for (i = 0; i < policy->constraint_count; i++) {
         const struct constraint *constraint = &policy->constraints[i];
-        bool holds = condition_holds(&constraint->condition, epoch);
+        bool holds = condition_holds(&constraint->condition, IN_CONSTRAINT, epoch);
         for (k = 0; k < constraint->count; k++)
             if (!in_set(set, constraint->members[k]))
                 holds = false;
@@ -750,10 +760,10 @@ struct decision decide_by_policy(const struct policy *policy, const uint8_t *lin
 
 /* What an epoch yields, by the words of an image */
 
-/* Runs the words from `at` to `end` on an epoch and a set of actions, and collects what they propose. True if a
-   constraint holds; the run ends there. */
-static bool run_words(const uint8_t *image, size_t at, size_t end, const struct epoch *epoch, action_set set,
-    action_set *proposals)
+/* Runs the words from `at` to `end`, which are of lines of one kind, on an epoch and a set of actions, and collects
+   what they propose. True if a constraint holds; the run ends there. */
+static bool run_words(const uint8_t *image, size_t at, size_t end, enum line_kind kind, const struct epoch *epoch,
+    action_set set, action_set *proposals)
 {
     while (at < end) {
         struct fields fields = unpack(word_at(image, at));
@@ -765,7 +775,7 @@ static bool run_words(const uint8_t *image, size_t at, size_t end, const struct 
         case AGAINST_CONSTANT:
         case AGAINST_READING:
             comparison = comparison_at(image, at);
-            holds = comparison_holds(&comparison, epoch);
+            holds = comparison_holds(&comparison, kind, epoch);
             at += comparison_words(&comparison) - 1;
             break;
         case PROPOSE: *proposals |= UINT64_C(1) << fields.first; break;
@@ -795,10 +805,10 @@ struct decision decide(const uint8_t *image, size_t image_length, const uint8_t 
     header = unpack_header(word_at(image, 0));
     rules_end = 1 + header.rule_words;
     end = rules_end + header.constraint_words;
-    run_words(image, 1, rules_end, &epoch, 0, &candidates);
+    run_words(image, 1, rules_end, IN_RULE, &epoch, 0, &candidates);
     for (action = 0; action < ACTIONS; action++) {
         action_set tried = decision.accepted | UINT64_C(1) << action;
-        if (in_set(candidates, action) && !run_words(image, rules_end, end, &epoch, tried, &none))
+        if (in_set(candidates, action) && !run_words(image, rules_end, end, IN_CONSTRAINT, &epoch, tried, &none))
             decision.accepted = tried;
     }
     decision.cancelled = candidates & ~decision.accepted;

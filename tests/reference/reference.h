@@ -1,5 +1,6 @@
-/* Rule texts, images and epochs as document 01 defines them, and the text of an image as request L1 of document 02 does, in
-   plain C, written from the documents. The programs and the library are compared with it. */
+/* Rule texts, images and epochs as document 01 defines them, with the text of an image (request L1 of document 02) and
+   readings that are not given (request L2), in plain C, written from the documents. The programs and the library are
+   compared with it. */
 #ifndef REFERENCE_H
 #define REFERENCE_H
 

@@ -1,3 +1,4 @@
 pub mod Accepted
 pub mod Examples
+pub mod Given
 pub mod Refusals

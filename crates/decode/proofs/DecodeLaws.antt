@@ -26,7 +26,7 @@ use Rattle.operation.specs.Fields.{operationOf}
 use Rattle.layout.specs.Layout.{conditionWords, partWords, lineWords}
 use Rattle.decode.specs.Decode.{Stands, addLiteral, addMember, addComparison, decodeWord, decode, isPrefix, inPart, standsAt, keepIf, lineAt}
 use Rattle.operation.specs.declared.operation.Operation.{Operation}
-use Rattle.decode.specs.declared.Part.{Part}
+use Rattle.policy.specs.declared.line.Part.{Part}
 
 decode-cons : (w : ℕ) (ws : List ℕ) → decode (w ∷ ws) ≡ decodeWord (operationOf w) w (getD ws 0 0) (decode ws) (decode (drop 1 ws))
 unfolding decode

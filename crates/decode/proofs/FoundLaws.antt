@@ -10,7 +10,7 @@ use Rattle.decode.proofs.DecodeLaws.{line-out}
 use Rattle.layout.proofs.LayoutLaws.{part-length, condition-size-limit}
 use Rattle.layout.specs.Layout.{lineWords}
 use Rattle.decode.specs.Decode.{lineAt, lineLength}
-use Rattle.decode.specs.declared.Part.{Part}
+use Rattle.policy.specs.declared.line.Part.{Part}
 
 pub line-some : (l : PolicyLine) → 0 < length (lineWords l)
 unfolding lineWords

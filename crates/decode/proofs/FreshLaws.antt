@@ -3,9 +3,9 @@ use Prim.Native.Nat.{ℕ, _<_}
 use mathlib.Core.Bool.{Bool, true, false, _||_}
 use mathlib.Core.List.{List, [], _∷_}
 use mathlib.Core.Path.{_≡_, refl, sym, ap, ap₂, _∙_}
-use native.Mathlib.Omega.{arith}
 use borrow.Author.Tests.{eqb-true, eqb-false}
 use lib.Dec.{eqb}
+use Rattle.policy.proofs.ListLaws.{or-out}
 use Rattle.policy.proofs.SetLaws.{has-insert-same, has-insert-other, has-empty}
 use Rattle.policy.specs.Limits.{repeats}
 use Rattle.policy.specs.List.{any}
@@ -15,10 +15,6 @@ use Rattle.policy.specs.Set.{has, insert}
 pub record Fresh (seen : ℕ) (ns : List ℕ) : Type 0 where
   pub unseen : any (has seen) ns ≡ false
   pub once : repeats ns ≡ false
-
-or-both : (a b : Bool) → a || b ≡ false → (a ≡ false) × (b ≡ false)
-or-both true b e = let z : _≡_ {A = ℕ} 0 1 = cc in absurd (omega arith)
-or-both false b e = (refl, e)
 
 or-neither : {a b : Bool} → a ≡ false → b ≡ false → a || b ≡ false
 or-neither p q = rw (p, q)
@@ -45,14 +41,14 @@ insert-any seen f (n ∷ ns) h =
 pub fresh-in : (seen f : ℕ) (ns : List ℕ) → f < 64 → has seen f ≡ false → Fresh (insert seen f) ns → Fresh seen (f ∷ ns)
 unfolding any repeats
 fresh-in seen f ns h u r =
-    let p = or-both (any (eqb f) ns) (any (has seen) ns) (sym (insert-any seen f ns h) ∙ r .unseen) in
+    let p = or-out (any (eqb f) ns) (any (has seen) ns) (sym (insert-any seen f ns h) ∙ r .unseen) in
     record { unseen = or-neither u (p .1); once = or-neither (p .0) (r .once) }
 
 pub fresh-out : (seen f : ℕ) (ns : List ℕ) → f < 64 → Fresh seen (f ∷ ns) → (has seen f ≡ false) × Fresh (insert seen f) ns
 unfolding any repeats
 fresh-out seen f ns h r =
-    let p = or-both (has seen f) (any (has seen) ns) (r .unseen) in
-    let q = or-both (any (eqb f) ns) (repeats ns) (r .once) in
+    let p = or-out (has seen f) (any (has seen) ns) (r .unseen) in
+    let q = or-out (any (eqb f) ns) (repeats ns) (r .once) in
     (p .0, record { unseen = insert-any seen f ns h ∙ or-neither (q .0) (p .1); once = q .1 })
 
 none-seen : (ns : List ℕ) → any (has 0) ns ≡ false

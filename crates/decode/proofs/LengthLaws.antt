@@ -18,7 +18,7 @@ use Rattle.word.specs.Word.{wordLimit, wordsOf, wordAt, Below}
 use Rattle.operation.specs.Fields.{firstOf, skipOf}
 use Rattle.decode.specs.Decode.{decode, keepIf, lineAt, lineLength}
 use Rattle.decode.specs.Steps.Scan.{isEnding, headSound, headCount, comparisonLength, comparisonsFill}
-use Rattle.decode.specs.declared.Part.{Part}
+use Rattle.policy.specs.declared.line.Part.{Part}
 
 below-drop : (k n : ℕ) (xs : List ℕ) → Below k xs → Below k (drop n xs)
 below-drop k n xs h i = rw (getD-drop n xs i 0) (h (n + i))

@@ -35,7 +35,7 @@ use Rattle.operation.specs.declared.operation.Operation.{Operation}
 use Rattle.layout.specs.Layout.{conditionWords, partWords, lineWords}
 use Rattle.decode.specs.Decode.{inPart}
 use Rattle.decode.specs.Steps.Scan.{isHead, isEnding, headOpcodes, headSound, headCount, constantSound, readingSound, lengthBy, comparisonLength, comparisonsFill, scanLine}
-use Rattle.decode.specs.declared.Part.{Part}
+use Rattle.policy.specs.declared.line.Part.{Part}
 
 -- ---- one word, from facts and to facts
 

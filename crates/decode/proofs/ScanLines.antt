@@ -27,7 +27,7 @@ use Rattle.operation.specs.declared.operation.Operation.{Operation}
 use Rattle.layout.specs.Layout.{lineWords}
 use Rattle.decode.specs.Decode.{inPart, lineAt, lineLength}
 use Rattle.decode.specs.Steps.Scan.{isEnding, headSound, headCount, comparisonLength, comparisonsFill, scanLine}
-use Rattle.decode.specs.declared.Part.{Part}
+use Rattle.policy.specs.declared.line.Part.{Part}
 
 -- ---- comparisons and the ending word: m words and one
 

@@ -15,7 +15,7 @@ use Rattle.operation.specs.Parts.{eventFrom, actionFrom, constantComparison, re
 use Rattle.operation.specs.Fields.{operationOf}
 use Rattle.operation.specs.declared.operation.Operation.{Operation}
 use Rattle.layout.specs.Layout.{lineWords}
-use Rattle.decode.specs.declared.Part.{Part}
+use Rattle.policy.specs.declared.line.Part.{Part}
 
 -- one part more in front: a literal before a rule, an action before a constraint, a comparison before either
 unfoldable pub addLiteral : Literal → Option PolicyLine → Option PolicyLine

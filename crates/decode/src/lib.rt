@@ -26,6 +26,7 @@ use policy::Event;
 use policy::HEAD_LIMIT;
 use policy::Head;
 use policy::Literal;
+use policy::Part;
 use policy::Test;
 use policy::member;
 use policy::with_member;
@@ -44,12 +45,6 @@ const READINGS: u32 = 16;
 
 // The relations that there are, of a field's 8.
 const RELATIONS: u32 = 6;
-
-// The part of an image that a line stands in.
-pub enum Part {
-    Rules,
-    Constraints,
-}
 
 // A line, and the word at which the next one starts: the same word where no line stands.
 pub struct LineAt {

@@ -64,7 +64,7 @@ addItem e (value n k) =
       readings = record { given = insertReading (e .readings .given) (record { 0 = n }); values = set (e .readings .values) n k };
     }
 
--- a blank line
+-- a blank line: no event, and no reading is given; what stands in the places of the readings are no values
 abbrev pub emptyEpoch : Epoch
 emptyEpoch = record { events = noEvents; readings = record { given = noReadings; values = replicate readingLimit (pos 0) } }
 

@@ -31,7 +31,7 @@ use Rattle.layout.specs.Layout.{linesWords, knownForm, checkCount, sum, checkWo
 use Rattle.image.specs.Lines.{Lines, whole, fault, linesFrom, partLines, ruleLines, constraintLines}
 use Rattle.image.specs.Load.{bodyAnswer, loadWords, load, refusalIn}
 use Rattle.exactness.specs.Exact.{IsImage, contentsOf, changed, Checked, RefusedEarly, RefusalOf, ofChecks, ofBody, NoLineAt, FirstFault, inRules, inConstraints}
-use Rattle.decode.specs.declared.Part.{Part}
+use Rattle.policy.specs.declared.line.Part.{Part}
 use Rattle.image.specs.declared.load.Loaded.{Loaded}
 use Rattle.image.specs.declared.load.Contents.{Contents}
 

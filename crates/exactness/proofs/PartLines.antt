@@ -23,7 +23,7 @@ use Rattle.layout.specs.Layout.{lineWords, linesWords}
 use Rattle.decode.specs.Decode.{Stands, inPart, lineAt}
 use Rattle.image.specs.Lines.{Lines, whole, fault, addLine, afterLine, linesFrom}
 use Rattle.exactness.specs.Exact.{NoLineAt}
-use Rattle.decode.specs.declared.Part.{Part}
+use Rattle.policy.specs.declared.line.Part.{Part}
 
 -- ---- how long lines are
 

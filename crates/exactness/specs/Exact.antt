@@ -19,7 +19,7 @@ use Rattle.layout.specs.Layout.{lineWords, linesWords, knownForm, ruleWords, co
 use Rattle.decode.specs.Decode.{inPart}
 use Rattle.image.specs.Lines.{whole, ruleLines}
 use Rattle.image.specs.Load.{refusalIn}
-use Rattle.decode.specs.declared.Part.{Part}
+use Rattle.policy.specs.declared.line.Part.{Part}
 use Rattle.image.specs.declared.load.Contents.{Contents}
 use Rattle.image.specs.declared.load.Loaded.{Loaded}
 

@@ -1,5 +1,5 @@
--- Document 01, "Bench examples", those with a star, as rows of one table: a text and epoch lines with the answers, or a text
--- with the words of its image.
+-- Document 01, "Bench examples", those with a star, and examples of document 02's requests, as rows of one table: a text and epoch
+-- lines with the answers, or a text with the words of its image.
 use Prim.Native.Nat.{ℕ}
 use Prim.Native.String.{String}
 use mathlib.Core.Bool.{true}
@@ -47,6 +47,16 @@ examples =
     -- the worked image, 01007003 to B9FF0FC9
     ∷ words worked
     (some (16805891 ∷ 272629764 ∷ 545259523 ∷ 805339137 ∷ 40 ∷ 1354760192 ∷ 281018369 ∷ 1358954496 ∷ 1623195650 ∷ 1627389953 ∷ 1879048192 ∷ 3120500681 ∷ []))
+    -- L2: the customer's never line with R4 under, at and over its limit, and missing
+    ∷ answers "E1 causes A7\nnever A7 if R4 > 90\n" ("E1 R4=89" ∷ "E1 R4=90" ∷ "E1 R4=91" ∷ "E1" ∷ "" ∷ [])
+    (some (decided (7 ∷ []) [] ∷ decided (7 ∷ []) [] ∷ decided [] (7 ∷ []) ∷ decided [] (7 ∷ []) ∷ decided [] [] ∷ []))
+    -- in a rule no comparison with a missing reading holds; a given 0 is not missing
+    ∷ answers "E1 causes A1 if R4 != 5\nE1 causes A2 if R4 = R4\nE1 causes A3 if R0 <= R4\nE1 causes A4\n" ("E1 R0=0" ∷ "E1 R0=0 R4=0" ∷ [])
+    (some (decided (4 ∷ []) [] ∷ decided (1 ∷ 2 ∷ 3 ∷ 4 ∷ []) [] ∷ []))
+    -- in a never line each does, for itself: with R0=5 the second comparison of the last line fails
+    ∷ answers "E1 causes A1\nE1 causes A2\nE1 causes A3\nE1 causes A4\nnever A1 if R4 != 5\nnever A2 if R4 = R4\nnever A3 if R0 < R4\nnever A4 if R4 > 90 , R0 > 5\n"
+    ("E1 R0=5" ∷ "E1 R0=6" ∷ "E1 R0=5 R4=5" ∷ [])
+    (some (decided (4 ∷ []) (1 ∷ 2 ∷ 3 ∷ []) ∷ decided [] (1 ∷ 2 ∷ 3 ∷ 4 ∷ []) ∷ decided (1 ∷ 3 ∷ 4 ∷ []) (2 ∷ []) ∷ []))
     ∷ []
 
 -- what the definitions say of a row

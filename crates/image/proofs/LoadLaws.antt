@@ -19,7 +19,7 @@ use Rattle.layout.specs.Layout.{knownForm, checkCount, sum}
 use Rattle.image.specs.Lines.{Lines, whole, fault, partLines}
 use Rattle.image.specs.Load.{bodyAnswer, loadWords, load}
 use Rattle.image.specs.Steps.Part.{partAnswer}
-use Rattle.decode.specs.declared.Part.{Part}
+use Rattle.policy.specs.declared.line.Part.{Part}
 use Rattle.image.specs.declared.load.PartCheck.{PartCheck}
 use Rattle.image.specs.declared.load.Loaded.{Loaded}
 

@@ -15,7 +15,7 @@ use Rattle.decode.proofs.FoundLaws.{Found, isNone, isLine, found}
 use Rattle.decode.specs.Decode.{lineAt, lineLength}
 use Rattle.image.specs.Lines.{Lines, whole, fault, addLine, afterLine, linesFrom}
 use Rattle.image.specs.Steps.Part.{partAnswer}
-use Rattle.decode.specs.declared.Part.{Part}
+use Rattle.policy.specs.declared.line.Part.{Part}
 use Rattle.image.specs.declared.load.PartCheck.{PartCheck}
 
 count-line : (n : ℕ) (l : PolicyLine) (x : Lines) → partAnswer n (addLine l x) ≡ partAnswer (n + 1) x

@@ -9,7 +9,7 @@ use Rattle.word.specs.Word.{between}
 use Rattle.decode.specs.Decode.{lineAt}
 use Rattle.image.specs.Check.{ruleCount, constraintCount}
 use Rattle.layout.specs.Layout.{lineWords}
-use Rattle.decode.specs.declared.Part.{Part}
+use Rattle.policy.specs.declared.line.Part.{Part}
 
 -- all lines up to the end of the part, or the first line start at which none fits
 pub data Lines : Type 0 where

@@ -5,8 +5,8 @@ ghost use Prim.Native.Nat.{_+_, _/_, min};
 ghost use lib.ListN.{length};
 ghost use Rattle.word.specs.Word.{wordsOf, between};
 ghost use Rattle.decode.specs.Decode.{lineAt, lineLength};
-use decode::Part;
 use decode::line_length;
+use policy::Part;
 
 pub struct Walker<'a> {
     pub image: &'a [u8],

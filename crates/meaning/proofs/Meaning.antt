@@ -19,6 +19,7 @@ use Rattle.pdl.specs.Yield.{literalHolds, ruleHolds, propose, proposals, constr
 use Rattle.policy.specs.declared.comparison.Comparison.{Comparison}
 use Rattle.policy.specs.declared.comparison.Literal.{Literal}
 use Rattle.policy.specs.declared.line.Ending.{Ending}
+use Rattle.policy.specs.declared.line.Part.{Part}
 use Rattle.policy.specs.declared.line.Test.{Test}
 use Rattle.policy.specs.declared.number.Action.{Action}
 use Rattle.policy.specs.declared.number.Event.{Event}
@@ -134,11 +135,11 @@ module _ (ev : Events) (rs : Readings) where
     rules-pass : (n : ℕ) (ws : List ℕ) → more s n ws ≡ more s 0 (drop n ws)
     rules-pass n ws = ap (foldl proposing s) (ran-pass (ruleTest ev rs) n ws)
 
-    rules-constant : (w k : ℕ) (ws : List ℕ) → operationOf w ≡ Operation.AgainstConstant → more s 0 (w ∷ k ∷ ws) ≡ more s (passed (comparisonHolds rs (constantComparison w k)) w) ws
+    rules-constant : (w k : ℕ) (ws : List ℕ) → operationOf w ≡ Operation.AgainstConstant → more s 0 (w ∷ k ∷ ws) ≡ more s (passed (comparisonHolds Part.Rules rs (constantComparison w k)) w) ws
     unfolding ruleTest comparisonTest proposesAt
     rules-constant w k ws o = ap (foldl proposing s) (ran-constant (ruleTest ev rs) w k ws o) ∙ idle s w (ran (ruleTest ev rs) (passed (ruleTest ev rs Operation.AgainstConstant w k) w) ws) Operation.AgainstConstant o refl
 
-    rules-reading : (w : ℕ) (ws : List ℕ) → operationOf w ≡ Operation.AgainstReading → more s 0 (w ∷ ws) ≡ more s (passed (comparisonHolds rs (readingComparison w)) w) ws
+    rules-reading : (w : ℕ) (ws : List ℕ) → operationOf w ≡ Operation.AgainstReading → more s 0 (w ∷ ws) ≡ more s (passed (comparisonHolds Part.Rules rs (readingComparison w)) w) ws
     unfolding ruleTest comparisonTest proposesAt
     rules-reading w ws o = quiet s w ws Operation.AgainstReading o refl refl
 
@@ -172,11 +173,11 @@ module _ (ev : Events) (rs : Readings) where
     rule-run r rest v =
         let h = valid-out (rule r) v in
         let c = condition-size-limit (r .comparisons) in
-        heads-run (more s) rules-pass (comparisonHolds rs) rules-constant rules-reading (Ending.Causes (r .action))
+        heads-run (more s) rules-pass (comparisonHolds Part.Rules rs) rules-constant rules-reading (Ending.Causes (r .action))
         (more (insertAction s (r .action)) 0) (rules-ends (r .action) (ltb-true (r .action .0) 64 (h .ending)))
         Test.Occurs (literalHolds ev) rules-head (r .comparisons) (r .literals) rest (h .tests) (h .comparisons)
         (omega (arith, h .few-tests, h .few-comparisons, length-map (r .literals) Test.Occurs))
-        ∙ go (all (literalHolds ev) (r .literals) && all (comparisonHolds rs) (r .comparisons))
+        ∙ go (all (literalHolds ev) (r .literals) && all (comparisonHolds Part.Rules rs) (r .comparisons))
       where
         go : (b : Bool) → cond b (more (insertAction s (r .action)) 0 rest) (more s 0 rest) ≡ more (cond b (insertAction s (r .action)) s) 0 rest
         go true = refl
@@ -212,13 +213,13 @@ module _ (rs : Readings) (s : ActionSet) where
   silent : (w : ℕ) (ws : List ℕ) (op : Operation) → operationOf w ≡ op → constantCount op ≡ 0 → isNever op ≡ false → holds 0 (w ∷ ws) ≡ holds (passed (constraintTest rs s op w (getD ws 0 0)) w) ws
   silent w ws op o z e = ap (any endsConstraint) (ran-other (constraintTest rs s) w ws op o z) ∙ inner w (ran (constraintTest rs s) (passed (constraintTest rs s op w (getD ws 0 0)) w) ws) op o e
 
-  constraints-constant : (w k : ℕ) (ws : List ℕ) → operationOf w ≡ Operation.AgainstConstant → holds 0 (w ∷ k ∷ ws) ≡ holds (passed (comparisonHolds rs (constantComparison w k)) w) ws
+  constraints-constant : (w k : ℕ) (ws : List ℕ) → operationOf w ≡ Operation.AgainstConstant → holds 0 (w ∷ k ∷ ws) ≡ holds (passed (comparisonHolds Part.Constraints rs (constantComparison w k)) w) ws
   unfolding constraintTest comparisonTest isNever
   constraints-constant w k ws o =
       ap (any endsConstraint) (ran-constant (constraintTest rs s) w k ws o)
       ∙ inner w (ran (constraintTest rs s) (passed (constraintTest rs s Operation.AgainstConstant w k) w) ws) Operation.AgainstConstant o refl
 
-  constraints-reading : (w : ℕ) (ws : List ℕ) → operationOf w ≡ Operation.AgainstReading → holds 0 (w ∷ ws) ≡ holds (passed (comparisonHolds rs (readingComparison w)) w) ws
+  constraints-reading : (w : ℕ) (ws : List ℕ) → operationOf w ≡ Operation.AgainstReading → holds 0 (w ∷ ws) ≡ holds (passed (comparisonHolds Part.Constraints rs (readingComparison w)) w) ws
   unfolding constraintTest comparisonTest isNever
   constraints-reading w ws o = silent w ws Operation.AgainstReading o refl refl
 
@@ -245,10 +246,10 @@ module _ (rs : Readings) (s : ActionSet) where
   constraint-run c rest v =
       let h = valid-out (constraint c) v in
       let l = condition-size-limit (c .comparisons) in
-      heads-run holds constraints-pass (comparisonHolds rs) constraints-constant constraints-reading Ending.Never (λ ws. true) constraints-ends
+      heads-run holds constraints-pass (comparisonHolds Part.Constraints rs) constraints-constant constraints-reading Ending.Never (λ ws. true) constraints-ends
       Test.Member (hasAction s) constraints-head (c .comparisons) (c .actions) rest (h .tests) (h .comparisons)
       (omega (arith, h .few-tests, h .few-comparisons, length-map (c .actions) Test.Member))
-      ∙ go (all (hasAction s) (c .actions) && all (comparisonHolds rs) (c .comparisons))
+      ∙ go (all (hasAction s) (c .actions) && all (comparisonHolds Part.Constraints rs) (c .comparisons))
     where
       go : (b : Bool) → cond b true (holds 0 rest) ≡ b || holds 0 rest
       go true = refl

@@ -1,10 +1,15 @@
--- What document 01's worked image decides on its epochs, and which of two faults comes first, one row each.
+-- What document 01's worked image decides on its epochs, which of two faults comes first, and what the image of the text of document
+-- 02's L2 decides, one row each.
 use Prim.Native.Nat.{ℕ}
 use Prim.Native.String.{String}
-use mathlib.Core.Bool.{true}
+use mathlib.Core.Bool.{true, false}
 use mathlib.Core.List.{List, [], _∷_}
+use lib.IntN.{pos}
 use lib.ListN.{set}
+use Rattle.policy.specs.Policy.{Policy}
 use Rattle.policy.specs.Set.{noActions, actionsFrom}
+use Rattle.policy.specs.declared.comparison.Operand.{Operand}
+use Rattle.policy.specs.declared.comparison.Relation.{Relation}
 use Rattle.pdl.specs.Answer.{Answer, issues}
 use Rattle.lexer.specs.Byte.{bytes}
 use Rattle.exactness.specs.Examples.{worked}
@@ -26,6 +31,22 @@ refusesWith image line number location =
 
 abbrev workedImage : List ℕ
 workedImage = imageOf 1 worked
+
+-- `E1 causes A7`, `never A7 if R4 > 90`
+abbrev valve : Policy
+valve =
+    record {
+      rules = record { literals = record { event = record { 0 = 1 }; negated = false } ∷ []; action = record { 0 = 7 }; comparisons = [] } ∷ [];
+      constraints =
+          record {
+            actions = record { 0 = 7 } ∷ [];
+            comparisons = record { reading = record { 0 = 4 }; relation = Relation.Greater; operand = Operand.Constant (pos 90) } ∷ [];
+          }
+          ∷ [];
+    }
+
+abbrev valveImage : List ℕ
+valveImage = imageOf 1 valve
 
 -- with another byte at a position
 abbrev damaged : ℕ → ℕ → List ℕ
@@ -49,6 +70,11 @@ decisions =
     ∷ refusesWith (damaged 3 4) "E64" 9 0
     ∷ refusesWith (damaged 47 0) "E64" 10 0
     ∷ refusesWith bodiless "E64" 11 1
+    -- R4 under, at and over its limit, and missing
+    ∷ yields valveImage "E1 R4=89" (7 ∷ []) []
+    ∷ yields valveImage "E1 R4=90" (7 ∷ []) []
+    ∷ yields valveImage "E1 R4=91" [] (7 ∷ [])
+    ∷ yields valveImage "E1" [] (7 ∷ [])
     ∷ []
 
 -- what the definitions say of a row

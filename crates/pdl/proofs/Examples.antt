@@ -1,8 +1,8 @@
 -- Each row of the table of examples is as document 01 says.
 use mathlib.Core.List.{map}
 use mathlib.Core.Path.{_≡_, refl}
-use Rattle.policy.specs.Comparison.{comparisonHolds, relationHolds, operandValue}
-use Rattle.policy.specs.Epoch.{readingValue}
+use Rattle.policy.specs.Comparison.{comparisonHolds, relationHolds, operandValue, missingHolds, valuesRelate}
+use Rattle.policy.specs.Epoch.{valueIn, readingValue}
 use Rattle.pdl.specs.Examples.{examples, yielded, expected}
 use Rattle.pdl.specs.Greedy.{greedy, keptBelow, tryNext}
 use Rattle.policy.specs.List.{all, any}
@@ -10,5 +10,5 @@ use Rattle.policy.specs.Set.{has, insert}
 use Rattle.pdl.specs.Yield.{literalHolds, ruleHolds, propose, proposals, constraintHolds, conflict, resolve, accepted, cancelled}
 
 pub examples-hold : map yielded examples ≡ map expected examples
-unfolding examples yielded expected has insert readingValue relationHolds operandValue comparisonHolds literalHolds ruleHolds propose proposals constraintHolds conflict resolve accepted cancelled greedy keptBelow tryNext all any
+unfolding examples yielded expected has insert valueIn readingValue missingHolds valuesRelate relationHolds operandValue comparisonHolds literalHolds ruleHolds propose proposals constraintHolds conflict resolve accepted cancelled greedy keptBelow tryNext all any
 examples-hold = refl

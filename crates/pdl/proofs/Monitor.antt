@@ -1,17 +1,21 @@
 -- The accepted and the cancelled actions of an epoch: a maximal action cancellation of what the rules propose (source
 -- document 000, Definition 11), lower numbers kept first.
 use mathlib.Core.Bool.{Bool, true, false, not, _&&_, _||_}
-use mathlib.Core.List.{[], _∷_, List·Memᴰ, List·Memᴰ·eq-of-singleton, List·Memᴰ·not-nil}
+use mathlib.Core.List.{List, [], List·Memᴰ, List·Memᴰ·eq-of-singleton, List·Memᴰ·not-nil}
 use mathlib.Core.Path.{_≡_, refl, sym, ap, _∙_}
 use Rattle.policy.proofs.ListLaws.{not-true-is, not-false-is, and-out}
 use Rattle.pdl.proofs.Proposals.{proposals-limit}
 use Rattle.pdl.proofs.Resolution.{actions-ext, satisfied, conflict-out, resolve-within, resolve-satisfies, resolve-maximal, resolve-dropped, resolve-kept, resolve-limit}
 use Rattle.policy.proofs.SetLaws.{has-empty, has-insert-same, has-union, has-difference}
+use Rattle.policy.proofs.MissingLaws.{missing-in-constraint}
+use Rattle.policy.specs.Comparison.{NamesMissing}
 use Rattle.policy.specs.Epoch.{Epoch}
-use Rattle.pdl.specs.Pdl.{Violated, Satisfies, NameActions, Monitor, Conservative, ActionCancellation, MaximalActionCancellation, _⊆_}
-use Rattle.policy.specs.Policy.{Policy, Constraint}
+use Rattle.pdl.specs.Pdl.{Condition, Violated, Satisfies, ofOneAction, lone, NameActions, Monitor, Conservative, ActionCancellation, MaximalActionCancellation, _⊆_}
+use Rattle.policy.specs.Policy.{Policy}
 use Rattle.policy.specs.Set.{allEvents, hasAction, noActions, insertAction, unionActions, actionsBelow}
 use Rattle.pdl.specs.Yield.{conflict, proposed, accepted, cancelled}
+use Rattle.policy.specs.declared.comparison.Comparison.{Comparison}
+use Rattle.policy.specs.declared.line.Part.{Part}
 use Rattle.policy.specs.declared.number.Action.{Action}
 use Rattle.policy.specs.declared.set.ActionSet.{ActionSet}
 
@@ -89,20 +93,29 @@ module _ (p : Policy) where
       (and-out (hasAction (proposed (p .rules) e) a) (not (hasAction (accepted p e) a)) (sym (has-cancelled e a) ∙ h) .0)
       (cancelled-apart e a h)
 
-  -- a constraint with one action and no comparison
-  abbrev lone : Action → Constraint
-  lone a = record { actions = a ∷ []; comparisons = [] }
+  -- a constraint with one action, where its condition holds
+  module _ (a : Action) (cs : List Comparison) (listed : List·Memᴰ (ofOneAction a cs) (p .constraints)) (e : Epoch) (holds : Condition Part.Constraints (e .readings) cs) where
+    one-rejected : hasAction (accepted p e) a ≡ false
+    unfolding accepted
+    one-rejected =
+        not-true-is (hasAction (accepted p e) a)
+        (λ h. resolve-kept (p .constraints) (e .readings) (proposed (p .rules) e) a h (ofOneAction a cs) listed
+        (record {
+          members = λ b k. ap (hasAction (insertAction (actionsBelow (accepted p e) a) a)) (List·Memᴰ·eq-of-singleton k)
+              ∙ has-insert-same (actionsBelow (accepted p e) a .0) (a .0) (resolve-limit (p .constraints) (e .readings) (proposed (p .rules) e) a h);
+          condition = holds;
+        }))
+
+    one-cancelled : hasAction (proposed (p .rules) e) a ≡ true → hasAction (cancelled p e) a ≡ true
+    one-cancelled h = has-cancelled e a ∙ rw (h, one-rejected)
 
   pub lone-never-accepted : (a : Action) → List·Memᴰ (lone a) (p .constraints) → (e : Epoch) → hasAction (accepted p e) a ≡ false
-  unfolding accepted
-  lone-never-accepted a m e =
-      not-true-is (hasAction (accepted p e) a)
-      (λ h. resolve-kept (p .constraints) (e .readings) (proposed (p .rules) e) a h (lone a) m
-      (record {
-        members = λ b k. ap (hasAction (insertAction (actionsBelow (accepted p e) a) a)) (List·Memᴰ·eq-of-singleton k)
-            ∙ has-insert-same (actionsBelow (accepted p e) a .0) (a .0) (resolve-limit (p .constraints) (e .readings) (proposed (p .rules) e) a h);
-        condition = λ c k. absurd (List·Memᴰ·not-nil k);
-      }))
+  lone-never-accepted a m e = one-rejected a [] m e (λ c k. absurd (List·Memᴰ·not-nil k))
 
   pub lone-always-cancelled : (a : Action) → List·Memᴰ (lone a) (p .constraints) → (e : Epoch) → hasAction (proposed (p .rules) e) a ≡ true → hasAction (cancelled p e) a ≡ true
-  lone-always-cancelled a m e h = has-cancelled e a ∙ rw (h, lone-never-accepted a m e)
+  lone-always-cancelled a m e = one-cancelled a [] m e (λ c k. absurd (List·Memᴰ·not-nil k))
+
+  -- where each comparison of such a constraint names a missing reading, its action is cancelled whenever it is proposed
+  pub missing-always-cancelled : (a : Action) (cs : List Comparison) → List·Memᴰ (ofOneAction a cs) (p .constraints) → (e : Epoch)
+      → ((c : Comparison) → List·Memᴰ c cs → NamesMissing (e .readings) c) → hasAction (proposed (p .rules) e) a ≡ true → hasAction (cancelled p e) a ≡ true
+  missing-always-cancelled a cs m e missing = one-cancelled a cs m e (λ c k. missing-in-constraint (e .readings) c (missing c k))

@@ -1,20 +1,24 @@
 -- The proposed set is what Definition 6 of source document 000 says.
 use Prim.Native.Nat.{_<_, _^_}
-use mathlib.Core.Bool.{Bool, true, false, not, cond}
+use mathlib.Core.Bool.{Bool, true, false, not, _&&_, cond}
 use mathlib.Core.List.{List, [], _∷_, foldl, List·Memᴰ, List·Memᴰ·head, List·Memᴰ·tail}
 use mathlib.Core.Logic.{_↔_, _⊎_, inl, inr, ⊎-elim}
 use mathlib.Core.Path.{_≡_, refl, sym, ap, _∙_, subst}
 use lib.Dec.{lit<}
-use Rattle.policy.proofs.ListLaws.{true-false, and-in, and-out, all-in, all-out}
-use Rattle.policy.proofs.SetLaws.{has-empty, has-insert-same, has-insert-old, has-insert-cases, insert-limit}
-use Rattle.policy.specs.Comparison.{comparisonHolds}
-use Rattle.policy.specs.Epoch.{Readings}
+use Rattle.policy.proofs.ListLaws.{true-false, not-true-is, and-in, and-out, all-in, all-out}
+use Rattle.policy.proofs.SetLaws.{has-empty, has-limit, has-insert-same, has-insert-old, has-insert-cases, insert-limit}
+use Rattle.policy.proofs.MissingLaws.{missing-in-rule, fewer-in-rule}
+use Rattle.policy.specs.Comparison.{NamesMissing, comparisonHolds}
+use Rattle.policy.specs.Epoch.{Readings, SomeOf}
+use Rattle.policy.specs.List.{all}
 use Rattle.policy.specs.Number.{setLimit}
-use Rattle.pdl.specs.Pdl.{Occurs, OccursAs, Condition, Derives, Interpretation, Model, Entails, DefinedBy}
+use Rattle.pdl.specs.Pdl.{Occurs, OccursAs, Condition, Derives, Interpretation, Model, Entails, DefinedBy, _⊆_}
 use Rattle.policy.specs.Policy.{Rule}
 use Rattle.policy.specs.Set.{has, hasEvent, allEvents, hasAction, noActions, insertAction}
 use Rattle.pdl.specs.Yield.{literalHolds, ruleHolds, propose, proposals, proposed}
+use Rattle.policy.specs.declared.comparison.Comparison.{Comparison}
 use Rattle.policy.specs.declared.comparison.Literal.{Literal}
+use Rattle.policy.specs.declared.line.Part.{Part}
 use Rattle.policy.specs.declared.number.Action.{Action}
 use Rattle.policy.specs.declared.set.ActionSet.{ActionSet}
 use Rattle.policy.specs.declared.set.Events.{Events}
@@ -29,11 +33,11 @@ literal-occurs ev l = go (l .negated) (hasEvent (ev .present) (l .event)) (hasEv
     go true present true = (λ h _. true-false h refl, λ h. absurd (h refl))
     go true present false = (λ _ h. true-false h refl, λ _. refl)
 
-pub rule-holds : (ev : Events) (rs : Readings) (r : Rule) → ((l : Literal) → List·Memᴰ l (r .literals) → Occurs ev l) → Condition rs (r .comparisons) → ruleHolds ev rs r ≡ true
+pub rule-holds : (ev : Events) (rs : Readings) (r : Rule) → ((l : Literal) → List·Memᴰ l (r .literals) → Occurs ev l) → Condition Part.Rules rs (r .comparisons) → ruleHolds ev rs r ≡ true
 unfolding ruleHolds
 rule-holds ev rs r occurs condition =
     and-in (all-in (literalHolds ev) (r .literals) (λ l m. literal-occurs ev l .1 (occurs l m)))
-    (all-in (comparisonHolds rs) (r .comparisons) condition)
+    (all-in (comparisonHolds Part.Rules rs) (r .comparisons) condition)
 
 -- the rule that holds derives its action
 rule-derives : (rules : List Rule) (ev : Events) (rs : Readings) (r : Rule) → List·Memᴰ r rules → ruleHolds ev rs r ≡ true → Derives rules ev rs (r .action)
@@ -45,8 +49,17 @@ rule-derives rules ev rs r m h =
       listed = m;
       causes = refl;
       event = λ l k. literal-occurs ev l .0 (all-out (literalHolds ev) (r .literals) (parts .0) l k);
-      condition = all-out (comparisonHolds rs) (r .comparisons) (parts .1);
+      condition = all-out (comparisonHolds Part.Rules rs) (r .comparisons) (parts .1);
     }
+
+-- a rule with a comparison that names a missing reading does not hold
+pub missing-rule : (ev : Events) (rs : Readings) (r : Rule) (c : Comparison) → List·Memᴰ c (r .comparisons) → NamesMissing rs c → ruleHolds ev rs r ≡ false
+unfolding ruleHolds
+missing-rule ev rs r c m missing =
+    not-true-is (all (literalHolds ev) (r .literals) && all (comparisonHolds Part.Rules rs) (r .comparisons))
+    (λ h. true-false
+    (all-out (comparisonHolds Part.Rules rs) (r .comparisons) (and-out (all (literalHolds ev) (r .literals)) (all (comparisonHolds Part.Rules rs) (r .comparisons)) h .1) c m)
+    (missing-in-rule rs c missing))
 
 -- what one rule more changes
 module _ (ev : Events) (rs : Readings) (s : ActionSet) (r : Rule) (a : Action) where
@@ -137,3 +150,11 @@ proposals-limit rules ev rs = more rules noActions (lit< tt)
     more : (rules : List Rule) (s : ActionSet) → s .0 < 2 ^ 64 → foldl (propose ev rs) s rules .0 < 2 ^ 64
     more [] s h = h
     more (r ∷ rest) s h = more rest (propose ev rs s r) (step s r h)
+
+-- with fewer readings no more is proposed
+pub fewer-proposed : (rules : List Rule) (ev : Events) (fewer all : Readings) → SomeOf fewer all → proposals rules ev fewer ⊆ proposals rules ev all
+fewer-proposed rules ev fewer all some-of a h =
+    let l : a .0 < setLimit = has-limit (proposals rules ev fewer .0) (proposals-limit rules ev fewer) (a .0) h in
+    let d = proposals-derived rules ev fewer a l .0 h in
+    proposals-derived rules ev all a l .1
+    (record { rule = d .rule; listed = d .listed; causes = d .causes; event = d .event; condition = λ c m. fewer-in-rule fewer all some-of c (d .condition c m) })

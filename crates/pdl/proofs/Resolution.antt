@@ -5,15 +5,17 @@ use mathlib.Core.List.{List, [], _∷_, List·Memᴰ, List·Memᴰ·head}
 use mathlib.Core.Path.{_≡_, refl}
 use Rattle.pdl.proofs.GreedyLaws.{Monotone, greedy-kept, greedy-dropped, greedy-within, greedy-good, greedy-maximal, greedy-limit}
 use Rattle.policy.proofs.ListLaws.{true-false, not-true-is, and-in, and-out, all-in, all-out, any-in, any-out}
+use Rattle.policy.proofs.MissingLaws.{fewer-in-constraint}
 use Rattle.policy.proofs.SetLaws.{has-empty, has-limit, set-ext}
 use Rattle.policy.specs.Comparison.{comparisonHolds}
-use Rattle.policy.specs.Epoch.{Readings}
+use Rattle.policy.specs.Epoch.{Readings, SomeOf}
 use Rattle.policy.specs.List.{all, any}
 use Rattle.policy.specs.Number.{setLimit}
 use Rattle.pdl.specs.Pdl.{HoldsOn, Violated, Satisfies, NameActions, _⊆_}
 use Rattle.policy.specs.Policy.{Constraint}
 use Rattle.policy.specs.Set.{has, hasAction, noActions, insertAction, actionsBelow}
 use Rattle.pdl.specs.Yield.{constraintHolds, conflict, resolve}
+use Rattle.policy.specs.declared.line.Part.{Part}
 use Rattle.policy.specs.declared.number.Action.{Action}
 use Rattle.policy.specs.declared.set.ActionSet.{ActionSet}
 
@@ -25,13 +27,13 @@ actions-ext s t h = λ i. record { 0 = set-ext (s .0) (t .0) (λ n. h (record { 
 
 pub holds-in : (rs : Readings) (s : ActionSet) (c : Constraint) → HoldsOn rs s c → constraintHolds rs s c ≡ true
 unfolding constraintHolds
-holds-in rs s c h = and-in (all-in (hasAction s) (c .actions) (h .members)) (all-in (comparisonHolds rs) (c .comparisons) (h .condition))
+holds-in rs s c h = and-in (all-in (hasAction s) (c .actions) (h .members)) (all-in (comparisonHolds Part.Constraints rs) (c .comparisons) (h .condition))
 
 pub holds-out : (rs : Readings) (s : ActionSet) (c : Constraint) → constraintHolds rs s c ≡ true → HoldsOn rs s c
 unfolding constraintHolds
 holds-out rs s c h =
-    let parts = and-out (all (hasAction s) (c .actions)) (all (comparisonHolds rs) (c .comparisons)) h in
-    record { members = all-out (hasAction s) (c .actions) (parts .0); condition = all-out (comparisonHolds rs) (c .comparisons) (parts .1) }
+    let parts = and-out (all (hasAction s) (c .actions)) (all (comparisonHolds Part.Constraints rs) (c .comparisons)) h in
+    record { members = all-out (hasAction s) (c .actions) (parts .0); condition = all-out (comparisonHolds Part.Constraints rs) (c .comparisons) (parts .1) }
 
 module _ (constraints : List Constraint) (rs : Readings) where
   pub conflict-in : (s : ActionSet) → Violated constraints rs s → conflict constraints rs s ≡ true
@@ -68,6 +70,15 @@ module _ (constraints : List Constraint) (rs : Readings) where
       none : (as′ : List Action) → ¬ (as′ ≡ []) → ((a : Action) → List·Memᴰ a as′ → hasAction noActions a ≡ true) → ⊥
       none [] named′ h = named′ refl
       none (a ∷ rest) named′ h = true-false (h a (List·Memᴰ·head refl)) (has-empty (a .0))
+
+  -- what is violated stays so with fewer readings
+  pub fewer-violated : (fewer : Readings) → SomeOf fewer rs → (s : ActionSet) → Violated constraints rs s → Violated constraints fewer s
+  fewer-violated fewer some-of s v =
+      record {
+        constraint = v .constraint;
+        listed = v .listed;
+        holds = record { members = v .holds .members; condition = λ c m. fewer-in-constraint fewer rs some-of c (v .holds .condition c m) };
+      }
 
   -- ---- what is kept of any set of actions
 

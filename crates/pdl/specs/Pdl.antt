@@ -1,7 +1,7 @@
 -- Definitions 5 to 9, of 10 consistency and of 11 its first three parts, of source document 000, in its own terms, for ground rules
 -- and an epoch that carries readings. Reductions of an epoch (10) and event cancellation (11.4, 11.5) are not part of it.
 use mathlib.Core.Bool.{Bool, true, false}
-use mathlib.Core.List.{List, [], List·Memᴰ}
+use mathlib.Core.List.{List, [], _∷_, List·Memᴰ}
 use mathlib.Core.Logic.{_↔_}
 use mathlib.Core.Path.{_≡_}
 use Prim.Native.Nat.{_<_}
@@ -12,13 +12,14 @@ use Rattle.policy.specs.Policy.{Rule, Constraint}
 use Rattle.policy.specs.Set.{hasEvent, allEvents, hasAction}
 use Rattle.policy.specs.declared.comparison.Comparison.{Comparison}
 use Rattle.policy.specs.declared.comparison.Literal.{Literal}
+use Rattle.policy.specs.declared.line.Part.{Part}
 use Rattle.policy.specs.declared.number.Action.{Action}
 use Rattle.policy.specs.declared.set.ActionSet.{ActionSet}
 use Rattle.policy.specs.declared.set.Events.{Events}
 
--- a condition: the conjunction of its comparisons (Definition 4)
-abbrev pub Condition : Readings → List Comparison → Type 0
-Condition rs cs = (c : Comparison) → List·Memᴰ c cs → comparisonHolds rs c ≡ true
+-- the condition of a rule or of a constraint: the conjunction of its comparisons (Definition 4)
+abbrev pub Condition : Part → Readings → List Comparison → Type 0
+Condition part rs cs = (c : Comparison) → List·Memᴰ c cs → comparisonHolds part rs c ≡ true
 
 -- Definition 5: an event occurs in the epoch if it is a member, and `!e` occurs if `e` is not. Where events of the epoch are left
 -- out, membership is taken from those that are present, and absence from all that occurred.
@@ -35,7 +36,7 @@ pub record Derives (rules : List Rule) (ev : Events) (rs : Readings) (a : Action
   pub listed : List·Memᴰ rule rules
   pub causes : rule .action ≡ a
   pub event : (l : Literal) → List·Memᴰ l (rule .literals) → Occurs ev l
-  pub condition : Condition rs (rule .comparisons)
+  pub condition : Condition Part.Rules rs (rule .comparisons)
 
 -- what `occ` and `exec` may mean
 pub record Interpretation : Type 1 where
@@ -45,7 +46,7 @@ pub record Interpretation : Type 1 where
 -- a model of the program of the rules, `exec(a) ← occ(e₁) ∧ … ∧ occ(eₗ) ∧ C` for each, and of `occ(E)`
 pub record Model (rules : List Rule) (ev : Events) (rs : Readings) (I : Interpretation) : Type 0 where
   pub facts : (l : Literal) → Occurs ev l → I .occ l
-  pub implications : (r : Rule) → List·Memᴰ r rules → ((l : Literal) → List·Memᴰ l (r .literals) → I .occ l) → Condition rs (r .comparisons) → I .exec (r .action)
+  pub implications : (r : Rule) → List·Memᴰ r rules → ((l : Literal) → List·Memᴰ l (r .literals) → I .occ l) → Condition Part.Rules rs (r .comparisons) → I .exec (r .action)
 
 -- `exec(a)` holds in every model
 abbrev pub Entails : List Rule → Events → Readings → Action → Type 1
@@ -58,7 +59,7 @@ DefinedBy rules π = (e : Epoch) (a : Action) → a .0 < setLimit → (hasAction
 -- Definitions 7 and 8: a set satisfies a constraint if not all its actions are in the set while its condition holds
 pub record HoldsOn (rs : Readings) (s : ActionSet) (c : Constraint) : Type 0 where
   pub members : (a : Action) → List·Memᴰ a (c .actions) → hasAction s a ≡ true
-  pub condition : Condition rs (c .comparisons)
+  pub condition : Condition Part.Constraints rs (c .comparisons)
 
 -- some constraint holds on the set
 pub record Violated (constraints : List Constraint) (rs : Readings) (s : ActionSet) : Type 0 where
@@ -68,6 +69,14 @@ pub record Violated (constraints : List Constraint) (rs : Readings) (s : ActionS
 
 abbrev pub Satisfies : List Constraint → Readings → ActionSet → Type 0
 Satisfies constraints rs s = (c : Constraint) → List·Memᴰ c constraints → ¬ HoldsOn rs s c
+
+-- a constraint with one action
+abbrev pub ofOneAction : Action → List Comparison → Constraint
+ofOneAction a cs = record { actions = a ∷ []; comparisons = cs }
+
+-- and with no comparison
+abbrev pub lone : Action → Constraint
+lone a = ofOneAction a []
 
 -- each constraint has at least one action, as every line of a text has
 abbrev pub NameActions : List Constraint → Type 0

@@ -9,6 +9,7 @@ use Rattle.policy.specs.List.{all, any}
 use Rattle.policy.specs.Policy.{Policy, Rule, Constraint}
 use Rattle.policy.specs.Set.{hasEvent, allEvents, noActions, hasAction, insertAction, actionsWithout}
 use Rattle.policy.specs.declared.comparison.Literal.{Literal}
+use Rattle.policy.specs.declared.line.Part.{Part}
 use Rattle.policy.specs.declared.set.ActionSet.{ActionSet}
 use Rattle.policy.specs.declared.set.Events.{Events}
 use Rattle.pdl.specs.Greedy.{greedy}
@@ -20,7 +21,7 @@ unfoldable pub literalHolds : Events → Literal → Bool
 literalHolds ev l = cond (l .negated) (not (hasEvent (ev .occurred) (l .event))) (hasEvent (ev .present) (l .event))
 
 unfoldable pub ruleHolds : Events → Readings → Rule → Bool
-ruleHolds ev rs r = all (literalHolds ev) (r .literals) && all (comparisonHolds rs) (r .comparisons)
+ruleHolds ev rs r = all (literalHolds ev) (r .literals) && all (comparisonHolds Part.Rules rs) (r .comparisons)
 
 -- a rule proposes its action where it holds
 unfoldable pub propose : Events → Readings → ActionSet → Rule → ActionSet
@@ -37,7 +38,7 @@ proposed rules e = proposals rules (allEvents (e .events)) (e .readings)
 
 -- a constraint holds on a set where all its actions are in the set and all its comparisons hold
 unfoldable pub constraintHolds : Readings → ActionSet → Constraint → Bool
-constraintHolds rs s c = all (hasAction s) (c .actions) && all (comparisonHolds rs) (c .comparisons)
+constraintHolds rs s c = all (hasAction s) (c .actions) && all (comparisonHolds Part.Constraints rs) (c .comparisons)
 
 -- some constraint holds on the set
 unfoldable pub conflict : List Constraint → Readings → ActionSet → Bool

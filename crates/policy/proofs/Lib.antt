@@ -2,6 +2,7 @@ pub mod FaultLaws
 pub mod FillLaws
 pub mod FlagLaws
 pub mod ListLaws
+pub mod MissingLaws
 pub mod RelationLaws
 pub mod SeenLaws
 pub mod SetLaws

@@ -25,6 +25,10 @@ and-out true b e = (refl, e)
 and-out false b e = absurd (true-false e refl)
 
 -- two Bools are equal where each follows from the other
+pub or-out : (a b : Bool) → a || b ≡ false → (a ≡ false) × (b ≡ false)
+or-out true b h = absurd (true-false refl h)
+or-out false b h = (refl, h)
+
 pub bool-ext : (a b : Bool) → (a ≡ true → b ≡ true) → (b ≡ true → a ≡ true) → a ≡ b
 bool-ext true b f g = sym (f refl)
 bool-ext false b f g = sym (not-true-is b (λ e. true-false (g e) refl))

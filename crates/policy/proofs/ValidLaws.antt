@@ -1,12 +1,12 @@
 -- What it says that a line is one that an accepted text may have, as facts of its parts.
 use Prim.Native.Nat.{_≤_, _<_}
-use mathlib.Core.Bool.{Bool, true, false, not, _&&_, _||_}
+use mathlib.Core.Bool.{Bool, true, false, not, _&&_}
 use mathlib.Core.List.{List, map}
-use mathlib.Core.Path.{_≡_, refl}
+use mathlib.Core.Path.{_≡_}
 use borrow.Author.Tests.{ltb-true, ltb-false, lt-ltb, le-ltb, not-true}
 use lib.Dec.{ltb}
 use lib.ListN.{length}
-use Rattle.policy.proofs.ListLaws.{true-false, and-out}
+use Rattle.policy.proofs.ListLaws.{and-out, or-out}
 use Rattle.policy.specs.Limits.{valid, inRange, crowded, repeated, repeats, testNumber, comparisonInRange, endingInRange}
 use Rattle.policy.specs.Line.{PolicyLine, headsOf, comparisonsOf, endingOf}
 use Rattle.policy.specs.List.{all}
@@ -25,10 +25,6 @@ pub record ValidParts (ts : List Test) (cs : List Comparison) (e : Ending) : Typ
   pub few-tests : length ts ≤ 8
   pub few-comparisons : length cs ≤ 4
   pub distinct : repeats (map testNumber ts) ≡ false
-
-or-false : (a b : Bool) → a || b ≡ false → (a ≡ false) × (b ≡ false)
-or-false true b e = absurd (true-false refl e)
-or-false false b e = (refl, e)
 
 -- the tests of a line, one by one
 pub record ValidTests (l : PolicyLine) : Type 0 where
@@ -51,7 +47,7 @@ valid-out l v =
     let t = valid-tests l v in
     let r = and-out (all testInRange (headsOf l) && all comparisonInRange (comparisonsOf l)) (endingInRange (endingOf l)) (t .in-range) in
     let s = and-out (all testInRange (headsOf l)) (all comparisonInRange (comparisonsOf l)) (r .0) in
-    let u = or-false (ltb 8 (length (headsOf l))) (ltb 4 (length (comparisonsOf l))) (t .uncrowded) in
+    let u = or-out (ltb 8 (length (headsOf l))) (ltb 4 (length (comparisonsOf l))) (t .uncrowded) in
     record {
       some = t .some-heads;
       tests = s .0;

@@ -61,16 +61,21 @@ impl Operand {
     }
 }
 
+// A value, or that a reading has none since the epoch does not give it.
+pub enum Value {
+    Known(i32),
+    Missing,
+}
+
 impl Reading {
-    // 0 where the epoch does not give the reading.
-    pub fn value(self, given: ReadingSet, values: &[i32]) -> i32
+    pub fn value(self, given: ReadingSet, values: &[i32]) -> Value
         ensures { λ r. ⌜ r ≡ readingValue (record { given = given; values = now (values .entry) }) self ⌝ }
     {
         let at = self.0 as usize;
-        if given.has(self) {
-            if at < values.len() { values[at] } else { 0 }
+        if given.has(self) && at < values.len() {
+            Value::Known(values[at])
         } else {
-            0
+            Value::Missing
         }
     }
 }

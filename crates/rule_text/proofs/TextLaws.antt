@@ -1,6 +1,6 @@
 -- Laws of reading a text line by line.
 use Prim.Native.Nat.{ℕ, suc, _+_, _*_, _<_, _≤_, min}
-use mathlib.Core.Bool.{Bool, true, false, not, _||_, cond}
+use mathlib.Core.Bool.{Bool, true, false, not, cond}
 use mathlib.Core.List.{List, [], _∷_, _++_, map, foldl, map-append}
 use mathlib.Core.Path.{_≡_, refl, sym, ap, ap₂, _∙_}
 use native.Mathlib.Numerals.{add-one}
@@ -9,7 +9,7 @@ use borrow.Author.Tests.{lt-ltb, le-ltb, ltb-true, ltb-false}
 use lib.Dec.{eqb, ltb}
 use lib.ListN.{length, drop, length-append, length-map, drop-of-length-le}
 use lib.Seq.{drop-drop}
-use Rattle.policy.proofs.ListLaws.{true-false}
+use Rattle.policy.proofs.ListLaws.{or-out}
 use Rattle.policy.specs.Fault.{refusal}
 use Rattle.policy.specs.Limits.{crowded, ruleLimit, constraintLimit, headLimit, comparisonLimit}
 use Rattle.policy.specs.Line.{PolicyLine, rule, constraint, headsOf, comparisonsOf, endingOf, operandConstants, constantCount}
@@ -166,11 +166,7 @@ record Uncrowded (l : PolicyLine) : Type 0 where
 
 uncrowded : (l : PolicyLine) → crowded l ≡ false → Uncrowded l
 unfolding crowded
-uncrowded l h = let p = over (ltb headLimit (length (headsOf l))) (ltb comparisonLimit (length (comparisonsOf l))) h in record { heads = p .0; comparisons = p .1 }
-  where
-    over : (a b : Bool) → a || b ≡ false → (a ≡ false) × (b ≡ false)
-    over true b e = absurd (true-false refl e)
-    over false b e = (refl, e)
+uncrowded l h = let p = or-out (ltb headLimit (length (headsOf l))) (ltb comparisonLimit (length (comparisonsOf l))) h in record { heads = p .0; comparisons = p .1 }
 
 few-counted : {A : Type 0} (limit : ℕ) (xs : List A) → length xs ≤ limit → counted limit xs ≡ length xs
 unfolding counted

@@ -1,12 +1,12 @@
 -- What holds in the last arm of a `match` on an operation, which stands for all operations that have no arm of their own.
-use Prim.Native.Nat.{ℕ, _+_}
-use mathlib.Core.Bool.{Bool, true, false}
+use Prim.Native.Nat.{ℕ}
+use mathlib.Core.Bool.{true, false}
 use mathlib.Core.List.{List, [], _∷_}
 use mathlib.Core.Path.{_≡_, refl}
-use native.Mathlib.Nat.{add-zero}
 use denote.Enum.Declared.{tagOf}
 use types.Run.{OneOf, miss}
 use Rattle.policy.specs.Epoch.{Readings}
+use Rattle.policy.specs.declared.line.Part.{Part}
 use Rattle.policy.specs.declared.set.ActionSet.{ActionSet}
 use Rattle.policy.specs.declared.set.Events.{Events}
 use Rattle.operation.proofs.operation.Operation.{the-type}
@@ -50,16 +50,16 @@ proposes-rest w s Operation.Member h = refl
 proposes-rest w s Operation.Never h = refl
 proposes-rest w s Operation.Unknown h = refl
 
-pub comparison-rest : (rs : Readings) (w k : ℕ) → (op : Operation) → Among (0 ∷ 1 ∷ 4 ∷ 5 ∷ 6 ∷ 7 ∷ []) op → true ≡ comparisonTest rs op w k
+pub comparison-rest : (part : Part) (rs : Readings) (w k : ℕ) → (op : Operation) → Among (0 ∷ 1 ∷ 4 ∷ 5 ∷ 6 ∷ 7 ∷ []) op → true ≡ comparisonTest part rs op w k
 unfolding comparisonTest
-comparison-rest rs w k Operation.Present h = refl
-comparison-rest rs w k Operation.Absent h = refl
-comparison-rest rs w k Operation.AgainstConstant h = absurd (miss (0 ∷ 1 ∷ 4 ∷ 5 ∷ 6 ∷ 7 ∷ []) 2 tt h)
-comparison-rest rs w k Operation.AgainstReading h = absurd (miss (0 ∷ 1 ∷ 4 ∷ 5 ∷ 6 ∷ 7 ∷ []) 3 tt h)
-comparison-rest rs w k Operation.Proposes h = refl
-comparison-rest rs w k Operation.Member h = refl
-comparison-rest rs w k Operation.Never h = refl
-comparison-rest rs w k Operation.Unknown h = refl
+comparison-rest part rs w k Operation.Present h = refl
+comparison-rest part rs w k Operation.Absent h = refl
+comparison-rest part rs w k Operation.AgainstConstant h = absurd (miss (0 ∷ 1 ∷ 4 ∷ 5 ∷ 6 ∷ 7 ∷ []) 2 tt h)
+comparison-rest part rs w k Operation.AgainstReading h = absurd (miss (0 ∷ 1 ∷ 4 ∷ 5 ∷ 6 ∷ 7 ∷ []) 3 tt h)
+comparison-rest part rs w k Operation.Proposes h = refl
+comparison-rest part rs w k Operation.Member h = refl
+comparison-rest part rs w k Operation.Never h = refl
+comparison-rest part rs w k Operation.Unknown h = refl
 
 pub constants-rest : (op : Operation) → Among (0 ∷ 1 ∷ 4 ∷ 5 ∷ 6 ∷ 7 ∷ []) op → 0 ≡ constantCount op
 constants-rest Operation.Present h = refl
@@ -71,7 +71,7 @@ constants-rest Operation.Member h = refl
 constants-rest Operation.Never h = refl
 constants-rest Operation.Unknown h = refl
 
-pub rule-rest : (ev : Events) (rs : Readings) (w k : ℕ) → (op : Operation) → Among (2 ∷ 3 ∷ 4 ∷ 5 ∷ 6 ∷ 7 ∷ []) op → comparisonTest rs op w k ≡ ruleTest ev rs op w k
+pub rule-rest : (ev : Events) (rs : Readings) (w k : ℕ) → (op : Operation) → Among (2 ∷ 3 ∷ 4 ∷ 5 ∷ 6 ∷ 7 ∷ []) op → comparisonTest Part.Rules rs op w k ≡ ruleTest ev rs op w k
 unfolding comparisonTest ruleTest
 rule-rest ev rs w k Operation.Present h = absurd (miss (2 ∷ 3 ∷ 4 ∷ 5 ∷ 6 ∷ 7 ∷ []) 0 tt h)
 rule-rest ev rs w k Operation.Absent h = absurd (miss (2 ∷ 3 ∷ 4 ∷ 5 ∷ 6 ∷ 7 ∷ []) 1 tt h)
@@ -82,7 +82,7 @@ rule-rest ev rs w k Operation.Member h = refl
 rule-rest ev rs w k Operation.Never h = refl
 rule-rest ev rs w k Operation.Unknown h = refl
 
-pub constraint-rest : (rs : Readings) (s : ActionSet) (w k : ℕ) → (op : Operation) → Among (0 ∷ 1 ∷ 2 ∷ 3 ∷ 4 ∷ 6 ∷ 7 ∷ []) op → comparisonTest rs op w k ≡ constraintTest rs s op w k
+pub constraint-rest : (rs : Readings) (s : ActionSet) (w k : ℕ) → (op : Operation) → Among (0 ∷ 1 ∷ 2 ∷ 3 ∷ 4 ∷ 6 ∷ 7 ∷ []) op → comparisonTest Part.Constraints rs op w k ≡ constraintTest rs s op w k
 unfolding comparisonTest constraintTest
 constraint-rest rs s w k Operation.Present h = refl
 constraint-rest rs s w k Operation.Absent h = refl

@@ -1,7 +1,8 @@
 -- Laws of running words: one word that is run, over the words of a part with an index.
 use Prim.Native.Nat.{ℕ, zero, suc, _+_, _/_, _≤_, _<_, min}
-use mathlib.Core.Bool.{Bool, true, false, not, cond, _||_}
+use mathlib.Core.Bool.{Bool, true, false, not, cond, _||_, or-false}
 use mathlib.Core.List.{List, [], _∷_, foldl}
+use mathlib.Core.Logic.{_⊎_, inl, inr}
 use mathlib.Core.Path.{_≡_, refl, sym, ap, _∙_}
 use native.Mathlib.Nat.{add-zero}
 use native.Mathlib.Omega.{arith}
@@ -14,10 +15,11 @@ use Rattle.policy.specs.List.{any}
 use Rattle.policy.proofs.ListLaws.{true-false}
 use Rattle.policy.specs.Comparison.{comparisonHolds}
 use Rattle.policy.specs.Set.{hasEvent, hasAction, insertAction}
+use Rattle.policy.specs.declared.line.Part.{Part}
 use Rattle.policy.specs.declared.set.ActionSet.{ActionSet}
 use Rattle.policy.specs.declared.set.Events.{Events}
 use Rattle.word.proofs.WordLaws.{words-length}
-use Rattle.operation.specs.Parts.{eventFrom, actionFrom, constantComparison, readingComparison}
+use Rattle.operation.specs.Parts.{constantComparison, readingComparison}
 use Rattle.operation.specs.Fields.{firstOf, skipOf, operationOf}
 use Rattle.word.specs.Word.{wordsOf, wordAt}
 use Rattle.operation.specs.declared.operation.Operation.{Operation}
@@ -80,6 +82,12 @@ module _ (test : Operation → ℕ → ℕ → Bool) where
         ∙ ran-pass (passes (test (operationOf w) w k) (operationOf w) w) (drop (at + 1) part)
         ∙ ap (ran test 0) (drop-drop (passes (test (operationOf w) w k) (operationOf w) w) (at + 1) part))
 
+  -- the last word: none follows
+  ran-last : (part : List ℕ) (at w : ℕ) → at + 1 ≡ length part → w ≡ getD part at 0 → ran test 0 (drop at part) ≡ w ∷ []
+  ran-last part at w e this =
+      ran-step part at w 0 (omega arith) this (λ h. absurd (omega arith))
+      ∙ ap (λ (l : List ℕ). w ∷ l) (ran-end part (at + 1 + passes (test (operationOf w) w 0) (operationOf w) w) (omega arith))
+
   -- one turn of the code, which has fetched the word w, with its operation, at an index before the end of the part, and goes on at another
   module _ (bytes : List ℕ) (end at w next : ℕ) (op : Operation) where
     abbrev part : List ℕ
@@ -96,23 +104,27 @@ module _ (test : Operation → ℕ → ℕ → Bool) where
         same : at + 1 + passes holds op w ≡ at + 1 + constantCount op + cond holds 0 (skipOf w)
         same = omega arith
 
+    pub last-turn : at + 1 ≡ length part → w ≡ wordAt bytes at → ran test 0 (drop at part) ≡ w ∷ []
+    last-turn e this = ran-last part at w e (this ∙ before-at bytes end at (omega arith))
+
 -- ---- the test of a word, as the code answers it
 
 same-tested : {a b : Bool} {m n : ℕ} → a ≡ b → m ≡ n → _≡_ {A = Tested} (record { holds = a; next = m }) (record { holds = b; next = n })
 same-tested p q i = record { holds = p i; next = q i }
 
 module _ (rs : Readings) (op : Operation) (w behind k : ℕ) where
-  pub constant-tested : op ≡ Operation.AgainstConstant → (k′ : ℕ) (r : Bool) → k′ ≡ k → r ≡ comparisonHolds rs (constantComparison w k′)
-      → record { holds = r; next = behind + 1 } ≡ tested (comparisonTest rs op w k) op behind
-  unfolding comparisonTest
-  constant-tested is k′ r ek er = rw is (same-tested (er ∙ ap (λ (x : ℕ). comparisonHolds rs (constantComparison w x)) ek) refl)
+  module _ (part : Part) where
+    pub constant-tested : op ≡ Operation.AgainstConstant → (k′ : ℕ) (r : Bool) → k′ ≡ k → r ≡ comparisonHolds part rs (constantComparison w k′)
+        → record { holds = r; next = behind + 1 } ≡ tested (comparisonTest part rs op w k) op behind
+    unfolding comparisonTest
+    constant-tested is k′ r ek er = rw is (same-tested (er ∙ ap (λ (x : ℕ). comparisonHolds part rs (constantComparison w x)) ek) refl)
 
-  pub reading-tested : op ≡ Operation.AgainstReading → (r : Bool) → r ≡ comparisonHolds rs (readingComparison w) → record { holds = r; next = behind } ≡ tested (comparisonTest rs op w k) op behind
-  unfolding comparisonTest
-  reading-tested is r er = rw is (same-tested er (sym (add-zero behind)))
+    pub reading-tested : op ≡ Operation.AgainstReading → (r : Bool) → r ≡ comparisonHolds part rs (readingComparison w) → record { holds = r; next = behind } ≡ tested (comparisonTest part rs op w k) op behind
+    unfolding comparisonTest
+    reading-tested is r er = rw is (same-tested er (sym (add-zero behind)))
 
-  pub rest-tested : Among (0 ∷ 1 ∷ 4 ∷ 5 ∷ 6 ∷ 7 ∷ []) op → record { holds = true; next = behind } ≡ tested (comparisonTest rs op w k) op behind
-  rest-tested h = same-tested (comparison-rest rs w k op h) (sym (add-zero behind) ∙ ap (λ (n : ℕ). behind + n) (constants-rest op h))
+    pub rest-tested : Among (0 ∷ 1 ∷ 4 ∷ 5 ∷ 6 ∷ 7 ∷ []) op → record { holds = true; next = behind } ≡ tested (comparisonTest part rs op w k) op behind
+    rest-tested h = same-tested (comparison-rest part rs w k op h) (sym (add-zero behind) ∙ ap (λ (n : ℕ). behind + n) (constants-rest op h))
 
   module _ (ev : Events) where
     pub present-tested : op ≡ Operation.Present → (f : ℕ) (r : Bool) → f ≡ firstOf w → r ≡ hasEvent (ev .present) (record { 0 = f }) → record { holds = r; next = behind } ≡ tested (ruleTest ev rs op w k) op behind
@@ -123,7 +135,7 @@ module _ (rs : Readings) (op : Operation) (w behind k : ℕ) where
     unfolding ruleTest
     absent-tested is f r ef er = rw is (same-tested (ap not (er ∙ ap (λ (n : ℕ). hasEvent (ev .occurred) (record { 0 = n })) ef)) (sym (add-zero behind)))
 
-    pub rule-tested : Among (2 ∷ 3 ∷ 4 ∷ 5 ∷ 6 ∷ 7 ∷ []) op → (t : Tested) → t ≡ tested (comparisonTest rs op w k) op behind → t ≡ tested (ruleTest ev rs op w k) op behind
+    pub rule-tested : Among (2 ∷ 3 ∷ 4 ∷ 5 ∷ 6 ∷ 7 ∷ []) op → (t : Tested) → t ≡ tested (comparisonTest Part.Rules rs op w k) op behind → t ≡ tested (ruleTest ev rs op w k) op behind
     rule-tested h t e = e ∙ ap (λ (b : Bool). tested b op behind) (rule-rest ev rs w k op h)
 
   module _ (s : ActionSet) where
@@ -131,7 +143,7 @@ module _ (rs : Readings) (op : Operation) (w behind k : ℕ) where
     unfolding constraintTest
     member-tested is f r ef er = rw is (same-tested (er ∙ ap (λ (n : ℕ). hasAction s (record { 0 = n })) ef) (sym (add-zero behind)))
 
-    pub constraint-tested : Among (0 ∷ 1 ∷ 2 ∷ 3 ∷ 4 ∷ 6 ∷ 7 ∷ []) op → (t : Tested) → t ≡ tested (comparisonTest rs op w k) op behind → t ≡ tested (constraintTest rs s op w k) op behind
+    pub constraint-tested : Among (0 ∷ 1 ∷ 2 ∷ 3 ∷ 4 ∷ 6 ∷ 7 ∷ []) op → (t : Tested) → t ≡ tested (comparisonTest Part.Constraints rs op w k) op behind → t ≡ tested (constraintTest rs s op w k) op behind
     constraint-tested h t e = e ∙ ap (λ (b : Bool). tested b op behind) (constraint-rest rs s w k op h)
 
 -- the set with what a word proposes
@@ -180,6 +192,10 @@ module _ (ev : Events) (rs : Readings) (bytes : List ℕ) (end : ℕ) where
       (en ∙ ap (λ (n : ℕ). n + cond (t .holds) 0 (skipOf w)) (ap (λ (x : Tested). x .next) et)))
       ∙ ap (λ (x : ActionSet). proposedFrom x next) (ap (λ (o : Operation). proposesAt o w s) (sym is) ∙ sym es)
 
+  pub rules-last : (at w : ℕ) (op : Operation) (s s′ : ActionSet) → at + 1 ≡ length (take end (wordsOf bytes)) → w ≡ wordAt bytes at → op ≡ operationOf w → s′ ≡ proposesAt op w s → proposedFrom s at ≡ s′
+  rules-last at w op s s′ e this is es =
+      ap (foldl proposing s) (last-turn (ruleTest ev rs) bytes end at w 0 op e this) ∙ ap (λ (o : Operation). proposesAt o w s) (sym is) ∙ sym es
+
   pub rules-end : (s : ActionSet) (at : ℕ) → length (take end (wordsOf bytes)) ≤ at → proposedFrom s at ≡ s
   rules-end s at h = ap (foldl proposing s) (ran-end (ruleTest ev rs) (take end (wordsOf bytes)) at h)
 
@@ -222,10 +238,21 @@ module _ (rs : Readings) (s : ActionSet) (bytes : List ℕ) (end : ℕ) where
         (en ∙ ap (λ (n : ℕ). n + cond holds 0 (skipOf w)) (sym (add-zero (at + 1)) ∙ ap (λ (x : Operation). at + 1 + constantCount x) (sym o)))
         ∙ ap (λ (x : Operation). isNever x || holdsFrom next) o
 
-  pub never-turn : (at w : ℕ) (op : Operation) → at < length (take end (wordsOf bytes)) → w ≡ wordAt bytes at → op ≡ operationOf w → isNever op ≡ true → holdsFrom at ≡ true
+  never-turn : (at w : ℕ) (op : Operation) → at < length (take end (wordsOf bytes)) → w ≡ wordAt bytes at → op ≡ operationOf w → isNever op ≡ true → holdsFrom at ≡ true
   never-turn at w op within this is n =
       run-word at w _ op within this is (constraintTest rs s op w (wordAt bytes (at + 1))) refl refl
       ∙ ap (λ (b : Bool). b || holdsFrom (at + 1 + constantCount op + cond (constraintTest rs s op w (wordAt bytes (at + 1))) 0 (skipOf w))) n
+
+  -- the word at which the code leaves its loops: the last one, or the end of a constraint
+  pub constraints-last : (at w : ℕ) (op : Operation) → at < length (take end (wordsOf bytes)) → w ≡ wordAt bytes at → op ≡ operationOf w
+      → (at + 1 ≡ length (take end (wordsOf bytes))) ⊎ (endsConstraint (wordAt bytes at) ≡ true) → holdsFrom at ≡ isNever op
+  unfolding any
+  constraints-last at w op within this is (inl e) =
+      ap (any endsConstraint) (last-turn (constraintTest rs s) bytes end at w 0 op e this)
+      ∙ or-false (isNever (operationOf w)) ∙ ap isNever (sym is)
+  constraints-last at w op within this is (inr n) =
+      let ends : isNever op ≡ true = ap isNever is ∙ ap endsConstraint this ∙ n in
+      never-turn at w op within this is ends ∙ sym ends
 
   pub constraints-end : (at : ℕ) → length (take end (wordsOf bytes)) ≤ at → holdsFrom at ≡ false
   unfolding any

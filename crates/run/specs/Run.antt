@@ -7,6 +7,7 @@ use Rattle.policy.specs.Comparison.{comparisonHolds}
 use Rattle.policy.specs.Epoch.{Readings}
 use Rattle.policy.specs.List.{any}
 use Rattle.policy.specs.Set.{hasEvent, noActions, hasAction, insertAction}
+use Rattle.policy.specs.declared.line.Part.{Part}
 use Rattle.policy.specs.declared.set.ActionSet.{ActionSet}
 use Rattle.policy.specs.declared.set.Events.{Events}
 use Rattle.operation.specs.Parts.{eventFrom, actionFrom, constantComparison, readingComparison}
@@ -40,23 +41,23 @@ module _ (test : Operation → ℕ → ℕ → Bool) where
 
 -- ---- tests
 
--- a comparison, which both parts have; any other word asks for none
-unfoldable pub comparisonTest : Readings → Operation → ℕ → ℕ → Bool
-comparisonTest rs Operation.AgainstConstant w k = comparisonHolds rs (constantComparison w k)
-comparisonTest rs Operation.AgainstReading w k = comparisonHolds rs (readingComparison w)
-comparisonTest rs Operation.Present w k = true
-comparisonTest rs Operation.Absent w k = true
-comparisonTest rs Operation.Proposes w k = true
-comparisonTest rs Operation.Member w k = true
-comparisonTest rs Operation.Never w k = true
-comparisonTest rs Operation.Unknown w k = true
+-- a comparison, in either part; any other word asks for none
+unfoldable pub comparisonTest : Part → Readings → Operation → ℕ → ℕ → Bool
+comparisonTest part rs Operation.AgainstConstant w k = comparisonHolds part rs (constantComparison w k)
+comparisonTest part rs Operation.AgainstReading w k = comparisonHolds part rs (readingComparison w)
+comparisonTest part rs Operation.Present w k = true
+comparisonTest part rs Operation.Absent w k = true
+comparisonTest part rs Operation.Proposes w k = true
+comparisonTest part rs Operation.Member w k = true
+comparisonTest part rs Operation.Never w k = true
+comparisonTest part rs Operation.Unknown w k = true
 
 -- in the rule part
 unfoldable pub ruleTest : Events → Readings → Operation → ℕ → ℕ → Bool
 ruleTest ev rs Operation.Present w k = hasEvent (ev .present) (eventFrom w)
 ruleTest ev rs Operation.Absent w k = not (hasEvent (ev .occurred) (eventFrom w))
-ruleTest ev rs Operation.AgainstConstant w k = comparisonTest rs Operation.AgainstConstant w k
-ruleTest ev rs Operation.AgainstReading w k = comparisonTest rs Operation.AgainstReading w k
+ruleTest ev rs Operation.AgainstConstant w k = comparisonTest Part.Rules rs Operation.AgainstConstant w k
+ruleTest ev rs Operation.AgainstReading w k = comparisonTest Part.Rules rs Operation.AgainstReading w k
 ruleTest ev rs Operation.Proposes w k = true
 ruleTest ev rs Operation.Member w k = true
 ruleTest ev rs Operation.Never w k = true
@@ -65,8 +66,8 @@ ruleTest ev rs Operation.Unknown w k = true
 -- in the constraint part
 unfoldable pub constraintTest : Readings → ActionSet → Operation → ℕ → ℕ → Bool
 constraintTest rs s Operation.Member w k = hasAction s (actionFrom w)
-constraintTest rs s Operation.AgainstConstant w k = comparisonTest rs Operation.AgainstConstant w k
-constraintTest rs s Operation.AgainstReading w k = comparisonTest rs Operation.AgainstReading w k
+constraintTest rs s Operation.AgainstConstant w k = comparisonTest Part.Constraints rs Operation.AgainstConstant w k
+constraintTest rs s Operation.AgainstReading w k = comparisonTest Part.Constraints rs Operation.AgainstReading w k
 constraintTest rs s Operation.Present w k = true
 constraintTest rs s Operation.Absent w k = true
 constraintTest rs s Operation.Proposes w k = true

@@ -1,12 +1,13 @@
 // The rule part of an image.
 ghost use mathlib.Core.Path.{_≡_};
-ghost use Prim.Native.Nat.{_/_, _≤_};
+ghost use Prim.Native.Nat.{_/_, _<_};
 ghost use lib.ListN.{length};
 ghost use Rattle.word.specs.Word.{wordsOf, wordAt, between};
 ghost use Rattle.run.specs.Run.{ruleTest, proposesAt, runRules};
 ghost use Rattle.run.specs.Steps.Test.{tested};
 use crate::test::Tested;
 use crate::test::compare;
+use crate::test::last_of;
 use crate::test::passed;
 use operation::Operation;
 use operation::first;
@@ -14,9 +15,10 @@ use policy::Action;
 use policy::ActionSet;
 use policy::Event;
 use policy::Events;
+use policy::Part;
 use policy::ReadingSet;
 use word::at_most;
-use word::word_at;
+use word::word_in;
 
 fn test_rule(
     image: &[u8],
@@ -27,7 +29,7 @@ fn test_rule(
     given: ReadingSet,
     values: &[i32],
 ) -> Tested
-    requires { ⌜ behind ≤ length (now image) / 4 ⌝ }
+    requires { ⌜ behind < length (now image) / 4 ⌝ }
     ensures { λ r. ⌜ r ≡ tested (ruleTest events (record { given = given; values = now (values .entry) }) operation word (wordAt (now (image .entry)) behind)) operation behind ⌝ }
 {
     match operation {
@@ -39,7 +41,7 @@ fn test_rule(
             holds: !events.occurred.has(Event(first(word) as u8)),
             next: behind,
         },
-        _ => compare(image, behind, operation, word, given, values),
+        _ => compare(Part::Rules, image, behind, operation, word, given, values),
     }
 }
 
@@ -65,14 +67,20 @@ pub fn run_rules(
     ensures { λ r. ⌜ r ≡ runRules events (record { given = given; values = now (values .entry) }) (between start end (wordsOf (now (image .entry)))) ⌝ }
 {
     let count = at_most(end, image.len() / 4);
+    let last = last_of(count);
     let mut proposed = ActionSet::EMPTY;
     let mut at = start;
-    while at < count {
-        let word = word_at(image, at);
+    while at < last {
+        let word = word_in(image, at);
         let operation = Operation::of(word);
         proposed = with_proposal(proposed, operation, word);
         let test = test_rule(image, at + 1, operation, word, events, given, values);
         at = passed(test, word);
+    }
+    // Of the last word counts only what it proposes.
+    if at < count {
+        let word = word_in(image, at);
+        proposed = with_proposal(proposed, Operation::of(word), word);
     }
     proposed
 }

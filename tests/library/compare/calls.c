@@ -150,6 +150,18 @@ static void count_extremes(struct decision decision, const uint8_t *line, size_t
     tally.extremes[FAR_READING] += far(line, length, "R15=");
 }
 
+/* Whether the decision would be another if missing readings were 0: by what the rules propose, and by what the never lines cancel
+   of that. */
+static void count_missing(const struct policy *policy, struct decision decision, const uint8_t *line, size_t length)
+{
+    action_set candidates = decision.accepted | decision.cancelled;
+    struct epoch zeros;
+    read_epoch(line, length, &zeros);
+    zeros.given = (UINT64_C(1) << READINGS) - 1;
+    tally.missing[0] += proposed(policy, &zeros) != candidates;
+    tally.missing[1] += accepted(policy, &zeros, candidates) != decision.accepted;
+}
+
 struct decision compare_decide(const uint8_t *image, size_t length, const uint8_t *line, size_t line_length,
     const struct policy *policy)
 {
@@ -182,6 +194,8 @@ struct decision compare_decide(const uint8_t *image, size_t length, const uint8_
         fail_on(name, "the image or the line was changed", line, line_length);
     if (wanted.verdict.fault == FAULT_NONE)
         count_extremes(wanted, line, line_length);
+    if (wanted.verdict.fault == FAULT_NONE && policy != NULL)
+        count_missing(policy, wanted, line, line_length);
     tally.decide[wanted.verdict.fault]++;
     tally.decide_nulls[nulls(lent, lent_line)]++;
     tally.accepting += wanted.accepted != 0;

@@ -54,6 +54,7 @@ struct tally {
     unsigned long comparisons, compile[FAULTS], check[FAULTS], text[FAULTS], decide[FAULTS];
     unsigned long check_locations[4], text_locations[4], flaws[2][FLAWS], accepting, cancelling, extremes[EXTREMES];
     unsigned long compile_nulls[4], check_nulls[4], text_nulls[4], decide_nulls[4], lines_in_images;
+    unsigned long missing[2]; /* proposals, and cancellations, that would be others if missing readings were 0 */
     unsigned long written, empty, longest; /* texts that compile to their image again; those of 0 and of 27,968 bytes */
 };
 

@@ -114,7 +114,7 @@ void compare_limit_epochs(struct buffer *input)
 /* Lines that stand in the image itself, as `E1  ` does in a constant: both areas are only read. */
 void compare_lines_in_image(void)
 {
-    static const char text[] = "E1 causes A3 if R0 < 1160847392\nE1 causes A4\n!E1 causes A5\nnever A3 & A4";
+    static const char text[] = "E1 causes A3\nE1 causes A4\n!E1 causes A5\nnever A3 & A4 if R0 < 1160847392";
     uint8_t image[IMAGE_BYTES];
     const uint8_t *lent;
     size_t size, at, length;
@@ -197,7 +197,8 @@ static void compare_all_actions(struct subject *subject, struct buffer *text, st
         }
 }
 
-/* Each of 16 readings has a value of its own. All of them are given, and then all but one. */
+/* Each of 16 readings has a value of its own. All of them are given, and then all but one: no rule looks at the missing one with
+   success, and every never line holds that does. */
 static void compare_all_readings(struct subject *subject, struct buffer *text, struct buffer *line)
 {
     static const long values[READINGS] = {1, -1, 2147483647, -2147483648, 65536, -65536, 255, -256, 1000000007, -1000000007,
@@ -208,17 +209,22 @@ static void compare_all_readings(struct subject *subject, struct buffer *text, s
     for (i = 0; i < READINGS; i++) {
         add_format(text, "!E0 causes A%u if R%u = %ld\n", i, i, values[i]);
         add_format(text, "!E0 causes A%u if R%u != %ld\n", READINGS + i, i, values[i]);
+        add_format(text, "!E0 causes A%u\nnever A%u if R%u = %ld\n", 2 * READINGS + i, 2 * READINGS + i, i, values[i]);
+        add_format(text, "!E0 causes A%u\nnever A%u if R%u != %ld\n", 3 * READINGS + i, 3 * READINGS + i, i, values[i]);
     }
     begin(subject, text);
     for (out = 0; out <= READINGS; out++) {
-        uint64_t missing = out == READINGS ? 0 : UINT64_C(1) << out;
+        uint64_t given = actions(0, READINGS), cancelled = given << 2 * READINGS;
+        if (out < READINGS)
+            given &= ~(UINT64_C(1) << out);
+        cancelled |= (actions(0, READINGS) & ~given) << 3 * READINGS;
         line->length = 0;
         for (i = 0; i < READINGS; i++) {
             unsigned reading = out % 2 == 0 ? i : READINGS - 1 - i;
             if (reading != out)
                 add_format(line, "R%u=%ld ", reading, values[reading]);
         }
-        expect(subject, line, (actions(0, READINGS) & ~missing) | missing << READINGS, 0);
+        expect(subject, line, given | given << 3 * READINGS, cancelled);
     }
 }
 

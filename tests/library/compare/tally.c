@@ -69,7 +69,7 @@ bool report(void)
         [FAR_EVENT] = "E63 at the end of 1,024 bytes",
         [FAR_READING] = "R15 there"};
     bool all = tally.accepting > 0 && tally.cancelling > 0 && tally.lines_in_images > 0 && tally.empty > 0
-        && tally.longest > 0;
+        && tally.longest > 0 && tally.missing[0] > 0 && tally.missing[1] > 0;
     size_t i, k;
     printf("library: %lu comparisons agree", tally.comparisons);
     for (i = 0; i < COUNT(functions); i++) {
@@ -89,7 +89,7 @@ bool report(void)
         printf("%s %s %lu", i == 0 ? "" : ",", extremes[i], tally.extremes[i]);
         all = all && tally.extremes[i] > 0;
     }
-    printf("\n");
+    printf("; missing readings that are not 0 to the rules %lu, to the never lines %lu\n", tally.missing[0], tally.missing[1]);
     for (i = 0; i < 4; i++)
         all = all && tally.check_locations[i] > 0 && tally.text_locations[i] > 0 && tally.compile_nulls[i] > 0
             && tally.text_nulls[i] > 0 && tally.decide_nulls[i] > 0 && (tally.check_nulls[i] > 0 || i > 1);

@@ -18,7 +18,7 @@ use Rattle.operation.specs.Fields.{opcodeOf, operationOf, firstOf, secondOf, re
 use Rattle.operation.specs.declared.operation.Operation.{Operation}
 use Rattle.decode.specs.declared.LineAt.{LineAt}
 use Rattle.decode.specs.declared.LinePart.{LinePart}
-use Rattle.decode.specs.declared.Part.{Part}
+use Rattle.policy.specs.declared.line.Part.{Part}
 
 -- whether an operation is that of a head in its part
 unfoldable pub isHead : Part → Operation → Bool

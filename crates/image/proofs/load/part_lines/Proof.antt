@@ -49,13 +49,13 @@ use Rattle.word.specs.Word.{between, wordsOf}
 use Rattle.decode.specs.Decode.{lineAt, lineLength}
 use Rattle.image.specs.Lines.{linesFrom}
 use Rattle.image.specs.Steps.Part.{partAnswer}
-use Rattle.decode.specs.declared.Part.{Part}
+use Rattle.policy.specs.declared.line.Part.{Part}
 use Rattle.image.specs.declared.load.PartCheck.{PartCheck}
 use Rattle.image.specs.declared.walker.Walker.{Walker}
 use Rattle.image.proofs.PartLaws.{Counted, counted-none, counted-more, counted-full, counted-fault, counted-all}
 use Rattle.image.proofs.WalkerLaws.{Row, Type′, Laws′, slice, Own, SliceOwn, placed, made}
-use Rattle.decode.proofs.Part as P
-use Rattle.decode.proofs.Part.Laws as P′
+use Rattle.policy.proofs.line.Part as P
+use Rattle.policy.proofs.line.Part.Laws as P′
 use Rattle.image.proofs.load.PartCheck as K
 use Rattle.image.proofs.load.PartCheck.Laws as K′
 use Rattle.image.proofs.walker.Walker as T

@@ -1,58 +1,63 @@
-use Prim.Native.Nat.{ℕ, _+_, _-_, _/_, _≤_, _<_}
+use Prim.Native.Nat.{ℕ, _+_, _-_, _/_, _≤_}
 use mathlib.Core.Bool.{true, false}
+use mathlib.Core.Logic.{_⊎_, inl, inr, ⊎-elim}
 use mathlib.Core.Path.{_≡_, refl, sym, ap, _∙_}
 use native.Mathlib.Nat.{add-zero}
 use borrow.Author.Tests.{not-true, not-false}
-use lib.ListN.{length, take, drop}
+use lib.ListN.{length, take}
 use denote.Ref.{now}
 use Rattle.policy.specs.Epoch.{Readings}
 use Rattle.word.specs.Word.{wordsOf, wordAt, between}
-use Rattle.run.specs.Run.{constraintTest, runConstraints}
-use Rattle.run.proofs.RunLaws.{before-length, tested-next, tested-past, holdsFrom, constraints-turn, member-turn, never-turn, constraints-end}
+use Rattle.run.specs.Run.{constraintTest, isNever, endsConstraint, runConstraints}
+use Rattle.run.proofs.RunLaws.{before-length, tested-next, tested-past, holdsFrom, constraints-turn, member-turn, constraints-last, constraints-end}
 use borrow.Author.Needs.{needs}
 use native.Mathlib.Omega.{arith}
 use Rattle.run.proofs.constraints.run_constraints.Statement.{statement}
 use Rattle.run.proofs.constraints.run_constraints.Tie as tie
 
 abbrev Inv-loop : tie.InvT-loop
-Inv-loop image start end set given values count violated at₀ at =
-    (violated ≡ false) × (at₀ ≤ at) × (count ≡ length (take end (wordsOf image))) × (count ≤ length image / 4)
+Inv-loop image start end set given values count last at₀ at =
+    (at₀ ≤ at) × (count ≡ length (take end (wordsOf image))) × (count ≤ length image / 4) × (last ≡ count - 1)
     × (holdsFrom (record { given = given; values = values }) set image end at ≡ holdsFrom (record { given = given; values = values }) set image end start)
 
 abbrev μ-loop : tie.MeasureT-loop
-μ-loop image start end set given values count violated at₀ at = count - at
+μ-loop image start end set given values count last at₀ at = last - at
 
 abbrev Inv-loop2 : tie.InvT-loop2
-Inv-loop2 image start end set given values count violated₀ at₀ violated at =
-    (violated ≡ false) × (at₀ ≤ at) × (count ≡ length (take end (wordsOf image))) × (count ≤ length image / 4)
+Inv-loop2 image start end set given values count last at₀ at =
+    (at₀ ≤ at) × (count ≡ length (take end (wordsOf image))) × (count ≤ length image / 4) × (last ≡ count - 1)
     × (holdsFrom (record { given = given; values = values }) set image end at ≡ holdsFrom (record { given = given; values = values }) set image end start)
 
 abbrev μ-loop2 : tie.MeasureT-loop2
-μ-loop2 image start end set given values count violated₀ at₀ violated at = count - at
+μ-loop2 image start end set given values count last at₀ at = last - at
 
 abbrev Inv-constraints : tie.InvT-constraints
-Inv-constraints image start end set given values count violated₀ at₀ violated at =
-    (violated ≡ false) × (at₀ ≤ at) × (count ≡ length (take end (wordsOf image))) × (count ≤ length image / 4)
+Inv-constraints image start end set given values count last at₀ at =
+    (at₀ ≤ at) × (count ≡ length (take end (wordsOf image))) × (count ≤ length image / 4) × (last ≡ count - 1)
     × (holdsFrom (record { given = given; values = values }) set image end at ≡ holdsFrom (record { given = given; values = values }) set image end start)
 
 abbrev μ-constraints : tie.MeasureT-constraints
-μ-constraints image start end set given values count violated₀ at₀ violated at = count - at
+μ-constraints image start end set given values count last at₀ at = last - at
 
 at-most-requires :
     tie.Need-at-most-requires Inv-loop μ-loop Inv-loop2 μ-loop2 Inv-constraints μ-constraints
 at-most-requires c κs = search needs
 
+last-of-requires :
+    tie.Need-last-of-requires Inv-loop μ-loop Inv-loop2 μ-loop2 Inv-constraints μ-constraints
+last-of-requires c κs = search needs
+
 constraints-holds :
     tie.Need-constraints-holds Inv-loop μ-loop Inv-loop2 μ-loop2 Inv-constraints μ-constraints
 constraints-holds c =
-    (refl, omega arith, before-length (now (c .before .before .args .image)) (c .before .before .args .end) _ (c .at-most .ensures), omega (arith, c .at-most .ensures), refl)
+    (omega arith, before-length (now (c .before .before .before .args .image)) (c .before .before .before .args .end) _ (c .before .at-most .ensures), omega (arith, c .before .at-most .ensures), c .last-of .ensures, refl)
 
 loop-holds : tie.Need-loop-holds Inv-loop μ-loop Inv-loop2 μ-loop2 Inv-constraints μ-constraints
 loop-holds c = search needs
 
-word-at-requires :
-    tie.Need-word-at-requires Inv-loop μ-loop Inv-loop2 μ-loop2 Inv-constraints μ-constraints
-word-at-requires c κs = search needs
+word-in-requires :
+    tie.Need-word-in-requires Inv-loop μ-loop Inv-loop2 μ-loop2 Inv-constraints μ-constraints
+word-in-requires c κs = search needs
 
 of-requires : tie.Need-of-requires Inv-loop μ-loop Inv-loop2 μ-loop2 Inv-constraints μ-constraints
 of-requires c κs = search needs
@@ -92,13 +97,13 @@ constraints-less c = search needs
 constraints-again :
     tie.Need-constraints-again Inv-loop μ-loop Inv-loop2 μ-loop2 Inv-constraints μ-constraints
 constraints-again c =
-    let a = c .before .before .before .before .before .before .before .before .before .before .before .before .before .before .args in
+    let a = c .before .before .before .before .before .before .before .before .before .before .before .before .before .before .before .args in
     let i = c .before .before .before .before .before .before .before .before .before .loop .inv in (
-      i .0,
-      omega (arith, i .1, c .before .before .before .before .before .before .before .before .before .before .before .constraints .inv .1),
+      omega (arith, i .0, c .before .before .before .before .before .before .before .before .before .before .before .constraints .inv .0),
+      i .1,
       i .2,
       i .3,
-      sym (member-turn (record { given = a .given; values = now (a .values) }) (a .set) (now (a .image)) (a .end) (c .before .before .before .before .before .before .before .before .before .loop .at) _ _ _ (omega (arith, c .before .before .before .before .before .before .before .before .loop-test .taken, i .2)) (c .before .before .before .before .before .before .before .word-at .ensures) (c .before .before .before .before .before .before .of .ensures) (sym (c .before .before .before .before .before .is-member .ensures) ∙ not-false _ (c .before .before .before .before .if1 .left)) false _ (c .before .before .before .first .ensures) (sym (not-true _ (c .before .if2 .taken)) ∙ c .before .before .has .ensures) (ap (λ (n : ℕ). c .before .before .before .before .before .before .before .before .before .loop .at + 1 + n) (c .skip .ensures))) ∙ i .4,
+      sym (member-turn (record { given = a .given; values = now (a .values) }) (a .set) (now (a .image)) (a .end) (c .before .before .before .before .before .before .before .before .before .loop .at) _ _ _ (omega (arith, c .before .before .before .before .before .before .before .before .loop-test .taken, i .1, i .3)) (c .before .before .before .before .before .before .before .word-in .ensures) (c .before .before .before .before .before .before .of .ensures) (sym (c .before .before .before .before .before .is-member .ensures) ∙ not-false _ (c .before .before .before .before .if1 .left)) false _ (c .before .before .before .first .ensures) (sym (not-true _ (c .before .if2 .taken)) ∙ c .before .before .has .ensures) (ap (λ (n : ℕ). c .before .before .before .before .before .before .before .before .before .loop .at + 1 + n) (c .skip .ensures))) ∙ i .4,
     )
 
 loop-less : tie.Need-loop-less Inv-loop μ-loop Inv-loop2 μ-loop2 Inv-constraints μ-constraints
@@ -106,13 +111,13 @@ loop-less c = search needs
 
 loop-again : tie.Need-loop-again Inv-loop μ-loop Inv-loop2 μ-loop2 Inv-constraints μ-constraints
 loop-again c =
-    let a = c .before .before .before .before .before .before .before .before .before .before .before .before .before .args in
+    let a = c .before .before .before .before .before .before .before .before .before .before .before .before .before .before .args in
     let i = c .before .before .before .before .before .before .before .before .loop .inv in (
-      i .0,
-      omega (arith, i .1),
+      omega (arith, i .0),
+      i .1,
       i .2,
       i .3,
-      sym (member-turn (record { given = a .given; values = now (a .values) }) (a .set) (now (a .image)) (a .end) (c .before .before .before .before .before .before .before .before .loop .at) _ _ _ (omega (arith, c .before .before .before .before .before .before .before .loop-test .taken, i .2)) (c .before .before .before .before .before .before .word-at .ensures) (c .before .before .before .before .before .of .ensures) (sym (c .before .before .before .before .is-member .ensures) ∙ not-false _ (c .before .before .before .if1 .left)) true _ (c .before .before .first .ensures) (sym (not-false _ (c .if2 .left)) ∙ c .before .has .ensures) (sym (add-zero _))) ∙ i .4,
+      sym (member-turn (record { given = a .given; values = now (a .values) }) (a .set) (now (a .image)) (a .end) (c .before .before .before .before .before .before .before .before .loop .at) _ _ _ (omega (arith, c .before .before .before .before .before .before .before .loop-test .taken, i .1, i .3)) (c .before .before .before .before .before .before .word-in .ensures) (c .before .before .before .before .before .of .ensures) (sym (c .before .before .before .before .is-member .ensures) ∙ not-false _ (c .before .before .before .if1 .left)) true _ (c .before .before .first .ensures) (sym (not-false _ (c .if2 .left)) ∙ c .before .has .ensures) (sym (add-zero _))) ∙ i .4,
     )
 
 loop2-holds : tie.Need-loop2-holds Inv-loop μ-loop Inv-loop2 μ-loop2 Inv-constraints μ-constraints
@@ -126,9 +131,9 @@ constraints-again-2 :
     tie.Need-constraints-again-2 Inv-loop μ-loop Inv-loop2 μ-loop2 Inv-constraints μ-constraints
 constraints-again-2 c = search needs
 
-word-at-requires-2 :
-    tie.Need-word-at-requires-2 Inv-loop μ-loop Inv-loop2 μ-loop2 Inv-constraints μ-constraints
-word-at-requires-2 c κs = search needs
+word-in-requires-2 :
+    tie.Need-word-in-requires-2 Inv-loop μ-loop Inv-loop2 μ-loop2 Inv-constraints μ-constraints
+word-in-requires-2 c κs = search needs
 
 of-requires-2 :
     tie.Need-of-requires-2 Inv-loop μ-loop Inv-loop2 μ-loop2 Inv-constraints μ-constraints
@@ -155,56 +160,81 @@ test-constraint-requires c κs = search needs
 passed-requires :
     tie.Need-passed-requires Inv-loop μ-loop Inv-loop2 μ-loop2 Inv-constraints μ-constraints
 passed-requires c κs =
-    let a = c .before .before .before .before .before .before .before .before .before .before .before .before .before .args in
-    omega (arith, tested-next (c .test-constraint .result) (constraintTest (record { given = a .given; values = now (a .values) }) (a .set) (c .before .before .before .of2 .result) (c .before .before .before .before .word-at2 .result) (wordAt (now (a .image)) (c .before .before .before .before .before .before .loop2 .at + 1))) (c .before .before .before .of2 .result) (c .before .before .before .before .before .before .loop2 .at + 1) (c .test-constraint .ensures), c .before .before .before .before .before .loop2-test .taken, c .before .before .before .before .before .before .loop2 .inv .3)
+    let a = c .before .before .before .before .before .before .before .before .before .before .before .before .before .before .args in
+    omega (arith, tested-next (c .test-constraint .result) (constraintTest (record { given = a .given; values = now (a .values) }) (a .set) (c .before .before .before .of2 .result) (c .before .before .before .before .word-in2 .result) (wordAt (now (a .image)) (c .before .before .before .before .before .before .loop2 .at + 1))) (c .before .before .before .of2 .result) (c .before .before .before .before .before .before .loop2 .at + 1) (c .test-constraint .ensures), c .before .before .before .before .before .loop2-test .taken, c .before .before .before .before .before .before .loop2 .inv .2, c .before .before .before .before .before .before .loop2 .inv .3)
 
 constraints-less-3 :
     tie.Need-constraints-less-3 Inv-loop μ-loop Inv-loop2 μ-loop2 Inv-constraints μ-constraints
 constraints-less-3 c =
-    let a = c .before .before .before .before .before .before .before .before .before .before .before .before .before .before .before .before .args in
-    omega (arith, tested-past (c .before .before .before .test-constraint .result) (constraintTest (record { given = a .given; values = now (a .values) }) (a .set) (c .before .before .before .before .before .before .of2 .result) (c .before .before .before .before .before .before .before .word-at2 .result) (wordAt (now (a .image)) (c .before .before .before .before .before .before .before .before .before .loop2 .at + 1))) (c .before .before .before .before .before .before .of2 .result) (c .before .before .before .before .before .before .before .before .before .loop2 .at + 1) (c .before .before .before .test-constraint .ensures), c .before .before .passed .ensures, c .before .before .before .before .before .before .before .before .loop2-test .taken, c .before .before .before .before .before .before .before .before .before .loop2 .inv .1, c .before .before .before .before .before .before .before .before .before .before .before .loop .inv .1, c .before .before .before .before .before .before .before .before .before .before .before .before .before .constraints .inv .1)
+    let a = c .before .before .before .before .before .before .before .before .before .before .before .before .before .before .before .before .before .args in
+    omega (arith, tested-past (c .before .before .before .test-constraint .result) (constraintTest (record { given = a .given; values = now (a .values) }) (a .set) (c .before .before .before .before .before .before .of2 .result) (c .before .before .before .before .before .before .before .word-in2 .result) (wordAt (now (a .image)) (c .before .before .before .before .before .before .before .before .before .loop2 .at + 1))) (c .before .before .before .before .before .before .of2 .result) (c .before .before .before .before .before .before .before .before .before .loop2 .at + 1) (c .before .before .before .test-constraint .ensures), c .before .before .passed .ensures, c .before .before .before .before .before .before .before .before .loop2-test .taken, c .before .before .before .before .before .before .before .before .before .loop2 .inv .0, c .before .before .before .before .before .before .before .before .before .before .before .loop .inv .0, c .before .before .before .before .before .before .before .before .before .before .before .before .before .constraints .inv .0)
 
 constraints-again-3 :
     tie.Need-constraints-again-3 Inv-loop μ-loop Inv-loop2 μ-loop2 Inv-constraints μ-constraints
 constraints-again-3 c =
-    let a = c .before .before .before .before .before .before .before .before .before .before .before .before .before .before .before .before .args in
+    let a = c .before .before .before .before .before .before .before .before .before .before .before .before .before .before .before .before .before .args in
     let i = c .before .before .before .before .before .before .before .before .before .loop2 .inv in (
-      i .0,
-      omega (arith, i .1, c .before .before .before .before .before .before .before .before .before .before .before .loop .inv .1, c .before .before .before .before .before .before .before .before .before .before .before .before .before .constraints .inv .1, tested-past (c .before .before .before .test-constraint .result) (constraintTest (record { given = a .given; values = now (a .values) }) (a .set) (c .before .before .before .before .before .before .of2 .result) (c .before .before .before .before .before .before .before .word-at2 .result) (wordAt (now (a .image)) (c .before .before .before .before .before .before .before .before .before .loop2 .at + 1))) (c .before .before .before .before .before .before .of2 .result) (c .before .before .before .before .before .before .before .before .before .loop2 .at + 1) (c .before .before .before .test-constraint .ensures), c .before .before .passed .ensures),
+      omega (arith, i .0, c .before .before .before .before .before .before .before .before .before .before .before .loop .inv .0, c .before .before .before .before .before .before .before .before .before .before .before .before .before .constraints .inv .0, tested-past (c .before .before .before .test-constraint .result) (constraintTest (record { given = a .given; values = now (a .values) }) (a .set) (c .before .before .before .before .before .before .of2 .result) (c .before .before .before .before .before .before .before .word-in2 .result) (wordAt (now (a .image)) (c .before .before .before .before .before .before .before .before .before .loop2 .at + 1))) (c .before .before .before .before .before .before .of2 .result) (c .before .before .before .before .before .before .before .before .before .loop2 .at + 1) (c .before .before .before .test-constraint .ensures), c .before .before .passed .ensures),
+      i .1,
       i .2,
       i .3,
-      sym (constraints-turn (record { given = a .given; values = now (a .values) }) (a .set) (now (a .image)) (a .end) (c .before .before .before .before .before .before .before .before .before .loop2 .at) _ _ _ (omega (arith, c .before .before .before .before .before .before .before .before .loop2-test .taken, i .2)) (c .before .before .before .before .before .before .before .word-at2 .ensures) (c .before .before .before .before .before .before .of2 .ensures) (sym (c .before .before .before .before .before .is-never .ensures) ∙ c .before .before .before .before .if3 .left) _ (c .before .before .before .test-constraint .ensures) (c .before .before .passed .ensures)) ∙ i .4,
+      sym (constraints-turn (record { given = a .given; values = now (a .values) }) (a .set) (now (a .image)) (a .end) (c .before .before .before .before .before .before .before .before .before .loop2 .at) _ _ _ (omega (arith, c .before .before .before .before .before .before .before .before .loop2-test .taken, i .1, i .3)) (c .before .before .before .before .before .before .before .word-in2 .ensures) (c .before .before .before .before .before .before .of2 .ensures) (sym (c .before .before .before .before .before .is-never .ensures) ∙ c .before .before .before .before .if3 .left) _ (c .before .before .before .test-constraint .ensures) (c .before .before .passed .ensures)) ∙ i .4,
     )
 
 loop2-less : tie.Need-loop2-less Inv-loop μ-loop Inv-loop2 μ-loop2 Inv-constraints μ-constraints
 loop2-less c =
-    let a = c .before .before .before .before .before .before .before .before .before .before .before .before .before .before .before .before .args in
-    omega (arith, tested-past (c .before .before .before .test-constraint .result) (constraintTest (record { given = a .given; values = now (a .values) }) (a .set) (c .before .before .before .before .before .before .of2 .result) (c .before .before .before .before .before .before .before .word-at2 .result) (wordAt (now (a .image)) (c .before .before .before .before .before .before .before .before .before .loop2 .at + 1))) (c .before .before .before .before .before .before .of2 .result) (c .before .before .before .before .before .before .before .before .before .loop2 .at + 1) (c .before .before .before .test-constraint .ensures), c .before .before .passed .ensures, c .before .before .before .before .before .before .before .before .loop2-test .taken, c .before .before .before .before .before .before .before .before .before .loop2 .inv .1)
+    let a = c .before .before .before .before .before .before .before .before .before .before .before .before .before .before .before .before .before .args in
+    omega (arith, tested-past (c .before .before .before .test-constraint .result) (constraintTest (record { given = a .given; values = now (a .values) }) (a .set) (c .before .before .before .before .before .before .of2 .result) (c .before .before .before .before .before .before .before .word-in2 .result) (wordAt (now (a .image)) (c .before .before .before .before .before .before .before .before .before .loop2 .at + 1))) (c .before .before .before .before .before .before .of2 .result) (c .before .before .before .before .before .before .before .before .before .loop2 .at + 1) (c .before .before .before .test-constraint .ensures), c .before .before .passed .ensures, c .before .before .before .before .before .before .before .before .loop2-test .taken, c .before .before .before .before .before .before .before .before .before .loop2 .inv .0)
 
 loop2-again : tie.Need-loop2-again Inv-loop μ-loop Inv-loop2 μ-loop2 Inv-constraints μ-constraints
 loop2-again c =
-    let a = c .before .before .before .before .before .before .before .before .before .before .before .before .before .before .before .before .args in
+    let a = c .before .before .before .before .before .before .before .before .before .before .before .before .before .before .before .before .before .args in
     let i = c .before .before .before .before .before .before .before .before .before .loop2 .inv in (
-      i .0,
-      omega (arith, i .1, tested-past (c .before .before .before .test-constraint .result) (constraintTest (record { given = a .given; values = now (a .values) }) (a .set) (c .before .before .before .before .before .before .of2 .result) (c .before .before .before .before .before .before .before .word-at2 .result) (wordAt (now (a .image)) (c .before .before .before .before .before .before .before .before .before .loop2 .at + 1))) (c .before .before .before .before .before .before .of2 .result) (c .before .before .before .before .before .before .before .before .before .loop2 .at + 1) (c .before .before .before .test-constraint .ensures), c .before .before .passed .ensures),
+      omega (arith, i .0, tested-past (c .before .before .before .test-constraint .result) (constraintTest (record { given = a .given; values = now (a .values) }) (a .set) (c .before .before .before .before .before .before .of2 .result) (c .before .before .before .before .before .before .before .word-in2 .result) (wordAt (now (a .image)) (c .before .before .before .before .before .before .before .before .before .loop2 .at + 1))) (c .before .before .before .before .before .before .of2 .result) (c .before .before .before .before .before .before .before .before .before .loop2 .at + 1) (c .before .before .before .test-constraint .ensures), c .before .before .passed .ensures),
+      i .1,
       i .2,
       i .3,
-      sym (constraints-turn (record { given = a .given; values = now (a .values) }) (a .set) (now (a .image)) (a .end) (c .before .before .before .before .before .before .before .before .before .loop2 .at) _ _ _ (omega (arith, c .before .before .before .before .before .before .before .before .loop2-test .taken, i .2)) (c .before .before .before .before .before .before .before .word-at2 .ensures) (c .before .before .before .before .before .before .of2 .ensures) (sym (c .before .before .before .before .before .is-never .ensures) ∙ c .before .before .before .before .if3 .left) _ (c .before .before .before .test-constraint .ensures) (c .before .before .passed .ensures)) ∙ i .4,
+      sym (constraints-turn (record { given = a .given; values = now (a .values) }) (a .set) (now (a .image)) (a .end) (c .before .before .before .before .before .before .before .before .before .loop2 .at) _ _ _ (omega (arith, c .before .before .before .before .before .before .before .before .loop2-test .taken, i .1, i .3)) (c .before .before .before .before .before .before .before .word-in2 .ensures) (c .before .before .before .before .before .before .of2 .ensures) (sym (c .before .before .before .before .before .is-never .ensures) ∙ c .before .before .before .before .if3 .left) _ (c .before .before .before .test-constraint .ensures) (c .before .before .passed .ensures)) ∙ i .4,
     )
+
+word-in-requires-3 :
+    tie.Need-word-in-requires-3 Inv-loop μ-loop Inv-loop2 μ-loop2 Inv-constraints μ-constraints
+word-in-requires-3 c κs = search needs
+
+of-requires-3 : tie.Need-of-requires-3 Inv-loop μ-loop Inv-loop2 μ-loop2 Inv-constraints μ-constraints
+of-requires-3 c κs = search needs
+
+is-never-requires-2 :
+    tie.Need-is-never-requires-2 Inv-loop μ-loop Inv-loop2 μ-loop2 Inv-constraints μ-constraints
+is-never-requires-2 c κs = search needs
 
 returns : tie.Need-returns Inv-loop μ-loop Inv-loop2 μ-loop2 Inv-constraints μ-constraints
 unfolding between runConstraints
 returns c =
-    let a = c .before .before .before .before .args in
-    let i = c .before .constraints .inv in
-    i .0 ∙ sym (constraints-end (record { given = a .given; values = now (a .values) }) (a .set) (now (a .image)) (a .end) (c .before .constraints .at) (omega (arith, c .constraints-test .left, i .2))) ∙ i .4
+    let a = c .before .before .before .before .before .before .before .before .before .args in
+    let rs : Readings = record { given = a .given; values = now (a .values) } in
+    let bytes = now (a .image) in
+    let here = c .before .before .before .before .constraints-test in
+    let i = c .before .before .before .before .before .constraints .inv in
+    let started : holdsFrom rs (a .set) bytes (a .end) (here .at) ≡ holdsFrom rs (a .set) bytes (a .end) (a .start) =
+    ⊎-elim (λ w. ap (holdsFrom rs (a .set) bytes (a .end)) (w .1) ∙ i .4) (λ w. ap (holdsFrom rs (a .set) bytes (a .end)) (w .9) ∙ w .3 .inv .4) (here .came) in
+    let way : (here .at + 1 ≡ length (take (a .end) (wordsOf bytes))) ⊎ (endsConstraint (wordAt bytes (here .at)) ≡ true) =
+    ⊎-elim (λ w. inl (omega (arith, w .0 .left, w .1, c .before .before .before .if5 .taken, i .1, i .3)))
+    (λ w. inr (ap (λ (n : ℕ). endsConstraint (wordAt bytes n)) (w .9) ∙ sym (ap endsConstraint (w .5 .ensures)) ∙ sym (ap isNever (w .6 .ensures)) ∙ sym (w .7 .ensures) ∙ w .8 .taken)) (here .came) in
+    c .is-never2 .ensures
+    ∙ sym (constraints-last rs (a .set) bytes (a .end) (here .at) _ _ (omega (arith, c .before .before .before .if5 .taken, i .1)) (c .before .before .word-in3 .ensures) (c .before .of3 .ensures) way)
+    ∙ started
 
 returns-2 : tie.Need-returns-2 Inv-loop μ-loop Inv-loop2 μ-loop2 Inv-constraints μ-constraints
 unfolding between runConstraints
 returns-2 c =
-    let a = c .before .before .before .before .before .before .before .before .before .before .before .before .args in
-    let i = c .before .before .before .before .before .loop2 .inv in
-    sym (never-turn (record { given = a .given; values = now (a .values) }) (a .set) (now (a .image)) (a .end) (c .before .before .before .before .before .loop2 .at) _ _ (omega (arith, c .before .before .before .before .loop2-test .taken, i .2)) (c .before .before .before .word-at2 .ensures) (c .before .before .of2 .ensures) (sym (c .before .is-never .ensures) ∙ c .if3 .taken)) ∙ i .4
+    let a = c .before .before .before .before .before .before .args in
+    let rs : Readings = record { given = a .given; values = now (a .values) } in
+    let i = c .before .before .constraints .inv in
+    ⊎-elim
+    (λ w. sym (constraints-end rs (a .set) (now (a .image)) (a .end) (c .before .before .constraints .at) (omega (arith, w .1, c .if5 .left, i .1))) ∙ i .4)
+    (λ w. absurd (omega (arith, w .4 .taken, w .9, c .if5 .left, i .3)))
+    (c .before .constraints-test .came)
 
 pub run-constraints-spec : {M : Type 1} → statement M
 run-constraints-spec =
@@ -217,9 +247,10 @@ run-constraints-spec =
     Inv-constraints
     μ-constraints
     at-most-requires
+    last-of-requires
     constraints-holds
     loop-holds
-    word-at-requires
+    word-in-requires
     of-requires
     is-member-requires
     add-at
@@ -236,7 +267,7 @@ run-constraints-spec =
     loop2-holds
     constraints-less-2
     constraints-again-2
-    word-at-requires-2
+    word-in-requires-2
     of-requires-2
     is-never-requires
     add-test-constraint
@@ -246,5 +277,8 @@ run-constraints-spec =
     constraints-again-3
     loop2-less
     loop2-again
+    word-in-requires-3
+    of-requires-3
+    is-never-requires-2
     returns
     returns-2)

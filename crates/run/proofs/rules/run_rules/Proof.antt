@@ -1,33 +1,35 @@
-use Prim.Native.Nat.{ℕ, _+_, _-_, _/_, _≤_, _<_}
+use Prim.Native.Nat.{_+_, _-_, _/_, _≤_}
 use mathlib.Core.Path.{_≡_, refl, sym, _∙_}
-use lib.ListN.{length, take, drop}
+use lib.ListN.{length, take}
 use denote.Ref.{now}
-use Rattle.policy.specs.Epoch.{Readings}
 use Rattle.policy.specs.Set.{noActions}
 use Rattle.word.specs.Word.{wordsOf, wordAt, between}
 use Rattle.run.specs.Run.{ruleTest, runRules}
-use Rattle.run.proofs.RunLaws.{before-length, tested-next, tested-past, proposedFrom, rules-turn, rules-end}
+use Rattle.run.proofs.RunLaws.{before-length, tested-next, tested-past, proposedFrom, rules-turn, rules-last, rules-end}
 use borrow.Author.Needs.{needs}
 use native.Mathlib.Omega.{arith}
 use Rattle.run.proofs.rules.run_rules.Statement.{statement}
 use Rattle.run.proofs.rules.run_rules.Tie as tie
 
 abbrev Inv-loop : tie.InvT-loop
-Inv-loop image start end events given values count proposed₀ at₀ proposed at =
-    (count ≡ length (take end (wordsOf image))) × (count ≤ length image / 4)
+Inv-loop image start end events given values count last proposed₀ at₀ proposed at =
+    (count ≡ length (take end (wordsOf image))) × (count ≤ length image / 4) × (last ≡ count - 1)
     × (proposedFrom events (record { given = given; values = values }) image end proposed at ≡ proposedFrom events (record { given = given; values = values }) image end noActions start)
 
 abbrev μ-loop : tie.MeasureT-loop
-μ-loop image start end events given values count proposed₀ at₀ proposed at = count - at
+μ-loop image start end events given values count last proposed₀ at₀ proposed at = last - at
 
 at-most-requires : tie.Need-at-most-requires Inv-loop μ-loop
 at-most-requires c κs = search needs
 
-loop-holds : tie.Need-loop-holds Inv-loop μ-loop
-loop-holds c = (before-length (now (c .before .before .args .image)) (c .before .before .args .end) _ (c .at-most .ensures), omega (arith, c .at-most .ensures), refl)
+last-of-requires : tie.Need-last-of-requires Inv-loop μ-loop
+last-of-requires c κs = search needs
 
-word-at-requires : tie.Need-word-at-requires Inv-loop μ-loop
-word-at-requires c κs = search needs
+loop-holds : tie.Need-loop-holds Inv-loop μ-loop
+loop-holds c = (before-length (now (c .before .before .before .args .image)) (c .before .before .before .args .end) _ (c .before .at-most .ensures), omega (arith, c .before .at-most .ensures), c .last-of .ensures, refl)
+
+word-in-requires : tie.Need-word-in-requires Inv-loop μ-loop
+word-in-requires c κs = search needs
 
 of-requires : tie.Need-of-requires Inv-loop μ-loop
 of-requires c κs = search needs
@@ -39,34 +41,50 @@ add-test-rule : tie.Need-add-test-rule Inv-loop μ-loop
 add-test-rule c = search needs
 
 test-rule-requires : tie.Need-test-rule-requires Inv-loop μ-loop
-test-rule-requires c κs =
-    omega (arith, c .before .before .before .loop-test .taken, c .before .before .before .before .loop .inv .1)
+test-rule-requires c κs = search needs
 
 passed-requires : tie.Need-passed-requires Inv-loop μ-loop
 passed-requires c κs =
-    let a = c .before .before .before .before .before .before .before .before .args in
-    omega (arith, tested-next (c .test-rule .result) (ruleTest (a .events) (record { given = a .given; values = now (a .values) }) (c .before .before .of .result) (c .before .before .before .word-at .result) (wordAt (now (a .image)) (c .before .before .before .before .before .loop .at + 1))) (c .before .before .of .result) (c .before .before .before .before .before .loop .at + 1) (c .test-rule .ensures), c .before .before .before .before .loop-test .taken, c .before .before .before .before .before .loop .inv .1)
+    let a = c .before .before .before .before .before .before .before .before .before .args in
+    omega (arith, tested-next (c .test-rule .result) (ruleTest (a .events) (record { given = a .given; values = now (a .values) }) (c .before .before .of .result) (c .before .before .before .word-in .result) (wordAt (now (a .image)) (c .before .before .before .before .before .loop .at + 1))) (c .before .before .of .result) (c .before .before .before .before .before .loop .at + 1) (c .test-rule .ensures), c .before .before .before .before .loop-test .taken, c .before .before .before .before .before .loop .inv .1, c .before .before .before .before .before .loop .inv .2)
 
 loop-less : tie.Need-loop-less Inv-loop μ-loop
 loop-less c =
-    let a = c .before .before .before .before .before .before .before .before .before .args in
-    omega (arith, tested-past (c .before .test-rule .result) (ruleTest (a .events) (record { given = a .given; values = now (a .values) }) (c .before .before .before .of .result) (c .before .before .before .before .word-at .result) (wordAt (now (a .image)) (c .before .before .before .before .before .before .loop .at + 1))) (c .before .before .before .of .result) (c .before .before .before .before .before .before .loop .at + 1) (c .before .test-rule .ensures), c .passed .ensures, c .before .before .before .before .before .loop-test .taken)
+    let a = c .before .before .before .before .before .before .before .before .before .before .args in
+    omega (arith, tested-past (c .before .test-rule .result) (ruleTest (a .events) (record { given = a .given; values = now (a .values) }) (c .before .before .before .of .result) (c .before .before .before .before .word-in .result) (wordAt (now (a .image)) (c .before .before .before .before .before .before .loop .at + 1))) (c .before .before .before .of .result) (c .before .before .before .before .before .before .loop .at + 1) (c .before .test-rule .ensures), c .passed .ensures, c .before .before .before .before .before .loop-test .taken)
 
 loop-again : tie.Need-loop-again Inv-loop μ-loop
 loop-again c =
-    let a = c .before .before .before .before .before .before .before .before .before .args in
+    let a = c .before .before .before .before .before .before .before .before .before .before .args in
     let i = c .before .before .before .before .before .before .loop .inv in (
       i .0,
       i .1,
-      sym (rules-turn (a .events) (record { given = a .given; values = now (a .values) }) (now (a .image)) (a .end) (c .before .before .before .before .before .before .loop .at) _ _ _ _ _ _ (omega (arith, c .before .before .before .before .before .loop-test .taken, i .0)) (c .before .before .before .before .word-at .ensures) (c .before .before .before .of .ensures) (c .before .before .with-proposal .ensures) (c .before .test-rule .ensures) (c .passed .ensures)) ∙ i .2,
+      i .2,
+      sym (rules-turn (a .events) (record { given = a .given; values = now (a .values) }) (now (a .image)) (a .end) (c .before .before .before .before .before .before .loop .at) _ _ _ _ _ _ (omega (arith, c .before .before .before .before .before .loop-test .taken, i .0, i .2)) (c .before .before .before .before .word-in .ensures) (c .before .before .before .of .ensures) (c .before .before .with-proposal .ensures) (c .before .test-rule .ensures) (c .passed .ensures)) ∙ i .3,
     )
+
+word-in-requires-2 : tie.Need-word-in-requires-2 Inv-loop μ-loop
+word-in-requires-2 c κs = search needs
+
+of-requires-2 : tie.Need-of-requires-2 Inv-loop μ-loop
+of-requires-2 c κs = search needs
+
+with-proposal-requires-2 : tie.Need-with-proposal-requires-2 Inv-loop μ-loop
+with-proposal-requires-2 c κs = search needs
 
 returns : tie.Need-returns Inv-loop μ-loop
 unfolding between runRules
 returns c =
-    let a = c .before .before .before .before .args in
-    let i = c .before .loop .inv in
-    sym (rules-end (a .events) (record { given = a .given; values = now (a .values) }) (now (a .image)) (a .end) (c .before .loop .proposed) (c .before .loop .at) (omega (arith, c .loop-test .left, i .0))) ∙ i .2
+    let a = c .before .before .before .before .before .before .before .before .before .args in
+    let i = c .before .before .before .before .before .loop .inv in
+    sym (rules-last (a .events) (record { given = a .given; values = now (a .values) }) (now (a .image)) (a .end) (c .before .before .before .before .before .loop .at) _ _ (c .before .before .before .before .before .loop .proposed) _ (omega (arith, c .before .before .before .if1 .taken, c .before .before .before .before .loop-test .left, i .0, i .2)) (c .before .before .word-in2 .ensures) (c .before .of2 .ensures) (c .with-proposal2 .ensures)) ∙ i .3
+
+returns-2 : tie.Need-returns-2 Inv-loop μ-loop
+unfolding between runRules
+returns-2 c =
+    let a = c .before .before .before .before .before .before .args in
+    let i = c .before .before .loop .inv in
+    sym (rules-end (a .events) (record { given = a .given; values = now (a .values) }) (now (a .image)) (a .end) (c .before .before .loop .proposed) (c .before .before .loop .at) (omega (arith, c .if1 .left, i .0))) ∙ i .3
 
 pub run-rules-spec : {M : Type 1} → statement M
 run-rules-spec =
@@ -75,8 +93,9 @@ run-rules-spec =
     Inv-loop
     μ-loop
     at-most-requires
+    last-of-requires
     loop-holds
-    word-at-requires
+    word-in-requires
     of-requires
     with-proposal-requires
     add-test-rule
@@ -84,4 +103,8 @@ run-rules-spec =
     passed-requires
     loop-less
     loop-again
-    returns)
+    word-in-requires-2
+    of-requires-2
+    with-proposal-requires-2
+    returns
+    returns-2)

@@ -38,12 +38,12 @@ use denote.Exit.{yes}
 use denote.Triple.Clauses.{ensured, lasts}
 use Rattle.word.specs.Word.{between, wordsOf}
 use Rattle.decode.specs.Decode.{lineAt, lineLength}
-use Rattle.decode.specs.declared.Part.{Part}
+use Rattle.policy.specs.declared.line.Part.{Part}
 use Rattle.image.specs.declared.walker.Walker.{Walker}
 use Rattle.image.proofs.WalkerLaws.{Row, Type′, Laws′, mach, slice, Own, SliceOwn, lent}
 use Rattle.image.proofs.walker.Walker.Laws as T′
-use Rattle.decode.proofs.Part as P
-use Rattle.decode.proofs.Part.Laws as P′
+use Rattle.policy.proofs.line.Part as P
+use Rattle.policy.proofs.line.Part.Laws as P′
 use Rattle.decode.proofs.line_length as callee
 use Rattle.decode.proofs.line_length.Symbol as callee-def
 use Rattle.decode.proofs.line_length.Symbol.{name as #callee}
