@@ -1,19 +1,18 @@
 -- What the class of a byte says of it.
-use Prim.Native.Nat.{ℕ, _+_, _≤_}
+use Prim.Native.Nat.{ℕ, _≤_}
 use mathlib.Core.Bool.{Bool, true, false, _&&_, _||_, cond}
 use mathlib.Core.List.{List, [], _∷_}
-use mathlib.Core.Logic.{_⊎_, inl, inr, ⊎-elim}
+use mathlib.Core.Logic.{⊎-elim}
 use mathlib.Core.Path.{_≡_, refl, sym, ap, _∙_}
 use native.Mathlib.Omega.{arith}
-use borrow.Author.Tests.{leb-true, ne-eqb, eqb-true, eqb-false}
+use borrow.Author.Tests.{leb-true, ne-eqb}
 use denote.Enum.Declared.{tagOf}
 use types.Run.{OneOf}
 use lib.Dec.{eqb, leb, ltb}
 use Rattle.policy.proofs.ListLaws.{and-out, true-false}
 use Rattle.lexer.proofs.class.Class.{the-type}
 use Rattle.lexer.specs.declared.class.Class.{Class}
-use Rattle.policy.specs.List.{any}
-use Rattle.lexer.specs.Byte.{bytes, isSpace, isLineEnd, endsToken, isDigit, isLetter, isSign, classOf}
+use Rattle.lexer.specs.Byte.{isSpace, isLineEnd, endsToken, isDigit, isLetter, isSign, classOf}
 
 pub range-bounds : (low b high : ℕ) → leb low b && leb b high ≡ true → (low ≤ b) × (b ≤ high)
 range-bounds low b high e = let p = and-out (leb low b) (leb b high) e in (leb-true low b (p .0), leb-true b high (p .1))
@@ -101,21 +100,3 @@ module _ (b : ℕ) (c : Class) (e : c ≡ classOf b) where
   pub no-end-class : OneOf (2 ∷ 3 ∷ 4 ∷ 5 ∷ []) (classTag c) → false ≡ endsToken b
   unfolding AllSame
   no-end-class m = sym (one-of (λ (t : ℕ). ltb t 2) false 2 (3 ∷ 4 ∷ 5 ∷ []) (classTag c) (refl, (refl, (refl, (refl, tt)))) m) ∙ ap (λ (x : Class). ltb (classTag x) 2) e ∙ class-ends b
-
--- ---- signs
-
-pub sign-none : (b : ℕ) → (b ≡ 38 → ⊥) → (b ≡ 33 → ⊥) → (b ≡ 44 → ⊥) → (b ≡ 61 → ⊥) → (b ≡ 60 → ⊥) → (b ≡ 62 → ⊥) → (b ≡ 45 → ⊥) → (b ≡ 35 → ⊥) → false ≡ isSign b
-unfolding any bytes
-sign-none b p q r s t u v w =
-    rw (ne-eqb b 38 p, ne-eqb b 33 q, ne-eqb b 44 r, ne-eqb b 61 s, ne-eqb b 60 t, ne-eqb b 62 u, ne-eqb b 45 v, ne-eqb b 35 w)
-
-pub sign-here : (b k : ℕ) → b ≡ k → true ≡ isSign k → true ≡ isSign b
-sign-here b k e h = rw e h
-
--- a number is the lower end of a range, or above it
-pub from-end : (b k : ℕ) → k ≤ b → (b ≡ k) ⊎ (k + 1 ≤ b)
-from-end b k h = go (eqb b k) refl
-  where
-    go : (x : Bool) → eqb b k ≡ x → (b ≡ k) ⊎ (k + 1 ≤ b)
-    go true e = inl (eqb-true b k e)
-    go false e = let n = eqb-false b k e in inr (omega (arith, n))

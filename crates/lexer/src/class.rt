@@ -2,7 +2,8 @@
 ghost use mathlib.Core.Path.{_≡_};
 ghost use mathlib.Core.Bool.{_&&_};
 ghost use lib.Dec.{leb};
-ghost use Rattle.lexer.specs.Byte.{classOf, isSpace, endsToken, isDigit, isLetter, isSign, hexValue};
+ghost use Rattle.lexer.specs.Byte.{classOf, isSpace, endsToken, isDigit, hexValue};
+use crate::table::entry_of;
 
 pub enum Class {
     Space,
@@ -13,42 +14,16 @@ pub enum Class {
     Other,
 }
 
-fn within(b: u8, low: u8, high: u8) -> bool
-    ensures { λ r. ⌜ r ≡ leb low b && leb b high ⌝ }
-{
-    low <= b && b <= high
-}
-
-fn is_letter(b: u8) -> bool
-    ensures { λ r. ⌜ r ≡ isLetter b ⌝ }
-{
-    within(b, b'A', b'Z') || within(b, b'a', b'z')
-}
-
-fn is_sign(b: u8) -> bool
-    ensures { λ r. ⌜ r ≡ isSign b ⌝ }
-{
-    match b {
-        b'&' | b'!' | b',' | b'=' | b'<' | b'>' | b'-' | b'#' => true,
-        _ => false,
-    }
-}
-
 pub fn class_of(b: u8) -> Class
     ensures { λ r. ⌜ r ≡ classOf b ⌝ }
 {
-    if b == b' ' {
-        Class::Space
-    } else if b == b'\n' {
-        Class::LineEnd
-    } else if within(b, b'0', b'9') {
-        Class::Digit
-    } else if is_letter(b) {
-        Class::Letter
-    } else if is_sign(b) {
-        Class::Sign
-    } else {
-        Class::Other
+    match entry_of(b) {
+        b'_' => Class::Space,
+        b'n' => Class::LineEnd,
+        b'0' => Class::Digit,
+        b'a' => Class::Letter,
+        b'!' => Class::Sign,
+        _ => Class::Other,
     }
 }
 
@@ -81,6 +56,12 @@ pub(crate) fn ends_token(b: u8) -> bool
         Class::Space | Class::LineEnd => true,
         _ => false,
     }
+}
+
+fn within(b: u8, low: u8, high: u8) -> bool
+    ensures { λ r. ⌜ r ≡ leb low b && leb b high ⌝ }
+{
+    low <= b && b <= high
 }
 
 // The value of a hexadecimal digit of either case; 16 for any other byte.

@@ -2,6 +2,7 @@
 // specs/Token.antt (what a token is read as).
 mod class;
 mod scan;
+mod table;
 
 pub use class::Class;
 pub use class::class_of;
