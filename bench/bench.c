@@ -5,6 +5,7 @@
  *   bench count      calls each side once on each input, for callgrind: bench/run reads the counts
  *   bench time       ratios of time
  *   bench proposed   how many actions the epochs propose
+ *   bench words      how many words of the image their decisions visit, on the average, and the bound
  */
 #define _POSIX_C_SOURCE 199309L
 #include <stdlib.h>
@@ -254,7 +255,8 @@ static void add_heaviest(void)
     struct epochs *busy = new_zeros(sizeof *busy);
     heaviest(&s->text, busy);
     make_image(s);
-    add_row("main", DECIDE, s, busy, "decide, ", "largest", ", heaviest");
+    add_row("main", DECIDE, s, busy, "decide, ", "heaviest", "");
+    add_row("main", CHECK, s, NULL, "load, ", "heaviest", "");
 }
 
 static void add_growth(const char *table, int label, int rules, int constraints, int proposed)
@@ -541,6 +543,15 @@ static void print_proposed(const struct row *r)
         printf("%s\t%s\t%d to %d\n", r->table, r->label, least, most);
 }
 
+static void print_words(const struct row *r)
+{
+    uint64_t words = 0;
+    for (int i = 0; i < r->epochs->count; i++)
+        words += kinohazel_decide(r->sample->image, r->sample->image_length, (const uint8_t *)r->epochs->line[i],
+            r->epochs->length[i]).visited;
+    printf("%s\t%.1f\t%zu\n", r->label, (double)words / r->epochs->count, visit_limit(r->sample->image));
+}
+
 int main(int argc, char **argv)
 {
     const char *mode = argc > 1 ? argv[1] : "";
@@ -557,8 +568,12 @@ int main(int argc, char **argv)
         for (int i = 0; i < row_count; i++)
             if (rows[i].task == DECIDE)
                 print_proposed(&rows[i]);
+    } else if (strcmp(mode, "words") == 0) {
+        for (int i = 0; i < row_count; i++)
+            if (rows[i].task == DECIDE && strcmp(rows[i].table, "main") == 0)
+                print_words(&rows[i]);
     } else {
-        fprintf(stderr, "usage: bench check | count | time | proposed\n");
+        fprintf(stderr, "usage: bench check | count | time | proposed | words\n");
         return 2;
     }
     return sink == 1 ? 3 : 0;

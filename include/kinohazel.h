@@ -25,10 +25,10 @@
 extern "C" {
 #endif
 
-#define KINOHAZEL_VERSION_MAJOR 2
+#define KINOHAZEL_VERSION_MAJOR 3
 #define KINOHAZEL_VERSION_MINOR 0
 #define KINOHAZEL_VERSION_PATCH 0
-#define KINOHAZEL_VERSION "2.0.0"
+#define KINOHAZEL_VERSION "3.0.0"
 
 /* Limits. A buffer of KINOHAZEL_IMAGE_LIMIT bytes has room for every image, one of KINOHAZEL_WRITTEN_TEXT_LIMIT bytes for the text
  * of every image. */
@@ -115,6 +115,7 @@ struct kinohazel_decision {
     uint64_t word;      /* the index of the word at fault for 11; otherwise 0 */
     uint64_t accepted;  /* action n is bit n; 0 on a refusal */
     uint64_t cancelled; /* likewise */
+    uint64_t visited;   /* words of the image that were fetched; 0 on a refusal */
 };
 
 /* The functions as the library exports them, for callers from other languages. Here no pointer is null, even where its length
@@ -168,7 +169,12 @@ static inline struct kinohazel_text_written kinohazel_text(
 
 /* Decides an epoch line, such as `E1 E3 R0=41` with no line end, on an image. The whole image is checked each time. A reading that the
  * line does not give is missing, which is not 0: a comparison that names it does not hold in a rule and holds in a never line. So
- * leave out the reading of a sensor that is dead, and give 0 only where 0 was measured. */
+ * leave out the reading of a sensor that is dead, and give 0 only where 0 was measured.
+ *
+ * `visited` is how many words of the image the decision fetched: rule words, and never words anew in each trial of a proposed action,
+ * constants with their operation. Words that are passed over do not count, nor does the check of the image. It is at most P + 64 * N,
+ * where P and N are the rule words and never words of the image, so at most 71,808. A planner of scan times can measure by it what a
+ * word takes; P + 64 * N words are then the most that an epoch takes on that image, beside its check and the reading of the line. */
 static inline struct kinohazel_decision kinohazel_decide(
     const uint8_t *image, size_t image_length, const uint8_t *line, size_t line_length)
 {

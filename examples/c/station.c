@@ -57,6 +57,7 @@ int main(void)
         if (decision.fault == KINOHAZEL_OK) {
             print_actions("accept", decision.accepted);
             print_actions("cancel", decision.cancelled);
+            printf(" words %" PRIu64, decision.visited);
         } else {
             print_refusal(decision.fault);
         }

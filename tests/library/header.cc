@@ -3,28 +3,32 @@
 #include "kinohazel.h"
 
 #include <cstring>
+#include <initializer_list>
 #include <iostream>
 #include <vector>
 
 static const uint8_t *bytes_of(const char *string) { return reinterpret_cast<const uint8_t *>(string); }
 
-static void print(const char *name, uint64_t fault, uint64_t place, uint64_t one, uint64_t other)
+static void print(const char *name, std::initializer_list<uint64_t> members)
 {
-    std::cout << name << ' ' << fault << ' ' << place << ' ' << one << ' ' << other << '\n';
+    std::cout << name;
+    for (const uint64_t member : members)
+        std::cout << ' ' << member;
+    std::cout << '\n';
 }
 
-static void print(const kinohazel_compilation &answer) { print("compile", answer.fault, answer.line, answer.size, 0); }
+static void print(const kinohazel_compilation &answer) { print("compile", {answer.fault, answer.line, answer.size}); }
 
 static void print(const kinohazel_image_check &answer)
 {
-    print("check", answer.fault, answer.word, answer.rules, answer.constraints);
+    print("check", {answer.fault, answer.word, answer.rules, answer.constraints});
 }
 
-static void print(const kinohazel_text_written &answer) { print("text", answer.fault, answer.word, answer.size, 0); }
+static void print(const kinohazel_text_written &answer) { print("text", {answer.fault, answer.word, answer.size}); }
 
 static void print(const kinohazel_decision &answer)
 {
-    print("decide", answer.fault, answer.word, answer.accepted, answer.cancelled);
+    print("decide", {answer.fault, answer.word, answer.accepted, answer.cancelled, answer.visited});
 }
 
 int main()

@@ -120,7 +120,7 @@ static void try_images(uint8_t *area, const uint8_t *image, size_t size)
             struct kinohazel_decision decision =
                 kinohazel_decide(area, length, (const uint8_t *)lines[i], strlen(lines[i]));
             if (decision.fault != KINOHAZEL_IMAGE_SIZE || decision.word != 0
-                || (decision.accepted | decision.cancelled) != 0)
+                || (decision.accepted | decision.cancelled | decision.visited) != 0)
                 fail("a decision on an image too long is not refused under 7", length);
             calls++;
         }
@@ -144,7 +144,7 @@ static void try_lines(uint8_t *area, const uint8_t *image, size_t size)
                 put(area, lines[i], strlen(lines[i]));
                 answer = kinohazel_decide(k == 0 ? image : changed, size, area, length);
                 if (answer.fault != (k == 0 ? KINOHAZEL_TOO_LONG : KINOHAZEL_IMAGE_SUM) || answer.word != 0
-                    || (answer.accepted | answer.cancelled) != 0)
+                    || (answer.accepted | answer.cancelled | answer.visited) != 0)
                     fail("a line too long is not refused under 1, or before its image", length);
                 calls++;
             }

@@ -542,7 +542,7 @@ enum { FEW = 400 };
 /* The places in `length` bytes where something is to happen: all of them, or some of many. */
 static size_t find_places(size_t length, size_t places[FEW])
 {
-    static const size_t some[] = {0, 1, 2, 20, 21, 22, 4096, 32767, 32768, 32769, 32770, 32771, 32772, 32773, 32774,
+    static const size_t some[] = {0, 1, 2, 28, 29, 30, 4096, 32767, 32768, 32769, 32770, 32771, 32772, 32773, 32774,
         32780, 40000, 65024, 65025, 65535, 65536, 65537, 70000, 131072, 131073};
     size_t count = 0, i;
     if (length < FEW) {
@@ -893,7 +893,7 @@ static void leave_after(const struct buffer *input, struct bytes due, size_t cou
 
 static void test_leaving_reader(void)
 {
-    static const size_t counts[] = {0, 1, 20, 21, 4096, 65024, 65535, 65536, 65537, 100001, 131072, 300000, 900000};
+    static const size_t counts[] = {0, 1, 28, 29, 4096, 65024, 65535, 65536, 65537, 100001, 131072, 300000, 900000};
     struct buffer input = new_buffer();
     struct bytes due;
     size_t i;
@@ -1041,9 +1041,9 @@ static void answer_after(size_t length)
         await(&run, "refused 1 line 0\n");
     say(&run, to, "E1\n", 3);
     if (fits)
-        await(&run, "1 accept A3 cancel -\n");
+        await(&run, "1 accept A3 cancel - words 2\n");
     say(&run, to, "E2", 2);
-    leave(&run, to, fits ? "1 accept A3 cancel -\n2 accept - cancel -\n" : "refused 1 line 0\n");
+    leave(&run, to, fits ? "1 accept A3 cancel - words 2\n2 accept - cancel - words 1\n" : "refused 1 line 0\n");
     free(text.bytes);
 }
 

@@ -18,7 +18,7 @@ static void fail(const char *message, const char *name)
 struct tally {
     unsigned long text[FAULTS], epoch[FAULTS], dump[FAULTS], no_words;
     unsigned long decisions, cancelling, loaded, bodies;
-    unsigned long most_accepted, most_cancelled, most_epochs; /* in one decision, in one input */
+    unsigned long most_accepted, most_cancelled, most_visited, most_epochs; /* in one decision, in one input */
 };
 
 static FILE *open_file(const char *folder, const char *program, const char *name, const char *end)
@@ -79,6 +79,24 @@ static void check_writer(const uint8_t *image, size_t length, const char *name)
         fail("the text of the image does not compile to it", name);
 }
 
+/* The words and the policy decide alike on an epoch line, and agree on the words that are visited. */
+static struct decision check_decision(const struct policy *policy, const uint8_t *image, size_t size, const uint8_t *line,
+    size_t length, const char *name)
+{
+    struct decision one = decide(image, size, line, length), other = decide_by_policy(policy, line, length);
+    struct epoch epoch;
+    if (one.verdict.fault != other.verdict.fault || one.verdict.location != other.verdict.location
+        || one.accepted != other.accepted || one.cancelled != other.cancelled)
+        fail("the words and the policy decide differently", name);
+    if (one.verdict.fault == FAULT_NONE) {
+        read_epoch(line, length, &epoch);
+        other.visited = visits_by_policy(policy, &epoch).words;
+    }
+    if (one.visited != other.visited || one.visited > visit_limit(image))
+        fail("the words visited are not those of the policy, or too many", name);
+    return one;
+}
+
 /* The image of a text loads as the policy of the text; running it and the plain machine agree on each epoch line. A
    changed word is refused under 7 to 10. */
 static void check_reference(const struct buffer *input, const char *name, bool engine, struct tally *tally)
@@ -113,16 +131,13 @@ static void check_reference(const struct buffer *input, const char *name, bool e
     for (byte = 0; byte < 4; byte++)
         check_loader(image, written, &dice, name, tally);
     while (next_line(input->bytes, input->length, &at, &line, &line_length)) {
-        struct decision one = decide(image, written, line, line_length);
-        struct decision other = decide_by_policy(&policy, line, line_length);
-        if (one.verdict.fault != other.verdict.fault || one.verdict.location != other.verdict.location
-            || one.accepted != other.accepted || one.cancelled != other.cancelled)
-            fail("the words and the policy decide differently", name);
-        tally->epoch[one.verdict.fault]++;
-        tally->decisions += one.accepted != 0;
-        tally->cancelling += one.cancelled != 0;
-        raise_to(&tally->most_accepted, size_of_set(one.accepted));
-        raise_to(&tally->most_cancelled, size_of_set(one.cancelled));
+        struct decision decision = check_decision(&policy, image, written, line, line_length, name);
+        tally->epoch[decision.verdict.fault]++;
+        tally->decisions += decision.accepted != 0;
+        tally->cancelling += decision.cancelled != 0;
+        raise_to(&tally->most_accepted, size_of_set(decision.accepted));
+        raise_to(&tally->most_cancelled, size_of_set(decision.cancelled));
+        raise_to(&tally->most_visited, decision.visited);
         raise_to(&tally->most_epochs, ++epochs);
     }
 }
@@ -199,6 +214,11 @@ static void write_limits(const char *folder, struct buffer *input, struct tally 
         if (read_epoch(line, length, &epoch).fault != FAULT_NONE || proposed(&policy, &epoch) != UINT64_MAX)
             fail("not all actions are proposed", "largest");
     }
+    input->length = 0;
+    add_most_visited(input);
+    add(input, "run\n");
+    add_epochs_of_largest(input);
+    write_case(folder, true, "most_visited", input, tally);
     input->length = 0;
     add_widest(input);
     if (read_text(input->bytes, input->length, &policy).fault != FAULT_NONE
@@ -442,7 +462,7 @@ static void write_floods(const char *folder, struct buffer *input, struct tally 
         }
         write_case(folder, true, name, input, tally);
     }
-    for (k = 0; k < 272; k++) { /* some answers that take k bytes more, then long ones */
+    for (k = 0; k < 288; k++) { /* some answers that take k bytes more, then long ones */
         char name[32];
         input->length = 0;
         for (i = 0; i < ACTIONS; i++)
@@ -653,7 +673,8 @@ static bool print_counts(const unsigned long counts[FAULTS], const enum fault *f
     return all;
 }
 
-/* Prints the counts. False if a fault was never met, or a set of all actions, or an epoch over 100,000. */
+/* Prints the counts. False if a fault was never met, or a set of all actions, the most words that can be visited, or an epoch over
+   100,000. */
 static bool report(const struct tally *tally)
 {
     static const enum fault text[] = {FAULT_LONG, FAULT_SHAPE, FAULT_RANGE, FAULT_CROWD, FAULT_FULL, FAULT_REPEAT};
@@ -668,10 +689,11 @@ static bool report(const struct tally *tally)
     printf("; epochs decided %lu (%lu accept an action, %lu cancel one), refused under", tally->epoch[FAULT_NONE],
         tally->decisions, tally->cancelling);
     all = print_counts(tally->epoch, epoch, sizeof epoch / sizeof *epoch) && all;
-    printf("\n");
+    printf("; at most %lu words visited\n", tally->most_visited);
     return all && tally->text[FAULT_NONE] > 0 && tally->dump[FAULT_NONE] > 0 && tally->no_words > 0
         && tally->decisions > 0 && tally->cancelling > 0 && tally->loaded > 0 && tally->bodies > 0
-        && tally->most_accepted == ACTIONS && tally->most_cancelled == ACTIONS && tally->most_epochs > 100000;
+        && tally->most_accepted == ACTIONS && tally->most_cancelled == ACTIONS && tally->most_visited == MOST_VISITED
+        && tally->most_epochs > 100000;
 }
 
 int main(int argc, char **argv)
@@ -715,7 +737,7 @@ int main(int argc, char **argv)
     }
     free(input.bytes);
     if (!report(&tally)) {
-        fprintf(stderr, "generate: a fault, a set of all actions or an epoch over 100,000 was never met\n");
+        fprintf(stderr, "generate: a fault, a set of all actions, 62,784 words or an epoch over 100,000 was never met\n");
         return 1;
     }
     return 0;

@@ -646,27 +646,51 @@ void add_engine_input(struct buffer *to, struct dice *dice, unsigned kind)
 
 /* Texts at the limits */
 
+static const char largest_condition[] = "if R0 = 7 , R1 != -2147483648 , R2 < 2147483647 , R3 >= -1\n";
+
+/* Rule `i` of the largest texts, with 17 words. */
+static void add_largest_rule(struct buffer *to, unsigned i)
+{
+    unsigned k;
+    for (k = 0; k < LITERALS; k++)
+        add_format(to, "%sE%u%s", k % 2 == 0 ? "" : "!", (i + k) % 32 + 32 * (k % 2),
+            k < LITERALS - 1 ? " & " : " causes ");
+    add_format(to, "A%u %s", i * 5 % ACTIONS, largest_condition);
+}
+
 void add_largest(struct buffer *to)
 {
-    static const char condition[] = "if R0 = 7 , R1 != -2147483648 , R2 < 2147483647 , R3 >= -1\n";
     unsigned i, k;
     for (i = 0; i < RULES; i++) {
-        for (k = 0; k < LITERALS; k++)
-            add_format(to, "%sE%u%s", k % 2 == 0 ? "" : "!", (i + k) % 32 + 32 * (k % 2),
-                k < LITERALS - 1 ? " & " : " causes ");
-        add_format(to, "A%u %s", i * 5 % ACTIONS, condition);
+        add_largest_rule(to, i);
         if (i % 2 == 1) {
             for (k = 0; k < MEMBERS; k++)
                 add_format(to, "%s A%u ", k == 0 ? "never" : "&", (i / 2 + 3 * k) % ACTIONS);
-            add(to, condition);
+            add(to, largest_condition);
         }
     }
 }
 
-void add_epochs_of_largest(struct buffer *to)
+void add_most_visited(struct buffer *to)
+{
+    unsigned i;
+    for (i = 0; i < RULES; i++)
+        add_largest_rule(to, i);
+    add_times(to,
+        "never A0 & A1 & A2 & A3 & A4 & A5 & A6 & A7 if R0 = 7 , R1 != -2147483648 , R2 < 2147483647 , R3 < -1\n",
+        CONSTRAINTS);
+}
+
+void add_epoch_of_largest(struct buffer *to)
 {
     add_events(to, 0, 32);
-    add(to, "R0=7 R1=0 R2=0 R3=0\n\nE1 E3 R0=7\n");
+    add(to, "R0=7 R1=0 R2=0 R3=0");
+}
+
+void add_epochs_of_largest(struct buffer *to)
+{
+    add_epoch_of_largest(to);
+    add(to, "\n\nE1 E3 R0=7\n");
     add_events(to, 0, 31);
     add(to, "E31\n");
     add_events(to, 1, 31);

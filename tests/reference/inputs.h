@@ -75,13 +75,20 @@ void add_epoch(struct buffer *to, struct dice *dice, const struct taste *taste);
 /* A whole input of the engine, of a kind from 0 to 15. */
 void add_engine_input(struct buffer *to, struct dice *dice, unsigned kind);
 
-/* 128 rules and 64 constraints of 17 words each. With E0 to E31 and R0=7 R1=0 R2=0 R3=0 every rule proposes its
-   action, and all 64 actions are proposed. */
+/* 128 rules and 64 constraints of 17 words each. With E0 to E31 and R0=7 R1=0 R2=0 R3=0, the epoch of the largest, every
+   rule proposes its action, and all 64 actions are proposed. */
 void add_largest(struct buffer *to);
+void add_epoch_of_largest(struct buffer *to); /* without its line end */
 void add_epochs_of_largest(struct buffer *to);
 
 /* An input of the engine with that text and its epochs. */
 void add_largest_input(struct buffer *to);
+
+/* The rules of the largest, and constraints that fail at their last comparison. No decision visits more words than one on this
+   text with the epoch of the largest: all words of the rules; of each constraint 2 to 8 words in the trials of A0 to A6, which
+   fail at a member, and all but the ending in the other 57 trials. */
+enum { MOST_VISITED = RULE_WORDS + CONSTRAINTS * (2 + 3 + 4 + 5 + 6 + 7 + 8 + 57 * (LINE_WORDS - 1)) };
+void add_most_visited(struct buffer *to);
 
 /* 128 rules and 64 constraints of 17 words each, every token as long as it can be. */
 void add_widest(struct buffer *to);

@@ -409,17 +409,19 @@ struct verdict compile(const uint8_t *text, size_t length, uint8_t *buffer, size
 
 /* Loading. A line is read from its operations and numbers, then written again: the words have to be the same. */
 
-/* The comparison that begins at word `at`. */
-static struct comparison comparison_at(const uint8_t *image, size_t at)
+static struct comparison against_reading(struct fields fields)
 {
-    struct fields fields = unpack(word_at(image, at));
-    struct comparison comparison = {.reading = fields.first, .relation = (enum relation)fields.relation};
-    if (fields.operation == AGAINST_READING) {
-        comparison.with_reading = true;
-        comparison.other = fields.second;
-    } else {
-        comparison.constant = value_of(word_at(image, at + 1));
-    }
+    struct comparison comparison = {.reading = fields.first,
+        .relation = (enum relation)fields.relation,
+        .with_reading = true,
+        .other = fields.second};
+    return comparison;
+}
+
+static struct comparison against_constant(struct fields fields, uint32_t constant)
+{
+    struct comparison comparison = {
+        .reading = fields.first, .relation = (enum relation)fields.relation, .constant = value_of(constant)};
     return comparison;
 }
 
@@ -434,7 +436,8 @@ static size_t load_condition(const uint8_t *image, size_t at, size_t end, struct
         if (condition->count == COMPARISONS || fields.first >= READINGS || fields.second >= READINGS
             || fields.relation >= RELATIONS || (fields.operation == AGAINST_CONSTANT && at + 1 == end))
             return end;
-        *comparison = comparison_at(image, at);
+        *comparison = fields.operation == AGAINST_READING ? against_reading(fields)
+                                                          : against_constant(fields, word_at(image, at + 1));
         condition->count++;
         at += comparison_words(comparison);
     }
@@ -671,8 +674,6 @@ struct verdict read_epoch(const uint8_t *line, size_t length, struct epoch *epoc
 
 /* Comparisons. A reading that the epoch does not give has no value. */
 
-enum line_kind { IN_RULE, IN_CONSTRAINT };
-
 /* Whether a comparison that names a reading without a value holds. */
 static const bool holds_if_missing[] = {[IN_RULE] = false, [IN_CONSTRAINT] = true};
 
@@ -746,7 +747,7 @@ action_set accepted(const struct policy *policy, const struct epoch *epoch, acti
 
 struct decision decide_by_policy(const struct policy *policy, const uint8_t *line, size_t length)
 {
-    struct decision decision = {{FAULT_NONE, 0}, 0, 0};
+    struct decision decision = {{FAULT_NONE, 0}, 0, 0, 0};
     struct epoch epoch;
     action_set candidates;
     decision.verdict = read_epoch(line, length, &epoch);
@@ -758,41 +759,131 @@ struct decision decide_by_policy(const struct policy *policy, const uint8_t *lin
     return decision;
 }
 
+/* The words that a decision visits, by the policy. In a line the parts are tested in the order of the text, up to and with
+   the first that fails; a comparison with a constant has two words, and the ending is visited if every part holds. */
+
+/* From the first comparison of a line on. True if the line holds. */
+static bool visit_condition(
+    const struct condition *condition, enum line_kind kind, const struct epoch *epoch, struct visits *visits)
+{
+    size_t i;
+    for (i = 0; i < condition->count; i++) {
+        const struct comparison *comparison = &condition->comparisons[i];
+        bool holds = comparison_holds(comparison, kind, epoch);
+        visits->words++;
+        if (!comparison->with_reading) {
+            visits->words++;
+            visits->failing[kind] += !holds;
+            visits->missing[kind] += names_missing(comparison, epoch);
+        }
+        if (!holds)
+            return false;
+    }
+    visits->words++;
+    return true;
+}
+
+static void visit_rule(const struct rule *rule, const struct epoch *epoch, struct visits *visits)
+{
+    size_t i;
+    for (i = 0; i < rule->count; i++) {
+        visits->words++;
+        if (in_set(epoch->events, rule->literals[i].event) == rule->literals[i].negated)
+            return;
+    }
+    visit_condition(&rule->condition, IN_RULE, epoch, visits);
+}
+
+static bool visit_constraint(
+    const struct constraint *constraint, const struct epoch *epoch, action_set set, struct visits *visits)
+{
+    size_t i;
+    for (i = 0; i < constraint->count; i++) {
+        visits->words++;
+        if (!in_set(set, constraint->members[i]))
+            return false;
+    }
+    return visit_condition(&constraint->condition, IN_CONSTRAINT, epoch, visits);
+}
+
+/* The trial of one action: up to and with the first never line that holds. */
+static void visit_trial(const struct policy *policy, const struct epoch *epoch, action_set set, struct visits *visits)
+{
+    size_t i;
+    for (i = 0; i < policy->constraint_count; i++)
+        if (visit_constraint(&policy->constraints[i], epoch, set, visits)) {
+            visits->stops += i + 1 < policy->constraint_count;
+            return;
+        }
+}
+
+struct visits visits_by_policy(const struct policy *policy, const struct epoch *epoch)
+{
+    struct visits visits = {0};
+    action_set candidates = proposed(policy, epoch), kept = accepted(policy, epoch, candidates);
+    unsigned action;
+    size_t i;
+    for (i = 0; i < policy->rule_count; i++)
+        visit_rule(&policy->rules[i], epoch, &visits);
+    for (action = 0; action < ACTIONS; action++) {
+        action_set one = UINT64_C(1) << action, kept_before = kept & (one - 1);
+        if (in_set(candidates, action))
+            visit_trial(policy, epoch, kept_before | one, &visits);
+    }
+    return visits;
+}
+
 /* What an epoch yields, by the words of an image */
 
-/* Runs the words from `at` to `end`, which are of lines of one kind, on an epoch and a set of actions, and collects
-   what they propose. True if a constraint holds; the run ends there. */
-static bool run_words(const uint8_t *image, size_t at, size_t end, enum line_kind kind, const struct epoch *epoch,
-    action_set set, action_set *proposals)
+/* The words of an image as they are fetched. */
+struct fetcher {
+    const uint8_t *image;
+    size_t at, count; /* the next word, and how many were fetched */
+};
+
+static uint32_t fetch(struct fetcher *words)
 {
-    while (at < end) {
-        struct fields fields = unpack(word_at(image, at));
+    words->count++;
+    return word_at(words->image, words->at++);
+}
+
+/* Runs the words up to `end`, which are of lines of one kind, on an epoch and a set of actions, and collects what they
+   propose. True if a constraint holds; the run ends there. */
+static bool run_words(struct fetcher *words, size_t end, enum line_kind kind, const struct epoch *epoch, action_set set,
+    action_set *proposals)
+{
+    while (words->at < end) {
+        struct fields fields = unpack(fetch(words));
         struct comparison comparison;
         bool holds = true;
         switch (fields.operation) {
         case PRESENT: holds = in_set(epoch->events, fields.first); break;
         case ABSENT: holds = !in_set(epoch->events, fields.first); break;
         case AGAINST_CONSTANT:
-        case AGAINST_READING:
-            comparison = comparison_at(image, at);
+            comparison = against_constant(fields, fetch(words));
             holds = comparison_holds(&comparison, kind, epoch);
-            at += comparison_words(&comparison) - 1;
+            break;
+        case AGAINST_READING:
+            comparison = against_reading(fields);
+            holds = comparison_holds(&comparison, kind, epoch);
             break;
         case PROPOSE: *proposals |= UINT64_C(1) << fields.first; break;
         case MEMBER: holds = in_set(set, fields.first); break;
         default: return true;
         }
-        at += holds ? 1 : 1 + fields.skip;
+        if (!holds)
+            words->at += fields.skip;
     }
     return false;
 }
 
 struct decision decide(const uint8_t *image, size_t image_length, const uint8_t *line, size_t length)
 {
-    struct decision decision = {{FAULT_NONE, 0}, 0, 0};
+    struct decision decision = {{FAULT_NONE, 0}, 0, 0, 0};
     struct policy policy;
     struct epoch epoch;
     struct header header;
+    struct fetcher words = {image, 1, 0};
     size_t rules_end, end;
     action_set candidates = 0, none = 0;
     unsigned action;
@@ -805,14 +896,24 @@ struct decision decide(const uint8_t *image, size_t image_length, const uint8_t 
     header = unpack_header(word_at(image, 0));
     rules_end = 1 + header.rule_words;
     end = rules_end + header.constraint_words;
-    run_words(image, 1, rules_end, IN_RULE, &epoch, 0, &candidates);
+    run_words(&words, rules_end, IN_RULE, &epoch, 0, &candidates);
     for (action = 0; action < ACTIONS; action++) {
         action_set tried = decision.accepted | UINT64_C(1) << action;
-        if (in_set(candidates, action) && !run_words(image, rules_end, end, IN_CONSTRAINT, &epoch, tried, &none))
+        if (!in_set(candidates, action))
+            continue;
+        words.at = rules_end;
+        if (!run_words(&words, end, IN_CONSTRAINT, &epoch, tried, &none))
             decision.accepted = tried;
     }
     decision.cancelled = candidates & ~decision.accepted;
+    decision.visited = words.count;
     return decision;
+}
+
+size_t visit_limit(const uint8_t *image)
+{
+    struct header header = unpack_header(word_at(image, 0));
+    return header.rule_words + (size_t)ACTIONS * header.constraint_words;
 }
 
 /* The programs */
@@ -856,14 +957,14 @@ static void print_set(action_set set, FILE *out)
 void print_decision(unsigned long number, struct decision decision, FILE *out)
 {
     if (decision.verdict.fault != FAULT_NONE) {
-        fprintf(out, "%lu refused %d\n", number, (int)decision.verdict.fault);
-        return;
+        fprintf(out, "%lu refused %d", number, (int)decision.verdict.fault);
+    } else {
+        fprintf(out, "%lu accept ", number);
+        print_set(decision.accepted, out);
+        fputs(" cancel ", out);
+        print_set(decision.cancelled, out);
     }
-    fprintf(out, "%lu accept ", number);
-    print_set(decision.accepted, out);
-    fputs(" cancel ", out);
-    print_set(decision.cancelled, out);
-    fputs("\n", out);
+    fprintf(out, " words %lu\n", (unsigned long)decision.visited);
 }
 
 static void print_compiler(const uint8_t *input, size_t length, FILE *out)

@@ -1,6 +1,6 @@
-/* Rule texts, images and epochs as document 01 defines them, with the text of an image (request L1 of document 02) and
-   readings that are not given (request L2), in plain C, written from the documents. The programs and the library are
-   compared with it. */
+/* Rule texts, images and epochs as document 01 defines them, with the text of an image (request L1 of document 02),
+   readings that are not given (request L2) and the words that a decision visits (request L4), in plain C, written from the
+   documents. The programs and the library are compared with it. */
 #ifndef REFERENCE_H
 #define REFERENCE_H
 
@@ -86,6 +86,9 @@ struct policy {
     struct constraint constraints[CONSTRAINTS];
 };
 
+/* In which kind of line a comparison stands. */
+enum line_kind { IN_RULE, IN_CONSTRAINT, LINE_KINDS };
+
 typedef uint64_t event_set;
 typedef uint64_t action_set;
 typedef uint64_t reading_set;
@@ -99,6 +102,7 @@ struct epoch {
 struct decision {
     struct verdict verdict;
     action_set accepted, cancelled;
+    size_t visited; /* words of the image that were fetched; 0 on a refusal */
 };
 
 /* Reads a rule text. A refused one leaves the policy as it was. */
@@ -132,11 +136,22 @@ struct verdict read_epoch(const uint8_t *line, size_t length, struct epoch *epoc
 action_set proposed(const struct policy *policy, const struct epoch *epoch);
 action_set accepted(const struct policy *policy, const struct epoch *epoch, action_set candidates);
 
-/* What the plain machine answers, which sees no image. */
+/* What the plain machine answers, which sees no image and visits no words. */
 struct decision decide_by_policy(const struct policy *policy, const uint8_t *line, size_t length);
 
 /* What the engine answers: the image is loaded and its words are run. */
 struct decision decide(const uint8_t *image, size_t image_length, const uint8_t *line, size_t length);
+
+/* The most words that a decision on an image may visit: P + 64 * N. */
+size_t visit_limit(const uint8_t *image);
+
+/* The words that a decision visits, by the lines of a policy; the constants among them whose comparison fails, and those whose
+   reading is not given; and the trials that end before the last never line. */
+struct visits {
+    size_t words, failing[LINE_KINDS], missing[LINE_KINDS], stops;
+};
+
+struct visits visits_by_policy(const struct policy *policy, const struct epoch *epoch);
 
 /* How many bytes of the engine's input are text, and where the epoch lines begin. False if there is no `run` line. */
 bool find_run(const uint8_t *input, size_t length, size_t *text_length, size_t *epochs);

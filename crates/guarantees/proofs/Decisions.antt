@@ -113,7 +113,7 @@ module _ (image : List ℕ) (bounded : Bytes image) (contents : Contents) (taken
   kept-is rs s =
       λ i. record { 0 = greedy (λ (kept : ℕ). taken-constraints-run image bounded contents taken rs (record { 0 = kept }) i) (s .0) }
 
-  issued-is : (e : Epoch) → issuedBy contents (wordsOf image) e ≡ actionsOf (proposed (P .rules) e) (Yield.accepted P e)
+  issued-is : (e : Epoch) → issuedBy contents (wordsOf image) e ≡ actionsOf (proposed (P .rules) e) (Yield.accepted P e) (issuedBy contents (wordsOf image) e .visited)
   unfolding issuedBy yieldedBy Yield.accepted
   issued-is e = rw (taken-rules-run image bounded contents taken (allEvents (e .events)) (e .readings), kept-is (e .readings) (proposed (P .rules) e))
 

@@ -1,6 +1,7 @@
 pub mod Decisions
 pub mod Demand3
 pub mod Exactness
+pub mod Words
 pub mod Output
 pub mod Pipe
 pub mod RoundTrip

@@ -66,3 +66,9 @@ pub record Obeys (p : Policy) (e : Epoch) (a : Answer) : Type 0 where
       → Violated (p .constraints) (e .readings) (insertAction (actionsBelow (a .accepted) x) x)
   -- where nothing clashes, nothing is cancelled
   pub conservative : Satisfies (p .constraints) (e .readings) (proposed (p .rules) e) → a .cancelled ≡ noActions
+
+-- ---- document 02, L4
+
+-- the actions that were proposed, of which each was tried once
+abbrev pub decidedActions : Answer → ActionSet
+decidedActions a = unionActions (a .accepted) (a .cancelled)

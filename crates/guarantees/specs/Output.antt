@@ -1,31 +1,42 @@
--- What the engine's program would print if the reference machine answered: no image is spoken of.
+-- What the engine's program would print if the reference machine answered: but for the number of words, no image is spoken of.
 use Prim.Native.Nat.{ℕ}
 use mathlib.Core.Bool.{cond}
 use mathlib.Core.List.{List, [], _∷_, _++_}
+use Rattle.policy.specs.Policy.{Policy}
 use Rattle.lexer.specs.Byte.{bytes}
 use Rattle.lexer.specs.Lines.{linesOf}
 use Rattle.rule_text.specs.Text.{Progress, reading, stopped, readText}
 use Rattle.output.specs.Number.{decimal}
-use Rattle.report.specs.Report.{refusalLine, acceptLine}
+use Rattle.layout.specs.Layout.{imageOf}
+use Rattle.codegen.specs.Compile.{newestForm}
+use Rattle.monitor.specs.Decision.{decision, visitedIn}
+use Rattle.report.specs.Report.{refusalLine, wordsField, acceptLine}
 use Rattle.session.specs.Printed.{Session, splitAtRun, textPart, epochPart, next}
 use Rattle.pdl.specs.Answer.{Answer}
-use Rattle.guarantees.specs.Machine.{steps}
+use Rattle.guarantees.specs.Machine.{step}
 
 -- "A refused epoch shows its number only."
-unfoldable pub answerLine : ℕ → Answer → List ℕ
-answerLine n a = cond (a .isRefused) (decimal n ++ bytes " refused " ++ decimal (a .number) ++ 10 ∷ []) (acceptLine n (a .accepted) (a .cancelled))
+unfoldable pub answerLine : ℕ → Answer → ℕ → List ℕ
+answerLine n a words =
+    cond (a .isRefused) (decimal n ++ bytes " refused " ++ decimal (a .number) ++ wordsField words) (acceptLine n (a .accepted) (a .cancelled) words)
 
--- after n epochs
-unfoldable pub answerLines : ℕ → List Answer → List ℕ
-answerLines n [] = []
-answerLines n (a ∷ as′) = answerLine (next n) a ++ answerLines (next n) as′
+-- the machine counts no words: what is printed as their number is told for each policy and line
+module _ (words : Policy → List ℕ → ℕ) where
+  -- after n epochs
+  unfoldable pub answerLines : Policy → ℕ → List (List ℕ) → List ℕ
+  answerLines p n [] = []
+  answerLines p n (line ∷ lines) = answerLine (next n) (step p line) (words p line) ++ answerLines p (next n) lines
 
-unfoldable pub machineLines : Progress → List (List ℕ) → List ℕ
-machineLines (stopped r) epochs = refusalLine r
-machineLines (reading n policy) epochs = answerLines 0 (steps policy epochs)
+  unfoldable pub machineLines : Progress → List (List ℕ) → List ℕ
+  machineLines (stopped r) epochs = refusalLine r
+  machineLines (reading n policy) epochs = answerLines policy 0 epochs
 
--- all bytes of the input to all bytes of the output
-unfoldable pub machinePrints : List ℕ → List ℕ
-machinePrints input =
-    let s : Session = splitAtRun (linesOf input) in
-    machineLines (readText (textPart input s)) (epochPart s)
+  -- all bytes of the input to all bytes of the output
+  unfoldable pub machinePrints : List ℕ → List ℕ
+  machinePrints input =
+      let s : Session = splitAtRun (linesOf input) in
+      machineLines (readText (textPart input s)) (epochPart s)
+
+-- the words that the decision on a policy's image fetches (document 02, L4)
+unfoldable pub fetched : Policy → List ℕ → ℕ
+fetched p line = visitedIn (decision (imageOf newestForm p) line)

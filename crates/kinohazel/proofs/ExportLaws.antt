@@ -39,10 +39,10 @@ module _ (a x : Loaded) (e : x ≡ a) where
   check-image p q = ap checkOf (sym q ∙ e)
 
 module _ (a x : Decision) (e : x ≡ a) where
-  pub decide-refused : (r : Refusal) (k : ℕ) → x ≡ Decision.Refused r → k ≡ faultNumber (r .fault) → record { fault = k; word = r .location; accepted = 0; cancelled = 0 } ≡ decisionOf a
+  pub decide-refused : (r : Refusal) (k : ℕ) → x ≡ Decision.Refused r → k ≡ faultNumber (r .fault) → record { fault = k; word = r .location; accepted = 0; cancelled = 0; visited = 0 } ≡ decisionOf a
   unfolding decisionOf
-  decide-refused r k q h = ap (λ (n : ℕ). record { fault = n; word = r .location; accepted = 0; cancelled = 0 }) h ∙ ap decisionOf (sym q ∙ e)
+  decide-refused r k q h = ap (λ (n : ℕ). record { fault = n; word = r .location; accepted = 0; cancelled = 0; visited = 0 }) h ∙ ap decisionOf (sym q ∙ e)
 
-  pub decide-issued : (d : Actions) → x ≡ Decision.Issued d → record { fault = 0; word = 0; accepted = d .accepted .0; cancelled = d .cancelled .0 } ≡ decisionOf a
+  pub decide-issued : (d : Actions) → x ≡ Decision.Issued d → record { fault = 0; word = 0; accepted = d .accepted .0; cancelled = d .cancelled .0; visited = d .visited } ≡ decisionOf a
   unfolding decisionOf
   decide-issued d q = ap decisionOf (sym q ∙ e)

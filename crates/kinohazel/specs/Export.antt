@@ -23,5 +23,5 @@ checkOf (Loaded.Refused r) = record { fault = faultNumber (r .fault); word = r .
 checkOf (Loaded.Image contents) = record { fault = 0; word = 0; rules = contents .rules; constraints = contents .constraints }
 
 unfoldable pub decisionOf : Decision → EpochDecision
-decisionOf (Decision.Refused r) = record { fault = faultNumber (r .fault); word = r .location; accepted = 0; cancelled = 0 }
-decisionOf (Decision.Issued actions) = record { fault = 0; word = 0; accepted = actions .accepted .0; cancelled = actions .cancelled .0 }
+decisionOf (Decision.Refused r) = record { fault = faultNumber (r .fault); word = r .location; accepted = 0; cancelled = 0; visited = 0 }
+decisionOf (Decision.Issued actions) = record { fault = 0; word = 0; accepted = actions .accepted .0; cancelled = actions .cancelled .0; visited = actions .visited }

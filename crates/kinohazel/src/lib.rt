@@ -39,13 +39,15 @@ pub struct TextWritten {
     pub size: u64,
 }
 
-// The fault's number, or 0; the word of the image at fault; the accepted and the cancelled actions, action n as bit n.
+// The fault's number, or 0; the word of the image at fault; the accepted and the cancelled actions, action n as bit n; how many words
+// of the image were fetched to decide the epoch.
 #[repr(C)]
 pub struct EpochDecision {
     pub fault: u64,
     pub word: u64,
     pub accepted: u64,
     pub cancelled: u64,
+    pub visited: u64,
 }
 
 fn fault_number(refusal: Refusal) -> u64
@@ -127,12 +129,14 @@ pub extern "C" fn kinohazel_decide_nonnull(image: &[u8], line: &[u8]) -> EpochDe
             word: refusal.location as u64,
             accepted: 0,
             cancelled: 0,
+            visited: 0,
         },
         Decision::Issued(actions) => EpochDecision {
             fault: 0,
             word: 0,
             accepted: actions.accepted.0,
             cancelled: actions.cancelled.0,
+            visited: actions.visited as u64,
         },
     }
 }

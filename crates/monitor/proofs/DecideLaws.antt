@@ -1,8 +1,9 @@
 -- Each way through a decision: what the code was answered on it, and the decision by the definition.
-use Prim.Native.Nat.{ℕ, _+_, _<_}
+use Prim.Native.Nat.{ℕ, _+_, _≤_, _<_}
 use mathlib.Core.List.{List}
-use mathlib.Core.Path.{_≡_, sym, ap, _∙_}
+use mathlib.Core.Path.{_≡_, refl, sym, ap, _∙_}
 use native.Mathlib.Omega.{arith}
+use lib.ListN.{length}
 use Rattle.policy.specs.Epoch.{Epoch}
 use Rattle.policy.specs.Fault.{refusal}
 use Rattle.policy.specs.Set.{allEvents, actionsWithout}
@@ -19,8 +20,10 @@ use Rattle.image.specs.Load.{load}
 use Rattle.word.specs.Word.{wordsOf, between}
 use Rattle.image.specs.declared.load.Loaded.{Loaded}
 use Rattle.image.specs.declared.load.Contents.{Contents}
-use Rattle.run.specs.Run.{runRules}
-use Rattle.monitor.specs.Decision.{keptBy, yieldedBy, issuedBy, onLine, onImage, decision}
+use Rattle.run.proofs.FetchLaws.{rule-fetches-few}
+use Rattle.run.specs.Run.{runRules, ruleFetches}
+use Rattle.monitor.specs.Decision.{keptBy, triedWords, yieldedBy, issuedBy, onLine, onImage, decision, visitedIn}
+use Rattle.monitor.proofs.ResolveLaws.{between-few, tried-few}
 use Rattle.monitor.specs.declared.decision.Actions.{Actions}
 use Rattle.monitor.specs.declared.decision.Decision.{Decision}
 
@@ -33,14 +36,33 @@ taken-small bytes contents e = let t = took bytes contents e in (omega (arith, t
 
 -- ---- running the words
 
-pub issues : (contents : Contents) (words : List ℕ) (e : Epoch) (ev : Events) (proposed kept others : ActionSet)
-    → ev ≡ allEvents (e .events)
-    → proposed ≡ runRules ev (e .readings) (between 1 (1 + contents .«rule_words») words)
-    → kept ≡ keptBy (between (1 + contents .«rule_words») (1 + contents .«rule_words» + contents .«constraint_words») words) (e .readings) proposed
-    → others ≡ actionsWithout proposed kept
-    → _≡_ {A = Actions} (record { accepted = kept; cancelled = others }) (issuedBy contents words e)
-unfolding issuedBy yieldedBy
-issues contents words e ev proposed kept others v p k o = rw (o, k, p, v)
+module _ (contents : Contents) (words : List ℕ) (e : Epoch) where
+  abbrev rules : List ℕ
+  rules = between 1 (1 + contents .«rule_words») words
+
+  abbrev constraints : List ℕ
+  constraints = between (1 + contents .«rule_words») (1 + contents .«rule_words» + contents .«constraint_words») words
+
+  pub issues : (ev : Events) (proposed kept others : ActionSet) (run tried : ℕ)
+      → ev ≡ allEvents (e .events)
+      → proposed ≡ runRules ev (e .readings) rules → run ≡ ruleFetches ev (e .readings) rules
+      → kept ≡ keptBy constraints (e .readings) proposed → tried ≡ triedWords constraints (e .readings) proposed
+      → others ≡ actionsWithout proposed kept
+      → _≡_ {A = Actions} (record { accepted = kept; cancelled = others; visited = run + tried }) (issuedBy contents words e)
+  unfolding issuedBy yieldedBy
+  issues ev proposed kept others run tried v p r k t o = rw (o, k, r, t, p, v)
+
+  -- for counts of 12 bits
+  pub issued-few : contents .«rule_words» < 4096 → contents .«constraint_words» < 4096 → issuedBy contents words e .visited ≤ 530000
+  unfolding issuedBy yieldedBy
+  issued-few p n =
+      let few : length constraints < 8192 = omega (arith, between-few (1 + contents .«rule_words») (1 + contents .«rule_words» + contents .«constraint_words») words) in
+      omega (
+        arith,
+        rule-fetches-few (e .readings) rules (allEvents (e .events)),
+        between-few 1 (1 + contents .«rule_words») words,
+        tried-few constraints (e .readings) (runRules (allEvents (e .events)) (e .readings) rules) few,
+      )
 
 -- ---- the answer
 
@@ -87,3 +109,14 @@ module _ (line : List ℕ) (r : EpochRead) (answers : r ≡ epochRead line) wher
           let z : _≡_ {A = ℕ} 0 1 = cc in
           absurd (omega arith)
       go (accepted e) q = ap (λ (x : EpochRead). accepted (epochIn x)) (sym q)
+
+-- ---- the words that a decision fetches are a number of 64 bits
+
+pub visited-few : (image line : List ℕ) → visitedIn (decision image line) ≤ 530000
+unfolding decision onImage onLine
+visited-few image line = go (load image) refl (readEpoch line)
+  where
+    go : (l : Loaded) → load image ≡ l → (a : EpochAnswer) → visitedIn (onImage l (wordsOf image) a) ≤ 530000
+    go (Loaded.Refused r) q a = omega arith
+    go (Loaded.Image contents) q (refused f) = omega arith
+    go (Loaded.Image contents) q (accepted e) = let t = taken-small image contents q in issued-few contents (wordsOf image) e (t .0) (t .1)

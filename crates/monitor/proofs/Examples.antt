@@ -7,7 +7,7 @@ use Rattle.policy.specs.Epoch.{valueIn, readingValue}
 use Rattle.policy.specs.Comparison.{eqZ, relationHolds, operandValue, comparisonHolds, missingHolds, valuesRelate}
 use Rattle.policy.specs.Line.{headsOf, comparisonsOf, endingOf, constantCount}
 use Rattle.policy.specs.Limits.{isReadingValue, testNumber, operandInRange, comparisonInRange, endingInRange, inRange, crowded, repeats, repeated, valid}
-use Rattle.pdl.specs.Greedy.{tryNext, keptBelow, greedy}
+use Rattle.pdl.specs.Greedy.{tryNext, keptBelow, greedy, costBelow, trialsCost}
 use Rattle.pdl.specs.Yield.{literalHolds, ruleHolds, propose, proposals, constraintHolds, conflict, resolve, accepted, cancelled}
 use Rattle.lexer.specs.Byte.{bytes, sameBytes, is, classOf}
 use Rattle.lexer.specs.Number.{decimalFrom, isEmpty, numberOf, positive, negative, constantOf}
@@ -24,11 +24,11 @@ use Rattle.image.specs.Check.{wellSized, countsFit, sumsToZero}
 use Rattle.decode.specs.Decode.{addLiteral, addMember, addComparison, decodeWord, decode, isPrefix, inPart, standsAt, keepIf, lineAt, lineLength}
 use Rattle.image.specs.Lines.{addLine, afterLine, linesFrom, partLines}
 use Rattle.image.specs.Load.{bodyAnswer, loadWords, load}
-use Rattle.run.specs.Run.{ran, comparisonTest, ruleTest, constraintTest, proposesAt, runRules, isNever, runConstraints}
-use Rattle.monitor.specs.Decision.{keptBy, yieldedBy, issuedBy, onLine, onImage, decision}
+use Rattle.run.specs.Run.{ran, comparisonTest, ruleTest, constraintTest, proposesAt, runRules, isNever, runConstraints, fetches, upTo, ruleFetches, trialFetches}
+use Rattle.monitor.specs.Decision.{keptBy, triedWords, yieldedBy, issuedBy, onLine, onImage, decision}
 use Rattle.exactness.specs.Examples.{worked, nothing, policies, images, imageFor}
 use Rattle.monitor.specs.Examples.{decisions, decided}
 
 pub decisions-hold : map decided decisions ≡ decisions
-unfolding all any has insert below valueIn readingValue missingHolds valuesRelate eqZ relationHolds operandValue comparisonHolds headsOf comparisonsOf endingOf constantCount isReadingValue testNumber operandInRange comparisonInRange endingInRange inRange crowded repeats repeated valid tryNext keptBelow greedy literalHolds ruleHolds propose proposals constraintHolds conflict resolve accepted cancelled bytes sameBytes is classOf decimalFrom isEmpty numberOf positive negative constantOf prepend pieces linesOf nonEmpty tokensOf takeWhile skipWhile restOfLine lineEnd named literalOf actionOf readingOf relationOf orElse operandOf both comparisonOf toLeft atEquals assignmentOf itemOf itemsOf itemInRange givenBy addItem judgeEpoch readEpoch operationFrom relationFrom wordsOf bytesOf between pack packHeader testOperation testWord operandWord constantWords comparisonWord comparisonWords constantComparison readingComparison endingWord conditionWords partWords lineWords linesWords knownForm checkCount sum checkWord checkWords headerWord ruleWords constraintWords contentWords imageWords imageOf wellSized countsFit sumsToZero addLiteral addMember addComparison decodeWord decode isPrefix inPart standsAt keepIf lineAt lineLength addLine afterLine linesFrom partLines bodyAnswer loadWords load ran comparisonTest ruleTest constraintTest proposesAt runRules isNever runConstraints keptBy yieldedBy issuedBy onLine onImage decision worked nothing policies images imageFor decisions decided
+unfolding all any has insert below valueIn readingValue missingHolds valuesRelate eqZ relationHolds operandValue comparisonHolds headsOf comparisonsOf endingOf constantCount isReadingValue testNumber operandInRange comparisonInRange endingInRange inRange crowded repeats repeated valid tryNext keptBelow greedy costBelow trialsCost literalHolds ruleHolds propose proposals constraintHolds conflict resolve accepted cancelled bytes sameBytes is classOf decimalFrom isEmpty numberOf positive negative constantOf prepend pieces linesOf nonEmpty tokensOf takeWhile skipWhile restOfLine lineEnd named literalOf actionOf readingOf relationOf orElse operandOf both comparisonOf toLeft atEquals assignmentOf itemOf itemsOf itemInRange givenBy addItem judgeEpoch readEpoch operationFrom relationFrom wordsOf bytesOf between pack packHeader testOperation testWord operandWord constantWords comparisonWord comparisonWords constantComparison readingComparison endingWord conditionWords partWords lineWords linesWords knownForm checkCount sum checkWord checkWords headerWord ruleWords constraintWords contentWords imageWords imageOf wellSized countsFit sumsToZero addLiteral addMember addComparison decodeWord decode isPrefix inPart standsAt keepIf lineAt lineLength addLine afterLine linesFrom partLines bodyAnswer loadWords load ran comparisonTest ruleTest constraintTest proposesAt runRules isNever runConstraints fetches upTo ruleFetches trialFetches keptBy triedWords yieldedBy issuedBy onLine onImage decision worked nothing policies images imageFor decisions decided
 decisions-hold = refl

@@ -10,13 +10,13 @@ use Rattle.policy.specs.Set.{allEvents, actionsWithout}
 use Rattle.policy.specs.declared.fault.Refusal.{Refusal}
 use Rattle.policy.specs.declared.set.ActionSet.{ActionSet}
 use Rattle.pdl.specs.Answer.{Answer, refuses, issues}
-use Rattle.pdl.specs.Greedy.{greedy}
+use Rattle.pdl.specs.Greedy.{greedy, trialsCost}
 use Rattle.epoch_line.specs.Epoch.{EpochAnswer, refused, accepted, readEpoch}
 use Rattle.word.specs.Word.{wordsOf, between}
 use Rattle.image.specs.Load.{load}
 use Rattle.image.specs.declared.load.Contents.{Contents}
 use Rattle.image.specs.declared.load.Loaded.{Loaded}
-use Rattle.run.specs.Run.{runRules, runConstraints}
+use Rattle.run.specs.Run.{runRules, runConstraints, ruleFetches, trialFetches}
 use Rattle.monitor.specs.declared.decision.Actions.{Actions}
 use Rattle.monitor.specs.declared.decision.Decision.{Decision}
 
@@ -34,12 +34,25 @@ conflictBy constraints rs s = runConstraints rs (record { 0 = s }) constraints
 unfoldable pub keptBy : List ℕ → Readings → ActionSet → ActionSet
 keptBy constraints rs s = record { 0 = greedy (conflictBy constraints rs) (s .0) }
 
+-- how many words the trial of a set of actions fetches
+abbrev pub trialWords : List ℕ → Readings → ℕ → ℕ
+trialWords constraints rs s = trialFetches rs (record { 0 = s }) constraints
+
+-- how many all trials fetch: one for each action of the set, kept or not
+unfoldable pub triedWords : List ℕ → Readings → ActionSet → ℕ
+triedWords constraints rs s = trialsCost (conflictBy constraints rs) (trialWords constraints rs) (s .0)
+
+-- document 02, L4: "each rule word fetched, each never word fetched in each trial"
+abbrev pub visitedBy : List ℕ → List ℕ → Epoch → ℕ
+visitedBy rules constraints e = ruleFetches (allEvents (e .events)) (e .readings) rules + triedWords constraints (e .readings) (proposedBy rules e)
+
 -- "All other proposed actions are cancelled."
-abbrev pub actionsOf : ActionSet → ActionSet → Actions
-actionsOf all kept = record { accepted = kept; cancelled = actionsWithout all kept }
+abbrev pub actionsOf : ActionSet → ActionSet → ℕ → Actions
+actionsOf all kept visited = record { accepted = kept; cancelled = actionsWithout all kept; visited = visited }
 
 unfoldable pub yieldedBy : List ℕ → List ℕ → Epoch → Actions
-yieldedBy rules constraints e = actionsOf (proposedBy rules e) (keptBy constraints (e .readings) (proposedBy rules e))
+yieldedBy rules constraints e =
+    actionsOf (proposedBy rules e) (keptBy constraints (e .readings) (proposedBy rules e)) (visitedBy rules constraints e)
 
 -- the same for the words of an image with these contents
 unfoldable pub issuedBy : Contents → List ℕ → Epoch → Actions
@@ -70,3 +83,8 @@ refusalIn (Decision.Issued actions) = none
 abbrev pub answerOf : Decision → Answer
 answerOf (Decision.Refused r) = refuses r
 answerOf (Decision.Issued actions) = issues (actions .accepted) (actions .cancelled)
+
+-- how many words were fetched: "A refused decision reports 0."
+abbrev pub visitedIn : Decision → ℕ
+visitedIn (Decision.Refused r) = 0
+visitedIn (Decision.Issued actions) = actions .visited

@@ -1,12 +1,12 @@
--- What document 01's worked image decides on its epochs, which of two faults comes first, and what the image of the text of document
--- 02's L2 decides, one row each.
+-- What document 01's worked image decides on its epochs and how many words are fetched for it, which of two faults comes first, and
+-- what the images of texts for document 02's L2 and L4 decide, one row each.
 use Prim.Native.Nat.{ℕ}
 use Prim.Native.String.{String}
 use mathlib.Core.Bool.{true, false}
-use mathlib.Core.List.{List, [], _∷_}
+use mathlib.Core.List.{List, [], _∷_, map}
 use lib.IntN.{pos}
 use lib.ListN.{set}
-use Rattle.policy.specs.Policy.{Policy}
+use Rattle.policy.specs.Policy.{Policy, Rule, Constraint}
 use Rattle.policy.specs.Set.{noActions, actionsFrom}
 use Rattle.policy.specs.declared.comparison.Operand.{Operand}
 use Rattle.policy.specs.declared.comparison.Relation.{Relation}
@@ -15,19 +15,26 @@ use Rattle.lexer.specs.Byte.{bytes}
 use Rattle.exactness.specs.Examples.{worked}
 use Rattle.layout.specs.Layout.{imageOf}
 use Rattle.word.specs.Word.{bytesOf}
-use Rattle.monitor.specs.Decision.{decision, answerOf}
+use Rattle.monitor.specs.Decision.{decision, answerOf, visitedIn}
 
 pub record Example : Type 0 where
   pub image : List ℕ
   pub line : String
   pub answer : Answer
+  pub visited : ℕ
 
-abbrev yields : List ℕ → String → List ℕ → List ℕ → Example
-yields image line accepted cancelled = record { image = image; line = line; answer = issues (actionsFrom accepted) (actionsFrom cancelled) }
+abbrev yields : List ℕ → String → List ℕ → List ℕ → ℕ → Example
+yields image line accepted cancelled visited =
+    record { image = image; line = line; answer = issues (actionsFrom accepted) (actionsFrom cancelled); visited = visited }
 
 abbrev refusesWith : List ℕ → String → ℕ → ℕ → Example
 refusesWith image line number location =
-    record { image = image; line = line; answer = record { isRefused = true; number = number; location = location; accepted = noActions; cancelled = noActions } }
+    record {
+      image = image;
+      line = line;
+      answer = record { isRefused = true; number = number; location = location; accepted = noActions; cancelled = noActions };
+      visited = 0;
+    }
 
 abbrev workedImage : List ℕ
 workedImage = imageOf 1 worked
@@ -48,6 +55,20 @@ valve =
 abbrev valveImage : List ℕ
 valveImage = imageOf 1 valve
 
+-- `En causes Am`
+abbrev causes : ℕ → ℕ → Rule
+causes event action = record { literals = record { event = record { 0 = event }; negated = false } ∷ []; action = record { 0 = action }; comparisons = [] }
+
+abbrev never : List ℕ → Constraint
+never actions = record { actions = map (λ (n : ℕ). record { 0 = n }) actions; comparisons = [] }
+
+-- `E1 causes A1`, `E1 causes A2`, `E2 causes A3`, `never A1`, `never A1 & A2`, `never A2`
+abbrev stops : Policy
+stops = record { rules = causes 1 1 ∷ causes 1 2 ∷ causes 2 3 ∷ []; constraints = never (1 ∷ []) ∷ never (1 ∷ 2 ∷ []) ∷ never (2 ∷ []) ∷ [] }
+
+abbrev stopsImage : List ℕ
+stopsImage = imageOf 1 stops
+
 -- with another byte at a position
 abbrev damaged : ℕ → ℕ → List ℕ
 damaged at byte = set workedImage at byte
@@ -58,25 +79,30 @@ bodiless = bytesOf (16777217 ∷ 1879048192 ∷ 2399141887 ∷ [])
 
 unfoldable pub decisions : List Example
 decisions =
-    yields workedImage "E1 E3 R0=41" (3 ∷ []) (4 ∷ [])
-    ∷ yields workedImage "E1 E3 R0=40" (4 ∷ []) []
-    ∷ yields workedImage "E1 E2 E3 R0=41" (4 ∷ []) []
-    ∷ yields workedImage "" [] []
+    yields workedImage "E1 E3 R0=41" (3 ∷ []) (4 ∷ []) 12
+    ∷ yields workedImage "E1 E3 R0=40" (4 ∷ []) [] 7
+    ∷ yields workedImage "E1 E2 E3 R0=41" (4 ∷ []) [] 5
+    ∷ yields workedImage "" [] [] 2
     ∷ refusesWith workedImage "E64" 13 0
     ∷ refusesWith workedImage "R0=1 R0=1" 14 0
-    ∷ yields workedImage "E1 E1 R0=41" (3 ∷ []) []
+    ∷ yields workedImage "E1 E1 R0=41" (3 ∷ []) [] 8
     ∷ refusesWith [] "E64" 7 0
     ∷ refusesWith (damaged 0 2) "E64" 8 0
     ∷ refusesWith (damaged 3 4) "E64" 9 0
     ∷ refusesWith (damaged 47 0) "E64" 10 0
     ∷ refusesWith bodiless "E64" 11 1
     -- R4 under, at and over its limit, and missing
-    ∷ yields valveImage "E1 R4=89" (7 ∷ []) []
-    ∷ yields valveImage "E1 R4=90" (7 ∷ []) []
-    ∷ yields valveImage "E1 R4=91" [] (7 ∷ [])
-    ∷ yields valveImage "E1" [] (7 ∷ [])
+    ∷ yields valveImage "E1 R4=89" (7 ∷ []) [] 5
+    ∷ yields valveImage "E1 R4=90" (7 ∷ []) [] 5
+    ∷ yields valveImage "E1 R4=91" [] (7 ∷ []) 6
+    ∷ yields valveImage "E1" [] (7 ∷ []) 6
+    -- the trial of A1 ends at the first line (2 words), that of A2, by then without A1, at the last (1 and 1 and 2); A3 has a trial
+    -- only where it is proposed (1 and 1 and 1)
+    ∷ yields stopsImage "E1" [] (1 ∷ 2 ∷ []) 11
+    ∷ yields stopsImage "E2" (3 ∷ []) [] 7
+    ∷ yields stopsImage "E1 E2" (3 ∷ []) (1 ∷ 2 ∷ []) 15
     ∷ []
 
 -- what the definitions say of a row
 unfoldable pub decided : Example → Example
-decided x = record { image = x .image; line = x .line; answer = answerOf (decision (x .image) (bytes (x .line))) }
+decided x = record { image = x .image; line = x .line; answer = answerOf (decision (x .image) (bytes (x .line))); visited = visitedIn (decision (x .image) (bytes (x .line))) }

@@ -2,7 +2,7 @@
 ghost use mathlib.Core.Path.{_≡_};
 ghost use Prim.Native.Nat.{_<_};
 ghost use Rattle.word.specs.Word.{wordsOf, between};
-ghost use Rattle.monitor.specs.Decision.{keptBy, issuedBy, decision};
+ghost use Rattle.monitor.specs.Decision.{keptBy, triedWords, issuedBy, decision};
 use epoch_line::EpochStatus;
 use epoch_line::read_epoch;
 use image::Contents;
@@ -16,15 +16,23 @@ use policy::Refusal;
 use run::run_constraints;
 use run::run_rules;
 
-// What was decided: of the proposed actions, those to be executed and all others.
+// What was decided: of the proposed actions, those to be executed and all others; and how many words of the image were fetched to
+// decide it.
 pub struct Actions {
     pub accepted: ActionSet,
     pub cancelled: ActionSet,
+    pub visited: usize,
 }
 
 pub enum Decision {
     Refused(Refusal),
     Issued(Actions),
+}
+
+// What is kept of the proposed actions, and how many words all trials fetched.
+pub struct Kept {
+    pub actions: ActionSet,
+    pub words: usize,
 }
 
 // What is kept of the proposed actions: by rising number, each unless a constraint of the words from index `start` up to
@@ -36,24 +44,32 @@ fn resolve(
     proposed: ActionSet,
     given: ReadingSet,
     values: &[i32],
-) -> ActionSet
-    ensures { λ r. ⌜ r ≡ keptBy (between start end (wordsOf (now (image .entry)))) (record { given = given; values = now (values .entry) }) proposed ⌝ }
+) -> Kept
+    requires { ⌜ end < 8192 ⌝ }
+    ensures actions { λ r. ⌜ r .actions ≡ keptBy (between start end (wordsOf (now (image .entry)))) (record { given = given; values = now (values .entry) }) proposed ⌝ }
+    ensures words { λ r. ⌜ r .words ≡ triedWords (between start end (wordsOf (now (image .entry)))) (record { given = given; values = now (values .entry) }) proposed ⌝ }
 {
     let mut kept = ActionSet::EMPTY;
+    let mut words = 0;
     // The proposed actions from n on: bit 0 is n.
     let mut left = proposed.0;
     let mut n = 0;
     while left != 0 {
         if left % 2 == 1 {
             let more = kept.insert(Action(n));
-            if !run_constraints(image, start, end, more, given, values) {
+            let trial = run_constraints(image, start, end, more, given, values);
+            words += trial.words;
+            if !trial.conflict {
                 kept = more;
             }
         }
         left /= 2;
         n += 1;
     }
-    kept
+    Kept {
+        actions: kept,
+        words,
+    }
 }
 
 // The words of an image that the loader took, run on an epoch.
@@ -68,8 +84,9 @@ fn issue(
     ensures { λ r. ⌜ r ≡ issuedBy contents (wordsOf (now (image .entry))) (record { events = events; readings = record { given = given; values = now (values .entry) } }) ⌝ }
 {
     let middle = 1 + contents.rule_words;
-    let proposed = run_rules(image, 1, middle, events.all(), given, values);
-    let accepted = resolve(
+    let rules = run_rules(image, 1, middle, events.all(), given, values);
+    let proposed = rules.actions;
+    let kept = resolve(
         image,
         middle,
         middle + contents.constraint_words,
@@ -77,9 +94,11 @@ fn issue(
         given,
         values,
     );
+    let accepted = kept.actions;
     Actions {
         accepted,
         cancelled: proposed.without(accepted),
+        visited: rules.words + kept.words,
     }
 }
 

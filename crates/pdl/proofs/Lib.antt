@@ -1,4 +1,5 @@
 pub mod GreedyLaws
+pub mod CostLaws
 pub mod Resolution
 pub mod Proposals
 pub mod Monitor

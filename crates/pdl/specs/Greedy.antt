@@ -1,5 +1,5 @@
 -- Keeping candidates one after another, by rising number, as long as what is kept is not bad.
-use Prim.Native.Nat.{ℕ, zero, suc}
+use Prim.Native.Nat.{ℕ, zero, suc, _+_}
 use mathlib.Core.Bool.{Bool, not, _&&_, cond}
 use Rattle.policy.specs.Number.{setLimit}
 use Rattle.policy.specs.Set.{has, insert}
@@ -16,3 +16,14 @@ module _ (bad : ℕ → Bool) (candidates : ℕ) where
 
   unfoldable pub greedy : ℕ
   greedy = keptBelow setLimit
+
+-- ---- what the trials cost, where the trial of a set costs so much
+
+module _ (bad : ℕ → Bool) (cost : ℕ → ℕ) (candidates : ℕ) where
+  -- one trial for each candidate under n, kept or not: of those kept before it, together with it
+  unfoldable pub costBelow : ℕ → ℕ
+  costBelow zero = 0
+  costBelow (suc n) = costBelow n + cond (has candidates n) (cost (insert (keptBelow bad candidates n) n)) 0
+
+  unfoldable pub trialsCost : ℕ
+  trialsCost = costBelow setLimit

@@ -1,5 +1,5 @@
 -- Sets of numbers below 64. A set is a number whose bit n says whether n is in it.
-use Prim.Native.Nat.{ℕ, _/_, _%_, _^_}
+use Prim.Native.Nat.{ℕ, zero, suc, _+_, _/_, _%_, _^_}
 use mathlib.Core.Bool.{Bool, cond}
 use mathlib.Core.List.{List, map, foldl}
 use lib.Dec.{ltb, eqb}
@@ -31,6 +31,14 @@ difference s t = bitXor s (bitAnd s t)
 -- the members of s under n
 unfoldable pub below : ℕ → ℕ → ℕ
 below s n = s % 2 ^ n
+
+-- how many members a set has, of those under n and of all
+unfoldable pub sizeBelow : ℕ → ℕ → ℕ
+sizeBelow s zero = 0
+sizeBelow s (suc n) = sizeBelow s n + cond (has s n) 1 0
+
+abbrev pub size : ℕ → ℕ
+size s = sizeBelow s setLimit
 
 -- ---- the same of events, of actions and of readings: each set takes only numbers of its own kind
 

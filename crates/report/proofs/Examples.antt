@@ -5,8 +5,8 @@ use Rattle.policy.specs.Set.{has, insert}
 use Rattle.report.specs.Examples.{examples, printedLine, expected}
 use Rattle.lexer.specs.Byte.{bytes}
 use Rattle.output.specs.Number.{digits, decimal, hexDigit, hexDigits}
-use Rattle.report.specs.Report.{membersFrom, actionName, furtherNames, actionNames, actionList, wordLine, refusalLine, imageRefusalLine, notWordLine, acceptLine, refusedLine}
+use Rattle.report.specs.Report.{membersFrom, actionName, furtherNames, actionNames, actionList, wordLine, refusalLine, imageRefusalLine, notWordLine, wordsField, acceptLine, refusedLine}
 
 pub lines-hold : map printedLine examples ≡ map expected examples
-unfolding examples printedLine expected bytes digits decimal hexDigit hexDigits membersFrom actionName furtherNames actionNames actionList wordLine refusalLine imageRefusalLine notWordLine acceptLine refusedLine has insert
+unfolding examples printedLine expected bytes digits decimal hexDigit hexDigits membersFrom actionName furtherNames actionNames actionList wordLine refusalLine imageRefusalLine notWordLine wordsField acceptLine refusedLine has insert
 lines-hold = refl

@@ -1,4 +1,4 @@
--- The lines that document 01 prints, and some more, one row each.
+-- The lines that documents 01 and 02 print, and some more, one row each.
 use Prim.Native.Nat.{ℕ}
 use Prim.Native.String.{String}
 use mathlib.Core.List.{List, [], _∷_}
@@ -33,12 +33,12 @@ examples =
     ∷ row (refusalLine (refusal Fault.BufferTooSmall 0)) "refused 15 line 0\n"
     ∷ row (imageRefusalLine (refusal Fault.ImageBody 6)) "refused 11 word 6\n"
     ∷ row (notWordLine 3267) "line 3267 is not a word\n"
-    ∷ row (acceptLine 1 (actionsFrom (3 ∷ [])) (actionsFrom (4 ∷ []))) "1 accept A3 cancel A4\n"
-    ∷ row (acceptLine 2 (actionsFrom (4 ∷ [])) (actionsFrom [])) "2 accept A4 cancel -\n"
-    ∷ row (acceptLine 3 (actionsFrom (4 ∷ [])) (actionsFrom [])) "3 accept A4 cancel -\n"
-    ∷ row (acceptLine 4 (actionsFrom []) (actionsFrom [])) "4 accept - cancel -\n"
-    ∷ row (refusedLine 5 Fault.EpochRange) "5 refused 13\n"
-    ∷ row (acceptLine 100 (actionsFrom (63 ∷ 0 ∷ 10 ∷ [])) (actionsFrom (2 ∷ 1 ∷ []))) "100 accept A0,A10,A63 cancel A1,A2\n"
+    ∷ row (acceptLine 1 (actionsFrom (3 ∷ [])) (actionsFrom (4 ∷ [])) 12) "1 accept A3 cancel A4 words 12\n"
+    ∷ row (acceptLine 2 (actionsFrom (4 ∷ [])) (actionsFrom []) 7) "2 accept A4 cancel - words 7\n"
+    ∷ row (acceptLine 3 (actionsFrom (4 ∷ [])) (actionsFrom []) 5) "3 accept A4 cancel - words 5\n"
+    ∷ row (acceptLine 4 (actionsFrom []) (actionsFrom []) 2) "4 accept - cancel - words 2\n"
+    ∷ row (refusedLine 5 Fault.EpochRange) "5 refused 13 words 0\n"
+    ∷ row (acceptLine 100 (actionsFrom (63 ∷ 0 ∷ 10 ∷ [])) (actionsFrom (2 ∷ 1 ∷ [])) 71808) "100 accept A0,A10,A63 cancel A1,A2 words 71808\n"
     ∷ []
 
 unfoldable pub printedLine : Example → List ℕ

@@ -59,11 +59,15 @@ imageRefusalLine r = locatedLine (bytes " word ") r
 unfoldable pub notWordLine : ℕ → List ℕ
 notWordLine n = bytes "line " ++ decimal n ++ bytes " is not a word" ++ newline
 
--- the epoch of that number, decided
-unfoldable pub acceptLine : ℕ → ActionSet → ActionSet → List ℕ
-acceptLine n accepted cancelled =
-    decimal n ++ bytes " accept " ++ actionList accepted ++ bytes " cancel " ++ actionList cancelled ++ newline
+-- document 02, L4: "Each epoch's output line, refused or not, ends in ` words W`."
+unfoldable pub wordsField : ℕ → List ℕ
+wordsField words = bytes " words " ++ decimal words ++ newline
 
--- the epoch of that number, refused
+-- the epoch of that number, decided
+unfoldable pub acceptLine : ℕ → ActionSet → ActionSet → ℕ → List ℕ
+acceptLine n accepted cancelled words =
+    decimal n ++ bytes " accept " ++ actionList accepted ++ bytes " cancel " ++ actionList cancelled ++ wordsField words
+
+-- the epoch of that number, refused: "A refused decision reports 0."
 unfoldable pub refusedLine : ℕ → Fault → List ℕ
-refusedLine n fault = decimal n ++ bytes " refused " ++ decimal (faultNumber fault) ++ newline
+refusedLine n fault = decimal n ++ bytes " refused " ++ decimal (faultNumber fault) ++ wordsField 0

@@ -1,7 +1,7 @@
 // The lines that the programs print.
 ghost use mathlib.Core.Path.{_≡_};
 ghost use Rattle.output.specs.Buffer.{appended, behind};
-ghost use Rattle.report.specs.Report.{wordLine, locatedLine, refusalLine, imageRefusalLine, notWordLine, acceptLine, refusedLine};
+ghost use Rattle.report.specs.Report.{wordLine, locatedLine, refusalLine, imageRefusalLine, notWordLine, wordsField, acceptLine, refusedLine};
 use crate::action::put_actions;
 use output::put_byte;
 use output::put_bytes;
@@ -61,6 +61,16 @@ pub fn put_not_word(out: &mut [u8], at: usize, line: u64) -> usize
     put_byte(out, end, b'\n')
 }
 
+// How many words of the image an epoch fetched; the line ends.
+fn put_words(out: &mut [u8], at: usize, words: u64) -> usize
+    ensures answer { λ r. ⌜ r ≡ behind (now (out .entry)) at (wordsField words) ⌝ }
+    ensures buffer { λ _. ⌜ now (out .exit) ≡ appended (now (out .entry)) at (wordsField words) ⌝ }
+{
+    let start = put_bytes(out, at, b" words ");
+    let end = put_decimal(out, start, words);
+    put_byte(out, end, b'\n')
+}
+
 // A decided epoch. Epochs are numbered from 1.
 pub fn put_accept(
     out: &mut [u8],
@@ -68,19 +78,20 @@ pub fn put_accept(
     number: u64,
     accepted: ActionSet,
     cancelled: ActionSet,
+    words: u64,
 ) -> usize
-    ensures answer { λ r. ⌜ r ≡ behind (now (out .entry)) at (acceptLine number accepted cancelled) ⌝ }
-    ensures buffer { λ _. ⌜ now (out .exit) ≡ appended (now (out .entry)) at (acceptLine number accepted cancelled) ⌝ }
+    ensures answer { λ r. ⌜ r ≡ behind (now (out .entry)) at (acceptLine number accepted cancelled words) ⌝ }
+    ensures buffer { λ _. ⌜ now (out .exit) ≡ appended (now (out .entry)) at (acceptLine number accepted cancelled words) ⌝ }
 {
     let start = put_decimal(out, at, number);
     let accept = put_bytes(out, start, b" accept ");
     let kept = put_actions(out, accept, accepted);
     let cancel = put_bytes(out, kept, b" cancel ");
     let end = put_actions(out, cancel, cancelled);
-    put_byte(out, end, b'\n')
+    put_words(out, end, words)
 }
 
-// A refused epoch.
+// A refused epoch, which fetched no word.
 pub fn put_refused(out: &mut [u8], at: usize, number: u64, fault: Fault) -> usize
     ensures answer { λ r. ⌜ r ≡ behind (now (out .entry)) at (refusedLine number fault) ⌝ }
     ensures buffer { λ _. ⌜ now (out .exit) ≡ appended (now (out .entry)) at (refusedLine number fault) ⌝ }
@@ -88,5 +99,5 @@ pub fn put_refused(out: &mut [u8], at: usize, number: u64, fault: Fault) -> usiz
     let start = put_decimal(out, at, number);
     let middle = put_bytes(out, start, b" refused ");
     let end = put_decimal(out, middle, fault.number() as u64);
-    put_byte(out, end, b'\n')
+    put_words(out, end, 0)
 }

@@ -1,2 +1,3 @@
 pub mod OperationLaws
 pub mod RunLaws
+pub mod FetchLaws

@@ -61,15 +61,16 @@ comparison-rest part rs w k Operation.Member h = refl
 comparison-rest part rs w k Operation.Never h = refl
 comparison-rest part rs w k Operation.Unknown h = refl
 
-pub constants-rest : (op : Operation) → Among (0 ∷ 1 ∷ 4 ∷ 5 ∷ 6 ∷ 7 ∷ []) op → 0 ≡ constantCount op
-constants-rest Operation.Present h = refl
-constants-rest Operation.Absent h = refl
-constants-rest Operation.AgainstConstant h = absurd (miss (0 ∷ 1 ∷ 4 ∷ 5 ∷ 6 ∷ 7 ∷ []) 2 tt h)
-constants-rest Operation.AgainstReading h = absurd (miss (0 ∷ 1 ∷ 4 ∷ 5 ∷ 6 ∷ 7 ∷ []) 3 tt h)
-constants-rest Operation.Proposes h = refl
-constants-rest Operation.Member h = refl
-constants-rest Operation.Never h = refl
-constants-rest Operation.Unknown h = refl
+-- where AgainstConstant, which has the number 2, is not among them
+pub constants-rest : (tags : List ℕ) → ¬ OneOf tags 2 → (op : Operation) → Among tags op → 0 ≡ constantCount op
+constants-rest tags not-two Operation.Present h = refl
+constants-rest tags not-two Operation.Absent h = refl
+constants-rest tags not-two Operation.AgainstConstant h = absurd (not-two h)
+constants-rest tags not-two Operation.AgainstReading h = refl
+constants-rest tags not-two Operation.Proposes h = refl
+constants-rest tags not-two Operation.Member h = refl
+constants-rest tags not-two Operation.Never h = refl
+constants-rest tags not-two Operation.Unknown h = refl
 
 pub rule-rest : (ev : Events) (rs : Readings) (w k : ℕ) → (op : Operation) → Among (2 ∷ 3 ∷ 4 ∷ 5 ∷ 6 ∷ 7 ∷ []) op → comparisonTest Part.Rules rs op w k ≡ ruleTest ev rs op w k
 unfolding comparisonTest ruleTest

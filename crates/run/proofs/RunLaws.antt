@@ -1,15 +1,16 @@
 -- Laws of running words: one word that is run, over the words of a part with an index.
-use Prim.Native.Nat.{ℕ, zero, suc, _+_, _/_, _≤_, _<_, min}
+use Prim.Native.Nat.{ℕ, zero, suc, _+_, _-_, _/_, _≤_, _<_, min}
 use mathlib.Core.Bool.{Bool, true, false, not, cond, _||_, or-false}
 use mathlib.Core.List.{List, [], _∷_, foldl}
-use mathlib.Core.Logic.{_⊎_, inl, inr}
+use mathlib.Core.Logic.{_⊎_, inl, inr, ⊎-elim}
 use mathlib.Core.Path.{_≡_, refl, sym, ap, _∙_}
 use native.Mathlib.Nat.{add-zero}
 use native.Mathlib.Omega.{arith}
-use borrow.Author.Tests.{ltb-true, ltb-false}
+use borrow.Author.Tests.{ltb-true, ltb-false, lt-ltb, le-ltb}
 use lib.Dec.{ltb}
 use lib.ListN.{length, take, drop, getD, length-take, drop-of-length-le}
 use lib.Seq.{drop-cons, drop-drop, getD-drop, getD-take}
+use types.Run.{miss}
 use Rattle.policy.specs.Epoch.{Readings}
 use Rattle.policy.specs.List.{any}
 use Rattle.policy.proofs.ListLaws.{true-false}
@@ -24,8 +25,9 @@ use Rattle.operation.specs.Fields.{firstOf, skipOf, operationOf}
 use Rattle.word.specs.Word.{wordsOf, wordAt}
 use Rattle.operation.specs.declared.operation.Operation.{Operation}
 use Rattle.run.proofs.OperationLaws.{Among, comparison-rest, constants-rest, rule-rest, constraint-rest}
-use Rattle.run.specs.Run.{constantCount, passes, ran, comparisonTest, ruleTest, constraintTest, proposesAt, proposing, isNever, endsConstraint}
-use Rattle.run.specs.Steps.Test.{tested, isMember}
+use Rattle.run.specs.Run.{constantCount, passes, ran, comparisonTest, ruleTest, constraintTest, proposesAt, proposing, isNever, endsConstraint, fetchesOf, fetches, upTo}
+use Rattle.run.specs.Steps.Test.{tested, isMember, leftAt}
+use Rattle.run.specs.declared.constraints.Trial.{Trial}
 use Rattle.run.specs.declared.test.Tested.{Tested}
 
 -- ---- the words before an index
@@ -124,7 +126,7 @@ module _ (rs : Readings) (op : Operation) (w behind k : ℕ) where
     reading-tested is r er = rw is (same-tested er (sym (add-zero behind)))
 
     pub rest-tested : Among (0 ∷ 1 ∷ 4 ∷ 5 ∷ 6 ∷ 7 ∷ []) op → record { holds = true; next = behind } ≡ tested (comparisonTest part rs op w k) op behind
-    rest-tested h = same-tested (comparison-rest part rs w k op h) (sym (add-zero behind) ∙ ap (λ (n : ℕ). behind + n) (constants-rest op h))
+    rest-tested h = same-tested (comparison-rest part rs w k op h) (sym (add-zero behind) ∙ ap (λ (n : ℕ). behind + n) (constants-rest (0 ∷ 1 ∷ 4 ∷ 5 ∷ 6 ∷ 7 ∷ []) (miss (0 ∷ 1 ∷ 4 ∷ 5 ∷ 6 ∷ 7 ∷ []) 2 tt) op h))
 
   module _ (ev : Events) where
     pub present-tested : op ≡ Operation.Present → (f : ℕ) (r : Bool) → f ≡ firstOf w → r ≡ hasEvent (ev .present) (record { 0 = f }) → record { holds = r; next = behind } ≡ tested (ruleTest ev rs op w k) op behind
@@ -177,6 +179,28 @@ module _ (t : Tested) (b : Bool) (op : Operation) (behind : ℕ) (e : t ≡ test
   pub tested-past : behind ≤ t .next
   tested-past = omega (arith, next-is)
 
+-- ---- the words that are fetched
+
+fetches-more : (w : ℕ) (ws : List ℕ) (op : Operation) → op ≡ operationOf w → fetches (w ∷ ws) ≡ fetchesOf op + fetches ws
+unfolding fetches
+fetches-more w ws op is = ap (λ (o : Operation). fetchesOf o + fetches ws) (sym is)
+
+fetches-one : (w : ℕ) (op : Operation) → op ≡ operationOf w → fetches (w ∷ []) ≡ fetchesOf op
+unfolding fetches
+fetches-one w op is = fetches-more w [] op is ∙ add-zero (fetchesOf op)
+
+-- up to the end of a constraint
+fetches-up-to : (w : ℕ) (ws : List ℕ) (op : Operation) → op ≡ operationOf w
+    → fetches (upTo endsConstraint (w ∷ ws)) ≡ fetchesOf op + cond (isNever op) 0 (fetches (upTo endsConstraint ws))
+unfolding upTo fetches
+fetches-up-to w ws op is =
+    fetches-more w (cond (endsConstraint w) [] (upTo endsConstraint ws)) op is
+    ∙ ap (λ (n : ℕ). fetchesOf op + n) (go (isNever (operationOf w)) ∙ ap (λ (o : Operation). cond (isNever o) 0 (fetches (upTo endsConstraint ws))) (sym is))
+  where
+    go : (b : Bool) → fetches (cond b [] (upTo endsConstraint ws)) ≡ cond b 0 (fetches (upTo endsConstraint ws))
+    go true = refl
+    go false = refl
+
 -- ---- one turn of the rules' loop
 
 module _ (ev : Events) (rs : Readings) (bytes : List ℕ) (end : ℕ) where
@@ -184,20 +208,43 @@ module _ (ev : Events) (rs : Readings) (bytes : List ℕ) (end : ℕ) where
   abbrev pub proposedFrom : ActionSet → ℕ → ActionSet
   proposedFrom s at = foldl proposing s (ran (ruleTest ev rs) 0 (drop at (take end (wordsOf bytes))))
 
-  pub rules-turn : (at w next : ℕ) (op : Operation) (s s′ : ActionSet) (t : Tested) → at < length (take end (wordsOf bytes)) → w ≡ wordAt bytes at → op ≡ operationOf w → s′ ≡ proposesAt op w s
-      → t ≡ tested (ruleTest ev rs op w (wordAt bytes (at + 1))) op (at + 1) → next ≡ t .next + cond (t .holds) 0 (skipOf w) → proposedFrom s at ≡ proposedFrom s′ next
-  rules-turn at w next op s s′ t within this is es et en =
-      ap (foldl proposing s)
-      (turn (ruleTest ev rs) bytes end at w next op within this is (t .holds) (ap (λ (x : Tested). x .holds) et)
-      (en ∙ ap (λ (n : ℕ). n + cond (t .holds) 0 (skipOf w)) (ap (λ (x : Tested). x .next) et)))
-      ∙ ap (λ (x : ActionSet). proposedFrom x next) (ap (λ (o : Operation). proposesAt o w s) (sym is) ∙ sym es)
+  -- how many words are fetched from an index on
+  abbrev pub fetchedFrom : ℕ → ℕ
+  fetchedFrom at = fetches (ran (ruleTest ev rs) 0 (drop at (take end (wordsOf bytes))))
 
-  pub rules-last : (at w : ℕ) (op : Operation) (s s′ : ActionSet) → at + 1 ≡ length (take end (wordsOf bytes)) → w ≡ wordAt bytes at → op ≡ operationOf w → s′ ≡ proposesAt op w s → proposedFrom s at ≡ s′
-  rules-last at w op s s′ e this is es =
-      ap (foldl proposing s) (last-turn (ruleTest ev rs) bytes end at w 0 op e this) ∙ ap (λ (o : Operation). proposesAt o w s) (sym is) ∙ sym es
+  module _ (at w next : ℕ) (op : Operation) (t : Tested) (within : at < length (take end (wordsOf bytes))) (this : w ≡ wordAt bytes at) (is : op ≡ operationOf w)
+      (et : t ≡ tested (ruleTest ev rs op w (wordAt bytes (at + 1))) op (at + 1)) (en : next ≡ t .next + cond (t .holds) 0 (skipOf w)) where
+    goes-on : ran (ruleTest ev rs) 0 (drop at (take end (wordsOf bytes))) ≡ w ∷ ran (ruleTest ev rs) 0 (drop next (take end (wordsOf bytes)))
+    goes-on =
+        turn (ruleTest ev rs) bytes end at w next op within this is (t .holds) (ap (λ (x : Tested). x .holds) et)
+        (en ∙ ap (λ (n : ℕ). n + cond (t .holds) 0 (skipOf w)) (ap (λ (x : Tested). x .next) et))
+
+    pub rules-turn : (s s′ : ActionSet) → s′ ≡ proposesAt op w s → proposedFrom s at ≡ proposedFrom s′ next
+    rules-turn s s′ es =
+        ap (foldl proposing s) goes-on
+        ∙ ap (λ (x : ActionSet). proposedFrom x next) (ap (λ (o : Operation). proposesAt o w s) (sym is) ∙ sym es)
+
+    pub rules-fetch : fetchedFrom at ≡ t .next - at + fetchedFrom next
+    rules-fetch =
+        let e : t .next ≡ at + 1 + constantCount op = ap (λ (x : Tested). x .next) et in
+        let f : fetchedFrom at ≡ fetchesOf op + fetchedFrom next =
+        ap fetches goes-on ∙ fetches-more w (ran (ruleTest ev rs) 0 (drop next (take end (wordsOf bytes)))) op is in
+        omega arith
+
+  module _ (at w : ℕ) (op : Operation) (e : at + 1 ≡ length (take end (wordsOf bytes))) (this : w ≡ wordAt bytes at) (is : op ≡ operationOf w) where
+    pub rules-last : (s s′ : ActionSet) → s′ ≡ proposesAt op w s → proposedFrom s at ≡ s′
+    rules-last s s′ es =
+        ap (foldl proposing s) (last-turn (ruleTest ev rs) bytes end at w 0 op e this) ∙ ap (λ (o : Operation). proposesAt o w s) (sym is) ∙ sym es
+
+    pub rules-last-fetch : fetchedFrom at ≡ fetchesOf op
+    rules-last-fetch = ap fetches (last-turn (ruleTest ev rs) bytes end at w 0 op e this) ∙ fetches-one w op is
 
   pub rules-end : (s : ActionSet) (at : ℕ) → length (take end (wordsOf bytes)) ≤ at → proposedFrom s at ≡ s
   rules-end s at h = ap (foldl proposing s) (ran-end (ruleTest ev rs) (take end (wordsOf bytes)) at h)
+
+  pub rules-end-fetch : (at : ℕ) → length (take end (wordsOf bytes)) ≤ at → fetchedFrom at ≡ 0
+  unfolding fetches
+  rules-end-fetch at h = ap fetches (ran-end (ruleTest ev rs) (take end (wordsOf bytes)) at h)
 
 -- ---- one turn of the constraints' loops
 
@@ -211,49 +258,134 @@ is-member Operation.Proposes h = absurd (true-false h refl)
 is-member Operation.Never h = absurd (true-false h refl)
 is-member Operation.Unknown h = absurd (true-false h refl)
 
+-- ---- the answer where a trial is left
+
+module _ (bytes : List ℕ) (at count from : ℕ) where
+  pub left-within : at < count → (w k : ℕ) (op : Operation) (b : Bool) → w ≡ wordAt bytes at → op ≡ operationOf w → b ≡ isNever op → k ≡ fetchesOf op
+      → record { conflict = b; words = at + k - from } ≡ leftAt bytes at count from
+  unfolding leftAt
+  left-within h w k op b ew eo eb ek = rw (lt-ltb at count h, eb, ek, eo, ew)
+
+  pub left-past : count ≤ at → record { conflict = false; words = at - from } ≡ leftAt bytes at count from
+  unfolding leftAt
+  left-past h = rw (le-ltb at count h)
+
+-- ---- the constraints from an index on
+
 module _ (rs : Readings) (s : ActionSet) (bytes : List ℕ) (end : ℕ) where
   -- whether a constraint holds from an index on
   abbrev pub holdsFrom : ℕ → Bool
   holdsFrom at = any endsConstraint (ran (constraintTest rs s) 0 (drop at (take end (wordsOf bytes))))
 
+  -- how many words a trial fetches from an index on
+  abbrev pub triedFrom : ℕ → ℕ
+  triedFrom at = fetches (upTo endsConstraint (ran (constraintTest rs s) 0 (drop at (take end (wordsOf bytes)))))
+
+  -- a run that began at `start` is at `at`: so far none held, and the words between `from` and `at` are as many as were fetched
+  pub record Going (start at from : ℕ) : Type 0 where
+    pub holds : holdsFrom at ≡ holdsFrom start
+    pub behind : from ≤ at
+    pub words : at + triedFrom at ≡ from + triedFrom start
+
+  pub going : (start : ℕ) → Going start start start
+  going start = record { holds = refl; behind = omega arith; words = refl }
+
+  pub going-at : (start at at′ from from′ : ℕ) → Going start at from → at′ ≡ at → from′ ≡ from → Going start at′ from′
+  going-at start at at′ from from′ g p q = rw (p, q) g
+
   module _ (at w next : ℕ) (op : Operation) (within : at < length (take end (wordsOf bytes))) (this : w ≡ wordAt bytes at) (is : op ≡ operationOf w) where
-    run-word : (holds : Bool) → holds ≡ constraintTest rs s op w (wordAt bytes (at + 1)) → next ≡ at + 1 + constantCount op + cond holds 0 (skipOf w)
-        → holdsFrom at ≡ isNever op || holdsFrom next
-    unfolding any
-    run-word holds h e =
-        ap (any endsConstraint) (turn (constraintTest rs s) bytes end at w next op within this is holds h e)
-        ∙ ap (λ (o : Operation). isNever o || holdsFrom next) (sym is)
+    module _ (holds : Bool) (h : holds ≡ constraintTest rs s op w (wordAt bytes (at + 1))) (e : next ≡ at + 1 + constantCount op + cond holds 0 (skipOf w)) where
+      run-word : holdsFrom at ≡ isNever op || holdsFrom next
+      unfolding any
+      run-word =
+          ap (any endsConstraint) (turn (constraintTest rs s) bytes end at w next op within this is holds h e)
+          ∙ ap (λ (o : Operation). isNever o || holdsFrom next) (sym is)
 
-    pub constraints-turn : isNever op ≡ false → (t : Tested) → t ≡ tested (constraintTest rs s op w (wordAt bytes (at + 1))) op (at + 1) → next ≡ t .next + cond (t .holds) 0 (skipOf w)
-        → holdsFrom at ≡ holdsFrom next
-    constraints-turn n t et en =
-        run-word (t .holds) (ap (λ (x : Tested). x .holds) et) (en ∙ ap (λ (m : ℕ). m + cond (t .holds) 0 (skipOf w)) (ap (λ (x : Tested). x .next) et))
-        ∙ ap (λ (b : Bool). b || holdsFrom next) n
+      fetch-word : triedFrom at ≡ fetchesOf op + cond (isNever op) 0 (triedFrom next)
+      fetch-word =
+          ap (λ (ws : List ℕ). fetches (upTo endsConstraint ws)) (turn (constraintTest rs s) bytes end at w next op within this is holds h e)
+          ∙ fetches-up-to w (ran (constraintTest rs s) 0 (drop next (take end (wordsOf bytes)))) op is
 
-    pub member-turn : isMember op ≡ true → (holds : Bool) (f : ℕ) → f ≡ firstOf w → holds ≡ hasAction s (record { 0 = f }) → next ≡ at + 1 + cond holds 0 (skipOf w) → holdsFrom at ≡ holdsFrom next
-    unfolding constraintTest isNever
-    member-turn m holds f ef eh en =
-        let o : op ≡ Operation.Member = is-member op m in
-        run-word holds (eh ∙ ap (λ (n : ℕ). hasAction s (record { 0 = n })) ef ∙ sym (ap (λ (x : Operation). constraintTest rs s x w (wordAt bytes (at + 1))) o))
-        (en ∙ ap (λ (n : ℕ). n + cond holds 0 (skipOf w)) (sym (add-zero (at + 1)) ∙ ap (λ (x : Operation). at + 1 + constantCount x) (sym o)))
-        ∙ ap (λ (x : Operation). isNever x || holdsFrom next) o
+      -- a word that ends no constraint: what a failed test passes over is not fetched
+      go-on : (start from from′ : ℕ) → Going start at from → isNever op ≡ false → from′ ≡ from + cond holds 0 (skipOf w) → Going start next from′
+      go-on start from from′ g n f = record {
+        holds = sym (run-word ∙ ap (λ (b : Bool). b || holdsFrom next) n) ∙ g .holds;
+        behind = omega (arith, g .behind);
+        words = omega (arith, g .words, fetch-word ∙ ap (λ (b : Bool). fetchesOf op + cond b 0 (triedFrom next)) n);
+      }
 
-  never-turn : (at w : ℕ) (op : Operation) → at < length (take end (wordsOf bytes)) → w ≡ wordAt bytes at → op ≡ operationOf w → isNever op ≡ true → holdsFrom at ≡ true
-  never-turn at w op within this is n =
-      run-word at w _ op within this is (constraintTest rs s op w (wordAt bytes (at + 1))) refl refl
-      ∙ ap (λ (b : Bool). b || holdsFrom (at + 1 + constantCount op + cond (constraintTest rs s op w (wordAt bytes (at + 1))) 0 (skipOf w))) n
+    module _ (start from from′ : ℕ) (g : Going start at from) where
+      pub constraints-turn : isNever op ≡ false → (t : Tested) → t ≡ tested (constraintTest rs s op w (wordAt bytes (at + 1))) op (at + 1) → next ≡ t .next + cond (t .holds) 0 (skipOf w)
+          → (holds : Bool) → t .holds ≡ holds → from′ ≡ from + cond holds 0 (skipOf w) → Going start next from′
+      constraints-turn n t et en holds eh ef =
+          go-on (t .holds) (ap (λ (x : Tested). x .holds) et) (en ∙ ap (λ (m : ℕ). m + cond (t .holds) 0 (skipOf w)) (ap (λ (x : Tested). x .next) et)) start from from′ g n
+          (ef ∙ ap (λ (b : Bool). from + cond b 0 (skipOf w)) (sym eh))
+
+      pub member-turn : isMember op ≡ true → (holds : Bool) (f : ℕ) → f ≡ firstOf w → holds ≡ hasAction s (record { 0 = f }) → next ≡ at + 1 + cond holds 0 (skipOf w)
+          → from′ ≡ from + cond holds 0 (skipOf w) → Going start next from′
+      unfolding constraintTest isNever
+      member-turn m holds f ef eh en e =
+          let o : op ≡ Operation.Member = is-member op m in
+          go-on holds (eh ∙ ap (λ (n : ℕ). hasAction s (record { 0 = n })) ef ∙ sym (ap (λ (x : Operation). constraintTest rs s x w (wordAt bytes (at + 1))) o))
+          (en ∙ ap (λ (n : ℕ). n + cond holds 0 (skipOf w)) (sym (add-zero (at + 1)) ∙ ap (λ (x : Operation). at + 1 + constantCount x) (sym o)))
+          start from from′ g (ap isNever o) e
 
   -- the word at which the code leaves its loops: the last one, or the end of a constraint
-  pub constraints-last : (at w : ℕ) (op : Operation) → at < length (take end (wordsOf bytes)) → w ≡ wordAt bytes at → op ≡ operationOf w
-      → (at + 1 ≡ length (take end (wordsOf bytes))) ⊎ (endsConstraint (wordAt bytes at) ≡ true) → holdsFrom at ≡ isNever op
-  unfolding any
-  constraints-last at w op within this is (inl e) =
-      ap (any endsConstraint) (last-turn (constraintTest rs s) bytes end at w 0 op e this)
-      ∙ or-false (isNever (operationOf w)) ∙ ap isNever (sym is)
-  constraints-last at w op within this is (inr n) =
-      let ends : isNever op ≡ true = ap isNever is ∙ ap endsConstraint this ∙ n in
-      never-turn at w op within this is ends ∙ sym ends
+  module _ (at w : ℕ) (op : Operation) (within : at < length (take end (wordsOf bytes))) (this : w ≡ wordAt bytes at) (is : op ≡ operationOf w)
+      (way : (at + 1 ≡ length (take end (wordsOf bytes))) ⊎ (endsConstraint (wordAt bytes at) ≡ true)) where
+    ends-here : endsConstraint (wordAt bytes at) ≡ true → isNever op ≡ true
+    ends-here n = ap isNever is ∙ ap endsConstraint this ∙ n
 
-  pub constraints-end : (at : ℕ) → length (take end (wordsOf bytes)) ≤ at → holdsFrom at ≡ false
-  unfolding any
-  constraints-end at h = ap (any endsConstraint) (ran-end (constraintTest rs s) (take end (wordsOf bytes)) at h)
+    -- wherever the run would go on
+    abbrev beyond : ℕ
+    beyond = at + 1 + constantCount op + cond (constraintTest rs s op w (wordAt bytes (at + 1))) 0 (skipOf w)
+
+    pub constraints-last : holdsFrom at ≡ isNever op
+    unfolding any
+    constraints-last = ⊎-elim
+        (λ e. ap (any endsConstraint) (last-turn (constraintTest rs s) bytes end at w 0 op e this) ∙ or-false (isNever (operationOf w)) ∙ ap isNever (sym is))
+        (λ n. run-word at w beyond op within this is (constraintTest rs s op w (wordAt bytes (at + 1))) refl refl
+        ∙ ap (λ (b : Bool). b || holdsFrom beyond) (ends-here n) ∙ sym (ends-here n)) way
+
+    pub fetch-last : triedFrom at ≡ fetchesOf op
+    unfolding upTo fetches
+    fetch-last = ⊎-elim
+        (λ e. ap (λ (ws : List ℕ). fetches (upTo endsConstraint ws)) (last-turn (constraintTest rs s) bytes end at w 0 op e this)
+        ∙ fetches-up-to w [] op is ∙ ap (λ (n : ℕ). fetchesOf op + n) (none (isNever op)) ∙ add-zero (fetchesOf op))
+        (λ n. fetch-word at w beyond op within this is (constraintTest rs s op w (wordAt bytes (at + 1))) refl refl
+        ∙ ap (λ (b : Bool). fetchesOf op + cond b 0 (triedFrom beyond)) (ends-here n) ∙ add-zero (fetchesOf op)) way
+      where
+        none : (b : Bool) → _≡_ {A = ℕ} (cond b 0 0) 0
+        none true = refl
+        none false = refl
+
+  module _ (at : ℕ) (past : length (take end (wordsOf bytes)) ≤ at) where
+    pub constraints-end : holdsFrom at ≡ false
+    unfolding any
+    constraints-end = ap (any endsConstraint) (ran-end (constraintTest rs s) (take end (wordsOf bytes)) at past)
+
+    pub fetch-end : triedFrom at ≡ 0
+    unfolding upTo fetches
+    fetch-end = ap (λ (ws : List ℕ). fetches (upTo endsConstraint ws)) (ran-end (constraintTest rs s) (take end (wordsOf bytes)) at past)
+
+  -- the answer where the loops are left is that of the trial
+  module _ (start at from count : ℕ) (g : Going start at from) (counted : count ≡ length (take end (wordsOf bytes)))
+      (way : (length (take end (wordsOf bytes)) ≤ at + 1) ⊎ (endsConstraint (wordAt bytes at) ≡ true)) where
+    pub trial-left : (leftAt bytes at count from .conflict ≡ holdsFrom start) × (leftAt bytes at count from .words ≡ triedFrom start)
+    trial-left = go (ltb at count) refl
+      where
+        w : ℕ
+        w = wordAt bytes at
+
+        go : (b : Bool) → ltb at count ≡ b → (leftAt bytes at count from .conflict ≡ holdsFrom start) × (leftAt bytes at count from .words ≡ triedFrom start)
+        go true q =
+            let within : at < length (take end (wordsOf bytes)) = omega (arith, ltb-true at count q) in
+            let here : (at + 1 ≡ length (take end (wordsOf bytes))) ⊎ (endsConstraint w ≡ true) = ⊎-elim (λ h. inl (omega arith)) inr way in
+            let e = left-within bytes at count from (ltb-true at count q) w (fetchesOf (operationOf w)) (operationOf w) (endsConstraint w) refl refl refl refl in
+            let fetched : at + fetchesOf (operationOf w) - from ≡ triedFrom start = omega (arith, g .behind, g .words, fetch-last at w (operationOf w) within refl refl here) in
+            (sym (ap (λ (t : Trial). t .conflict) e) ∙ sym (constraints-last at w (operationOf w) within refl refl here) ∙ g .holds, sym (ap (λ (t : Trial). t .words) e) ∙ fetched)
+        go false q =
+            let past : length (take end (wordsOf bytes)) ≤ at = omega (arith, ltb-false at count q) in
+            let e = left-past bytes at count from (ltb-false at count q) in
+            let fetched : at - from ≡ triedFrom start = omega (arith, g .behind, g .words, fetch-end at past) in
+            (sym (ap (λ (t : Trial). t .conflict) e) ∙ sym (constraints-end at past) ∙ g .holds, sym (ap (λ (t : Trial). t .words) e) ∙ fetched)

@@ -109,3 +109,26 @@ endsConstraint w = isNever (operationOf w)
 -- whether the end of some constraint is run
 unfoldable pub runConstraints : Readings → ActionSet → List ℕ → Bool
 runConstraints rs s ws = any endsConstraint (ran (constraintTest rs s) 0 ws)
+
+-- ---- how many words are fetched (document 02, L4)
+
+-- a word that is run is fetched, and its constant with it
+abbrev pub fetchesOf : Operation → ℕ
+fetchesOf op = 1 + constantCount op
+
+unfoldable pub fetches : List ℕ → ℕ
+fetches [] = 0
+fetches (w ∷ ws) = fetchesOf (operationOf w) + fetches ws
+
+-- the words of a list up to the first that passes a test, that one included
+unfoldable pub upTo : (ℕ → Bool) → List ℕ → List ℕ
+upTo test [] = []
+upTo test (w ∷ ws) = w ∷ cond (test w) [] (upTo test ws)
+
+-- "each rule word fetched"
+unfoldable pub ruleFetches : Events → Readings → List ℕ → ℕ
+ruleFetches ev rs ws = fetches (ran (ruleTest ev rs) 0 ws)
+
+-- "each never word fetched" in the trial of a set: "A trial's remainder after a never line holds doesn't count."
+unfoldable pub trialFetches : Readings → ActionSet → List ℕ → ℕ
+trialFetches rs s ws = fetches (upTo endsConstraint (ran (constraintTest rs s) 0 ws))

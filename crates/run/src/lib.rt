@@ -4,5 +4,7 @@ mod constraints;
 mod rules;
 mod test;
 
+pub use constraints::Trial;
 pub use constraints::run_constraints;
+pub use rules::Proposals;
 pub use rules::run_rules;

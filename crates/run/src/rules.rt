@@ -3,10 +3,11 @@ ghost use mathlib.Core.Path.{_≡_};
 ghost use Prim.Native.Nat.{_/_, _<_};
 ghost use lib.ListN.{length};
 ghost use Rattle.word.specs.Word.{wordsOf, wordAt, between};
-ghost use Rattle.run.specs.Run.{ruleTest, proposesAt, runRules};
+ghost use Rattle.run.specs.Run.{ruleTest, proposesAt, runRules, ruleFetches};
 ghost use Rattle.run.specs.Steps.Test.{tested};
 use crate::test::Tested;
 use crate::test::compare;
+use crate::test::fetches;
 use crate::test::last_of;
 use crate::test::passed;
 use operation::Operation;
@@ -55,7 +56,13 @@ fn with_proposal(set: ActionSet, operation: Operation, word: u32) -> ActionSet
     }
 }
 
-// What the words from index `start` up to `end` propose.
+// What the run of rules answers: the actions that they propose, and how many words were fetched.
+pub struct Proposals {
+    pub actions: ActionSet,
+    pub words: usize,
+}
+
+// The run of the rules of the words from index `start` up to `end`.
 pub fn run_rules(
     image: &[u8],
     start: usize,
@@ -63,24 +70,29 @@ pub fn run_rules(
     events: Events,
     given: ReadingSet,
     values: &[i32],
-) -> ActionSet
-    ensures { λ r. ⌜ r ≡ runRules events (record { given = given; values = now (values .entry) }) (between start end (wordsOf (now (image .entry)))) ⌝ }
+) -> Proposals
+    ensures actions { λ r. ⌜ r .actions ≡ runRules events (record { given = given; values = now (values .entry) }) (between start end (wordsOf (now (image .entry)))) ⌝ }
+    ensures words { λ r. ⌜ r .words ≡ ruleFetches events (record { given = given; values = now (values .entry) }) (between start end (wordsOf (now (image .entry)))) ⌝ }
 {
     let count = at_most(end, image.len() / 4);
     let last = last_of(count);
-    let mut proposed = ActionSet::EMPTY;
+    let mut actions = ActionSet::EMPTY;
+    let mut words = 0;
     let mut at = start;
     while at < last {
         let word = word_in(image, at);
         let operation = Operation::of(word);
-        proposed = with_proposal(proposed, operation, word);
+        actions = with_proposal(actions, operation, word);
         let test = test_rule(image, at + 1, operation, word, events, given, values);
+        words += test.next - at;
         at = passed(test, word);
     }
-    // Of the last word counts only what it proposes.
+    // The last word is fetched, and what it proposes counts, but no test of it.
     if at < count {
         let word = word_in(image, at);
-        proposed = with_proposal(proposed, Operation::of(word), word);
+        let operation = Operation::of(word);
+        actions = with_proposal(actions, operation, word);
+        words += fetches(operation);
     }
-    proposed
+    Proposals { actions, words }
 }

@@ -5,7 +5,7 @@ ghost use Prim.Native.Nat.{_+_, _-_, _/_, _≤_, _<_};
 ghost use lib.ListN.{length};
 ghost use Rattle.operation.specs.Fields.{skipOf};
 ghost use Rattle.word.specs.Word.{wordAt};
-ghost use Rattle.run.specs.Run.{comparisonTest};
+ghost use Rattle.run.specs.Run.{comparisonTest, fetchesOf};
 ghost use Rattle.run.specs.Steps.Test.{tested};
 use operation::Operation;
 use operation::constant_holds;
@@ -55,6 +55,16 @@ pub(crate) fn compare(
             holds: true,
             next: behind,
         },
+    }
+}
+
+// How many words are fetched for a word that is run: itself, and its constant.
+pub(crate) fn fetches(operation: Operation) -> usize
+    ensures { λ r. ⌜ r ≡ fetchesOf operation ⌝ }
+{
+    match operation {
+        Operation::AgainstConstant => 2,
+        _ => 1,
     }
 }
 

@@ -16,11 +16,12 @@ use Rattle.epoch_line.specs.Epoch.{EpochAnswer, refused, accepted, readEpoch}
 use Rattle.word.specs.Word.{wordsOf, between}
 use Rattle.image.specs.Load.{load}
 use Rattle.image.specs.declared.load.Loaded.{Loaded}
-use Rattle.monitor.specs.Decision.{decision, onImage, onLine, issuedBy, yieldedBy, proposedBy, keptBy, answerOf}
+use Rattle.monitor.proofs.DecideLaws.{visited-few}
+use Rattle.monitor.specs.Decision.{decision, onImage, onLine, issuedBy, yieldedBy, proposedBy, keptBy, answerOf, visitedIn}
 use Rattle.monitor.specs.declared.decision.Decision.{Decision}
 use Rattle.output.specs.Number.{decimal}
 use Rattle.output.proofs.DecimalLaws.{decimal-few, decimal-short}
-use Rattle.report.specs.Report.{membersFrom, actionName, furtherNames, actionNames, actionList, refusalLine, acceptLine, refusedLine}
+use Rattle.report.specs.Report.{membersFrom, actionName, furtherNames, actionNames, actionList, refusalLine, wordsField, acceptLine, refusedLine}
 use Rattle.session.specs.Printed.{decisionLine}
 
 -- ---- actions: no number is in both lists
@@ -95,18 +96,21 @@ pub refusal-short : (x : Refusal) → x .location < 18446744073709551616 → len
 unfolding refusalLine bytes
 refusal-short x h = simp length-append (omega (arith, decimal-short (faultNumber (x .fault)) (fault-small (x .fault)), decimal-short (x .location) h))
 
-line-short : (n : ℕ) (d : Decision) → n < 18446744073709551616 → Apart (answerOf d .accepted .0) (answerOf d .cancelled .0) → length (decisionLine n d) ≤ 512
-unfolding decisionLine acceptLine refusedLine actionList bytes
-line-short n (Decision.Refused x) h a = simp length-append (omega (arith, decimal-short n h, decimal-short (faultNumber (x .fault)) (fault-small (x .fault))))
-line-short n (Decision.Issued actions) h a =
+line-short : (n : ℕ) (d : Decision) → n < 18446744073709551616 → Apart (answerOf d .accepted .0) (answerOf d .cancelled .0) → visitedIn d < 18446744073709551616
+    → length (decisionLine n d) ≤ 512
+unfolding decisionLine acceptLine refusedLine wordsField actionList bytes
+line-short n (Decision.Refused x) h a v =
+    simp length-append (omega (arith, decimal-short n h, decimal-short (faultNumber (x .fault)) (fault-small (x .fault)), decimal-short 0 v))
+line-short n (Decision.Issued actions) h a v =
     simp length-append
     (omega (
       arith,
       decimal-short n h,
+      decimal-short (actions .visited) v,
       names-short (membersFrom 64 0 (actions .accepted .0)),
       names-short (membersFrom 64 0 (actions .cancelled .0)),
       members-short 64 0 (actions .accepted .0) (actions .cancelled .0) (omega arith) a,
     ))
 
 pub decision-short : (n : ℕ) (image line : List ℕ) → n < 18446744073709551616 → length (decisionLine n (decision image line)) ≤ 512
-decision-short n image line h = line-short n (decision image line) h (decision-apart image line)
+decision-short n image line h = line-short n (decision image line) h (decision-apart image line) (omega (arith, visited-few image line))

@@ -1,4 +1,4 @@
--- Document 01's examples of the two programs, and some more, one row each.
+-- Document 01's examples of the two programs, with the words of document 02's L4, and some more, one row each.
 use Prim.Native.Nat.{ℕ}
 use Prim.Native.String.{String}
 use mathlib.Core.List.{List, [], _∷_, map}
@@ -16,14 +16,14 @@ row i o = record { input = i; output = o }
 unfoldable pub sessions : List Example
 sessions =
     row "E1 & !E2 causes A3 if R0 > 40\nE3 causes A4\nnever A3 & A4\nrun\nE1 E3 R0=41\nE1 E3 R0=40\nE1 E2 E3 R0=41\n\nE64\n"
-    "1 accept A3 cancel A4\n2 accept A4 cancel -\n3 accept A4 cancel -\n4 accept - cancel -\n5 refused 13\n"
+    "1 accept A3 cancel A4 words 12\n2 accept A4 cancel - words 7\n3 accept A4 cancel - words 5\n4 accept - cancel - words 2\n5 refused 13 words 0\n"
     -- the last line may lack its end
-    ∷ row "run\nE1" "1 accept - cancel -\n"
+    ∷ row "run\nE1" "1 accept - cancel - words 0\n"
     -- input that ends straight after a line end adds no epoch, a blank line is one
     ∷ row "run\n" ""
-    ∷ row "run\n\n" "1 accept - cancel -\n"
+    ∷ row "run\n\n" "1 accept - cancel - words 0\n"
     -- only the first line `run` ends the text
-    ∷ row "run\nrun\n" "1 refused 12\n"
+    ∷ row "run\nrun\n" "1 refused 12 words 0\n"
     ∷ row "run" ""
     -- without one all is text
     ∷ row "" ""

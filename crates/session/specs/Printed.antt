@@ -1,4 +1,4 @@
--- Document 01, "The two programs": what the engine prints for all of its input.
+-- Document 01, "The two programs", and document 02, L4: what the engine prints for all of its input.
 use Prim.Native.Nat.{ℕ, _+_, _%_, _^_}
 use mathlib.Core.Bool.{cond}
 use mathlib.Core.List.{List, [], _∷_, _++_}
@@ -47,7 +47,7 @@ next n = (n + 1) % 2 ^ 64
 
 unfoldable pub decisionLine : ℕ → Decision → List ℕ
 decisionLine n (Decision.Refused r) = refusedLine n (r .fault)
-decisionLine n (Decision.Issued actions) = acceptLine n (actions .accepted) (actions .cancelled)
+decisionLine n (Decision.Issued actions) = acceptLine n (actions .accepted) (actions .cancelled) (actions .visited)
 
 -- after n epochs
 unfoldable pub epochLines : List ℕ → ℕ → List (List ℕ) → List ℕ

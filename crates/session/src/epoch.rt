@@ -42,6 +42,7 @@ pub(crate) fn end_line(state: State, held: &[u8], image: &[u8], out: &mut [u8; O
                 next.epochs,
                 actions.accepted,
                 actions.cancelled,
+                actions.visited as u64,
             );
         }
     }

@@ -110,7 +110,7 @@ struct verdict compare_check(const uint8_t *image, size_t length)
 bool agree(struct kinohazel_decision answer, struct decision wanted)
 {
     return answer.fault == (uint64_t)wanted.verdict.fault && answer.word == wanted.verdict.location
-        && answer.accepted == wanted.accepted && answer.cancelled == wanted.cancelled;
+        && answer.accepted == wanted.accepted && answer.cancelled == wanted.cancelled && answer.visited == wanted.visited;
 }
 
 static bool all_readings(const struct epoch *epoch)
@@ -162,6 +162,35 @@ static void count_missing(const struct policy *policy, struct decision decision,
     tally.missing[1] += accepted(policy, &zeros, candidates) != decision.accepted;
 }
 
+static void count_words(struct visits visits, struct decision decision, const uint8_t *image)
+{
+    struct header header = unpack_header(word_at(image, 0));
+    size_t limit = visit_limit(image);
+    bool nevers = header.constraint_words > 0, rules = header.rule_words > 0;
+    tally.extremes[ALL_WORDS] += rules && !nevers && decision.visited == limit;
+    tally.extremes[NEARLY_ALL] += rules && nevers && decision.visited == limit - (ACTIONS - 1);
+    tally.extremes[MOST_WORDS] += decision.visited == MOST_VISITED;
+    tally.counted[REMAINDER] += visits.stops > 0;
+    tally.counted[FAILING_IN_RULE] += visits.failing[IN_RULE] > 0;
+    tally.counted[FAILING_IN_CONSTRAINT] += visits.failing[IN_CONSTRAINT] > 0;
+    tally.counted[MISSING_IN_RULE] += visits.missing[IN_RULE] > 0;
+    tally.counted[MISSING_IN_CONSTRAINT] += visits.missing[IN_CONSTRAINT] > 0;
+    tally.counted[NO_TRIAL] += nevers && (decision.accepted | decision.cancelled) == 0;
+}
+
+/* The words of a decision that is not refused are those of the policy. */
+static void compare_words(const struct policy *policy, struct decision decision, const uint8_t *image, const uint8_t *line,
+    size_t length)
+{
+    struct epoch epoch;
+    struct visits visits;
+    read_epoch(line, length, &epoch);
+    visits = visits_by_policy(policy, &epoch);
+    if (decision.visited != visits.words)
+        fail_on("reference", "the words visited are not those of the policy", line, length);
+    count_words(visits, decision, image);
+}
+
 struct decision compare_decide(const uint8_t *image, size_t length, const uint8_t *line, size_t line_length,
     const struct policy *policy)
 {
@@ -170,16 +199,19 @@ struct decision compare_decide(const uint8_t *image, size_t length, const uint8_
     struct decision wanted = decide(image, length, line, line_length), plain = wanted;
     struct kinohazel_decision answer;
     const uint8_t *lent = lend(text_pen, image, length), *lent_line = lend(line_pen, line, line_length);
-    if (policy != NULL)
+    if (policy != NULL) {
         plain = decide_by_policy(policy, line, line_length);
+        plain.visited = wanted.visited; /* the plain machine counts none */
+    }
     start_call(false);
     answer = kinohazel_decide(lent, length, lent_line, line_length);
     end_call();
     if (!agree(answer, wanted)) {
         sprintf(what,
-            "fault %" PRIu64 " word %" PRIu64 " sets %" PRIX64 " %" PRIX64 ", expected %d, %lu, %" PRIX64 " %" PRIX64,
-            answer.fault, answer.word, answer.accepted, answer.cancelled, (int)wanted.verdict.fault,
-            (unsigned long)wanted.verdict.location, wanted.accepted, wanted.cancelled);
+            "fault %" PRIu64 " word %" PRIu64 " sets %" PRIX64 " %" PRIX64 " visited %" PRIu64
+            ", expected %d, %lu, %" PRIX64 " %" PRIX64 ", %lu",
+            answer.fault, answer.word, answer.accepted, answer.cancelled, answer.visited, (int)wanted.verdict.fault,
+            (unsigned long)wanted.verdict.location, wanted.accepted, wanted.cancelled, (unsigned long)wanted.visited);
         describe(name, what);
         print_bytes("image", image, length);
         print_bytes("line", line, line_length);
@@ -188,14 +220,18 @@ struct decision compare_decide(const uint8_t *image, size_t length, const uint8_
     }
     if (!agree(answer, plain))
         fail_on(name, "the plain machine answers differently", line, line_length);
-    if (answer.fault != KINOHAZEL_OK && (answer.accepted | answer.cancelled) != 0)
-        fail_on(name, "sets on a refusal", line, line_length);
+    if (answer.fault != KINOHAZEL_OK && (answer.accepted | answer.cancelled | answer.visited) != 0)
+        fail_on(name, "sets or words on a refusal", line, line_length);
+    if (answer.fault == KINOHAZEL_OK && answer.visited > visit_limit(image))
+        fail_on(name, "over P + 64 * N words", line, line_length);
     if (!same(lent, image, length) || !same(lent_line, line, line_length))
         fail_on(name, "the image or the line was changed", line, line_length);
     if (wanted.verdict.fault == FAULT_NONE)
         count_extremes(wanted, line, line_length);
-    if (wanted.verdict.fault == FAULT_NONE && policy != NULL)
+    if (wanted.verdict.fault == FAULT_NONE && policy != NULL) {
         count_missing(policy, wanted, line, line_length);
+        compare_words(policy, wanted, image, line, line_length);
+    }
     tally.decide[wanted.verdict.fault]++;
     tally.decide_nulls[nulls(lent, lent_line)]++;
     tally.accepting += wanted.accepted != 0;

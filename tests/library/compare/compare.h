@@ -45,7 +45,21 @@ enum extreme {
     ALL_READINGS, /* all different, some below 0 and some above */
     FAR_EVENT,    /* E63 behind 1,000 bytes, the last of 1,024 */
     FAR_READING,  /* R15 likewise */
+    ALL_WORDS,    /* P + 64 * N words visited, where N is 0 */
+    NEARLY_ALL,   /* 63 words fewer, where N is over 0 */
+    MOST_WORDS,   /* MOST_VISITED words visited */
     EXTREMES
+};
+
+/* Decisions whose number of words shows how they are counted. */
+enum counted {
+    REMAINDER,             /* a trial ends before the last never line: the words behind do not count */
+    FAILING_IN_RULE,       /* the comparison with a constant fails: the constant counts */
+    FAILING_IN_CONSTRAINT,
+    MISSING_IN_RULE,       /* the reading compared with a constant is missing: the constant counts */
+    MISSING_IN_CONSTRAINT,
+    NO_TRIAL,              /* nothing is proposed: no never word counts */
+    COUNTED
 };
 
 /* What was met. Locations of fault 11: the first line of the rules, a later one, and the same of the constraints. Nulls: 1 if the
@@ -55,6 +69,7 @@ struct tally {
     unsigned long check_locations[4], text_locations[4], flaws[2][FLAWS], accepting, cancelling, extremes[EXTREMES];
     unsigned long compile_nulls[4], check_nulls[4], text_nulls[4], decide_nulls[4], lines_in_images;
     unsigned long missing[2]; /* proposals, and cancellations, that would be others if missing readings were 0 */
+    unsigned long counted[COUNTED];
     unsigned long written, empty, longest; /* texts that compile to their image again; those of 0 and of 27,968 bytes */
 };
 

@@ -253,6 +253,47 @@ static void compare_far(struct subject *subject, struct buffer *text, struct buf
             }
 }
 
+static void expect_words(const struct subject *subject, const struct buffer *line, size_t visited)
+{
+    if (compare_line(subject, line->bytes, line->length).visited != visited)
+        fail_on("reference", "not as many words as the test names", line->bytes, line->length);
+}
+
+/* All rules hold and all actions are tried. Without never lines all words are visited. With them P + 64 * N is out of reach: the
+   ending of a never line is visited only in a trial in which the line holds, which is one at most, since the action that makes it
+   hold is cancelled. That trial ends there, so the words behind are left out too, unless the line is the last. So of L never lines
+   at least 64 * L - 1 words are left out. */
+static void compare_all_words(struct subject *subject, struct buffer *text, struct buffer *line)
+{
+    static const struct {
+        const char *constraints;
+        size_t left_out;
+    } cases[] = {{"", 0}, {"never A0\n", 63}, {"never A0 & A1\n", 63}, {"never A0 & A63\n", 63},
+        {"never A0 if R0 = 0 , R0 != 1 , R0 <= R0 , R0 > 0\n", 64}, {"never A0 if R0 != R0\nnever A0 & A63\n", 127},
+        {"never A0 & A63\nnever A0 if R0 < 0\n", 130}};
+    size_t i;
+    unsigned action;
+    step = "all words";
+    line->length = 0;
+    add(line, "E0 R0=0");
+    for (i = 0; i < COUNT(cases); i++) {
+        text->length = 0;
+        for (action = 0; action < ACTIONS; action++)
+            add_format(text, "E0 causes A%u if R0 = 0\n", action);
+        add(text, cases[i].constraints);
+        begin(subject, text);
+        expect_words(subject, line, visit_limit(subject->image) - cases[i].left_out);
+    }
+    text->length = 0;
+    add_most_visited(text);
+    begin(subject, text);
+    if (visit_limit(subject->image) != 71808 || MOST_VISITED != 62784)
+        fail("reference", "not 71,808 words as the limit, or 62,784 as the most");
+    line->length = 0;
+    add_epoch_of_largest(line);
+    expect_words(subject, line, MOST_VISITED);
+}
+
 void compare_extremes(struct buffer *text, struct buffer *line)
 {
     static struct subject subject;
@@ -260,4 +301,5 @@ void compare_extremes(struct buffer *text, struct buffer *line)
     compare_all_actions(&subject, text, line);
     compare_all_readings(&subject, text, line);
     compare_far(&subject, text, line);
+    compare_all_words(&subject, text, line);
 }

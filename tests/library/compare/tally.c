@@ -67,7 +67,16 @@ bool report(void)
         [ALL_EVENTS] = "all events",
         [ALL_READINGS] = "all readings",
         [FAR_EVENT] = "E63 at the end of 1,024 bytes",
-        [FAR_READING] = "R15 there"};
+        [FAR_READING] = "R15 there",
+        [ALL_WORDS] = "all words visited and no never lines",
+        [NEARLY_ALL] = "63 words fewer than P + 64 * N",
+        [MOST_WORDS] = "62,784 words"};
+    static const char *const counted[COUNTED] = {[REMAINDER] = "a trial ends before the last never line",
+        [FAILING_IN_RULE] = "a comparison with a constant fails in a rule",
+        [FAILING_IN_CONSTRAINT] = "in a never line",
+        [MISSING_IN_RULE] = "its reading is missing in a rule",
+        [MISSING_IN_CONSTRAINT] = "in a never line",
+        [NO_TRIAL] = "nothing is tried"};
     bool all = tally.accepting > 0 && tally.cancelling > 0 && tally.lines_in_images > 0 && tally.empty > 0
         && tally.longest > 0 && tally.missing[0] > 0 && tally.missing[1] > 0;
     size_t i, k;
@@ -89,7 +98,13 @@ bool report(void)
         printf("%s %s %lu", i == 0 ? "" : ",", extremes[i], tally.extremes[i]);
         all = all && tally.extremes[i] > 0;
     }
-    printf("; missing readings that are not 0 to the rules %lu, to the never lines %lu\n", tally.missing[0], tally.missing[1]);
+    printf("; missing readings that are not 0 to the rules %lu, to the never lines %lu; words counted where", tally.missing[0],
+        tally.missing[1]);
+    for (i = 0; i < COUNTED; i++) {
+        printf("%s %s %lu", i == 0 ? "" : ",", counted[i], tally.counted[i]);
+        all = all && tally.counted[i] > 0;
+    }
+    printf("\n");
     for (i = 0; i < 4; i++)
         all = all && tally.check_locations[i] > 0 && tally.text_locations[i] > 0 && tally.compile_nulls[i] > 0
             && tally.text_nulls[i] > 0 && tally.decide_nulls[i] > 0 && (tally.check_nulls[i] > 0 || i > 1);

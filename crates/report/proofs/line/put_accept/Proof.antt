@@ -26,8 +26,8 @@ put-bytes-requires-2 c κs = search needs
 put-actions-requires-2 : tie.Need-put-actions-requires-2
 put-actions-requires-2 c κs = search needs
 
-put-byte-requires : tie.Need-put-byte-requires
-put-byte-requires c κs = search needs
+put-words-requires : tie.Need-put-words-requires
+put-words-requires c κs = search needs
 
 same-length : tie.Need-same-length
 same-length c = search needs
@@ -45,7 +45,7 @@ returns c =
     let p₂ = put-then _ _ _ _ _ _ _ _ p₁ (accepted .put-actions .ensures) in
     let p₃ = put-then _ _ _ _ _ _ _ _ p₂ (cancel .put-bytes2 .ensures) in
     let p₄ = put-then _ _ _ _ _ _ _ _ p₃ (cancelled .put-actions2 .ensures) in
-    put-then _ _ _ _ _ _ _ _ p₄ (end .put-byte .ensures)
+    put-then _ _ _ _ _ _ _ _ p₄ (end .put-words .ensures)
 
 pub put-accept-spec : {M : Type 1} → statement M
 put-accept-spec =
@@ -58,6 +58,6 @@ put-accept-spec =
     slice-aggregate-put-bytes-2
     put-bytes-requires-2
     put-actions-requires-2
-    put-byte-requires
+    put-words-requires
     same-length
     returns)

@@ -25,8 +25,8 @@ cast-put-decimal c = search needs
 put-decimal-requires-2 : tie.Need-put-decimal-requires-2
 put-decimal-requires-2 c κs = search needs
 
-put-byte-requires : tie.Need-put-byte-requires
-put-byte-requires c κs = search needs
+put-words-requires : tie.Need-put-words-requires
+put-words-requires c κs = search needs
 
 same-length : tie.Need-same-length
 same-length c = search needs
@@ -41,7 +41,7 @@ returns c =
     let n = ap decimal (fault .before .number .ensures) in
     let p₁ = put-then _ _ _ _ _ _ _ _ (start .put-decimal .ensures) (middle .put-bytes .ensures) in
     let p₂ = put-then _ _ _ _ _ _ _ _ p₁ (put-same _ _ _ _ _ _ n (fault .put-decimal2 .ensures)) in
-    put-then _ _ _ _ _ _ _ _ p₂ (end .put-byte .ensures)
+    put-then _ _ _ _ _ _ _ _ p₂ (end .put-words .ensures)
 
 pub put-refused-spec : {M : Type 1} → statement M
 put-refused-spec =
@@ -53,6 +53,6 @@ put-refused-spec =
     number-requires
     cast-put-decimal
     put-decimal-requires-2
-    put-byte-requires
+    put-words-requires
     same-length
     returns)
