@@ -235,6 +235,19 @@ static struct sample *new_sample(void)
     return s;
 }
 
+/* Decisions, and the same lines on the image of the empty text: what reading them takes. */
+static void add_decide(struct sample *s, struct epochs *e, const char *name, const char *kind)
+{
+    static struct sample *empty;
+    add_row("main", DECIDE, s, e, "decide, ", name, kind);
+    if (empty == NULL) {
+        empty = new_sample();
+        make_image(empty);
+        add_row("lines", CHECK, empty, NULL, "load", "", "");
+    }
+    add_row("lines", DECIDE, empty, e, "decide, ", name, kind);
+}
+
 static void add_sample(const char *name, void (*make)(struct buffer *, struct epochs *, struct epochs *))
 {
     struct sample *s = new_sample();
@@ -242,8 +255,8 @@ static void add_sample(const char *name, void (*make)(struct buffer *, struct ep
     struct epochs *busy = new_zeros(sizeof *busy);
     make(&s->text, quiet, busy);
     make_image(s);
-    add_row("main", DECIDE, s, quiet, "decide, ", name, ", quiet");
-    add_row("main", DECIDE, s, busy, "decide, ", name, ", busy");
+    add_decide(s, quiet, name, ", quiet");
+    add_decide(s, busy, name, ", busy");
     add_row("main", CHECK, s, NULL, "load, ", name, "");
     add_row("reference", COMPILE, s, NULL, "compile, ", name, "");
     add_row("reference", TEXT, s, NULL, "text, ", name, "");
@@ -255,7 +268,7 @@ static void add_heaviest(void)
     struct epochs *busy = new_zeros(sizeof *busy);
     heaviest(&s->text, busy);
     make_image(s);
-    add_row("main", DECIDE, s, busy, "decide, ", "heaviest", "");
+    add_decide(s, busy, "heaviest", "");
     add_row("main", CHECK, s, NULL, "load, ", "heaviest", "");
 }
 
