@@ -14,7 +14,6 @@ use Rattle.monitor.specs.Decision.{decision, answerOf, visitedIn}
 use Rattle.monitor.specs.declared.decision.Decision.{Decision}
 use Rattle.report.specs.Report.{refusedLine}
 use Rattle.session.specs.Printed.{Session, splitAtRun, textPart, epochPart, next, decisionLine, epochLines, answersTo, printedFor, printed}
-use Rattle.guarantees.specs.Machine.{step}
 use Rattle.guarantees.specs.Output.{answerLine, answerLines, machineLines, machinePrints, fetched}
 use Rattle.guarantees.proofs.Demand3.{same-answer}
 

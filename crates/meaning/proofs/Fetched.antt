@@ -21,7 +21,6 @@ use Rattle.word.specs.Word.{Bytes, wordsOf, between}
 use Rattle.operation.proofs.PartsLaws.{causes-operation, never-operation}
 use Rattle.operation.specs.Fields.{operationOf}
 use Rattle.operation.specs.Parts.{testWord, comparisonWords, endingWord}
-use Rattle.operation.specs.declared.operation.Operation.{Operation}
 use Rattle.layout.proofs.LayoutLaws.{condition-length, part-length, condition-size-limit}
 use Rattle.layout.specs.Layout.{conditionWords, partWords, lineWords, linesWords, ruleWords, constraintWords}
 use Rattle.image.specs.Held.{policyIn}

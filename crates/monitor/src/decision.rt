@@ -36,7 +36,7 @@ pub struct Kept {
 }
 
 // What is kept of the proposed actions: by rising number, each unless a constraint of the words from index `start` up to
-// `end` holds on those kept so far together with it.
+// `end` holds on those kept so far together with it. The end is within an image, so that the words of all trials can be added up.
 fn resolve(
     image: &[u8],
     start: usize,

@@ -1,7 +1,7 @@
 -- What the trials of candidates cost at the most.
 use Prim.Native.Nat.{ℕ, zero, suc, _+_, _*_, _≤_}
 use mathlib.Core.Bool.{Bool, true, false, cond}
-use native.Mathlib.Nat.{add-mul, one-mul, mul-le-mul-right}
+use native.Mathlib.Nat.{add-mul, mul-le-mul-right}
 use native.Mathlib.Omega.{arith}
 use Rattle.policy.specs.Number.{setLimit}
 use Rattle.policy.specs.Set.{has, insert, sizeBelow, size}

@@ -1,17 +1,43 @@
--- How many words a run fetches at the most: as many as there are, and one more where the last of them has a constant.
+-- Laws of the number of words that are fetched. A run fetches at most as many as there are, and one more where the last of them has a
+-- constant.
 use Prim.Native.Nat.{ℕ, zero, suc, _+_, _-_, _≤_}
 use mathlib.Core.Bool.{Bool, true, false, cond}
-use mathlib.Core.List.{List, [], _∷_, _++_}
+use mathlib.Core.List.{List, [], _∷_}
 use mathlib.Core.Path.{_≡_, refl, sym, ap, _∙_}
+use native.Mathlib.Nat.{add-zero}
 use native.Mathlib.Omega.{arith}
-use lib.ListN.{length, getD}
+use lib.ListN.{length}
 use Rattle.policy.specs.Epoch.{Readings}
 use Rattle.policy.specs.declared.set.ActionSet.{ActionSet}
 use Rattle.policy.specs.declared.set.Events.{Events}
-use Rattle.operation.specs.Fields.{skipOf, operationOf}
+use Rattle.operation.specs.Fields.{operationOf}
 use Rattle.operation.specs.declared.operation.Operation.{Operation}
-use Rattle.run.specs.Run.{constantCount, passes, ran, ruleTest, constraintTest, endsConstraint, fetches, upTo, ruleFetches, trialFetches}
-use Rattle.run.proofs.RunLaws.{constants-small}
+use Rattle.run.specs.Run.{constantCount, passes, ran, ruleTest, constraintTest, isNever, endsConstraint, fetchesOf, fetches, upTo, ruleFetches, trialFetches}
+use Rattle.run.proofs.TestLaws.{constants-small}
+
+-- ---- one word more
+
+pub fetches-more : (w : ℕ) (ws : List ℕ) (op : Operation) → op ≡ operationOf w → fetches (w ∷ ws) ≡ fetchesOf op + fetches ws
+unfolding fetches
+fetches-more w ws op is = ap (λ (o : Operation). fetchesOf o + fetches ws) (sym is)
+
+pub fetches-one : (w : ℕ) (op : Operation) → op ≡ operationOf w → fetches (w ∷ []) ≡ fetchesOf op
+unfolding fetches
+fetches-one w op is = fetches-more w [] op is ∙ add-zero (fetchesOf op)
+
+-- up to the end of a constraint
+pub fetches-up-to : (w : ℕ) (ws : List ℕ) (op : Operation) → op ≡ operationOf w
+    → fetches (upTo endsConstraint (w ∷ ws)) ≡ fetchesOf op + cond (isNever op) 0 (fetches (upTo endsConstraint ws))
+unfolding upTo fetches
+fetches-up-to w ws op is =
+    fetches-more w (cond (endsConstraint w) [] (upTo endsConstraint ws)) op is
+    ∙ ap (λ (n : ℕ). fetchesOf op + n) (go (isNever (operationOf w)) ∙ ap (λ (o : Operation). cond (isNever o) 0 (fetches (upTo endsConstraint ws))) (sym is))
+  where
+    go : (b : Bool) → fetches (cond b [] (upTo endsConstraint ws)) ≡ cond b 0 (fetches (upTo endsConstraint ws))
+    go true = refl
+    go false = refl
+
+-- ---- as many as there are
 
 -- the constants of the last word
 abbrev pub lastConstants : List ℕ → ℕ

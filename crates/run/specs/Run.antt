@@ -1,4 +1,5 @@
--- Document 01, "Image": what words do when they are run, by their operations and skips. Any words can be run.
+-- Document 01, "Image": what words do when they are run, by their operations and skips; and document 02, L4: how many are fetched. Any
+-- words can be run.
 use Prim.Native.Nat.{ℕ, zero, suc, _+_}
 use mathlib.Core.Bool.{Bool, true, false, not, cond}
 use mathlib.Core.List.{List, [], _∷_, foldl}

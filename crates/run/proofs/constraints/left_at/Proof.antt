@@ -1,5 +1,6 @@
 use denote.Ref.{now}
-use Rattle.run.proofs.RunLaws.{constants-small, left-within, left-past}
+use Rattle.run.proofs.TestLaws.{constants-small}
+use Rattle.run.proofs.ConstraintLaws.{left-within, left-past}
 use native.Mathlib.Omega.{arith}
 use borrow.Author.Needs.{needs}
 use Rattle.run.proofs.constraints.left_at.Statement.{statement}

@@ -1,7 +1,7 @@
-use Prim.Native.Nat.{ℕ, _+_, _-_, _/_, _≤_, _<_}
+use Prim.Native.Nat.{ℕ, _+_, _-_, _/_, _≤_}
 use mathlib.Core.Bool.{true, false}
 use mathlib.Core.Logic.{_⊎_, inl, inr, ⊎-elim}
-use mathlib.Core.Path.{_≡_, refl, sym, ap, _∙_}
+use mathlib.Core.Path.{_≡_, sym, ap, _∙_}
 use native.Mathlib.Nat.{add-zero}
 use borrow.Author.Tests.{not-true, not-false}
 use lib.ListN.{length, take}
@@ -10,7 +10,9 @@ use Rattle.policy.specs.Epoch.{Readings}
 use Rattle.word.specs.Word.{wordsOf, wordAt, between}
 use Rattle.run.specs.Run.{constraintTest, isNever, endsConstraint, runConstraints, trialFetches}
 use Rattle.run.specs.declared.constraints.Trial.{Trial}
-use Rattle.run.proofs.RunLaws.{before-length, tested-next, tested-past, Going, going, going-at, constraints-turn, member-turn, trial-left}
+use Rattle.run.proofs.RunLaws.{before-length}
+use Rattle.run.proofs.TestLaws.{tested-next, tested-past}
+use Rattle.run.proofs.ConstraintLaws.{Going, going, going-at, constraints-turn, member-turn, trial-left}
 use borrow.Author.Needs.{needs}
 use native.Mathlib.Omega.{arith}
 use Rattle.run.proofs.constraints.run_constraints.Statement.{statement}

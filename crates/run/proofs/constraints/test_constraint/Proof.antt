@@ -1,6 +1,6 @@
 use denote.Ref.{now}
 use Rattle.word.specs.Word.{wordAt}
-use Rattle.run.proofs.RunLaws.{member-tested, constraint-tested}
+use Rattle.run.proofs.TestLaws.{member-tested, constraint-tested}
 use native.Mathlib.Omega.{arith}
 use borrow.Author.Needs.{needs}
 use Rattle.run.proofs.constraints.test_constraint.Statement.{statement}

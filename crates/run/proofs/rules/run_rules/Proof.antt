@@ -5,7 +5,9 @@ use denote.Ref.{now}
 use Rattle.policy.specs.Set.{noActions}
 use Rattle.word.specs.Word.{wordsOf, wordAt, between}
 use Rattle.run.specs.Run.{ruleTest, runRules, ruleFetches}
-use Rattle.run.proofs.RunLaws.{before-length, tested-next, tested-past, proposedFrom, fetchedFrom, rules-turn, rules-fetch, rules-last, rules-last-fetch, rules-end, rules-end-fetch, constants-small}
+use Rattle.run.proofs.RunLaws.{before-length}
+use Rattle.run.proofs.TestLaws.{tested-next, tested-past, constants-small}
+use Rattle.run.proofs.RuleLaws.{proposedFrom, fetchedFrom, rules-turn, rules-fetch, rules-last, rules-last-fetch, rules-end, rules-end-fetch}
 use borrow.Author.Needs.{needs}
 use native.Mathlib.Omega.{arith}
 use Rattle.run.proofs.rules.run_rules.Statement.{statement}

@@ -1,6 +1,6 @@
 use denote.Ref.{now}
 use Rattle.word.specs.Word.{wordAt}
-use Rattle.run.proofs.RunLaws.{present-tested, absent-tested, rule-tested}
+use Rattle.run.proofs.TestLaws.{present-tested, absent-tested, rule-tested}
 use native.Mathlib.Omega.{arith}
 use borrow.Author.Needs.{needs}
 use Rattle.run.proofs.rules.test_rule.Statement.{statement}

@@ -1,4 +1,4 @@
-use Rattle.run.proofs.RunLaws.{proposes-here}
+use Rattle.run.proofs.TestLaws.{proposes-here}
 use mathlib.Core.Path.{_≡_, sym, ap, _∙_}
 use Prim.Native.Nat.{ℕ}
 use Rattle.policy.specs.Set.{insertAction}

@@ -1,6 +1,6 @@
 use denote.Ref.{now}
 use Rattle.word.specs.Word.{wordAt}
-use Rattle.run.proofs.RunLaws.{constant-tested, reading-tested, rest-tested}
+use Rattle.run.proofs.TestLaws.{constant-tested, reading-tested, rest-tested}
 use borrow.Author.Needs.{needs}
 use Rattle.run.proofs.test.compare.Statement.{statement}
 use Rattle.run.proofs.test.compare.Tie as tie

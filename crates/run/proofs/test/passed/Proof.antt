@@ -1,4 +1,4 @@
-use Rattle.run.proofs.RunLaws.{passed-holds, passed-fails}
+use Rattle.run.proofs.TestLaws.{passed-holds, passed-fails}
 use Rattle.operation.specs.Fields.{skipOf}
 use native.Mathlib.Omega.{arith}
 use borrow.Author.Needs.{needs}
