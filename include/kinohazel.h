@@ -173,8 +173,9 @@ static inline struct kinohazel_text_written kinohazel_text(
  *
  * `visited` is how many words of the image the decision fetched: rule words, and never words anew in each trial of a proposed action,
  * constants with their operation. Words that are passed over do not count, nor does the check of the image. It is at most P + 64 * N,
- * where P and N are the rule words and never words of the image, so at most 71,808. A planner of scan times can measure by it what a
- * word takes; P + 64 * N words are then the most that an epoch takes on that image, beside its check and the reading of the line. */
+ * where P and N are the rule words and never words of the image (`image[1] << 4 | image[2] >> 4` and `(image[2] & 15) << 8 | image[3]`),
+ * so at most 71,808. A planner of scan times can measure by it what a word takes; P + 64 * N words are then the most that an epoch
+ * takes on that image, beside its check and the reading of the line. */
 static inline struct kinohazel_decision kinohazel_decide(
     const uint8_t *image, size_t image_length, const uint8_t *line, size_t line_length)
 {
