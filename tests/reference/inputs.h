@@ -84,9 +84,10 @@ void add_epochs_of_largest(struct buffer *to);
 /* An input of the engine with that text and its epochs. */
 void add_largest_input(struct buffer *to);
 
-/* The rules of the largest, and constraints that fail at their last comparison. No decision visits more words than one on this
-   text with the epoch of the largest: all words of the rules; of each constraint 2 to 8 words in the trials of A0 to A6, which
-   fail at a member, and all but the ending in the other 57 trials. */
+/* The rules of the largest, and constraints that fail at their last comparison. With the epoch of the largest a decision on this
+   text visits all words of the rules; of each constraint 2 to 8 words in the trials of A0 to A6, which fail at a member, and all
+   but the ending in the other 57 trials. By reckoning, which nothing proves, no decision visits more; tests/programs asks that none
+   on its made inputs does. */
 enum { MOST_VISITED = RULE_WORDS + CONSTRAINTS * (2 + 3 + 4 + 5 + 6 + 7 + 8 + 57 * (LINE_WORDS - 1)) };
 void add_most_visited(struct buffer *to);
 
