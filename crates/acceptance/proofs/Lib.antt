@@ -1,4 +1,5 @@
 pub mod Accepted
 pub mod Examples
 pub mod Given
+pub mod Patterns
 pub mod Refusals

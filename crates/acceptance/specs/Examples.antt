@@ -1,11 +1,14 @@
 -- Texts and epoch lines of document 01, and lines that are easily read wrong, one row each.
+use Prim.Native.Nat.{ℕ}
 use Prim.Native.String.{String}
 use mathlib.Core.Bool.{true, false}
 use mathlib.Core.List.{List, [], _∷_}
-use lib.IntN.{pos, negsuc}
+use lib.IntN.{ℤ, pos, negsuc}
 use lib.ListN.{set, replicate}
 use Rattle.policy.specs.Fault.{refusal}
 use Rattle.policy.specs.Policy.{Policy}
+use Rattle.policy.specs.Set.{noEvents}
+use Rattle.policy.specs.declared.comparison.Comparison.{Comparison}
 use Rattle.policy.specs.declared.comparison.Operand.{Operand}
 use Rattle.policy.specs.declared.comparison.Relation.{Relation}
 use Rattle.policy.specs.declared.fault.Fault.{Fault}
@@ -30,6 +33,25 @@ worked =
       constraints = record { actions = record { 0 = 3 } ∷ record { 0 = 4 } ∷ []; comparisons = [] } ∷ [];
     }
 
+-- a reading compared with a constant
+abbrev equals : ℕ → ℤ → Comparison
+equals r k = record { reading = record { 0 = r }; relation = Relation.Equal; operand = Operand.Constant k }
+
+-- L5: the words of drives; below them leading zeros and digits of either case
+abbrev patterns : Policy
+patterns =
+    record {
+      rules =
+          record {
+            literals = literalAs false 1 ∷ [];
+            action = record { 0 = 1 };
+            comparisons = equals 0 (pos 32832) ∷ equals 1 (negsuc 0) ∷ equals 2 (negsuc 2147483647) ∷ equals 3 (pos 2147483647) ∷ [];
+          }
+          ∷ [];
+      constraints =
+          record { actions = record { 0 = 1 } ∷ []; comparisons = equals 0 (pos 0) ∷ equals 1 (pos 1) ∷ equals 2 (pos 11259375) ∷ [] } ∷ [];
+    }
+
 pub record TextExample : Type 0 where
   pub text : String
   pub answer : Progress
@@ -43,10 +65,23 @@ texts =
     ∷ row "  never A3 & A4 \n\n# comment\nE1  &  !E2 causes A3 if R0 > 40\n#\nE3 causes A4" (reading 7 worked)
     ∷ row "" (reading 1 emptyPolicy)
     ∷ row "\n \n" (reading 3 emptyPolicy)
+    ∷ row
+    "E1 causes A1 if R0 = 0x8040 , R1 = 0xFFFFFFFF , R2 = 0x80000000 , R3 = 0x7fffffff\nnever A1 if R0 = 0x00 , R1 = 0x00000001 , R2 = 0xAbCdEf\n"
+    (reading 3 patterns)
     ∷ row "E01 causes A1" (stopped (refusal Fault.Syntax 1))
     ∷ row "E1 causes A1 if R0 = -0" (stopped (refusal Fault.Syntax 1))
     ∷ row "E1 causes A1 if R0 = 00" (stopped (refusal Fault.Syntax 1))
+    ∷ row "E1 causes A1 if R0 = 01" (stopped (refusal Fault.Syntax 1))
     ∷ row "E1 causes A1 if R0 = +1" (stopped (refusal Fault.Syntax 1))
+    ∷ row "E1 causes A1 if R0 = 0x" (stopped (refusal Fault.Syntax 1))
+    ∷ row "E1 causes A1 if R0 = 0X1" (stopped (refusal Fault.Syntax 1))
+    ∷ row "E1 causes A1 if R0 = -0x1" (stopped (refusal Fault.Syntax 1))
+    ∷ row "E1 causes A1 if R0 = 0x1G" (stopped (refusal Fault.Syntax 1))
+    ∷ row "E1 causes A1 if R0 = 0x000000001G" (stopped (refusal Fault.Syntax 1))
+    ∷ row "E1 causes A1 if R0 = 0x 1" (stopped (refusal Fault.Syntax 1))
+    ∷ row "E1 causes A1 if R0 = R0x0" (stopped (refusal Fault.Syntax 1))
+    ∷ row "E1 causes A1 if R0x0 = 1" (stopped (refusal Fault.Syntax 1))
+    ∷ row "E0x1 causes A1" (stopped (refusal Fault.Syntax 1))
     ∷ row "\nE causes A1" (stopped (refusal Fault.Syntax 2))
     ∷ row "! E2 causes A1" (stopped (refusal Fault.Syntax 1))
     ∷ row "!!E2 causes A1" (stopped (refusal Fault.Syntax 1))
@@ -67,6 +102,8 @@ texts =
     ∷ row "E1 causes A1 if R0 = R16" (stopped (refusal Fault.OutOfRange 1))
     ∷ row "E1 causes A1 if R0 = 2147483648" (stopped (refusal Fault.OutOfRange 1))
     ∷ row "E1 causes A1 if R0 = -2147483649" (stopped (refusal Fault.OutOfRange 1))
+    ∷ row "E1 causes A1 if R0 = 0x100000000" (stopped (refusal Fault.OutOfRange 1))
+    ∷ row "E1 causes A1 if R0 = 0x000000001" (stopped (refusal Fault.OutOfRange 1))
     ∷ row "E0 & E1 & E2 & E3 & E4 & E5 & E6 & E7 & E100000000000000000000000000000 causes A1" (stopped (refusal Fault.OutOfRange 1))
     ∷ row "E0 & E1 & E2 & E3 & E4 & E5 & E6 & E7 & E8 causes A1" (stopped (refusal Fault.TooManyParts 1))
     ∷ row "E0 & E1 & E2 & E3 & E4 & E5 & E6 & E7 & E7 causes A1" (stopped (refusal Fault.TooManyParts 1))
@@ -89,11 +126,24 @@ epochLines =
     entry "" (Epoch.accepted emptyEpoch)
     ∷ entry " E1 E3 E1  R0=41 " (Epoch.accepted (record { events = record { 0 = 10 }; readings = record { given = record { 0 = 1 }; values = pos 41 ∷ replicate 15 (pos 0) } }))
     ∷ entry "R15=-2147483648 E63" (Epoch.accepted (record { events = record { 0 = 9223372036854775808 }; readings = record { given = record { 0 = 32768 }; values = set (replicate 16 (pos 0)) 15 (negsuc 2147483647) } }))
+    ∷ entry "R0=0x8040 R1=0xFFFFFFFF R2=0x00"
+    (Epoch.accepted (record { events = noEvents; readings = record { given = record { 0 = 7 }; values = pos 32832 ∷ negsuc 0 ∷ replicate 14 (pos 0) } }))
+    ∷ entry "R15=0x80000000 R0=0x7fffffff"
+    (Epoch.accepted (record { events = noEvents; readings = record { given = record { 0 = 32769 }; values = set (pos 2147483647 ∷ replicate 15 (pos 0)) 15 (negsuc 2147483647) } }))
     ∷ entry "E1\nE2" (Epoch.refused Fault.EpochSyntax)
     ∷ entry "E1 \n" (Epoch.refused Fault.EpochSyntax)
     ∷ entry "E1=2" (Epoch.refused Fault.EpochSyntax)
     ∷ entry "R0" (Epoch.refused Fault.EpochSyntax)
     ∷ entry "R0=" (Epoch.refused Fault.EpochSyntax)
+    ∷ entry "R0=0x" (Epoch.refused Fault.EpochSyntax)
+    ∷ entry "R0=0X1" (Epoch.refused Fault.EpochSyntax)
+    ∷ entry "R0=-0x1" (Epoch.refused Fault.EpochSyntax)
+    ∷ entry "R0=0x1G" (Epoch.refused Fault.EpochSyntax)
+    ∷ entry "R0=0x000000001G" (Epoch.refused Fault.EpochSyntax)
+    ∷ entry "R0=0x 1" (Epoch.refused Fault.EpochSyntax)
+    ∷ entry "R0x0=1" (Epoch.refused Fault.EpochSyntax)
+    ∷ entry "E0x1" (Epoch.refused Fault.EpochSyntax)
+    ∷ entry "R0=0x000000001 R1=01" (Epoch.refused Fault.EpochSyntax)
     ∷ entry "=1" (Epoch.refused Fault.EpochSyntax)
     ∷ entry "R0=1=2" (Epoch.refused Fault.EpochSyntax)
     ∷ entry "#" (Epoch.refused Fault.EpochSyntax)
@@ -103,6 +153,9 @@ epochLines =
     ∷ entry "E64" (Epoch.refused Fault.EpochRange)
     ∷ entry "R16=1" (Epoch.refused Fault.EpochRange)
     ∷ entry "R0=2147483648" (Epoch.refused Fault.EpochRange)
+    ∷ entry "R0=0x000000001" (Epoch.refused Fault.EpochRange)
+    ∷ entry "R0=0x1 R0=0x000000001" (Epoch.refused Fault.EpochRange)
+    ∷ entry "R0=1 R0=0x1" (Epoch.refused Fault.DuplicateReading)
     ∷ entry "R0=1 R0=1" (Epoch.refused Fault.DuplicateReading)
     ∷ entry "R0=1 R0=2" (Epoch.refused Fault.DuplicateReading)
     ∷ []

@@ -1,5 +1,6 @@
 -- Each row of the table of examples is as it says.
 use mathlib.Core.List.{map}
+use mathlib.Core.Option.{orElse}
 use mathlib.Core.Path.{_≡_, refl}
 use Rattle.decode.specs.Decode.{addLiteral, addMember, addComparison, decodeWord, decode, isPrefix, inPart, standsAt, keepIf, lineAt}
 use Rattle.decompile.specs.Decompile.{outputOf, decompiled}
@@ -10,10 +11,10 @@ use Rattle.image.specs.Lines.{addLine, afterLine, linesFrom, partLines}
 use Rattle.image.specs.Load.{bodyAnswer, loadWords, load}
 use Rattle.layout.specs.Header.{packHeader}
 use Rattle.layout.specs.Layout.{conditionWords, partWords, lineWords, linesWords, knownForm, checkCount, sum, checkWord, checkWords, headerWord, ruleWords, constraintWords, contentWords, imageWords, imageOf}
-use Rattle.lexer.specs.Byte.{bytes, sameBytes, is}
+use Rattle.lexer.specs.Byte.{bytes, sameBytes, is, hexValue}
 use Rattle.lexer.specs.Lines.{prepend, pieces, linesOf, nonEmpty, tokensOf}
-use Rattle.lexer.specs.Number.{decimalFrom, isEmpty, numberOf, positive, negative, constantOf}
-use Rattle.lexer.specs.Token.{named, literalOf, actionOf, readingOf, relationOf, orElse, operandOf, both, comparisonOf}
+use Rattle.lexer.specs.Number.{decimalFrom, isEmpty, numberOf, positive, negative, decimalOf, patternOf, hexadecimalOf, constantOf}
+use Rattle.lexer.specs.Token.{named, literalOf, actionOf, readingOf, relationOf, operandOf, both, comparisonOf}
 use Rattle.operation.specs.Fields.{pack}
 use Rattle.operation.specs.Operation.{operationFrom, relationFrom}
 use Rattle.operation.specs.Parts.{constantComparison, readingComparison, testOperation, testWord, operandWord, constantWords, comparisonWord, comparisonWords, endingWord}
@@ -28,5 +29,5 @@ use Rattle.syntax.specs.Judge.{judgeLine, isComment, tokensAnswer, lineAnswer}
 use Rattle.word.specs.Word.{wordsOf, bytesOf, between}
 
 pub examples-hold : map computed examples ≡ examples
-unfolding addLiteral addMember addComparison decodeWord decode isPrefix inPart standsAt keepIf lineAt outputOf decompiled workedWith imageIn imageFrom examples computed wellSized countsFit sumsToZero rulesIn constraintsIn linesIn policyIn addLine afterLine linesFrom partLines bodyAnswer loadWords load packHeader conditionWords partWords lineWords linesWords knownForm checkCount sum checkWord checkWords headerWord ruleWords constraintWords contentWords imageWords imageOf bytes sameBytes is prepend pieces linesOf nonEmpty tokensOf decimalFrom isEmpty numberOf positive negative constantOf named literalOf actionOf readingOf relationOf orElse operandOf both comparisonOf pack operationFrom relationFrom constantComparison readingComparison testOperation testWord operandWord constantWords comparisonWord comparisonWords endingWord digits decimal isReadingValue testNumber operandInRange comparisonInRange endingInRange inRange crowded repeats repeated valid headsOf comparisonsOf endingOf all any constantToken literalToken actionToken readingToken relationToken operandToken comparisonTokens joinedBy headTokens conditionTokens lineTokens lineBytes linesText textOf advance readLine readText policyOf comparisonsFrom conditionFrom joined ruleAfter constraintAfter after lineFrom judgeLine isComment tokensAnswer lineAnswer wordsOf bytesOf between
+unfolding addLiteral addMember addComparison decodeWord decode isPrefix inPart standsAt keepIf lineAt outputOf decompiled workedWith imageIn imageFrom examples computed wellSized countsFit sumsToZero rulesIn constraintsIn linesIn policyIn addLine afterLine linesFrom partLines bodyAnswer loadWords load packHeader conditionWords partWords lineWords linesWords knownForm checkCount sum checkWord checkWords headerWord ruleWords constraintWords contentWords imageWords imageOf bytes sameBytes is prepend pieces linesOf nonEmpty tokensOf decimalFrom isEmpty numberOf positive negative hexValue decimalOf patternOf hexadecimalOf constantOf named literalOf actionOf readingOf relationOf orElse operandOf both comparisonOf pack operationFrom relationFrom constantComparison readingComparison testOperation testWord operandWord constantWords comparisonWord comparisonWords endingWord digits decimal isReadingValue testNumber operandInRange comparisonInRange endingInRange inRange crowded repeats repeated valid headsOf comparisonsOf endingOf all any constantToken literalToken actionToken readingToken relationToken operandToken comparisonTokens joinedBy headTokens conditionTokens lineTokens lineBytes linesText textOf advance readLine readText policyOf comparisonsFrom conditionFrom joined ruleAfter constraintAfter after lineFrom judgeLine isComment tokensAnswer lineAnswer wordsOf bytesOf between
 examples-hold = refl

@@ -1,5 +1,5 @@
 -- Images and what the decompiler makes of them, one row each: the worked example of document 01, a line with every kind of part,
--- and the order of the faults. A buffer is full of dots at first.
+-- patterns, and the order of the faults. A buffer is full of dots at first.
 use Prim.Native.Char.{code}
 use Prim.Native.Nat.{ℕ}
 use Prim.Native.String.{String}
@@ -49,6 +49,9 @@ examples =
     ∷ row (imageFrom "# start\n never  A63 & A0 if  R15 != R0 , R10 <= -1\n\n  !E63 & E9  causes A10 if R1 = 0 , R2 < 2147483647 , R3 > R4 , R5 >= -2147483648")
     120 (Decompiled.Text 119)
     "!E63 & E9 causes A10 if R1 = 0 , R2 < 2147483647 , R3 > R4 , R5 >= -2147483648\nnever A63 & A0 if R15 != R0 , R10 <= -1\n."
+    -- L5: a pattern is written in decimal
+    ∷ row (imageFrom "E1 causes A1 if R0 = 0x8040 , R1 = 0xFFFFFFFF , R2 = 0x80000000 , R3 = 0x7fffffff") 75 (Decompiled.Text 74)
+    "E1 causes A1 if R0 = 32832 , R1 = -1 , R2 = -2147483648 , R3 = 2147483647\n."
     -- the empty policy, 01000000 and FF000000, fits an empty buffer
     ∷ row (bytesOf (16777216 ∷ 4278190080 ∷ [])) 0 (Decompiled.Text 0) ""
     ∷ []

@@ -8,9 +8,10 @@ use native.Mathlib.Omega.{arith}
 use borrow.Author.Tests.{eq-eqb, ne-eqb}
 use lib.ListN.{length, length-append}
 use Rattle.policy.specs.List.{all}
-use Rattle.lexer.specs.Byte.{hexValue}
+use Rattle.lexer.specs.Byte.{hexValue, isHexDigit}
 use Rattle.lexer.specs.Lines.{prepend}
-use Rattle.dump.specs.Dump.{isHexDigit, hexNumber, wordIn, Dump, words, notWord, behindWords}
+use Rattle.lexer.specs.Number.{hexNumber}
+use Rattle.dump.specs.Dump.{wordIn, Dump, words, notWord, behindWords}
 
 -- ---- the bytes of an open line before the lines of what follows
 

@@ -10,14 +10,15 @@ use lib.Dec.{ltb}
 use lib.ListN.{length}
 use Rattle.policy.specs.List.{all}
 use Rattle.policy.proofs.ListLaws.{and-in, and-out, true-false}
-use Rattle.lexer.specs.Byte.{hexValue}
+use Rattle.lexer.specs.Byte.{hexValue, isHexDigit}
 use Rattle.lexer.specs.Lines.{prepend, pieces, linesOf}
+use Rattle.lexer.specs.Number.{hexNumber}
 use Rattle.word.specs.Word.{wordLimit, Below, Bytes, wordsOf}
 use Rattle.word.proofs.WordLaws.{words-below, bytes-of-words}
 use Rattle.output.specs.Number.{hexDigit, hexDigits, hexWord, hexDigitValue}
 use Rattle.output.proofs.HexLaws.{word-value}
 use Rattle.report.specs.Report.{wordLine}
-use Rattle.dump.specs.Dump.{isHexDigit, wordIn, words, behindWords, readLine, readDump, next, imageAnswer, dumpAnswer, restored}
+use Rattle.dump.specs.Dump.{wordIn, words, behindWords, readLine, readDump, next, imageAnswer, dumpAnswer, restored}
 use Rattle.dump.proofs.LineLaws.{glue, glue-line, word-some}
 
 -- ---- the digits of a word
@@ -34,12 +35,12 @@ digit-read d h = go (ltb d 10) refl
         rw (e, le-leb 48 (65 + (d - 10)) (omega arith), lt-leb (65 + (d - 10)) 57 (omega arith), le-leb 65 (65 + (d - 10)) (omega arith), le-leb (65 + (d - 10)) 70 (omega arith), le-ltb (65 + (d - 10)) 65 (omega arith))
         (omega arith, omega arith)
 
-digits-hex : (k w : ℕ) → all isHexDigit (hexDigits k w) ≡ true
+pub digits-hex : (k w : ℕ) → all isHexDigit (hexDigits k w) ≡ true
 unfolding all hexDigits
 digits-hex zero w = refl
 digits-hex (suc k) w = and-in (lt-ltb (hexValue (hexDigit (w / 2 ^ (4 * k) % 16))) 16 (digit-read (w / 2 ^ (4 * k) % 16) (omega arith) .0)) (digits-hex k w)
 
-digits-length : (k w : ℕ) → length (hexDigits k w) ≡ k
+pub digits-length : (k w : ℕ) → length (hexDigits k w) ≡ k
 unfolding hexDigits
 digits-length zero w = refl
 digits-length (suc k) w = ap suc (digits-length k w)
@@ -51,8 +52,11 @@ digits-number (suc k) v w =
     ap (λ (x : ℕ). foldl (λ (y b : ℕ). y * 16 + hexValue b) (v * 16 + x) (hexDigits k w)) (digit-read (w / 2 ^ (4 * k) % 16) (omega arith) .1)
     ∙ digits-number k (v * 16 + hexDigitValue (hexDigit (w / 2 ^ (4 * k) % 16))) w
 
+pub word-number : (w : ℕ) → w < wordLimit → hexNumber (hexWord w) ≡ w
+word-number w h = digits-number 8 0 w ∙ word-value w h
+
 word-read : (w : ℕ) → w < wordLimit → wordIn (hexWord w) ≡ some w
-word-read w h = word-some (hexWord w) (digits-length 8 w) (digits-hex 8 w) ∙ ap some (digits-number 8 0 w ∙ word-value w h)
+word-read w h = word-some (hexWord w) (digits-length 8 w) (digits-hex 8 w) ∙ ap some (word-number w h)
 
 -- ---- lines of digits
 

@@ -12,11 +12,12 @@ use lib.Pow.{pow-add, pow-mono}
 use lib.Seq.{take-all, take-append-le}
 use Rattle.policy.specs.List.{all}
 use Rattle.policy.proofs.ListLaws.{and-in, all-append}
-use Rattle.lexer.specs.Byte.{hexValue}
+use Rattle.lexer.specs.Byte.{hexValue, isHexDigit}
 use Rattle.lexer.specs.Lines.{prepend, pieces, linesOf}
+use Rattle.lexer.specs.Number.{hexNumber}
 use Rattle.word.specs.Steps.Write.{fits, putWords}
 use Rattle.word.proofs.WriteLaws.{fits-in, fits-out, put-none, put-out, put-append, put-length}
-use Rattle.dump.specs.Dump.{isHexDigit, hexNumber, wordIn, Dump, words, notWord, next, behindWords, readLine, readDump}
+use Rattle.dump.specs.Dump.{wordIn, Dump, words, notWord, next, behindWords, readLine, readDump}
 use Rattle.dump.specs.Calls.{Held, held, startState, broken, withDigit, withWord, lineEnded, digitTaken, stepped, fed, closed}
 use Rattle.dump.specs.declared.state.State.{State}
 use Rattle.dump.proofs.LineLaws.{glue, glue-line, glue-more, glue-last, glue-begun, restOf, others, word-some, word-none, word-broken, word-over, number-more, behind-both}

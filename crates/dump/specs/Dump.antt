@@ -4,13 +4,13 @@ use Prim.Native.Nat.{ℕ, _+_, _%_, _^_}
 use mathlib.Core.Bool.{Bool, _&&_, cond}
 use mathlib.Core.List.{List, [], _∷_, _++_}
 use mathlib.Core.Option.{Option, none, some}
-use lib.Dec.{eqb, ltb}
+use lib.Dec.{eqb}
 use lib.ListN.{length}
 use Rattle.policy.specs.List.{all}
 use Rattle.word.specs.Word.{bytesOf}
-use Rattle.lexer.specs.Byte.{hexValue}
+use Rattle.lexer.specs.Byte.{isHexDigit}
 use Rattle.lexer.specs.Lines.{linesOf}
-use Rattle.output.specs.Number.{valueIn}
+use Rattle.lexer.specs.Number.{hexNumber}
 use Rattle.image.specs.Held.{policyIn}
 use Rattle.image.specs.Load.{load}
 use Rattle.image.specs.declared.load.Loaded.{Loaded}
@@ -18,13 +18,6 @@ use Rattle.printer.specs.Printed.{textOf}
 use Rattle.report.specs.Report.{imageRefusalLine, notWordLine}
 
 -- ---- the words
-
-abbrev pub isHexDigit : ℕ → Bool
-isHexDigit b = ltb (hexValue b) 16
-
--- the value of hexadecimal digits, the most significant first
-abbrev pub hexNumber : List ℕ → ℕ
-hexNumber ds = valueIn 16 hexValue ds
 
 -- the word that a line stands for
 unfoldable pub wordIn : List ℕ → Option ℕ

@@ -2,7 +2,7 @@
 use Prim.Native.Nat.{ℕ, suc, _<_, _≤_}
 use mathlib.Core.Bool.{Bool, true, false, not, _&&_, _||_, cond, or-true, or-assoc, or-false}
 use mathlib.Core.List.{List, [], _∷_, foldl}
-use mathlib.Core.Option.{Option, none, some}
+use mathlib.Core.Option.{Option, none, some, orElse}
 use mathlib.Core.Path.{_≡_, refl, sym, ap, ap₂, _∙_}
 use native.Mathlib.Omega.{arith}
 use borrow.Author.Tests.{eqb-true, eq-eqb, ne-eqb, ltb-true, lt-ltb, le-ltb}
@@ -27,7 +27,7 @@ use Rattle.lexer.specs.Byte.{isSpace}
 use Rattle.epoch_line.specs.Epoch.{Item, event, value, itemOf, itemsOf, itemInRange, givenBy, addItem, emptyEpoch, judgeEpoch, refused, accepted, epochLimit, readEpoch, atEquals, assignmentOf}
 use Rattle.epoch_line.specs.Steps.EpochScan.{itemWithin, itemEnding, itemAt, Scanned, scanned, addScanned, flagged, takeItem, finishRead, itemsRead, epochFrom}
 use Rattle.epoch_line.specs.Answer.{refusedRead, acceptedRead, answerRead, epochRead}
-use Rattle.lexer.specs.Token.{Token, named, orElse, both}
+use Rattle.lexer.specs.Token.{Token, named, both}
 use Rattle.lexer.specs.Lines.{tokensOf, takeWhile, skipWhile, inLine, restOfLine}
 use Rattle.lexer.specs.Number.{isEmpty}
 use Rattle.lexer.specs.Steps.Scan.{inToken, tokenAt, tokensAt}

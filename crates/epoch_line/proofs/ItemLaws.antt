@@ -2,7 +2,7 @@
 use Prim.Native.Nat.{ℕ, _+_, _<_, _≤_}
 use mathlib.Core.Bool.{Bool, true, false, _&&_, cond}
 use mathlib.Core.List.{List, [], _∷_}
-use mathlib.Core.Option.{Option, none, some}
+use mathlib.Core.Option.{Option, none, some, orElse}
 use mathlib.Core.Path.{_≡_, refl, sym, ap, ap₂, _∙_}
 use native.Mathlib.Omega.{arith}
 use borrow.Author.Tests.{eqb-true, eq-eqb, ne-eqb}
@@ -26,7 +26,7 @@ use Rattle.lexer.proofs.KeywordLaws.{token-end, token-here, token-past}
 use Rattle.lexer.specs.Byte.{isDigit}
 use Rattle.epoch_line.specs.Epoch.{Item, event, value, Halves, toLeft, atEquals, assignmentOf, itemOf, itemInRange}
 use Rattle.epoch_line.specs.Steps.EpochScan.{itemWithin, itemEnding, valueItem, valueAt, itemAt}
-use Rattle.lexer.specs.Token.{named, orElse, both}
+use Rattle.lexer.specs.Token.{named, both}
 use Rattle.lexer.specs.Number.{numberOf, constantOf}
 use Rattle.token.specs.Steps.PartAt.{constantEnding, constantAt}
 use Rattle.lexer.specs.Steps.Scan.{inToken, tokenAt, clip, numberEnding, digitsAt, nameAt}

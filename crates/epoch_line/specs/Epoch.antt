@@ -4,7 +4,7 @@ use Prim.Native.Char.{code}
 use Prim.Native.Nat.{ℕ}
 use mathlib.Core.Bool.{Bool, not, _&&_, cond}
 use mathlib.Core.List.{List, [], _∷_, foldl}
-use mathlib.Core.Option.{Option, none, some, Option·map}
+use mathlib.Core.Option.{Option, none, some, Option·map, orElse}
 use lib.Dec.{eqb, ltb}
 use lib.IntN.{ℤ, pos}
 use lib.ListN.{length, set, replicate}
@@ -14,7 +14,7 @@ use Rattle.policy.specs.List.{all, any}
 use Rattle.policy.specs.Number.{setLimit, readingLimit}
 use Rattle.policy.specs.Set.{noEvents, insertEvent, noReadings, insertReading}
 use Rattle.policy.specs.declared.fault.Fault.{Fault}
-use Rattle.lexer.specs.Token.{Token, named, orElse, both}
+use Rattle.lexer.specs.Token.{Token, named, both}
 use Rattle.lexer.specs.Lines.{tokensOf}
 use Rattle.lexer.specs.Number.{constantOf}
 

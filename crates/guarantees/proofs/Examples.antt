@@ -1,5 +1,6 @@
 -- Each row of the table of examples is as document 01 says.
 use mathlib.Core.List.{map}
+use mathlib.Core.Option.{orElse}
 use mathlib.Core.Path.{_≡_, refl}
 use Rattle.policy.specs.List.{all, any}
 use Rattle.policy.specs.Set.{has, insert, below}
@@ -9,10 +10,10 @@ use Rattle.policy.specs.Line.{headsOf, comparisonsOf, endingOf, constantCount}
 use Rattle.policy.specs.Limits.{isReadingValue, testNumber, operandInRange, comparisonInRange, endingInRange, inRange, crowded, repeats, repeated, valid}
 use Rattle.pdl.specs.Greedy.{tryNext, keptBelow, greedy}
 use Rattle.pdl.specs.Yield.{literalHolds, ruleHolds, propose, proposals, constraintHolds, conflict, resolve, accepted, cancelled}
-use Rattle.lexer.specs.Byte.{bytes, sameBytes, is, classOf}
-use Rattle.lexer.specs.Number.{decimalFrom, isEmpty, numberOf, positive, negative, constantOf}
+use Rattle.lexer.specs.Byte.{bytes, sameBytes, is, classOf, hexValue}
+use Rattle.lexer.specs.Number.{decimalFrom, isEmpty, numberOf, positive, negative, decimalOf, patternOf, hexadecimalOf, constantOf}
 use Rattle.lexer.specs.Lines.{prepend, pieces, linesOf, nonEmpty, tokensOf, takeWhile, skipWhile, restOfLine, lineEnd}
-use Rattle.lexer.specs.Token.{named, literalOf, actionOf, readingOf, relationOf, orElse, operandOf, both, comparisonOf}
+use Rattle.lexer.specs.Token.{named, literalOf, actionOf, readingOf, relationOf, operandOf, both, comparisonOf}
 use Rattle.syntax.specs.Grammar.{comparisonsFrom, conditionFrom, joined, ruleAfter, constraintAfter, after, lineFrom}
 use Rattle.syntax.specs.Judge.{judgeLine, isComment, tokensAnswer, lineAnswer}
 use Rattle.rule_text.specs.Text.{advance, readLine, readText, policyOf}
@@ -28,5 +29,5 @@ use Rattle.guarantees.specs.Machine.{answer, step, steps, machine}
 use Rattle.guarantees.specs.Examples.{examples, computed}
 
 pub examples-hold : map computed examples ≡ examples
-unfolding all any has insert below valueIn readingValue missingHolds valuesRelate eqZ relationHolds operandValue comparisonHolds headsOf comparisonsOf endingOf constantCount isReadingValue testNumber operandInRange comparisonInRange endingInRange inRange crowded repeats repeated valid tryNext keptBelow greedy literalHolds ruleHolds propose proposals constraintHolds conflict resolve accepted cancelled bytes sameBytes is classOf decimalFrom isEmpty numberOf positive negative constantOf prepend pieces linesOf nonEmpty tokensOf takeWhile skipWhile restOfLine lineEnd named literalOf actionOf readingOf relationOf orElse operandOf both comparisonOf comparisonsFrom conditionFrom joined ruleAfter constraintAfter after lineFrom judgeLine isComment tokensAnswer lineAnswer advance readLine readText policyOf toLeft atEquals assignmentOf itemOf itemsOf itemInRange givenBy addItem judgeEpoch readEpoch operationFrom relationFrom wordsOf bytesOf between pack packHeader testOperation testWord operandWord constantWords comparisonWord comparisonWords constantComparison readingComparison endingWord conditionWords partWords lineWords linesWords knownForm checkCount sum checkWord checkWords headerWord ruleWords constraintWords contentWords imageWords imageOf outputOf compiled answer step steps machine examples computed
+unfolding all any has insert below valueIn readingValue missingHolds valuesRelate eqZ relationHolds operandValue comparisonHolds headsOf comparisonsOf endingOf constantCount isReadingValue testNumber operandInRange comparisonInRange endingInRange inRange crowded repeats repeated valid tryNext keptBelow greedy literalHolds ruleHolds propose proposals constraintHolds conflict resolve accepted cancelled bytes sameBytes is classOf decimalFrom isEmpty numberOf positive negative hexValue decimalOf patternOf hexadecimalOf constantOf prepend pieces linesOf nonEmpty tokensOf takeWhile skipWhile restOfLine lineEnd named literalOf actionOf readingOf relationOf orElse operandOf both comparisonOf comparisonsFrom conditionFrom joined ruleAfter constraintAfter after lineFrom judgeLine isComment tokensAnswer lineAnswer advance readLine readText policyOf toLeft atEquals assignmentOf itemOf itemsOf itemInRange givenBy addItem judgeEpoch readEpoch operationFrom relationFrom wordsOf bytesOf between pack packHeader testOperation testWord operandWord constantWords comparisonWord comparisonWords constantComparison readingComparison endingWord conditionWords partWords lineWords linesWords knownForm checkCount sum checkWord checkWords headerWord ruleWords constraintWords contentWords imageWords imageOf outputOf compiled answer step steps machine examples computed
 examples-hold = refl

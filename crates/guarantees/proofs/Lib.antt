@@ -3,6 +3,7 @@ pub mod Demand3
 pub mod Exactness
 pub mod Words
 pub mod Output
+pub mod Patterns
 pub mod Pipe
 pub mod RoundTrip
 pub mod Examples

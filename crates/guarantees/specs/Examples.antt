@@ -26,6 +26,11 @@ refusedUnder n = record { isRefused = true; number = n; location = 0; accepted =
 abbrev worked : String
 worked = "E1 & !E2 causes A3 if R0 > 40\nE3 causes A4\nnever A3 & A4\n"
 
+-- 0100A000, 10400009, then four comparisons with 00008040, FFFFFFFF, 80000000 and 7FFFFFFF, and the action and the last word
+abbrev patterns : List ℕ
+patterns =
+    16818176 ∷ 272629769 ∷ 805306375 ∷ 32832 ∷ 809500677 ∷ 4294967295 ∷ 813694979 ∷ 2147483648 ∷ 817889281 ∷ 2147483647 ∷ 1346371584 ∷ 3707690921 ∷ []
+
 unfoldable pub examples : List Example
 examples =
     -- the five epochs
@@ -57,6 +62,13 @@ examples =
     ∷ answers "E1 causes A1\nE1 causes A2\nE1 causes A3\nE1 causes A4\nnever A1 if R4 != 5\nnever A2 if R4 = R4\nnever A3 if R0 < R4\nnever A4 if R4 > 90 , R0 > 5\n"
     ("E1 R0=5" ∷ "E1 R0=6" ∷ "E1 R0=5 R4=5" ∷ [])
     (some (decided (4 ∷ []) (1 ∷ 2 ∷ 3 ∷ []) ∷ decided [] (1 ∷ 2 ∷ 3 ∷ 4 ∷ []) ∷ decided (1 ∷ 3 ∷ 4 ∷ []) (2 ∷ []) ∷ []))
+    -- L5: patterns stand in the image as they are, and so do the numbers that the writer prints for them
+    ∷ words "E1 causes A1 if R0 = 0x8040 , R1 = 0xFFFFFFFF , R2 = 0x80000000 , R3 = 0x7fffffff\n" (some patterns)
+    ∷ words "E1 causes A1 if R0 = 32832 , R1 = -1 , R2 = -2147483648 , R3 = 2147483647\n" (some patterns)
+    -- a status word, in either form in the text and in the epoch; `0X`, nine digits, and both
+    ∷ answers "E1 causes A1 if R0 = 0x8040\nE1 causes A2 if R0 = 32832\nE1 causes A3 if R0 < 0xFFFFFFFF\nnever A1 & A2 if R1 != 0x0\n"
+    ("E1 R0=0x8040 R1=0" ∷ "E1 R0=32832 R1=0x00000001" ∷ "E1 R0=0x80000000" ∷ "E1 R0=0X8040" ∷ "E1 R0=0x000008040" ∷ "R0=0x000008040 R1=0x" ∷ [])
+    (some (decided (1 ∷ 2 ∷ []) [] ∷ decided (1 ∷ []) (2 ∷ []) ∷ decided (3 ∷ []) [] ∷ refusedUnder 12 ∷ refusedUnder 13 ∷ refusedUnder 12 ∷ []))
     ∷ []
 
 -- what the definitions say of a row

@@ -9,7 +9,6 @@ ghost use Rattle.layout.specs.Steps.Size.{operandSize, conditionSize};
 ghost use Rattle.layout.specs.Steps.Value.{headWords, testsOf, valueWords};
 use line_value::Line;
 use operation::comparison_word;
-use operation::constant_word;
 use operation::ending_word;
 use operation::test_word;
 use policy::COMPARISON_LIMIT;
@@ -18,6 +17,7 @@ use policy::Ending;
 use policy::HEAD_LIMIT;
 use policy::Head;
 use policy::Operand;
+use policy::constant_word;
 use word::at_most;
 use word::put_word;
 

@@ -1,17 +1,18 @@
 -- Laws of reading numbers: clipping early or late is the same, and the digits of a token against the token.
 use Prim.Native.Nat.{ℕ, _+_, _*_, _-_, _<_, _≤_}
-use mathlib.Core.Bool.{Bool, true, false, not, _&&_, _||_, cond, or-true, and-false}
-use mathlib.Core.List.{List, [], _∷_, _++_, append-nil}
+use mathlib.Core.Bool.{Bool, true, false, not, _&&_, _||_, cond, or-true}
+use mathlib.Core.List.{List, [], _∷_}
 use mathlib.Core.Option.{Option, none, some}
 use mathlib.Core.Path.{_≡_, refl, sym, ap, ap₂, _∙_}
 use native.Mathlib.Omega.{arith}
 use borrow.Author.Tests.{eq-eqb, ne-eqb, ltb-true, ltb-false}
 use lib.Dec.{eqb, ltb}
 use lib.ListN.{length, getD, drop}
-use Rattle.policy.proofs.ListLaws.{true-false, and-in}
+use Rattle.policy.proofs.ListLaws.{true-false}
 use Rattle.policy.specs.List.{all}
 use Rattle.lexer.proofs.ClassLaws.{digit-apart}
-use Rattle.lexer.proofs.WhileLaws.{while-end, while-here, while-past, skip-past, drop-skip}
+use Rattle.lexer.proofs.RunLaws.{all-run, run-none, whole-token, same-end, broken-token}
+use Rattle.lexer.proofs.WhileLaws.{while-end, while-here, while-past, skip-past}
 use Rattle.lexer.proofs.KeywordLaws.{token-end, token-here, token-past}
 use Rattle.lexer.specs.Byte.{isDigit}
 use Rattle.lexer.specs.Token.{named}
@@ -59,23 +60,10 @@ digits-end text i v l h = ap (λ (s : List ℕ). clip (decimalFrom v s)) (while-
 
 -- ---- whether the digits are a number
 
-all-run : (p : ℕ → Bool) (s : List ℕ) → all p (takeWhile p s) ≡ true
-unfolding all takeWhile
-all-run p [] = refl
-all-run p (b ∷ s) = go (p b) refl (all-run p s)
-  where
-    go : (x : Bool) → p b ≡ x → all p (takeWhile p s) ≡ true → all p (cond x (b ∷ takeWhile p s) []) ≡ true
-    go true e h = and-in e h
-    go false e h = refl
-
 module _ (text : List ℕ) (at : ℕ) where
   pub digits-none : skipWhile isDigit text at ≤ at → numberOf (takeWhile isDigit (drop at text)) ≡ none
-  unfolding skipWhile numberOf
-  digits-none h = go (takeWhile isDigit (drop at text)) (omega arith)
-    where
-      go : (l : List ℕ) → length l ≤ 0 → numberOf l ≡ none
-      go [] k = refl
-      go (d ∷ ds) k = absurd (omega arith)
+  unfolding numberOf
+  digits-none h = ap numberOf (run-none isDigit text at h)
 
   pub digits-inside : at < skipWhile isDigit text at → at < length text
   unfolding skipWhile
@@ -126,54 +114,10 @@ module _ (text : List ℕ) (at : ℕ) where
 pub digit-inside : (b : ℕ) → isDigit b ≡ true → inToken b ≡ true
 digit-inside b e = rw (digit-apart b 32 (omega arith) e, digit-apart b 10 (omega arith) e)
 
-split-token : (s : List ℕ) → takeWhile inToken s ≡ takeWhile isDigit s ++ takeWhile inToken (drop (length (takeWhile isDigit s)) s)
-unfolding takeWhile
-split-token [] = refl
-split-token (b ∷ s) = go (isDigit b) refl (split-token s)
-  where
-    go : (d : Bool) → isDigit b ≡ d → takeWhile inToken s ≡ takeWhile isDigit s ++ takeWhile inToken (drop (length (takeWhile isDigit s)) s) → takeWhile inToken (b ∷ s) ≡ cond d (b ∷ takeWhile isDigit s) [] ++ takeWhile inToken (drop (length (cond d (b ∷ takeWhile isDigit s) [])) (b ∷ s))
-    go true e h = rw (digit-inside b e) (ap (λ (l : List ℕ). b ∷ l) h)
-    go false e h = refl
-
-next-no-digit : (s : List ℕ) (c : ℕ) (q : List ℕ) → takeWhile inToken (drop (length (takeWhile isDigit s)) s) ≡ c ∷ q → isDigit c ≡ false
-unfolding takeWhile
-next-no-digit [] c q e = let w : _≡_ {A = ℕ} 0 1 = cc in absurd (omega arith)
-next-no-digit (b ∷ s) c q e = go (isDigit b) refl (next-no-digit s c q) e
-  where
-    here : (i : Bool) → cond i (b ∷ takeWhile inToken s) [] ≡ c ∷ q → b ≡ c
-    here true k = cc
-    here false k = let w : _≡_ {A = ℕ} 0 1 = cc in absurd (omega arith)
-
-    go : (d : Bool) → isDigit b ≡ d → (takeWhile inToken (drop (length (takeWhile isDigit s)) s) ≡ c ∷ q → isDigit c ≡ false) → takeWhile inToken (drop (length (cond d (b ∷ takeWhile isDigit s) [])) (b ∷ s)) ≡ c ∷ q → isDigit c ≡ false
-    go true p h k = h k
-    go false p h k = ap isDigit (sym (here (inToken b) k)) ∙ p
-
-all-broken : (ds : List ℕ) (c : ℕ) (q : List ℕ) → isDigit c ≡ false → all isDigit (ds ++ c ∷ q) ≡ false
-unfolding all
-all-broken [] c q e = rw e
-all-broken (d ∷ ds) c q e = rw (all-broken ds c q e) (and-false (isDigit d))
-
-number-broken : (ds : List ℕ) (c : ℕ) (q : List ℕ) → isDigit c ≡ false → numberOf (ds ++ c ∷ q) ≡ none
-unfolding numberOf
-number-broken [] c q e = rw (all-broken [] c q e)
-number-broken (d ∷ ds) c q e = rw (all-broken (d ∷ ds) c q e)
-
--- a token that begins with digits: if it ends behind them they are the whole of it, otherwise it is no number
-whole-number : (s : List ℕ) → isEmpty (takeWhile inToken (drop (length (takeWhile isDigit s)) s)) ≡ true → takeWhile inToken s ≡ takeWhile isDigit s
-unfolding isEmpty
-whole-number s h = split-token s ∙ go (takeWhile inToken (drop (length (takeWhile isDigit s)) s)) h
-  where
-    go : (q : List ℕ) → isEmpty q ≡ true → takeWhile isDigit s ++ q ≡ takeWhile isDigit s
-    go [] e = append-nil (takeWhile isDigit s)
-    go (c ∷ q) e = absurd (true-false e refl)
-
-broken-number : (s : List ℕ) → isEmpty (takeWhile inToken (drop (length (takeWhile isDigit s)) s)) ≡ false → numberOf (takeWhile inToken s) ≡ none
-unfolding isEmpty
-broken-number s h = ap numberOf (split-token s) ∙ go (takeWhile inToken (drop (length (takeWhile isDigit s)) s)) refl h
-  where
-    go : (q : List ℕ) → takeWhile inToken (drop (length (takeWhile isDigit s)) s) ≡ q → isEmpty q ≡ false → numberOf (takeWhile isDigit s ++ q) ≡ none
-    go [] e k = absurd (true-false refl k)
-    go (c ∷ q) e k = number-broken (takeWhile isDigit s) c q (next-no-digit s c q e)
+pub not-number : (l : List ℕ) → all isDigit l ≡ false → numberOf l ≡ none
+unfolding numberOf all
+not-number [] e = absurd (true-false refl e)
+not-number (d ∷ ds) e = rw e
 
 -- ---- the answers
 
@@ -191,18 +135,6 @@ module _ (text : List ℕ) (at : ℕ) where
   unfolding digitsAt leadingDigits numberEnding
   digits-number d q e = rw (e, q)
 
-  behind : tokenAt text (skipWhile isDigit text at) ≡ takeWhile inToken (drop (length (takeWhile isDigit (drop at text))) (drop at text))
-  unfolding tokenAt
-  behind = ap (takeWhile inToken) (drop-skip isDigit text at)
-
-  whole-token : isEmpty (tokenAt text (skipWhile isDigit text at)) ≡ true → tokenAt text at ≡ takeWhile isDigit (drop at text)
-  unfolding tokenAt
-  whole-token h = whole-number (drop at text) (sym (ap isEmpty behind) ∙ h)
-
-  same-end : tokenAt text at ≡ takeWhile isDigit (drop at text) → skipWhile inToken text at ≡ skipWhile isDigit text at
-  unfolding tokenAt skipWhile
-  same-end e = ap (λ (l : List ℕ). at + length l) e
-
   pub number-end : (v e : ℕ) → digitsAt text at ≡ NumberAt.Number v e → skipWhile isDigit text at ≡ e
   unfolding digitsAt numberEnding
   number-end v e = go (numberOf (takeWhile isDigit (drop at text)))
@@ -215,12 +147,11 @@ module _ (text : List ℕ) (at : ℕ) where
   pub token-number : (v e : ℕ) → digitsAt text at ≡ NumberAt.Number v e → isEmpty (tokenAt text e) ≡ true → NumberAt.Number v e ≡ numberAt text at
   unfolding digitsAt numberAt
   token-number v e q h =
-      let w : tokenAt text at ≡ takeWhile isDigit (drop at text) = whole-token (ap (λ (k : ℕ). isEmpty (tokenAt text k)) (number-end v e q) ∙ h) in
-      sym (ap₂ numberEnding (same-end w) (ap numberOf w) ∙ q)
+      let w : isEmpty (tokenAt text (skipWhile isDigit text at)) ≡ true = ap (λ (k : ℕ). isEmpty (tokenAt text k)) (number-end v e q) ∙ h in
+      sym (ap₂ numberEnding (same-end isDigit digit-inside text at w) (ap numberOf (whole-token isDigit digit-inside text at w)) ∙ q)
 
   broken : isEmpty (tokenAt text (skipWhile isDigit text at)) ≡ false → numberOf (tokenAt text at) ≡ none
-  unfolding tokenAt
-  broken h = broken-number (drop at text) (sym (ap isEmpty behind) ∙ h)
+  broken h = not-number (tokenAt text at) (broken-token isDigit digit-inside text at h)
 
   pub token-longer : (v e : ℕ) → digitsAt text at ≡ NumberAt.Number v e → isEmpty (tokenAt text e) ≡ false → NumberAt.Malformed ≡ numberAt text at
   unfolding numberAt numberEnding
@@ -231,7 +162,7 @@ module _ (text : List ℕ) (at : ℕ) where
   token-malformed q = go (isEmpty (tokenAt text (skipWhile isDigit text at))) refl
     where
       go : (b : Bool) → isEmpty (tokenAt text (skipWhile isDigit text at)) ≡ b → NumberAt.Malformed ≡ numberEnding (skipWhile inToken text at) (numberOf (tokenAt text at))
-      go true h = rw (ap numberOf (whole-token h) ∙ ending-none (skipWhile isDigit text at) (numberOf (takeWhile isDigit (drop at text))) q)
+      go true h = rw (ap numberOf (whole-token isDigit digit-inside text at h) ∙ ending-none (skipWhile isDigit text at) (numberOf (takeWhile isDigit (drop at text))) q)
       go false h = rw (broken h)
 
 -- ---- a letter and a number

@@ -5,7 +5,7 @@ use Prim.Native.String as String
 use Prim.Native.String.{String}
 use mathlib.Core.Bool.{Bool, true, false, _&&_, _||_, cond}
 use mathlib.Core.List.{List, [], _∷_}
-use lib.Dec.{eqb, leb}
+use lib.Dec.{eqb, leb, ltb}
 use Rattle.policy.specs.List.{any}
 use Rattle.lexer.specs.declared.class.Class.{Class}
 
@@ -57,3 +57,6 @@ hexValue b =
     cond (isDigit b) (b - code "0")
     (cond (leb (code "A") b && leb b (code "F")) (b - code "A" + 10)
     (cond (leb (code "a") b && leb b (code "f")) (b - code "a" + 10) 16))
+
+abbrev pub isHexDigit : ℕ → Bool
+isHexDigit b = ltb (hexValue b) 16

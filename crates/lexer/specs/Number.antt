@@ -2,12 +2,15 @@
 use Prim.Native.Char.{code}
 use Prim.Native.Nat.{ℕ, zero, suc, _+_, _*_, _-_}
 use mathlib.Core.Bool.{Bool, true, false, not, _&&_, _||_, cond}
-use mathlib.Core.List.{List, [], _∷_}
-use mathlib.Core.Option.{Option, none, some}
-use lib.Dec.{eqb}
+use mathlib.Core.List.{List, [], _∷_, foldl}
+use mathlib.Core.Option.{Option, none, some, orElse}
+use lib.Dec.{eqb, leb}
 use lib.IntN.{ℤ, pos, negsuc}
+use lib.ListN.{length}
+use mir.Syntax.{w32}
+use mir.Val.{toZ}
 use Rattle.policy.specs.List.{all}
-use Rattle.lexer.specs.Byte.{isDigit}
+use Rattle.lexer.specs.Byte.{isDigit, hexValue, isHexDigit}
 
 -- the value of digits, after the value of those before them
 unfoldable pub decimalFrom : ℕ → List ℕ → ℕ
@@ -33,6 +36,37 @@ negative (some zero) = none
 negative (some (suc n)) = some (negsuc n)
 
 -- "A constant may have a minus before a number other than 0."
+unfoldable pub decimalOf : List ℕ → Option ℤ
+decimalOf [] = none
+decimalOf (b ∷ bs) = cond (eqb b (code "-")) (negative (numberOf bs)) (positive (numberOf (b ∷ bs)))
+
+-- ---- document 02, L5: hexadecimal digits, a pattern of 32 bits in two's complement
+
+-- the value of hexadecimal digits, the most significant first
+abbrev pub hexNumber : List ℕ → ℕ
+hexNumber ds = foldl (λ (v d : ℕ). v * 16 + hexValue d) 0 ds
+
+-- of a pattern of 32 bits
+abbrev pub patternDigits : ℕ
+patternDigits = 8
+
+-- what is no value of a reading: the smallest number over them
+abbrev pub tooLarge : ℤ
+tooLarge = pos 2147483648
+
+-- More than eight digits are out of range, whatever their value.
+unfoldable pub patternOf : List ℕ → Option ℤ
+patternOf [] = none
+patternOf (d ∷ ds) =
+    cond (not (all isHexDigit (d ∷ ds))) none
+    (cond (leb (length (d ∷ ds)) patternDigits) (some (toZ w32 (hexNumber (d ∷ ds)))) (some tooLarge))
+
+-- `0x` and such digits
+unfoldable pub hexadecimalOf : List ℕ → Option ℤ
+hexadecimalOf [] = none
+hexadecimalOf (z ∷ []) = none
+hexadecimalOf (z ∷ x ∷ ds) = cond (eqb z (code "0") && eqb x (code "x")) (patternOf ds) none
+
+-- a constant of a text, or the value of a reading in an epoch line
 unfoldable pub constantOf : List ℕ → Option ℤ
-constantOf [] = none
-constantOf (b ∷ bs) = cond (eqb b (code "-")) (negative (numberOf bs)) (positive (numberOf (b ∷ bs)))
+constantOf t = orElse (decimalOf t) (hexadecimalOf t)

@@ -4,7 +4,7 @@ use Prim.Native.Char.{code}
 use Prim.Native.Nat.{ℕ}
 use mathlib.Core.Bool.{Bool, true, false, cond}
 use mathlib.Core.List.{List, [], _∷_}
-use mathlib.Core.Option.{Option, none, some, Option·map}
+use mathlib.Core.Option.{Option, none, some, Option·map, orElse}
 use lib.Dec.{eqb}
 use Rattle.policy.specs.declared.comparison.Comparison.{Comparison}
 use Rattle.policy.specs.declared.comparison.Literal.{Literal}
@@ -51,12 +51,6 @@ relationOf t =
     (cond (is "<=" t) (some Relation.LessOrEqual)
     (cond (is ">" t) (some Relation.Greater)
     (cond (is ">=" t) (some Relation.GreaterOrEqual) none)))))
-
-module _ {A : Type 0} where
-  -- the first, or else the second
-  unfoldable pub orElse : Option A → Option A → Option A
-  orElse none y = y
-  orElse (some x) y = some x
 
 unfoldable pub operandOf : Token → Option Operand
 operandOf t = orElse (Option·map Operand.Reading (readingOf t)) (Option·map Operand.Constant (constantOf t))

@@ -1,12 +1,15 @@
 // The tokens of rule texts and epoch lines: byte classes, keywords and numbers. Start with specs/Lines.antt (lines and tokens) and
 // specs/Token.antt (what a token is read as).
 mod class;
+mod hex;
 mod scan;
 mod table;
 
 pub use class::Class;
 pub use class::class_of;
 pub use class::hex_value;
+pub use hex::hex_digits;
+pub use scan::Digits;
 pub use scan::KeywordAt;
 pub use scan::NumberAt;
 pub use scan::action_at;

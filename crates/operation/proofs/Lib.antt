@@ -1,4 +1,3 @@
-pub mod ConstantLaws
 pub mod FieldLaws
 pub mod HoldsLaws
 pub mod OperationLaws

@@ -11,6 +11,7 @@ use lib.Signed.{leZ}
 use mir.Facts.{toZ-ofZ, ofZ-toZ, fits-ofZ}
 use mir.Syntax.{w32}
 use mir.Val.{SFits, ofZ, toZ, sel}
+use Rattle.policy.proofs.ConstantLaws.{reading-value, reading-limit}
 use Rattle.policy.proofs.ListLaws.{and-in, and-out}
 use Rattle.policy.specs.Limits.{isReadingValue, testNumber, operandInRange, comparisonInRange}
 use Rattle.policy.specs.declared.comparison.Comparison.{Comparison}
@@ -76,11 +77,6 @@ unfolding testNumber
 member-action a k h b = λ i. record { 0 = test-first (Test.Member a) k h b i }
 
 -- ---- comparisons
-
-reading-value : (k : ℤ) → isReadingValue k ≡ true → SFits w32 k
-unfolding isReadingValue
-reading-value (pos n) e = record { sfits = omega (arith, leb-true n 2147483647 (and-out (leZ (negsuc 2147483647) (pos n)) (leb n 2147483647) e .1)) }
-reading-value (negsuc n) e = record { sfits = omega (arith, leb-true n 2147483647 (and-out (leb n 2147483647) (leZ (negsuc n) (pos 2147483647)) e .0)) }
 
 -- the fields of a word that compares, with its skip
 pub record Compares (o : Operation) (w k : ℕ) : Type 0 where
@@ -190,14 +186,6 @@ never-below = pack-below Operation.Never 0 0 0 0 never-fields
 pub test-again : (t : Test) (w k : ℕ) → 0 < opcode (testOperation t) → w < wordLimit → w % 2 ^ 22 ≡ k → operationOf w ≡ testOperation t → testNumber t ≡ firstOf w → testWord t k ≡ w
 unfolding testWord
 test-again t w k o h e p q = ap (λ (y : ℕ). pack (testOperation t) y 0 0 k) q ∙ head-again (testOperation t) w o h p k e
-
-reading-limit : (v : ℕ) → v < wordLimit → isReadingValue (toZ w32 v) ≡ true
-unfolding isReadingValue
-reading-limit v h = go (ltb v 2147483648) refl
-  where
-    go : (b : Bool) → ltb v 2147483648 ≡ b → leZ (negsuc 2147483647) (sel b (pos v) (negsuc (4294967296 - suc v))) && leZ (sel b (pos v) (negsuc (4294967296 - suc v))) (pos 2147483647) ≡ true
-    go true q = let l = ltb-true v 2147483648 q in le-leb v 2147483647 (omega arith)
-    go false q = let l = ltb-false v 2147483648 q in rw (le-leb (4294967296 - suc v) 2147483647 (omega arith))
 
 pub constant-in-range : (w v k : ℕ) → Compares Operation.AgainstConstant w k → v < wordLimit → comparisonInRange (constantComparison w v) ≡ true
 unfolding comparisonInRange operandInRange constantComparison

@@ -12,7 +12,6 @@ pub use operation::Operation;
 pub use operation::comparison_word;
 pub use operation::constant_comparison;
 pub use operation::constant_holds;
-pub use operation::constant_word;
 pub use operation::ending_word;
 pub use operation::reading_comparison;
 pub use operation::reading_holds;

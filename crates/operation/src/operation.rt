@@ -1,7 +1,5 @@
 // What the fields of a word stand for, both ways: operations, relations, constants, and the words of the parts of a line.
 ghost use mathlib.Core.Path.{_≡_};
-ghost use mir.Syntax.{w32};
-ghost use mir.Val.{toZ, ofZ};
 ghost use Prim.Native.Nat.{_<_};
 ghost use Rattle.policy.specs.Comparison.{relationHolds, comparisonHolds};
 ghost use Rattle.operation.specs.Operation.{opcode, relationCode, relationFrom};
@@ -20,6 +18,7 @@ use policy::ReadingSet;
 use policy::Relation;
 use policy::Test;
 use policy::Value;
+use policy::constant_from;
 
 // The operations of document 01, in the order of their numbers, and one for all numbers that are none. It comes last: with it
 // first, a decision took up to 7% more instructions.
@@ -91,28 +90,6 @@ fn relation_code(relation: Relation) -> u32
         Relation::LessOrEqual => 3,
         Relation::Greater => 4,
         Relation::GreaterOrEqual => 5,
-    }
-}
-
-// A word in two's complement.
-fn constant_from(word: u32) -> i32
-    ensures { λ r. ⌜ r ≡ toZ w32 word ⌝ }
-{
-    if word < 0x8000_0000 {
-        word as i32
-    } else {
-        ((word - 0x8000_0000) as i32) + (-2147483648)
-    }
-}
-
-// Two's complement.
-pub fn constant_word(k: i32) -> u32
-    ensures { λ r. ⌜ r ≡ ofZ w32 k ⌝ }
-{
-    if k < 0 {
-        ((k - (-2147483648)) as u32) + 0x8000_0000
-    } else {
-        k as u32
     }
 }
 

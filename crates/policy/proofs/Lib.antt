@@ -1,3 +1,4 @@
+pub mod ConstantLaws
 pub mod FaultLaws
 pub mod FillLaws
 pub mod FlagLaws

@@ -1,6 +1,7 @@
 // The vocabulary of interlock policies: what events, actions and readings are, how sets of them are held, when a
 // comparison holds, and the faults for which an input is refused.
 mod comparison;
+mod constant;
 mod fault;
 mod limit;
 mod line;
@@ -12,6 +13,8 @@ pub use comparison::Literal;
 pub use comparison::Operand;
 pub use comparison::Relation;
 pub use comparison::Value;
+pub use constant::constant_from;
+pub use constant::constant_word;
 pub use fault::Fault;
 pub use fault::Refusal;
 pub use limit::COMPARISON_LIMIT;

@@ -2,7 +2,7 @@
 use Prim.Native.Nat.{ℕ, zero, suc, _+_, _*_, _%_, _<_}
 use mathlib.Core.Bool.{true, false, or-true}
 use mathlib.Core.List.{List, [], _∷_, _++_, foldl}
-use mathlib.Core.Option.{none, some}
+use mathlib.Core.Option.{Option, none, some, orElse}
 use mathlib.Core.Path.{_≡_, refl, sym, ap, _∙_}
 use native.Mathlib.Omega.{arith}
 use borrow.Author.Tests.{le-leb, ne-eqb}
@@ -13,7 +13,7 @@ use Rattle.policy.proofs.ListLaws.{true-false, and-in, and-out, all-append}
 use Rattle.policy.specs.List.{all}
 use Rattle.lexer.specs.Byte.{isDigit}
 use Rattle.lexer.specs.Token.{named}
-use Rattle.lexer.specs.Number.{decimalFrom, isEmpty, numberOf, positive, negative, constantOf}
+use Rattle.lexer.specs.Number.{decimalFrom, isEmpty, numberOf, positive, negative, decimalOf, hexadecimalOf, constantOf}
 use Rattle.output.specs.Number.{digit, digits, decimal, digitValue}
 use Rattle.output.proofs.DecimalLaws.{decimal-by, decimal-value, decimal-lead}
 use Rattle.printer.specs.Printed.{constantToken}
@@ -65,12 +65,16 @@ unfolding named all
 digits-unnamed letter [] h k = refl
 digits-unnamed letter (d ∷ ds) h k = rw (digit-not d letter (and-out (isDigit d) (all isDigit ds) k .0) h)
 
-digits-constant : (ds : List ℕ) → all isDigit ds ≡ true → constantOf ds ≡ positive (numberOf ds)
-unfolding constantOf all positive numberOf
+digits-constant : (ds : List ℕ) → all isDigit ds ≡ true → decimalOf ds ≡ positive (numberOf ds)
+unfolding decimalOf all positive numberOf
 digits-constant [] k = refl
 digits-constant (d ∷ ds) k = rw (digit-not d 45 (and-out (isDigit d) (all isDigit ds) k .0) refl)
 
+decimal-read : (k : ℤ) → decimalOf (constantToken k) ≡ some k
+unfolding constantToken decimalOf positive negative
+decimal-read (pos n) = digits-constant (decimal n) (decimal-all n) ∙ ap positive (number-read n)
+decimal-read (negsuc n) = ap negative (number-read (suc n))
+
 pub constant-read : (k : ℤ) → constantOf (constantToken k) ≡ some k
-unfolding constantToken constantOf positive negative
-constant-read (pos n) = digits-constant (decimal n) (decimal-all n) ∙ ap positive (number-read n)
-constant-read (negsuc n) = ap negative (number-read (suc n))
+unfolding constantOf orElse
+constant-read k = ap (λ (o : Option ℤ). orElse o (hexadecimalOf (constantToken k))) (decimal-read k)

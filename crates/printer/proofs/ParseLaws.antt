@@ -2,7 +2,7 @@
 use Prim.Native.Nat.{_<_}
 use mathlib.Core.Bool.{Bool, true, false, not, cond}
 use mathlib.Core.List.{List, [], _∷_, _++_, map}
-use mathlib.Core.Option.{Option, none, some}
+use mathlib.Core.Option.{Option, none, some, orElse}
 use mathlib.Core.Path.{_≡_, refl, sym, ap, _∙_}
 use native.Mathlib.Omega.{arith}
 use borrow.Author.Tests.{not-true}
@@ -18,7 +18,7 @@ use Rattle.policy.specs.declared.line.Test.{Test}
 use Rattle.policy.specs.declared.number.Action.{Action}
 use Rattle.policy.specs.declared.number.Reading.{Reading}
 use Rattle.lexer.specs.Byte.{bytes, sameBytes, is}
-use Rattle.lexer.specs.Token.{Token, named, literalOf, actionOf, readingOf, relationOf, orElse, operandOf, both, comparisonOf}
+use Rattle.lexer.specs.Token.{Token, named, literalOf, actionOf, readingOf, relationOf, operandOf, both, comparisonOf}
 use Rattle.syntax.specs.Grammar.{comparisonsFrom, conditionFrom, joined, causes, never, ruleAfter, constraintAfter, after, lineFrom}
 use Rattle.syntax.specs.Judge.{accepted, judgeLine, isComment, tokensAnswer, lineAnswer}
 use Rattle.printer.proofs.DecimalLaws.{decimal-all, number-read, digits-unnamed, constant-read}

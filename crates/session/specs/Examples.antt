@@ -37,6 +37,8 @@ unfoldable pub listings : List Example
 listings =
     row "E1 & !E2 causes A3 if R0 > 40\nE3 causes A4\nnever A3 & A4\n"
     "01007003\n10400004\n20800003\n30008001\n00000028\n50C00000\n10C00001\n51000000\n60C00002\n61000001\n70000000\nB9FF0FC9\n"
+    ∷ row "E1 causes A1 if R0 = 0x8040 , R1 = 0xFFFFFFFF , R2 = 0x80000000 , R3 = 0x7fffffff"
+    "0100A000\n10400009\n30000007\n00008040\n30400005\nFFFFFFFF\n30800003\n80000000\n30C00001\n7FFFFFFF\n50400000\nDCFEDFA9\n"
     ∷ row "" "01000000\nFF000000\n"
     ∷ row "# none\nE64 causes A1" "refused 3 line 2\n"
     ∷ []

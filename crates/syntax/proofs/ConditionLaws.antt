@@ -2,7 +2,7 @@
 use Prim.Native.Nat.{ℕ, _<_, _≤_}
 use mathlib.Core.Bool.{Bool, true, false, _&&_, cond, and-assoc, and-true}
 use mathlib.Core.List.{List, [], _∷_, map}
-use mathlib.Core.Option.{Option, none, some}
+use mathlib.Core.Option.{Option, none, some, orElse}
 use mathlib.Core.Path.{_≡_, refl, sym, ap, ap₂, _∙_}
 use native.Mathlib.Omega.{arith}
 use lib.ListN.{length}
@@ -17,9 +17,9 @@ use Rattle.lexer.proofs.WhileLaws.{skip-ge}
 use Rattle.lexer.proofs.TokenLaws.{tokens-after-spaces, tokens-first, tokens-ended, line-past-spaces, line-past-token, line-ended}
 use Rattle.lexer.proofs.KeywordLaws.{token-inside, skip-grows, word-token, word-absent}
 use Rattle.lexer.specs.Byte.{bytes, sameBytes, is, isSpace}
-use Rattle.lexer.specs.Token.{Token, both, compare, named, readingOf, relationOf, orElse, operandOf, comparisonOf}
+use Rattle.lexer.specs.Token.{Token, both, compare, named, readingOf, relationOf, operandOf, comparisonOf}
 use Rattle.syntax.specs.Grammar.{comparisonsFrom, conditionFrom}
-use Rattle.lexer.specs.Number.{isEmpty, constantOf}
+use Rattle.lexer.specs.Number.{isEmpty, decimalOf, hexadecimalOf, constantOf}
 use Rattle.syntax.proofs.FillLaws.{filled, filledCount, filled-all, filled-count-all}
 use Rattle.syntax.specs.Steps.Outcome.{noComparisons, conditionOutcome}
 use Rattle.token.specs.Steps.PartAt.{smallComparison, comparisonEnding, nextAt, comparisonAt}
@@ -111,7 +111,7 @@ solid-relation r [] o x e = let w : _≡_ {A = ℕ} 0 1 = cc (sym e ∙ ap (λ (
 solid-relation r (b ∷ q) o x e = refl
 
 solid-operand : (r q o : Token) (x : Comparison) → comparisonOf r q o ≡ some x → isEmpty o ≡ false
-unfolding comparisonOf operandOf readingOf named orElse constantOf isEmpty
+unfolding comparisonOf operandOf readingOf named orElse decimalOf hexadecimalOf constantOf isEmpty
 solid-operand r q [] x e = let w : _≡_ {A = ℕ} 0 1 = cc (sym e ∙ both-none (λ (f : Operand → Comparison) (y : Operand). f y) (both compare (readingOf r) (relationOf q))) in absurd (omega arith)
 solid-operand r q (b ∷ o) x e = refl
 

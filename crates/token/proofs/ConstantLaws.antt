@@ -1,4 +1,4 @@
--- Laws of reading constants: signs, the range of readings, and clipped numbers.
+-- Laws of reading decimal constants: signs, the range of readings, and clipped numbers.
 use Prim.Native.Nat.{ℕ, zero, suc, _+_, _-_, _<_, _≤_}
 use mathlib.Core.Bool.{Bool, true, false, _&&_, cond}
 use mathlib.Core.List.{List}
@@ -15,8 +15,8 @@ use mir.Facts.{toZ-ofZ}
 use Rattle.policy.specs.Limits.{isReadingValue}
 use Rattle.lexer.proofs.WhileLaws.{skip-past}
 use Rattle.lexer.proofs.KeywordLaws.{token-end, token-here, token-past}
-use Rattle.lexer.specs.Number.{numberOf, positive, negative, constantOf}
-use Rattle.token.specs.Steps.PartAt.{constantEnding, positiveAt, negativeAt, constantAt}
+use Rattle.lexer.specs.Number.{numberOf, positive, negative, decimalOf}
+use Rattle.token.specs.Steps.PartAt.{constantEnding, positiveAt, negativeAt, decimalAt}
 use Rattle.lexer.specs.Steps.Scan.{inToken, tokenAt, clip, numberEnding, numberAt}
 use Rattle.lexer.specs.Lines.{skipWhile}
 use Rattle.lexer.specs.declared.scan.NumberAt.{NumberAt}
@@ -118,24 +118,24 @@ negative-clipped e (some (suc n)) = go (leb n 2147483647) refl
         let l : 2147483647 < n = leb-false n 2147483647 q in
         sym (negative-past (clip (suc n)) e (λ z. omega arith) (omega arith)) ∙ rw (neg-range n, lt-leb n 2147483647 l)
 
--- ---- the constant at a position
+-- ---- the decimal constant at a position
 
 module _ (text : List ℕ) (at : ℕ) where
-  pub constant-end : length text ≤ at → ConstantAt.Malformed ≡ constantAt text at
-  unfolding constantAt constantOf constantEnding
-  constant-end h = rw (token-end text at h)
+  pub decimal-end : length text ≤ at → ConstantAt.Malformed ≡ decimalAt text at
+  unfolding decimalAt decimalOf constantEnding
+  decimal-end h = rw (token-end text at h)
 
-  pub constant-minus : at < length text → getD text at 0 ≡ 45 → negativeAt (numberAt text (at + 1)) ≡ constantAt text at
-  unfolding constantAt numberAt constantOf
-  constant-minus h q =
+  pub decimal-minus : at < length text → getD text at 0 ≡ 45 → negativeAt (numberAt text (at + 1)) ≡ decimalAt text at
+  unfolding decimalAt numberAt decimalOf
+  decimal-minus h q =
       let i : inToken (getD text at 0) ≡ true = ap inToken q in
       negative-clipped (skipWhile inToken text (at + 1)) (numberOf (tokenAt text (at + 1)))
-      ∙ sym (ap₂ constantEnding (skip-past inToken text at h i) (ap constantOf (token-past text at h i) ∙ rw (eq-eqb (getD text at 0) 45 q)))
+      ∙ sym (ap₂ constantEnding (skip-past inToken text at h i) (ap decimalOf (token-past text at h i) ∙ rw (eq-eqb (getD text at 0) 45 q)))
 
-  pub constant-plain : at < length text → (getD text at 0 ≡ 45 → ⊥) → positiveAt (numberAt text at) ≡ constantAt text at
-  unfolding constantAt numberAt constantOf numberOf positive
-  constant-plain h q = positive-clipped (skipWhile inToken text at) (numberOf (tokenAt text at)) ∙ ap (constantEnding (skipWhile inToken text at)) (go (inToken (getD text at 0)) refl)
+  pub decimal-plain : at < length text → (getD text at 0 ≡ 45 → ⊥) → positiveAt (numberAt text at) ≡ decimalAt text at
+  unfolding decimalAt numberAt decimalOf numberOf positive
+  decimal-plain h q = positive-clipped (skipWhile inToken text at) (numberOf (tokenAt text at)) ∙ ap (constantEnding (skipWhile inToken text at)) (go (inToken (getD text at 0)) refl)
     where
-      go : (b : Bool) → inToken (getD text at 0) ≡ b → positive (numberOf (tokenAt text at)) ≡ constantOf (tokenAt text at)
+      go : (b : Bool) → inToken (getD text at 0) ≡ b → positive (numberOf (tokenAt text at)) ≡ decimalOf (tokenAt text at)
       go true e = rw (token-past text at h e, ne-eqb (getD text at 0) 45 q)
       go false e = rw (token-here text at h e)

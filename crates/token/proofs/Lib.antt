@@ -1,3 +1,4 @@
 pub mod ConstantLaws
 pub mod PartLaws
+pub mod PatternLaws
 pub mod SymbolLaws

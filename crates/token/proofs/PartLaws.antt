@@ -3,7 +3,7 @@
 use Prim.Native.Nat.{ℕ, _+_, _≤_}
 use mathlib.Core.Bool.{Bool, true, false, _&&_, cond}
 use mathlib.Core.List.{List, _∷_}
-use mathlib.Core.Option.{Option, none, some, Option·map}
+use mathlib.Core.Option.{Option, none, some, Option·map, orElse}
 use mathlib.Core.Path.{_≡_, refl, sym, ap, ap₂, _∙_}
 use native.Mathlib.Omega.{arith}
 use borrow.Author.Tests.{lt-ltb, le-ltb, ltb-true, ltb-false, eq-eqb, ne-eqb}
@@ -26,7 +26,7 @@ use Rattle.policy.specs.declared.number.ReadingCheck.{ReadingCheck}
 use Rattle.lexer.proofs.DigitLaws.{ending-none}
 use Rattle.lexer.proofs.KeywordLaws.{token-none, token-first, skip-first}
 use Rattle.lexer.specs.Byte.{isSpace}
-use Rattle.lexer.specs.Token.{Token, compare, named, literalAs, literalOf, actionOf, readingOf, relationOf, orElse, operandOf, both, comparisonOf}
+use Rattle.lexer.specs.Token.{Token, compare, named, literalAs, literalOf, actionOf, readingOf, relationOf, operandOf, both, comparisonOf}
 use Rattle.lexer.specs.Number.{isEmpty, constantOf}
 use Rattle.token.specs.Steps.PartAt.{constantEnding, constantAt, relationEnding, relationAt, operandEnding, operandAt, testInRange, smallTest, testOf, headEnding, literalHead, actionHead, headAt, smallComparison, comparisonEnding, comparisonFrom, nextAt, comparisonAt}
 use Rattle.lexer.specs.Steps.Scan.{inToken, tokenAt, clip, clipLimit, numberEnding, nameAt}

@@ -1,14 +1,14 @@
 -- What stands at a position of a text. The token at a position is what is left of it there.
 use Prim.Native.Char.{code}
-use Prim.Native.Nat.{ℕ, _+_, min}
+use Prim.Native.Nat.{ℕ, _+_, _%_, _^_, min}
 use mathlib.Core.Bool.{Bool, not, cond}
 use mathlib.Core.List.{List}
 use mathlib.Core.Option.{Option, none, some}
 use lib.ListN.{length, drop}
-use Rattle.lexer.specs.Byte.{sameBytes, endsToken, isDigit}
+use Rattle.lexer.specs.Byte.{sameBytes, endsToken, isDigit, isHexDigit}
 use Rattle.lexer.specs.Token.{named}
 use Rattle.lexer.specs.Lines.{tokensOf, takeWhile, skipWhile, restOfLine}
-use Rattle.lexer.specs.Number.{numberOf, decimalFrom}
+use Rattle.lexer.specs.Number.{numberOf, decimalFrom, hexNumber}
 use Rattle.lexer.specs.declared.scan.Digits.{Digits}
 use Rattle.lexer.specs.declared.scan.NumberAt.{NumberAt}
 use Rattle.lexer.specs.declared.scan.KeywordAt.{KeywordAt}
@@ -41,6 +41,10 @@ leadingDigits text at = record { value = clip (decimalFrom 0 (takeWhile isDigit 
 -- the number that the digits at a position are
 unfoldable pub digitsAt : List ℕ → ℕ → NumberAt
 digitsAt text at = numberEnding (skipWhile isDigit text at) (numberOf (takeWhile isDigit (drop at text)))
+
+-- the hexadecimal digits at a position: the value of the last eight of them, and the position behind them
+unfoldable pub hexDigitsAt : List ℕ → ℕ → Digits
+hexDigitsAt text at = record { value = hexNumber (takeWhile isHexDigit (drop at text)) % 2 ^ 32; end = skipWhile isHexDigit text at }
 
 -- the number that the token at a position is
 unfoldable pub numberAt : List ℕ → ℕ → NumberAt

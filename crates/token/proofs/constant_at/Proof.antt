@@ -1,48 +1,38 @@
-use mathlib.Core.Path.{ap, _∙_}
+use mathlib.Core.Logic.{_⊎_, ⊎-elim}
+use mathlib.Core.Path.{_≡_, sym, ap, _∙_}
+use native.Mathlib.Omega.{arith}
+use denote.Enum.Declared.{tagOf}
 use denote.Ref.{now}
-use Rattle.token.proofs.ConstantLaws.{constant-end, constant-minus, constant-plain}
-use Rattle.token.specs.Steps.PartAt.{positiveAt, negativeAt}
+use Rattle.token.proofs.ConstantAt.{the-type}
+use Rattle.token.specs.declared.ConstantAt.{ConstantAt}
+use Rattle.token.proofs.PatternLaws.{constant-hexadecimal, constant-decimal}
 use borrow.Author.Needs.{needs}
 use Rattle.token.proofs.constant_at.Statement.{statement}
 use Rattle.token.proofs.constant_at.Tie as tie
 
+decimal-at-requires : tie.Need-decimal-at-requires
+decimal-at-requires c κs = search needs
+
+enum-told : tie.Need-enum-told
+enum-told c = search needs
+
+hexadecimal-at-requires : tie.Need-hexadecimal-at-requires
+hexadecimal-at-requires c κs = search needs
+
 returns : tie.Need-returns
-returns c = constant-end (now (c .before .before .args .text)) (c .before .before .args .at) (c .if1 .taken)
-
-shared-slice-read-if2 : tie.Need-shared-slice-read-if2
-shared-slice-read-if2 c = search needs
-
-add-number-at : tie.Need-add-number-at
-add-number-at c = search needs
-
-number-at-requires : tie.Need-number-at-requires
-number-at-requires c κs = search needs
-
-negative-requires : tie.Need-negative-requires
-negative-requires c κs = search needs
-
-number-at-requires-2 : tie.Need-number-at-requires-2
-number-at-requires-2 c κs = search needs
-
-positive-requires : tie.Need-positive-requires
-positive-requires c κs = search needs
+returns c =
+    let a = c .before .before .before .before .before .args in
+    c .hexadecimal-at .ensures ∙ constant-hexadecimal (now (a .text)) (a .at) (sym (c .before .before .before .decimal-at .ensures) ∙ c .before .enum-told .given .1)
 
 returns-2 : tie.Need-returns-2
-returns-2 c = c .negative .ensures ∙ ap negativeAt (c .before .number-at .ensures) ∙ constant-minus (now (c .before .before .before .before .before .before .args .text)) (c .before .before .before .before .before .before .args .at) (c .before .before .before .before .if1 .left) (c .before .before .if2 .taken)
-
-returns-3 : tie.Need-returns-3
-returns-3 c = c .positive .ensures ∙ ap positiveAt (c .before .number-at2 .ensures) ∙ constant-plain (now (c .before .before .before .before .before .before .args .text)) (c .before .before .before .before .before .before .args .at) (c .before .before .before .before .if1 .left) (c .before .before .if2 .left)
+returns-2 c =
+    let a = c .before .before .before .args in
+    let d = c .before .decimal-at in
+    d .ensures ∙ constant-decimal (now (a .text)) (a .at) (λ q. other (d .result) (d .ensures ∙ q) (c .match .keys2))
+  where
+    other : (x : ConstantAt) → x ≡ ConstantAt.Malformed → (tagOf the-type x ≡ 0) ⊎ (tagOf the-type x ≡ 1) → ⊥
+    other x e t = let m : tagOf the-type x ≡ 2 = ap (tagOf the-type) e in ⊎-elim (λ z. omega arith) (λ z. omega arith) t
 
 pub constant-at-spec : {M : Type 1} → statement M
 constant-at-spec =
-    tie.close
-    (tie.spec
-    returns
-    shared-slice-read-if2
-    add-number-at
-    number-at-requires
-    negative-requires
-    number-at-requires-2
-    positive-requires
-    returns-2
-    returns-3)
+    tie.close (tie.spec decimal-at-requires enum-told hexadecimal-at-requires returns returns-2)

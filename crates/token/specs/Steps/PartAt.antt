@@ -15,7 +15,7 @@ use Rattle.policy.specs.declared.comparison.Relation.{Relation}
 use Rattle.policy.specs.declared.line.Test.{Test}
 use Rattle.lexer.specs.Byte.{isSpace}
 use Rattle.lexer.specs.Token.{Token, literalAs, literalOf, actionOf, relationOf, operandOf, comparisonOf}
-use Rattle.lexer.specs.Number.{constantOf}
+use Rattle.lexer.specs.Number.{decimalOf, patternOf, hexadecimalOf, constantOf}
 use Rattle.lexer.specs.Steps.Scan.{inToken, tokenAt}
 use Rattle.lexer.specs.Lines.{skipWhile}
 use Rattle.lexer.specs.declared.scan.NumberAt.{NumberAt}
@@ -40,8 +40,21 @@ negativeAt NumberAt.Malformed = ConstantAt.Malformed
 negativeAt (NumberAt.Number zero end) = ConstantAt.Malformed
 negativeAt (NumberAt.Number (suc n) end) = constantEnding end (some (negsuc n))
 
+-- the token at a position as a constant, by how it is read
+abbrev constantBy : (List ℕ → Option ℤ) → List ℕ → ℕ → ConstantAt
+constantBy read text at = constantEnding (skipWhile inToken text at) (read (tokenAt text at))
+
+unfoldable pub decimalAt : List ℕ → ℕ → ConstantAt
+decimalAt text at = constantBy decimalOf text at
+
+unfoldable pub patternAt : List ℕ → ℕ → ConstantAt
+patternAt text at = constantBy patternOf text at
+
+unfoldable pub hexadecimalAt : List ℕ → ℕ → ConstantAt
+hexadecimalAt text at = constantBy hexadecimalOf text at
+
 unfoldable pub constantAt : List ℕ → ℕ → ConstantAt
-constantAt text at = constantEnding (skipWhile inToken text at) (constantOf (tokenAt text at))
+constantAt text at = constantBy constantOf text at
 
 -- ---- relations
 

@@ -1,8 +1,8 @@
 use mir.Facts.{fits-ofZ}
 use Rattle.policy.proofs.SignLaws.{below-zero, not-below-zero}
 use native.Mathlib.Omega.{arith}
-use Rattle.operation.proofs.operation.constant_word.Statement.{statement}
-use Rattle.operation.proofs.operation.constant_word.Tie as tie
+use Rattle.policy.proofs.constant.constant_word.Statement.{statement}
+use Rattle.policy.proofs.constant.constant_word.Tie as tie
 
 sub-result : tie.Need-sub-result
 sub-result c = below-zero _ (c .before .fits .k) (c .if1 .taken) .in-range
