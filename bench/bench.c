@@ -167,6 +167,23 @@ static void growth(struct buffer *text, struct epochs *e, int rules, int constra
         scan(e, proposed, 100, 16, 50, 1000);
 }
 
+/* The same line with its values in hexadecimal, of four digits as drives print status words. */
+static void add_hexadecimal_line(struct epochs *e, const char *decimal)
+{
+    char line[EPOCH_BYTES + 1];
+    size_t n = 0;
+    while (*decimal != 0) {
+        line[n++] = *decimal++;
+        if (line[n - 1] == '=') {
+            char *end;
+            n += (size_t)sprintf(line + n, "0x%04lX", (unsigned long)strtol(decimal, &end, 10));
+            decimal = end;
+        }
+    }
+    line[n] = 0;
+    add_line(e, line);
+}
+
 /* Both sides. */
 
 struct side {
@@ -248,18 +265,31 @@ static void add_decide(struct sample *s, struct epochs *e, const char *name, con
     add_row("lines", DECIDE, empty, e, "decide, ", name, kind);
 }
 
-static void add_sample(const char *name, void (*make)(struct buffer *, struct epochs *, struct epochs *))
+/* The row of the busy epochs is returned. */
+static const struct row *add_sample(const char *name, void (*make)(struct buffer *, struct epochs *, struct epochs *))
 {
+    const struct row *busy_row;
     struct sample *s = new_sample();
     struct epochs *quiet = new_zeros(sizeof *quiet);
     struct epochs *busy = new_zeros(sizeof *busy);
     make(&s->text, quiet, busy);
     make_image(s);
     add_decide(s, quiet, name, ", quiet");
+    busy_row = &rows[row_count];
     add_decide(s, busy, name, ", busy");
     add_row("main", CHECK, s, NULL, "load, ", name, "");
     add_row("reference", COMPILE, s, NULL, "compile, ", name, "");
     add_row("reference", TEXT, s, NULL, "text, ", name, "");
+    return busy_row;
+}
+
+/* The decisions of a row once more, with their values in hexadecimal. */
+static void add_hexadecimal(const struct row *r, const char *name)
+{
+    struct epochs *e = new_zeros(sizeof *e);
+    for (int i = 0; i < r->epochs->count; i++)
+        add_hexadecimal_line(e, r->epochs->line[i]);
+    add_decide(r->sample, e, name, ", hex");
 }
 
 static void add_heaviest(void)
@@ -286,7 +316,7 @@ static void add_growth(const char *table, int label, int rules, int constraints,
 static void add_rows(void)
 {
     add_sample("small", small);
-    add_sample("typical", typical);
+    const struct row *typical_busy = add_sample("typical", typical);
     add_sample("largest", largest);
     add_heaviest();
     for (int n = 8; n <= 128; n *= 2)
@@ -295,6 +325,7 @@ static void add_rows(void)
         add_growth("never", n, 64, n, 8);
     for (int n = 0; n <= 64; n = n == 0 ? 1 : n * 2)
         add_growth("proposed", n, 64, 64, n);
+    add_hexadecimal(typical_busy, "typical");
 }
 
 static uint64_t sink;

@@ -159,6 +159,32 @@ static bool take_digits(struct cursor *c, uint32_t *number)
     return true;
 }
 
+/* The value of a hexadecimal digit of either case; 16 for other bytes. */
+static uint32_t digit_value(uint8_t byte)
+{
+    if (byte >= '0' && byte <= '9')
+        return byte - '0';
+    byte |= 'a' - 'A';
+    return byte >= 'a' && byte <= 'f' ? byte - 'a' + 10 : 16;
+}
+
+/* What follows the 0 of a constant in hexadecimal. With over eight digits `in_range` is cleared. */
+static bool take_pattern(struct cursor *c, int32_t *value, bool *in_range)
+{
+    uint32_t word = 0, digit;
+    if (*c->at++ != 'x')
+        return false;
+    const uint8_t *start = c->at;
+    for (; c->at < c->end && (digit = digit_value(*c->at)) < 16; c->at++)
+        word = word << 4 | digit;
+    if (c->at == start || !at_token_end(c))
+        return false;
+    if (c->at - start > 8)
+        *in_range = false;
+    *value = (int32_t)word;
+    return true;
+}
+
 /* A token that is a constant. Out of range, `in_range` is cleared. */
 static bool take_constant(struct cursor *c, int32_t *value, bool *in_range)
 {
@@ -166,8 +192,10 @@ static bool take_constant(struct cursor *c, int32_t *value, bool *in_range)
     bool minus = c->at < c->end && *c->at == '-';
     if (minus)
         c->at++;
-    if (!take_digits(c, &n) || !at_token_end(c) || (minus && n == 0))
+    if (!take_digits(c, &n) || (minus && n == 0))
         return false;
+    if (!at_token_end(c))
+        return n == 0 && take_pattern(c, value, in_range);
     if (n > (minus ? 2147483648u : 2147483647u))
         *in_range = false;
     *value = (int32_t)(minus ? 0 - n : n);

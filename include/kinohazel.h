@@ -26,9 +26,9 @@ extern "C" {
 #endif
 
 #define KINOHAZEL_VERSION_MAJOR 3
-#define KINOHAZEL_VERSION_MINOR 0
+#define KINOHAZEL_VERSION_MINOR 1
 #define KINOHAZEL_VERSION_PATCH 0
-#define KINOHAZEL_VERSION "3.0.0"
+#define KINOHAZEL_VERSION "3.1.0"
 
 /* Limits. A buffer of KINOHAZEL_IMAGE_LIMIT bytes has room for every image, one of KINOHAZEL_WRITTEN_TEXT_LIMIT bytes for the text
  * of every image. */
@@ -140,7 +140,11 @@ static inline uint8_t *kinohazel_lent_out(uint8_t *area, size_t length, uint8_t 
 }
 
 /* Compiles a rule text. On success the image stands at the start of `out` and what lies behind it is unchanged. On a refusal
- * `out` is unchanged. */
+ * `out` is unchanged.
+ *
+ * A constant is a decimal number, as 40 or -1, or a word of 32 bits in two's complement: `0x` and one to eight hexadecimal digits of
+ * either case, leading zeros among them. 0x8040 is 32832, 0xFFFFFFFF is -1 and 0x80000000 is -2147483648. More than eight digits are
+ * out of range (3), and `0x` without a digit is no constant (2). */
 static inline struct kinohazel_compilation kinohazel_compile(
     const uint8_t *text, size_t text_length, uint8_t *out, size_t out_length)
 {
@@ -157,8 +161,8 @@ static inline struct kinohazel_image_check kinohazel_check(const uint8_t *image,
 }
 
 /* Writes the rule text of an image: its rules, then its never lines, each on a line that ends with byte 10, with one space between
- * tokens. It compiles to the image again. On success the text stands at the start of `out` and what lies behind it is unchanged; no
- * byte 0 is put behind it. On a refusal `out` is unchanged. The whole image is checked first. */
+ * tokens and decimal constants. It compiles to the image again. On success the text stands at the start of `out` and what lies behind
+ * it is unchanged; no byte 0 is put behind it. On a refusal `out` is unchanged. The whole image is checked first. */
 static inline struct kinohazel_text_written kinohazel_text(
     const uint8_t *image, size_t image_length, uint8_t *out, size_t out_length)
 {
@@ -170,6 +174,9 @@ static inline struct kinohazel_text_written kinohazel_text(
 /* Decides an epoch line, such as `E1 E3 R0=41` with no line end, on an image. The whole image is checked each time. A reading that the
  * line does not give is missing, which is not 0: a comparison that names it does not hold in a rule and holds in a never line. So
  * leave out the reading of a sensor that is dead, and give 0 only where 0 was measured.
+ *
+ * A value is a constant as in a rule text, so the status word of a drive can be given as its manual prints it: `R3=0x8040`. More than
+ * eight hexadecimal digits are out of range (13), and `0x` without a digit is no value (12).
  *
  * `visited` is how many words of the image the decision fetched: rule words, and never words anew in each trial of a proposed action,
  * constants with their operation. Words that are passed over do not count, nor does the check of the image. It is at most P + 64 * N,

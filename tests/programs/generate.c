@@ -535,6 +535,104 @@ static void write_runs(const char *folder, struct buffer *input, struct tally *t
         }
 }
 
+/* Constants in hexadecimal */
+
+/* Strings of digits of every length up to 40, and about as long as a line and a text may be; `G` behind some of them. */
+static void write_digits(const char *folder, struct buffer *input, struct tally *tally)
+{
+    static const char *const digits[] = {"0", "1", "7", "F", "a"};
+    unsigned count, i;
+    char name[40];
+    for (count = 0; count <= 40; count++) {
+        input->length = 0;
+        add(input, "E1 causes A1\nnever A1 if R0 != 0x");
+        add_times(input, digits[count % 5], count);
+        sprintf(name, "digits_%02u", count);
+        write_case(folder, false, name, input, tally);
+    }
+    for (count = TEXT_BYTES - 1; count <= TEXT_BYTES + 1; count++)
+        for (i = 0; i < 2; i++) {
+            input->length = 0;
+            add(input, "E1 causes A1 if R0 = 0x");
+            add_times(input, "0", count - (unsigned)input->length - 1);
+            add(input, i == 0 ? "1" : "G");
+            sprintf(name, "limit_digits_%u_%u", count, i);
+            write_case(folder, false, name, input, tally);
+        }
+    input->length = 0;
+    add(input, "E1 causes A1 if R0 = 0\nE1 causes A2 if R0 < 0\nE1 causes A3 if R0 > 268435455\nrun\n");
+    for (count = 0; count <= EPOCH_BYTES; count += count == 40 ? 970 : 1)
+        for (i = 0; i < 10; i++) {
+            add(input, "E1 R0=0x");
+            add_times(input, digits[i / 2], count);
+            add(input, i % 2 == 0 ? "\n" : "G\n");
+        }
+    write_case(folder, true, "large_digits", input, tally);
+}
+
+/* Every byte in a constant: a text with it in the place of one of the digits, and lines with it in the place of each byte, before each
+   and behind the last. */
+static void write_pattern_bytes(const char *folder, struct buffer *input, struct tally *tally)
+{
+    static const char constant[] = "0x1234aBcD";
+    const size_t length = sizeof constant - 1;
+    unsigned byte, inserted;
+    size_t at, from;
+    char name[32];
+    for (byte = 0; byte < 256; byte++) {
+        uint8_t one = (uint8_t)byte;
+        input->length = 0;
+        add(input, "E1 causes A1 if R0 = ");
+        from = input->length + 2 + byte % 8;
+        add(input, constant);
+        add(input, " , R1 = 1\n");
+        splice(input, from, from + 1, &one, 1);
+        sprintf(name, "byte_digit_%03u", byte);
+        write_case(folder, false, name, input, tally);
+    }
+    for (inserted = 0; inserted < 2; inserted++) {
+        input->length = 0;
+        add(input, "E1 causes A1 if R0 = 305441741\nE1 causes A2 if R0 < 305441741\nE1 causes A3 if R0 > 305441741\nrun\n");
+        for (at = 0; at < length + inserted; at++)
+            for (byte = 0; byte < 256; byte++) {
+                add(input, "E1 R0=");
+                add_bytes(input, constant, at);
+                add_byte(input, byte);
+                add(input, constant + at + !inserted);
+                add(input, "\n");
+            }
+        write_case(folder, true, inserted == 0 ? "large_bytes_replaced" : "large_bytes_inserted", input, tally);
+    }
+}
+
+/* Every word with one bit, and with all but one, which have letters: each stands in a rule and in a never line, in capital or small
+   letters. Each epoch gives one of these words as R0 and another as R1. */
+static void write_bits(const char *folder, struct buffer *input, struct tally *tally)
+{
+    static const char *const formats[] = {"0x%lX", "0x%lx", "0x%08lx"};
+    char constants[2 * 32][16];
+    unsigned i, form;
+    input->length = 0;
+    for (i = 0; i < ACTIONS; i++) {
+        uint32_t word = UINT32_C(1) << i / 2;
+        sprintf(constants[i], formats[i / 2 % 3], (unsigned long)(i % 2 == 0 ? word : ~word));
+        add_format(input, "E0 causes A%u if R0 <= %s\nnever A%u if R1 = %s\n", i, constants[i], i, constants[i]);
+    }
+    write_case(folder, false, "bits", input, tally);
+    add(input, "run\n");
+    for (i = 0; i < ACTIONS; i++)
+        for (form = 0; form < 4; form++) {
+            uint32_t word = (uint32_t)strtoul(constants[i], NULL, 16);
+            add(input, "E0 R0=");
+            if (form == 3)
+                add_number(input, (long)value_of(word));
+            else
+                add_format(input, formats[form], (unsigned long)word);
+            add_format(input, " R1=%s\n", constants[(i * 5 + form) % ACTIONS]);
+        }
+    write_case(folder, true, "bits", input, tally);
+}
+
 /* Dumps */
 
 /* Every byte in the place of a digit. */
@@ -607,10 +705,7 @@ static void damage_words(struct buffer *image, struct dice *dice)
 static void vary_dump(struct buffer *dump, struct dice *dice)
 {
     unsigned lower = chance(dice, 500) ? 500 : below(dice, 2) * 1000;
-    size_t i;
-    for (i = 0; i < dump->length; i++)
-        if (dump->bytes[i] >= 'A' && dump->bytes[i] <= 'F' && chance(dice, lower))
-            dump->bytes[i] = (uint8_t)(dump->bytes[i] + 'a' - 'A');
+    lower_letters(dump, 0, dice, lower);
     if (chance(dice, 300))
         dump->length--;
 }
@@ -712,6 +807,9 @@ int main(int argc, char **argv)
     write_floods(argv[1], &input, &tally);
     write_long_texts(argv[1], &input, &tally);
     write_runs(argv[1], &input, &tally);
+    write_digits(argv[1], &input, &tally);
+    write_pattern_bytes(argv[1], &input, &tally);
+    write_bits(argv[1], &input, &tally);
     write_bytes(argv[1], &input, &tally);
     write_long_dumps(argv[1], &input, &tally);
     for (i = 0; i < COMPILER_CASES; i++) {

@@ -99,12 +99,14 @@ bool chance(struct dice *dice, unsigned per_mille)
 struct taste make_taste(struct dice *dice)
 {
     static const unsigned universes[] = {2, 4, 6, 10, 64};
-    struct taste taste = {0, 0, 0, 0, 0, 0, 0, 0, 0};
+    static const unsigned shares[] = {0, 0, 300, 1000};
+    struct taste taste = {0, 0, 0, 0, 0, 0, 0, 0, 0, 0};
     taste.events = CHOOSE(dice, universes);
     taste.actions = CHOOSE(dice, universes);
     taste.readings = chance(dice, 300) ? READINGS : 1 + below(dice, 4);
     taste.loose = chance(dice, 300) ? 300 : 0;
     taste.limits = chance(dice, 300) ? 500 : 20;
+    taste.hexadecimal = CHOOSE(dice, shares);
     return taste;
 }
 
@@ -135,8 +137,8 @@ static void add_index(struct buffer *to, struct dice *dice, const struct taste *
         "18446744073709551616", "18446744073709551619", "340282366920938463463374607431768211456",
         "340282366920938463463374607431768211459", "999999999999999999999999999999999999999999999999999999999999"};
     static const char *const odd[] = {
-        "", "00", "01", "063", "0000000000000000000000000", "-1", "-0", "+1", "1.", "0x1", "1e1", "!", "1!", "E1", "x",
-        " 1", "1#", "\xD9\xA1", "1,", "1&", "&", "1:", "1/", "4294967296x", "018446744073709551616"};
+        "", "00", "01", "063", "0000000000000000000000000", "-1", "-0", "+1", "1.", "0x1", "0x", "1e1", "!", "1!", "E1",
+        "x", " 1", "1#", "\xD9\xA1", "1,", "1&", "&", "1:", "1/", "4294967296x", "018446744073709551616"};
     unsigned i;
     if (chance(dice, taste->shape)) {
         add(to, CHOOSE(dice, odd));
@@ -169,7 +171,83 @@ static void add_name(struct buffer *to, struct dice *dice, const struct taste *t
     add_index(to, dice, taste, used, limit);
 }
 
-static void add_constant(struct buffer *to, struct dice *dice, const struct taste *taste)
+void lower_letters(struct buffer *in, size_t from, struct dice *dice, unsigned lower)
+{
+    for (; from < in->length; from++)
+        if (in->bytes[from] >= 'A' && in->bytes[from] <= 'F' && chance(dice, lower))
+            in->bytes[from] = (uint8_t)(in->bytes[from] + 'a' - 'A');
+}
+
+void add_pattern(struct buffer *to, struct dice *dice, uint32_t word, unsigned digits)
+{
+    size_t from = to->length;
+    add_format(to, "0x%0*lX", (int)digits, (unsigned long)word);
+    lower_letters(to, from, dice, below(dice, 3) * 500);
+}
+
+/* A word of any size. */
+static uint32_t any_word(struct dice *dice)
+{
+    uint32_t word = (uint32_t)roll(dice);
+    return word >> below(dice, 32);
+}
+
+/* More than eight digits: a few or many, with a small value or any. */
+static void add_long_pattern(struct buffer *to, struct dice *dice)
+{
+    unsigned digits = 9 + below(dice, chance(dice, 700) ? 9 : 200), zeros = chance(dice, 500) ? below(dice, 20) : 0;
+    size_t from = to->length;
+    add(to, "0x");
+    add_times(to, "0", zeros);
+    while (digits-- > zeros)
+        add_byte(to, (unsigned)(uint8_t)"0123456789ABCDEF"[below(dice, 16)]);
+    lower_letters(to, from, dice, below(dice, 3) * 500);
+}
+
+/* One to ten digits, and a byte that is none before one of them, in the place of one or behind all. */
+static void add_odd_pattern(struct buffer *to, struct dice *dice)
+{
+    static const uint8_t odd[] = {'/', ':', '@', 'G', '`', 'g', 'x', 'X', '-', '.', 0, 0xB0};
+    uint32_t word = any_word(dice);
+    unsigned digits = 1 + below(dice, 10), replaced = below(dice, 2);
+    size_t from = to->length + 2, at;
+    add_pattern(to, dice, word, digits);
+    at = from + below(dice, (unsigned)(to->length - from) + 1);
+    splice(to, at, at < to->length ? at + replaced : at, &CHOOSE(dice, odd), 1);
+}
+
+/* A constant in hexadecimal, or one out of the range, or none at all. */
+static void add_hexadecimal(struct buffer *to, struct dice *dice, const struct taste *taste)
+{
+    static const uint32_t ends[] = {
+        0x7FFFFFFF, 0x80000000, 0x7FFFFFFE, 0x80000001, 0xFFFFFFFF, 0xFFFFFFFE, 0x8040, 0xABCDEF, 1, 0};
+    static const char *const outside[] = {"0x000000000", "0x000000001", "0x07FFFFFFF", "0x080000000", "0x0ffffffff",
+        "0x100000000", "0x100000001", "0xFFFFFFFFF", "0x0000000000000000", "0x10000000000000000", "0x10000000000000001"};
+    static const char *const odd[] = {"0x", "0X1", "-0x1", "0x1G", "0x123456789G", "0x000000001g", "0XFF", "0x 1", "0 x1",
+        "x1", "00x1", "01x1", "1x1", "+0x1", "0x-1", "0x+1", "-0x", "0x0x1", "0xx", "R0x1", "0x1,", "0x1h", "$FF", "0b1"};
+    unsigned digits = 1 + below(dice, 8);
+    bool listed = chance(dice, 500);
+    if (chance(dice, taste->shape)) {
+        if (listed)
+            add(to, CHOOSE(dice, odd));
+        else
+            add_odd_pattern(to, dice);
+    } else if (chance(dice, taste->range)) {
+        if (listed)
+            add(to, CHOOSE(dice, outside));
+        else
+            add_long_pattern(to, dice);
+    } else if (chance(dice, taste->limits)) {
+        add_pattern(to, dice, CHOOSE(dice, ends), digits);
+    } else if (chance(dice, 100)) {
+        add_pattern(to, dice, any_word(dice), digits);
+    } else {
+        add_pattern(to, dice, below(dice, 9) - 4, digits);
+    }
+}
+
+/* A decimal constant, or one out of the range, or none at all. */
+static void add_decimal(struct buffer *to, struct dice *dice, const struct taste *taste)
 {
     static const char *const ends[] = {
         "2147483647", "-2147483648", "2147483646", "-2147483647", "1000000000", "-1000000000", "-1", "1", "0"};
@@ -179,7 +257,7 @@ static void add_constant(struct buffer *to, struct dice *dice, const struct tast
         "9223372036854775808", "-9223372036854775808", "-9223372036854775809", "18446744073709551616",
         "18446744073709551617", "-18446744073709551617", "99999999999999999999999999999999999999999999999999"};
     static const char *const odd[] = {
-        "-0", "00", "01", "-01", "-", "--1", "+1", "+0", "1-", "", "- 1", "-00", "0x10", "1.0", "R", "-R1", "r1", "A1",
+        "-0", "00", "01", "-01", "-", "--1", "+1", "+0", "1-", "", "- 1", "-00", "0X10", "1.0", "R", "-R1", "r1", "A1",
         "E1", "R01", "02147483648", "-02147483648", "1,", "'1'", "\xE2\x88\x92" "1"};
     if (chance(dice, taste->shape))
         add(to, CHOOSE(dice, odd));
@@ -189,6 +267,14 @@ static void add_constant(struct buffer *to, struct dice *dice, const struct tast
         add(to, CHOOSE(dice, ends));
     else
         add_number(to, (long)below(dice, 9) - 4);
+}
+
+static void add_constant(struct buffer *to, struct dice *dice, const struct taste *taste)
+{
+    if (chance(dice, taste->hexadecimal))
+        add_hexadecimal(to, dice, taste);
+    else
+        add_decimal(to, dice, taste);
 }
 
 static void add_condition(struct buffer *to, struct dice *dice, const struct taste *taste)
@@ -358,13 +444,14 @@ void damage(struct buffer *in, size_t from, struct dice *dice)
     static const char *const tokens[] = {
         "E1", "!E1", "A1", "R1", "E64", "A64", "R16", "&", ",", "causes", "never", "if", "=", "!=", "<", "<=", ">",
         ">=", "0", "-1", "-0", "2147483648", "#", "!", "-", "run", "E1&E2", "E1 & E1", "A1 & A1", "R0=1", "\n", "\n\n",
-        "\r\n", "\nrun\n", "# \n", "&\n", "\t"};
-    static const uint8_t signs[] = "&!,=<>-#EARear019 \n\r\t\0";
+        "\r\n", "\nrun\n", "# \n", "&\n", "\t", "0x1", "0x", "R0=0x8040", "R1=0xffffffff", "R0=0x", "R0=0x000000001"};
+    static const uint8_t signs[] = "&!,=<>-#EARear019xXfFgG \n\r\t\0";
     static const char *const events[] = {"E0", "E1", "!E0", "!E1", "E63", "!E64", "E64", "E4294967296", "E1 & E1", "E01"};
     static const char *const actions[] = {"A0", "A1", "A63", "A64", "A18446744073709551616", "A1 & A1", "A1 & A2", "A00"};
     static const char *const readings[] = {"R0", "R1", "R15", "R16", "R4294967296", "0", "R01", "E1"};
     static const char *const constants[] = {"0", "-1", "R0", "R16", "2147483647", "2147483648", "-2147483648",
-        "-2147483649", "-0", "0 , R0 = 0", "0 , R0 = 0 , R1 != 1 , R2 < 2 , R3 >= -3"};
+        "-2147483649", "-0", "0 , R0 = 0", "0 , R0 = 0 , R1 != 1 , R2 < 2 , R3 >= -3", "0x0", "0xFFFFFFFF", "0x80000000",
+        "0x8040", "0x00000001", "0x000000001", "0x100000000", "0x", "0X1", "-0x1", "0x1G"};
     unsigned times = 1 + (chance(dice, 300) ? below(dice, 6) : 0);
     while (times-- > 0 && in->length > from) {
         size_t at = from + below(dice, (unsigned)(in->length - from)), end = at;
@@ -500,21 +587,52 @@ void add_text(struct buffer *to, struct dice *dice, unsigned kind, bool closed)
     }
 }
 
+static bool is_digit(uint8_t byte)
+{
+    return byte >= '0' && byte <= '9';
+}
+
+/* Whether a constant begins at `at` of a text that was written. */
+static bool at_constant(const uint8_t *text, size_t at)
+{
+    return at > 0 && text[at - 1] == ' ' && (is_digit(text[at]) || text[at] == '-');
+}
+
+/* A text that was written, with `share` of 1000 constants in hexadecimal. */
+static void add_in_hexadecimal(struct buffer *to, const uint8_t *text, size_t length, struct dice *dice, unsigned share)
+{
+    size_t at = 0;
+    while (at < length) {
+        uint32_t word = 0;
+        bool minus = text[at] == '-';
+        if (!at_constant(text, at) || !chance(dice, share)) {
+            add_byte(to, text[at++]);
+            continue;
+        }
+        for (at += minus; at < length && is_digit(text[at]); at++)
+            word = word * 10 + (uint32_t)(text[at] - '0');
+        add_pattern(to, dice, minus ? 0 - word : word, 1 + below(dice, 8));
+    }
+}
+
 void add_variant(struct buffer *to, const uint8_t *text, size_t length, struct dice *dice)
 {
     struct taste taste = {.loose = chance(dice, 500) ? 300 : 0};
+    struct buffer mixed = new_buffer();
     const uint8_t *line;
-    size_t line_length, from = to->length, i, at[2] = {0, 0}, ends[2] = {0, length}; /* rules and constraints */
-    while (ends[0] < length && text[ends[0]] != 'n')
-        next_line(text, length, &ends[0], &line, &line_length);
+    size_t line_length, from = to->length, i, at[2] = {0, 0}, ends[2] = {0, 0}; /* rules and constraints */
+    add_in_hexadecimal(&mixed, text, length, dice, below(dice, 3) * 500);
+    while (ends[0] < mixed.length && mixed.bytes[ends[0]] != 'n')
+        next_line(mixed.bytes, mixed.length, &ends[0], &line, &line_length);
     at[1] = ends[0];
+    ends[1] = mixed.length;
     while (at[0] < ends[0] || at[1] < ends[1]) {
         unsigned part = at[0] == ends[0] ? 1 : at[1] == ends[1] ? 0 : below(dice, 2);
         if (chance(dice, 80)) {
             add_skipped(to, dice, &taste);
             add(to, "\n");
         }
-        next_line(text, length, &at[part], &line, &line_length);
+        next_line(mixed.bytes, mixed.length, &at[part], &line, &line_length);
         add_edge(to, dice, &taste);
         for (i = 0; i < line_length; i++) {
             if (line[i] == ' ')
@@ -527,6 +645,7 @@ void add_variant(struct buffer *to, const uint8_t *text, size_t length, struct d
     }
     if (to->length > from && chance(dice, 300))
         to->length--;
+    free(mixed.bytes);
 }
 
 void add_dump(struct buffer *to, const uint8_t *image, size_t length)
@@ -552,7 +671,8 @@ void add_epoch(struct buffer *to, struct dice *dice, const struct taste *taste)
     static const char *const odd[] = {
         "#", "# E1", "run", "!E1", "A1", "E", "R1", "R1=", "=1", "E1=1", "R0 = 1", "R0= 1", "R0 =1", "E1,E2", "e1",
         "r0=1", "R0==1", "R0=1=1", "R0>1", "R0=R1", "R=1", "E01", "R00=1", "R0=01", "R0=-0", "R0=+1", "R0=--1", "E1\r",
-        "\r", "\t", "E1\tE2", "\x80", "\xFF", "R0=1\x0B", "E-1", "R-1=1", "R01=1", "&", ",", "-", "E1&E2", "never A1"};
+        "\r", "\t", "E1\tE2", "\x80", "\xFF", "R0=1\x0B", "E-1", "R-1=1", "R01=1", "&", ",", "-", "E1&E2", "never A1",
+        "E0x1", "R0x0=1", "R0=0x", "R0=0X1", "R0=-0x1", "R0=0x1G", "R0=0x 1", "R0=0x123456789g", "R0=0x1=1"};
     static const size_t lengths[] = {1022, 1023, 1024, 1024, 1025, 1025, 1026, 1100, 2048, 5000, 70000};
     uint64_t given = 0;
     size_t from = to->length, i;

@@ -45,9 +45,17 @@ struct taste {
     unsigned shape, range, crowd, repeat;
     unsigned loose; /* further spaces */
     unsigned limits; /* constants at the ends of the range */
+    unsigned hexadecimal; /* constants in hexadecimal */
 };
 
 struct taste make_taste(struct dice *dice);
+
+/* Makes `lower` of 1000 letters A to F small, from `from` on. */
+void lower_letters(struct buffer *in, size_t from, struct dice *dice, unsigned lower);
+
+/* A constant in hexadecimal: the digits of a word, with zeros before them if they are fewer than `digits`, and letters of either
+   case. */
+void add_pattern(struct buffer *to, struct dice *dice, uint32_t word, unsigned digits);
 
 /* Lines of a text: the least rules and constraints, and up to how many more. The last line may lack its line end. */
 void add_lines(struct buffer *to, struct dice *dice, const struct taste *taste, unsigned rules, unsigned more_rules,
@@ -62,8 +70,8 @@ void damage(struct buffer *in, size_t from, struct dice *dice);
 /* One rule text, of a kind from 0 to 9. */
 void add_text(struct buffer *to, struct dice *dice, unsigned kind, bool closed);
 
-/* The lines of a text that was written from a policy, as someone else would write them: with other spaces, skipped lines
-   between them, and rules and constraints mixed, each in their order. */
+/* The lines of a text that was written from a policy, as someone else would write them: with other spaces, constants in
+   hexadecimal, skipped lines between them, and rules and constraints mixed, each in their order. */
 void add_variant(struct buffer *to, const uint8_t *text, size_t length, struct dice *dice);
 
 /* The words of an image as the compiler prints them. */

@@ -91,9 +91,43 @@ static bool read_name(struct slice slice, char letter, uint64_t *value)
         && read_number(part(slice, 1, slice.length), value);
 }
 
+/* The value of a hexadecimal digit of either case; 16 if the byte is none. */
+static unsigned digit_value(uint8_t byte)
+{
+    if (byte >= '0' && byte <= '9')
+        return (unsigned)(byte - '0');
+    if (byte >= 'A' && byte <= 'F')
+        return (unsigned)(byte - 'A' + 10);
+    if (byte >= 'a' && byte <= 'f')
+        return (unsigned)(byte - 'a' + 10);
+    return 16;
+}
+
+/* One or more hexadecimal digits. The word is that of the last eight. */
+static bool read_digits(struct slice slice, uint32_t *word)
+{
+    size_t i;
+    *word = 0;
+    for (i = 0; i < slice.length; i++) {
+        unsigned digit = digit_value(slice.bytes[i]);
+        if (digit == 16)
+            return false;
+        *word = *word << 4 | digit;
+    }
+    return slice.length > 0;
+}
+
+/* A constant in hexadecimal has 0x before it. Over eight digits are out of range, whatever their value. */
 static bool read_constant(struct slice slice, int64_t *value)
 {
     uint64_t size;
+    uint32_t word;
+    if (slice.length >= 2 && is(part(slice, 0, 2), "0x")) {
+        if (!read_digits(part(slice, 2, slice.length), &word))
+            return false;
+        *value = slice.length - 2 <= 2 * WORD_BYTES ? value_of(word) : (int64_t)HUGE_NUMBER;
+        return true;
+    }
     if (slice.length > 0 && slice.bytes[0] == '-') {
         if (!read_number(part(slice, 1, slice.length), &size) || size == 0)
             return false;
@@ -980,34 +1014,6 @@ static void print_compiler(const uint8_t *input, size_t length, FILE *out)
         fprintf(out, "%08" PRIX32 "\n", word_at(image, i));
 }
 
-/* The value of a hexadecimal digit of either case; 16 if the byte is none. */
-static unsigned digit_value(uint8_t byte)
-{
-    if (byte >= '0' && byte <= '9')
-        return (unsigned)(byte - '0');
-    if (byte >= 'A' && byte <= 'F')
-        return (unsigned)(byte - 'A' + 10);
-    if (byte >= 'a' && byte <= 'f')
-        return (unsigned)(byte - 'a' + 10);
-    return 16;
-}
-
-/* Exactly eight hexadecimal digits. */
-static bool read_word(struct slice slice, uint32_t *word)
-{
-    size_t i;
-    if (slice.length != 2 * WORD_BYTES)
-        return false;
-    *word = 0;
-    for (i = 0; i < slice.length; i++) {
-        unsigned digit = digit_value(slice.bytes[i]);
-        if (digit == 16)
-            return false;
-        *word = *word << 4 | digit;
-    }
-    return true;
-}
-
 size_t read_dump(const uint8_t *input, size_t length, uint8_t image[DUMP_BYTES], size_t *size)
 {
     struct slice line;
@@ -1016,7 +1022,7 @@ size_t read_dump(const uint8_t *input, size_t length, uint8_t image[DUMP_BYTES],
     *size = 0;
     while (next_line(input, length, &at, &line.bytes, &line.length)) {
         number++;
-        if (!read_word(line, &word))
+        if (line.length != 2 * WORD_BYTES || !read_digits(line, &word))
             return number;
         if (*size == DUMP_BYTES)
             continue;

@@ -1,6 +1,6 @@
 /* Rule texts, images and epochs as document 01 defines them, with the text of an image (request L1 of document 02),
-   readings that are not given (request L2) and the words that a decision visits (request L4), in plain C, written from the
-   documents. The programs and the library are compared with it. */
+   readings that are not given (request L2), the words that a decision visits (request L4) and constants in hexadecimal
+   (request L5), in plain C, written from the documents. The programs and the library are compared with it. */
 #ifndef REFERENCE_H
 #define REFERENCE_H
 

@@ -113,10 +113,7 @@ fn pattern_at(text: &[u8], at: usize) -> ConstantAt
 fn hexadecimal_at(text: &[u8], at: usize) -> ConstantAt
     ensures { λ r. ⌜ r ≡ hexadecimalAt (now (text .entry)) at ⌝ }
 {
-    if text.len() <= at {
-        return ConstantAt::Malformed;
-    }
-    if text.len() - at < 2 {
+    if text.len() <= at || text.len() - at < 2 {
         return ConstantAt::Malformed;
     }
     if text[at] == b'0' && text[at + 1] == b'x' {

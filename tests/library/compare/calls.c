@@ -28,6 +28,15 @@ static void count_location(unsigned long locations[4], struct verdict verdict, c
     locations[verdict.location < rules_end ? verdict.location > 1 : 2 + (verdict.location > rules_end)]++;
 }
 
+static bool has_pattern(const uint8_t *bytes, size_t length)
+{
+    size_t i;
+    for (i = 1; i + 1 < length; i++)
+        if (bytes[i] == '0' && bytes[i + 1] == 'x' && (bytes[i - 1] == ' ' || bytes[i - 1] == '='))
+            return true;
+    return false;
+}
+
 struct verdict compare_filler(const struct filler *filler, const uint8_t *input, size_t length, size_t room)
 {
     static uint8_t output[OUT_BYTES], wanted[OUT_BYTES];
@@ -56,6 +65,8 @@ struct verdict compare_filler(const struct filler *filler, const uint8_t *input,
         fail_on(filler->name, "wrong bytes in the buffer, or changed ones outside the output", input, length);
     if (!same(lent, input, length))
         fail_on(filler->name, "the input was changed", input, length);
+    if (filler == &compiling && verdict.fault == FAULT_NONE)
+        tally.patterns[0] += has_pattern(input, length);
     filler->faults[verdict.fault]++;
     filler->nulls[nulls(lent, lent_out)]++;
     tally.comparisons++;
@@ -148,6 +159,7 @@ static void count_extremes(struct decision decision, const uint8_t *line, size_t
     tally.extremes[ALL_READINGS] += all_readings(&epoch);
     tally.extremes[FAR_EVENT] += far(line, length, "E63");
     tally.extremes[FAR_READING] += far(line, length, "R15=");
+    tally.patterns[1] += has_pattern(line, length);
 }
 
 /* Whether the decision would be another if missing readings were 0: by what the rules propose, and by what the never lines cancel

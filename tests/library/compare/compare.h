@@ -70,6 +70,7 @@ struct tally {
     unsigned long compile_nulls[4], check_nulls[4], text_nulls[4], decide_nulls[4], lines_in_images;
     unsigned long missing[2]; /* proposals, and cancellations, that would be others if missing readings were 0 */
     unsigned long counted[COUNTED];
+    unsigned long patterns[2]; /* accepted texts, and epoch lines, that have 0x behind a space or an equals sign */
     unsigned long written, empty, longest; /* texts that compile to their image again; those of 0 and of 27,968 bytes */
 };
 
@@ -197,6 +198,10 @@ void make_subject(struct subject *subject, const void *text, size_t length);
 /* A line on a subject. */
 struct decision compare_line(const struct subject *subject, const void *line, size_t length);
 
+/* A subject whose text is compared too, and a line on it that has these sets. */
+void begin(struct subject *subject, const struct buffer *text);
+void expect(const struct subject *subject, const struct buffer *line, uint64_t accepted, uint64_t cancelled);
+
 /* The epoch lines of an input from `at` on, and others, full and damaged. */
 void compare_lines(const struct subject *subject, const struct buffer *input, size_t at, struct buffer *work,
     struct dice *dice);
@@ -213,6 +218,11 @@ void compare_each_byte(struct buffer *input);
 
 /* Every number of an event, an action and a reading, and some beyond. */
 void compare_each_number(struct buffer *input, struct buffer *work, struct dice *dice);
+
+/* patterns.c */
+
+/* Constants in hexadecimal: their digits, lengths and bits, and each byte of them. */
+void compare_patterns(struct buffer *input, struct buffer *work, struct dice *dice);
 
 /* header.c */
 

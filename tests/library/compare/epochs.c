@@ -87,7 +87,12 @@ void compare_limit_epochs(struct buffer *input)
         {"E64", FAULT_EPOCH_RANGE}, {"E18446744073709551617", FAULT_EPOCH_RANGE}, {"R16=1", FAULT_EPOCH_RANGE},
         {"R16=1 R16=1", FAULT_EPOCH_RANGE}, {"R0=1 R0=2147483648", FAULT_EPOCH_RANGE},
         {"R0=-2147483649", FAULT_EPOCH_RANGE}, {"R0=1 R0=1 E64", FAULT_EPOCH_RANGE}, {"R0=1 R0=1", FAULT_TWICE},
-        {"R15=1 E1 R15=2", FAULT_TWICE}};
+        {"R15=1 E1 R15=2", FAULT_TWICE}, {"R0=0x80000000 R1=0xffffffff R15=0x00", FAULT_NONE}, {"R0=0x", FAULT_EPOCH_SHAPE},
+        {"R0=0x1 R0=0x123456789 R0=0x", FAULT_EPOCH_SHAPE}, {"R0=0x123456789G", FAULT_EPOCH_SHAPE},
+        {"R16=0x1G", FAULT_EPOCH_SHAPE}, {"R0x0=1", FAULT_EPOCH_SHAPE}, {"E0x1", FAULT_EPOCH_SHAPE},
+        {"R0=0x000000001", FAULT_EPOCH_RANGE}, {"R0=0x1 R0=0x123456789", FAULT_EPOCH_RANGE},
+        {"R0=0x000000001 R0=1", FAULT_EPOCH_RANGE}, {"R0=0x1 R0=0x1 E64", FAULT_EPOCH_RANGE},
+        {"R0=0x1 R0=0x00000001", FAULT_TWICE}, {"R0=1 R0=0x1", FAULT_TWICE}};
     static const char text[] = "E1 & !E2 causes A3 if R0 > 40\nE3 causes A4\nE3 causes A63\nnever A3 & A4\n";
     static struct subject subject;
     size_t i, k;
@@ -133,13 +138,13 @@ void compare_lines_in_image(void)
 
 /* Decisions that take all there can be */
 
-static void begin(struct subject *subject, const struct buffer *text)
+void begin(struct subject *subject, const struct buffer *text)
 {
     compare_compile(text->bytes, text->length, IMAGE_BYTES);
     make_subject(subject, text->bytes, text->length);
 }
 
-static void expect(const struct subject *subject, const struct buffer *line, uint64_t accepted, uint64_t cancelled)
+void expect(const struct subject *subject, const struct buffer *line, uint64_t accepted, uint64_t cancelled)
 {
     struct decision decision = compare_line(subject, line->bytes, line->length);
     if (decision.accepted != accepted || decision.cancelled != cancelled)

@@ -66,6 +66,7 @@ static void run_limits(struct buffer *input, struct buffer *work)
     compare_extremes(input, work);
     compare_each_byte(input);
     compare_each_number(input, work, &dice);
+    compare_patterns(input, work, &dice);
     for (i = 0; i < 2; i++) { /* the largest image and the smallest, with all damages */
         input->length = 0;
         if (i == 0)

@@ -78,7 +78,7 @@ bool report(void)
         [MISSING_IN_CONSTRAINT] = "in a never line",
         [NO_TRIAL] = "nothing is tried"};
     bool all = tally.accepting > 0 && tally.cancelling > 0 && tally.lines_in_images > 0 && tally.empty > 0
-        && tally.longest > 0 && tally.missing[0] > 0 && tally.missing[1] > 0;
+        && tally.longest > 0 && tally.missing[0] > 0 && tally.missing[1] > 0 && tally.patterns[0] > 0 && tally.patterns[1] > 0;
     size_t i, k;
     printf("library: %lu comparisons agree", tally.comparisons);
     for (i = 0; i < COUNT(functions); i++) {
@@ -98,6 +98,7 @@ bool report(void)
         printf("%s %s %lu", i == 0 ? "" : ",", extremes[i], tally.extremes[i]);
         all = all && tally.extremes[i] > 0;
     }
+    printf("; accepted with constants in hexadecimal texts %lu, epoch lines %lu", tally.patterns[0], tally.patterns[1]);
     printf("; missing readings that are not 0 to the rules %lu, to the never lines %lu; words counted where", tally.missing[0],
         tally.missing[1]);
     for (i = 0; i < COUNTED; i++) {
