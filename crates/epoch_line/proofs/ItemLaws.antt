@@ -33,7 +33,7 @@ use Rattle.lexer.specs.Steps.Scan.{inToken, tokenAt, clip, numberEnding, digits
 use Rattle.lexer.specs.Lines.{takeWhile, skipWhile}
 use Rattle.epoch_line.specs.declared.ItemAt.{ItemAt}
 use Rattle.lexer.specs.declared.scan.NumberAt.{NumberAt}
-use Rattle.token.specs.declared.ConstantAt.{ConstantAt}
+use Rattle.token.specs.declared.constant.ConstantAt.{ConstantAt}
 
 -- ---- checked numbers
 

@@ -46,20 +46,19 @@ decimalOf (b ∷ bs) = cond (eqb b (code "-")) (negative (numberOf bs)) (positiv
 abbrev pub hexNumber : List ℕ → ℕ
 hexNumber ds = foldl (λ (v d : ℕ). v * 16 + hexValue d) 0 ds
 
--- of a pattern of 32 bits
+-- the most digits of a pattern
 abbrev pub patternDigits : ℕ
 patternDigits = 8
 
--- what is no value of a reading: the smallest number over them
+-- what more digits are read as: a number that is no value of a reading
 abbrev pub tooLarge : ℤ
 tooLarge = pos 2147483648
 
--- More than eight digits are out of range, whatever their value.
+-- one or more digits; more than eight are out of range, whatever their value
 unfoldable pub patternOf : List ℕ → Option ℤ
 patternOf [] = none
 patternOf (d ∷ ds) =
-    cond (not (all isHexDigit (d ∷ ds))) none
-    (cond (leb (length (d ∷ ds)) patternDigits) (some (toZ w32 (hexNumber (d ∷ ds)))) (some tooLarge))
+    cond (all isHexDigit (d ∷ ds)) (some (cond (leb (length (d ∷ ds)) patternDigits) (toZ w32 (hexNumber (d ∷ ds))) tooLarge)) none
 
 -- `0x` and such digits
 unfoldable pub hexadecimalOf : List ℕ → Option ℤ

@@ -20,7 +20,7 @@ use Rattle.token.specs.Steps.PartAt.{constantEnding, positiveAt, negativ
 use Rattle.lexer.specs.Steps.Scan.{inToken, tokenAt, clip, numberEnding, numberAt}
 use Rattle.lexer.specs.Lines.{skipWhile}
 use Rattle.lexer.specs.declared.scan.NumberAt.{NumberAt}
-use Rattle.token.specs.declared.ConstantAt.{ConstantAt}
+use Rattle.token.specs.declared.constant.ConstantAt.{ConstantAt}
 
 -- ---- the machine's signed values
 

@@ -33,7 +33,7 @@ use Rattle.lexer.specs.Steps.Scan.{inToken, tokenAt, clip, clipLimit, numberEnd
 use Rattle.lexer.specs.Lines.{skipWhile}
 use Rattle.lexer.specs.declared.scan.NumberAt.{NumberAt}
 use Rattle.token.specs.declared.ComparisonAt.{ComparisonAt}
-use Rattle.token.specs.declared.ConstantAt.{ConstantAt}
+use Rattle.token.specs.declared.constant.ConstantAt.{ConstantAt}
 use Rattle.token.specs.declared.HeadAt.{HeadAt}
 use Rattle.token.specs.declared.OperandAt.{OperandAt}
 use Rattle.token.specs.declared.RelationAt.{RelationAt}

@@ -24,7 +24,7 @@ use Rattle.lexer.specs.Steps.Scan.{inToken, tokenAt, hexDigitsAt}
 use Rattle.lexer.specs.Lines.{takeWhile, skipWhile}
 use Rattle.lexer.specs.declared.scan.Digits.{Digits}
 use Rattle.token.specs.Steps.PartAt.{constantEnding, decimalAt, patternAt, hexadecimalAt, constantAt}
-use Rattle.token.specs.declared.ConstantAt.{ConstantAt}
+use Rattle.token.specs.declared.constant.ConstantAt.{ConstantAt}
 
 -- ---- digits as a pattern
 

@@ -19,7 +19,7 @@ use Rattle.lexer.specs.Steps.Scan.{inToken, tokenAt, tokensAt}
 use Rattle.lexer.specs.Lines.{skipWhile}
 use Rattle.epoch_line.specs.declared.EpochRead.{EpochRead}
 use Rattle.epoch_line.specs.declared.ItemAt.{ItemAt}
-use Rattle.token.specs.declared.ConstantAt.{ConstantAt}
+use Rattle.token.specs.declared.constant.ConstantAt.{ConstantAt}
 
 -- ---- one token
 

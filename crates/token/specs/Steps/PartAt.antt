@@ -19,7 +19,7 @@ use Rattle.lexer.specs.Number.{decimalOf, patternOf, hexadecimalOf, constantOf}
 use Rattle.lexer.specs.Steps.Scan.{inToken, tokenAt}
 use Rattle.lexer.specs.Lines.{skipWhile}
 use Rattle.lexer.specs.declared.scan.NumberAt.{NumberAt}
-use Rattle.token.specs.declared.ConstantAt.{ConstantAt}
+use Rattle.token.specs.declared.constant.ConstantAt.{ConstantAt}
 use Rattle.token.specs.declared.RelationAt.{RelationAt}
 use Rattle.token.specs.declared.OperandAt.{OperandAt}
 use Rattle.token.specs.declared.HeadAt.{HeadAt}

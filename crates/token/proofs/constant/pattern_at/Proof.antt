@@ -6,10 +6,10 @@ use mir.Val.{SFits}
 use borrow.Author.Tests.{not-true, not-false}
 use denote.Ref.{now}
 use Rattle.token.proofs.PatternLaws.{pattern-none, pattern-broken, pattern-value, pattern-over}
-use Rattle.token.specs.declared.ConstantAt.{ConstantAt}
+use Rattle.token.specs.declared.constant.ConstantAt.{ConstantAt}
 use borrow.Author.Needs.{needs}
-use Rattle.token.proofs.pattern_at.Statement.{statement}
-use Rattle.token.proofs.pattern_at.Tie as tie
+use Rattle.token.proofs.constant.pattern_at.Statement.{statement}
+use Rattle.token.proofs.constant.pattern_at.Tie as tie
 
 hex-digits-requires : tie.Need-hex-digits-requires
 hex-digits-requires c κs = search needs

@@ -5,8 +5,8 @@ use Rattle.token.specs.Steps.PartAt.{negativeAt}
 use Rattle.lexer.specs.declared.scan.NumberAt.{NumberAt}
 use native.Mathlib.Omega.{arith}
 use borrow.Author.Needs.{needs}
-use Rattle.token.proofs.negative.Statement.{statement}
-use Rattle.token.proofs.negative.Tie as tie
+use Rattle.token.proofs.constant.negative.Statement.{statement}
+use Rattle.token.proofs.constant.negative.Tie as tie
 
 enum-known-number : tie.Need-enum-known-number
 enum-known-number c = search needs

@@ -7,8 +7,8 @@ use denote.Ref.{now}
 use lib.ListN.{length}
 use Rattle.token.proofs.PatternLaws.{hexadecimal-other, hexadecimal-pattern}
 use borrow.Author.Needs.{needs}
-use Rattle.token.proofs.hexadecimal_at.Statement.{statement}
-use Rattle.token.proofs.hexadecimal_at.Tie as tie
+use Rattle.token.proofs.constant.hexadecimal_at.Statement.{statement}
+use Rattle.token.proofs.constant.hexadecimal_at.Tie as tie
 
 sub-if2 : tie.Need-sub-if2
 sub-if2 c = search needs

@@ -2,8 +2,8 @@ use mathlib.Core.Path.{sym, ap, _∙_}
 use Rattle.token.proofs.ConstantLaws.{small-pos, positive-value, positive-past}
 use Rattle.token.specs.Steps.PartAt.{positiveAt}
 use borrow.Author.Needs.{needs}
-use Rattle.token.proofs.positive.Statement.{statement}
-use Rattle.token.proofs.positive.Tie as tie
+use Rattle.token.proofs.constant.positive.Statement.{statement}
+use Rattle.token.proofs.constant.positive.Tie as tie
 
 enum-known-number : tie.Need-enum-known-number
 enum-known-number c = search needs

@@ -3,8 +3,8 @@ use denote.Ref.{now}
 use Rattle.token.proofs.ConstantLaws.{decimal-end, decimal-minus, decimal-plain}
 use Rattle.token.specs.Steps.PartAt.{positiveAt, negativeAt}
 use borrow.Author.Needs.{needs}
-use Rattle.token.proofs.decimal_at.Statement.{statement}
-use Rattle.token.proofs.decimal_at.Tie as tie
+use Rattle.token.proofs.constant.decimal_at.Statement.{statement}
+use Rattle.token.proofs.constant.decimal_at.Tie as tie
 
 returns : tie.Need-returns
 returns c = decimal-end (now (c .before .before .args .text)) (c .before .before .args .at) (c .if1 .taken)

@@ -3,12 +3,12 @@ use mathlib.Core.Path.{_≡_, sym, ap, _∙_}
 use native.Mathlib.Omega.{arith}
 use denote.Enum.Declared.{tagOf}
 use denote.Ref.{now}
-use Rattle.token.proofs.ConstantAt.{the-type}
-use Rattle.token.specs.declared.ConstantAt.{ConstantAt}
+use Rattle.token.proofs.constant.ConstantAt.{the-type}
+use Rattle.token.specs.declared.constant.ConstantAt.{ConstantAt}
 use Rattle.token.proofs.PatternLaws.{constant-hexadecimal, constant-decimal}
 use borrow.Author.Needs.{needs}
-use Rattle.token.proofs.constant_at.Statement.{statement}
-use Rattle.token.proofs.constant_at.Tie as tie
+use Rattle.token.proofs.constant.constant_at.Statement.{statement}
+use Rattle.token.proofs.constant.constant_at.Tie as tie
 
 decimal-at-requires : tie.Need-decimal-at-requires
 decimal-at-requires c κs = search needs
