@@ -12,11 +12,11 @@ use lib.IntN.{ℤ, pos}
 use lib.ListN.{length}
 use mir.Facts.{toZ-ofZ, ofZ-toZ}
 use mir.Syntax.{w32}
-use mir.Val.{ofZ, toZ}
+use mir.Val.{toZ}
 use Rattle.policy.proofs.ConstantLaws.{reading-value, reading-limit}
 use Rattle.policy.specs.Limits.{isReadingValue}
 use Rattle.policy.specs.List.{all}
-use Rattle.lexer.proofs.HexLaws.{hex-number-below}
+use Rattle.lexer.proofs.HexLaws.{hex-bound}
 use Rattle.lexer.specs.Byte.{bytes, isHexDigit}
 use Rattle.lexer.specs.Number.{numberOf, positive, decimalOf, hexNumber, patternOf, hexadecimalOf, constantOf}
 use Rattle.token.proofs.PatternLaws.{not-pattern, pattern-word, pattern-wide}
@@ -37,7 +37,7 @@ word-once k l w p q = sym (toZ-ofZ {w = w32} (reading-value k (p .value))) ∙ a
 
 module _ (ds : List ℕ) (p : IsPattern ds) where
   below : hexNumber ds < 2 ^ 32
-  below = hex-number-below ds (p .digits) (p .few)
+  below = hex-bound 8 ds (p .digits) (p .few)
 
   number : HasWord (toZ w32 (hexNumber ds)) (hexNumber ds)
   number = record { value = reading-limit (hexNumber ds) below; word = ofZ-toZ {w = w32} (record { fits = below }) }

@@ -1,6 +1,6 @@
 -- Laws of lines that are read byte by byte, and of a line as a word.
 use Prim.Native.Nat.{ℕ, _+_, _*_, _≤_}
-use mathlib.Core.Bool.{Bool, true, false, _&&_}
+use mathlib.Core.Bool.{true, false, and-false}
 use mathlib.Core.List.{List, [], _∷_, _++_, append-assoc, foldl-append}
 use mathlib.Core.Option.{none, some}
 use mathlib.Core.Path.{_≡_, refl, sym, ap, _∙_}
@@ -8,6 +8,7 @@ use native.Mathlib.Omega.{arith}
 use borrow.Author.Tests.{eq-eqb, ne-eqb}
 use lib.ListN.{length, length-append}
 use Rattle.policy.specs.List.{all}
+use Rattle.lexer.proofs.RunLaws.{all-broken}
 use Rattle.lexer.specs.Byte.{hexValue, isHexDigit}
 use Rattle.lexer.specs.Lines.{prepend}
 use Rattle.lexer.specs.Number.{hexNumber}
@@ -52,19 +53,6 @@ glue-begun line b ls = ap (glue line) (prepend-parts b ls) ∙ glue-line line (b
 
 -- ---- a line as a word
 
-all-not : (p : ℕ → Bool) (xs : List ℕ) (y : ℕ) (ys : List ℕ) → p y ≡ false → all p (xs ++ y ∷ ys) ≡ false
-unfolding all
-all-not p [] y ys e = rw e
-all-not p (x ∷ xs) y ys e = go (p x) (all-not p xs y ys e)
-  where
-    go : (b : Bool) → all p (xs ++ y ∷ ys) ≡ false → (b && all p (xs ++ y ∷ ys)) ≡ false
-    go true q = q
-    go false q = refl
-
-and-never : (a : Bool) → (a && false) ≡ false
-and-never true = refl
-and-never false = refl
-
 pub word-some : (line : List ℕ) → length line ≡ 8 → all isHexDigit line ≡ true → wordIn line ≡ some (hexNumber line)
 unfolding wordIn
 word-some line l h = rw (eq-eqb (length line) 8 l, h)
@@ -75,7 +63,7 @@ word-none line n = rw (ne-eqb (length line) 8 n)
 
 pub word-broken : (line : List ℕ) (b : ℕ) (rest : List ℕ) → isHexDigit b ≡ false → wordIn (line ++ b ∷ rest) ≡ none
 unfolding wordIn
-word-broken line b rest e = rw (all-not isHexDigit line b rest e, and-never)
+word-broken line b rest e = rw (all-broken isHexDigit line b rest e, and-false)
 
 pub word-over : (line : List ℕ) (b : ℕ) (rest : List ℕ) → 8 ≤ length line → wordIn (line ++ b ∷ rest) ≡ none
 word-over line b rest h = word-none (line ++ b ∷ rest) (λ e. omega (arith, length-append line (b ∷ rest)))

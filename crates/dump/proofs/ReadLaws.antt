@@ -1,5 +1,5 @@
 -- The steps over the bytes of the input read its lines.
-use Prim.Native.Nat.{ℕ, _+_, _*_, _/_, _^_, min, _≤_, _<_}
+use Prim.Native.Nat.{ℕ, _+_, _/_, _^_, min, _≤_, _<_}
 use mathlib.Core.Bool.{Bool, true, false, cond}
 use mathlib.Core.List.{List, [], _∷_, _++_, append-nil}
 use mathlib.Core.Option.{none, some}
@@ -8,10 +8,10 @@ use native.Mathlib.Omega.{arith}
 use borrow.Author.Tests.{eqb-true, eqb-false, ne-eqb, lt-ltb, ltb-true, ltb-false}
 use lib.Dec.{eqb, ltb}
 use lib.ListN.{length, take, length-append, length-take}
-use lib.Pow.{pow-add, pow-mono}
 use lib.Seq.{take-all, take-append-le}
 use Rattle.policy.specs.List.{all}
 use Rattle.policy.proofs.ListLaws.{and-in, all-append}
+use Rattle.lexer.proofs.HexLaws.{hex-bound}
 use Rattle.lexer.specs.Byte.{hexValue, isHexDigit}
 use Rattle.lexer.specs.Lines.{prepend, pieces, linesOf}
 use Rattle.lexer.specs.Number.{hexNumber}
@@ -98,7 +98,6 @@ pub record Reading (buffer ws line : List ℕ) (n : ℕ) (h : Held) : Type 0 whe
   pub stored : Stored buffer ws (h .state .words) (h .image)
   pub digits : h .state .digits ≡ length line
   pub value : h .state .value ≡ hexNumber line
-  pub small : hexNumber line < 2 ^ (4 * length line)
   pub hex : all isHexDigit line ≡ true
 
 pub reading-start : (buffer : List ℕ) → Reading buffer [] [] 0 (held startState buffer)
@@ -114,7 +113,6 @@ reading-start buffer =
           };
       digits = refl;
       value = refl;
-      small = omega arith;
       hex = refl;
     }
 
@@ -130,11 +128,8 @@ module _ {buffer ws line : List ℕ} {n : ℕ} {h : Held} (r : Reading buffer ws
       long : length (line ++ b ∷ []) ≡ length line + 1
       long = length-append line (b ∷ [])
 
-      power : 2 ^ (4 * length (line ++ b ∷ [])) ≡ 2 ^ (4 * length line) * 16
-      power = let k : 4 * length (line ++ b ∷ []) ≡ 4 * length line + 4 = omega (arith, long) in rw k (pow-add 2 (4 * length line) 4)
-
       below : hexNumber line < 2 ^ 28
-      below = let p : 2 ^ (4 * length line) ≤ 2 ^ 28 = pow-mono {i = 4 * length line} {j = 28} (omega arith) in omega (arith, r .small)
+      below = hex-bound 7 line (r .hex) (omega arith)
 
       digits-more : Reading buffer ws (line ++ b ∷ []) n (held (withDigit (h .state) (hexValue b)) (h .image))
       digits-more =
@@ -144,7 +139,6 @@ module _ {buffer ws line : List ℕ} {n : ℕ} {h : Held} (r : Reading buffer ws
             stored = r .stored;
             digits = omega (arith, long, r .digits);
             value = rw (r .value, number-more line b) (omega (arith, below));
-            small = rw (power, number-more line b) (omega (arith, r .small));
             hex = all-append isHexDigit line (b ∷ []) (r .hex) (and-in (lt-ltb (hexValue b) 16 d) refl);
           }
 
@@ -161,7 +155,6 @@ module _ {buffer ws line : List ℕ} {n : ℕ} {h : Held} (r : Reading buffer ws
             stored = rw (r .value) (store-word buffer ws (hexNumber line) (h .state .words) (h .image) (r .stored));
             digits = refl;
             value = refl;
-            small = omega arith;
             hex = refl;
           }
 

@@ -1,7 +1,7 @@
 -- What the decompiler prints for all of its input: the words of an image as the compiler prints them, one a line in eight
 -- hexadecimal digits, here of either case.
 use Prim.Native.Nat.{ℕ, _+_, _%_, _^_}
-use mathlib.Core.Bool.{Bool, _&&_, cond}
+use mathlib.Core.Bool.{_&&_, cond}
 use mathlib.Core.List.{List, [], _∷_, _++_}
 use mathlib.Core.Option.{Option, none, some}
 use lib.Dec.{eqb}

@@ -18,7 +18,7 @@ use Rattle.policy.specs.declared.number.EventCheck.{EventCheck}
 use Rattle.policy.specs.declared.number.Reading.{Reading}
 use Rattle.policy.specs.declared.number.ReadingCheck.{ReadingCheck}
 use Rattle.lexer.proofs.ClassLaws.{digit-bounds}
-use Rattle.lexer.proofs.DigitLaws.{digit-inside, ending-none, number-end}
+use Rattle.lexer.proofs.DigitLaws.{digit-inside, not-number, ending-none, number-end}
 use Rattle.token.proofs.PartLaws as PartLaws
 use Rattle.token.proofs.PartLaws.{reading-valid, reading-outside, name-some, name-none, clip-below, clip-same}
 use Rattle.lexer.proofs.WhileLaws.{at-byte, skip-past, drop-skip, skip-on}
@@ -129,15 +129,10 @@ other-value b t q = go (eqb b 61) refl
     go true e = refl
     go false e = other-left b (atEquals t) q
 
-number-all : (l : List ℕ) → all isDigit l ≡ false → numberOf l ≡ none
-unfolding numberOf all
-number-all [] e = absurd (true-false refl e)
-number-all (d ∷ ds) e = rw e
-
 value-none : (o : Option Halves) → noDigits o ≡ true → assignmentOf (toLeft 82 o) ≡ none
 unfolding noDigits assignmentOf toLeft named both
 value-none none e = refl
-value-none (some h) e = rw (number-all (h .left) (not-all (all isDigit (h .left)) e))
+value-none (some h) e = rw (not-number (h .left) (not-all (all isDigit (h .left)) e))
   where
     not-all : (b : Bool) → cond b false true ≡ true → b ≡ false
     not-all true q = absurd (true-false q refl)

@@ -2,7 +2,7 @@
 use Prim.Native.Nat.{ℕ, zero, suc, _+_, _*_, _%_, _^_, _<_, _≤_}
 use mathlib.Core.Bool.{Bool, true, false}
 use mathlib.Core.List.{List, [], _∷_, foldl}
-use mathlib.Core.Path.{_≡_, refl, sym, ap, _∙_}
+use mathlib.Core.Path.{_≡_, refl, ap, _∙_}
 use native.Mathlib.Nat.{pow-succ', one-le-pow, mul-le-mul-left, mul-le-mul-right}
 use native.Mathlib.Omega.{arith}
 use borrow.Author.Tests.{eqb-true, ltb-true}
@@ -12,7 +12,7 @@ use Rattle.policy.proofs.ListLaws.{true-false, and-out}
 use Rattle.policy.specs.List.{all}
 use Rattle.lexer.proofs.WhileLaws.{while-past}
 use Rattle.lexer.specs.Byte.{hexValue, isHexDigit}
-use Rattle.lexer.specs.Number.{hexNumber, patternDigits}
+use Rattle.lexer.specs.Number.{hexNumber}
 use Rattle.lexer.specs.Steps.Scan.{inToken}
 use Rattle.lexer.specs.Lines.{takeWhile}
 
@@ -56,8 +56,8 @@ hex-below (suc k) v (d ∷ ds) e h =
         let m : v * 16 + d + 1 ≤ (v + 1) * 16 = omega arith in
         omega (arith, mul-le-mul-right p m)
 
-pub hex-number-below : (ds : List ℕ) → all isHexDigit ds ≡ true → length ds ≤ patternDigits → hexNumber ds < 2 ^ 32
-hex-number-below ds e h = hex-below 8 0 ds e h
+pub hex-bound : (k : ℕ) (ds : List ℕ) → all isHexDigit ds ≡ true → length ds ≤ k → hexNumber ds < 16 ^ k
+hex-bound k ds e h = let b = hex-below k 0 ds e h in omega arith
 
 -- a hexadecimal digit is neither a space nor a line end
 pub hex-inside : (b : ℕ) → isHexDigit b ≡ true → inToken b ≡ true

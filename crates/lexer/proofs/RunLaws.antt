@@ -1,7 +1,7 @@
 -- Laws of a run: the bytes at a position that pass a test. Where only bytes of a token pass it, the run at the start of a token against
 -- the token.
 use Prim.Native.Nat.{ℕ, _+_, _≤_}
-use mathlib.Core.Bool.{Bool, true, false, _&&_, cond, and-false}
+use mathlib.Core.Bool.{Bool, true, false, cond, and-false}
 use mathlib.Core.List.{List, [], _∷_, _++_, append-nil}
 use mathlib.Core.Path.{_≡_, refl, sym, ap, _∙_}
 use native.Mathlib.Omega.{arith}
@@ -32,7 +32,7 @@ module _ (p : ℕ → Bool) where
       go [] k = refl
       go (b ∷ l) k = absurd (omega arith)
 
-  all-broken : (run : List ℕ) (c : ℕ) (q : List ℕ) → p c ≡ false → all p (run ++ c ∷ q) ≡ false
+  pub all-broken : (run : List ℕ) (c : ℕ) (q : List ℕ) → p c ≡ false → all p (run ++ c ∷ q) ≡ false
   unfolding all
   all-broken [] c q e = rw e
   all-broken (b ∷ run) c q e = rw (all-broken run c q e) (and-false (p b))

@@ -1,16 +1,15 @@
 -- The words of the parts of a line, read back: what each word's fields say is the part that it was written from.
-use Prim.Native.Nat.{ℕ, suc, _-_, _%_, _^_, _<_}
-use mathlib.Core.Bool.{Bool, true, false, cond, _&&_}
+use Prim.Native.Nat.{ℕ, _-_, _%_, _^_, _<_}
+use mathlib.Core.Bool.{Bool, true, cond}
 use mathlib.Core.List.{[], _∷_}
 use mathlib.Core.Path.{_≡_, refl, sym, ap, ap₂, _∙_, subst}
 use native.Mathlib.Omega.{arith}
-use borrow.Author.Tests.{ltb-true, ltb-false, lt-ltb, le-leb, leb-true}
-use lib.Dec.{ltb, leb}
-use lib.IntN.{ℤ, pos, negsuc}
-use lib.Signed.{leZ}
+use borrow.Author.Tests.{ltb-true, lt-ltb}
+use lib.Dec.{ltb}
+use lib.IntN.{ℤ}
 use mir.Facts.{toZ-ofZ, ofZ-toZ, fits-ofZ}
 use mir.Syntax.{w32}
-use mir.Val.{SFits, ofZ, toZ, sel}
+use mir.Val.{SFits, ofZ}
 use Rattle.policy.proofs.ConstantLaws.{reading-value, reading-limit}
 use Rattle.policy.proofs.ListLaws.{and-in, and-out}
 use Rattle.policy.specs.Limits.{isReadingValue, testNumber, operandInRange, comparisonInRange}

@@ -1,6 +1,6 @@
 -- Laws of reading patterns, which are hexadecimal digits behind `0x`, and of a constant as one of both forms.
-use Prim.Native.Nat.{ℕ, _+_, _-_, _%_, _^_, _<_, _≤_}
-use mathlib.Core.Bool.{Bool, true, false, not, _&&_, cond, and-false}
+use Prim.Native.Nat.{ℕ, _+_, _-_, _^_, _<_, _≤_}
+use mathlib.Core.Bool.{Bool, true, false, _&&_, cond}
 use mathlib.Core.List.{List, [], _∷_}
 use mathlib.Core.Option.{Option, none, some, orElse}
 use mathlib.Core.Path.{_≡_, refl, sym, ap, ap₂, _∙_}
@@ -14,7 +14,7 @@ use mir.Val.{toZ}
 use Rattle.policy.proofs.ConstantLaws.{reading-limit}
 use Rattle.policy.specs.Limits.{isReadingValue}
 use Rattle.policy.specs.List.{all}
-use Rattle.lexer.proofs.HexLaws.{hex-inside, hex-number-below}
+use Rattle.lexer.proofs.HexLaws.{hex-inside, hex-bound}
 use Rattle.lexer.proofs.RunLaws.{all-run, run-none, whole-token, same-end, broken-token}
 use Rattle.lexer.proofs.WhileLaws.{skip-past}
 use Rattle.lexer.proofs.KeywordLaws.{token-end, token-here, token-past}
@@ -82,7 +82,7 @@ module _ (text : List ℕ) (at : ℕ) (d : Digits) (q : d ≡ hexDigitsAt text a
     pattern-value h l =
         let few : length run ≤ 8 = omega (arith, count (omega arith)) in
         let some-digit : 0 < length run = omega (arith, count (omega arith)) in
-        let w : hexNumber run < 2 ^ 32 = hex-number-below run (all-run isHexDigit (drop at text)) few in
+        let w : hexNumber run < 2 ^ 32 = hex-bound 8 run (all-run isHexDigit (drop at text)) few in
         let v : d .value ≡ hexNumber run = ap (λ (x : Digits). x .value) q ∙ omega arith in
         rw v (sym (by-run ∙ rw (pattern-word run (all-run isHexDigit (drop at text)) some-digit few, reading-limit (hexNumber run) w)))
 
