@@ -18,7 +18,7 @@ use Rattle.policy.specs.Limits.{isReadingValue}
 use Rattle.policy.specs.List.{all}
 use Rattle.lexer.proofs.HexLaws.{hex-bound}
 use Rattle.lexer.specs.Byte.{bytes, isHexDigit}
-use Rattle.lexer.specs.Number.{numberOf, positive, decimalOf, hexNumber, patternOf, hexadecimalOf, constantOf}
+use Rattle.lexer.specs.Number.{numberOf, positive, decimalOf, hexNumber, patternDigits, patternOf, hexadecimalOf, constantOf}
 use Rattle.token.proofs.PatternLaws.{not-pattern, pattern-word, pattern-wide}
 use Rattle.acceptance.specs.Patterns.{prefixed, IsPattern, HasWord, Hexadecimal}
 
@@ -47,7 +47,7 @@ module _ (ds : List ℕ) (p : IsPattern ds) where
   pattern-read = (toZ w32 (hexNumber ds), by-digits ds ∙ pattern-word ds (p .digits) (omega (arith, p .some-digit)) (p .few), number)
 
 -- more digits are out of range
-pub wide-out-of-range : (ds : List ℕ) → all isHexDigit ds ≡ true → 8 < length ds → (k : ℤ) × (constantOf (prefixed ds) ≡ some k) × (isReadingValue k ≡ false)
+pub wide-out-of-range : (ds : List ℕ) → all isHexDigit ds ≡ true → patternDigits < length ds → (k : ℤ) × (constantOf (prefixed ds) ≡ some k) × (isReadingValue k ≡ false)
 unfolding isReadingValue
 wide-out-of-range ds e h = (pos 2147483648, by-digits ds ∙ pattern-wide ds e h, refl)
 
