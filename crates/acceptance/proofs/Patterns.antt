@@ -1,24 +1,32 @@
 -- Document 02, L5: constants in hexadecimal digits, and that no other token is a constant that was none before.
+use Prim.Native.Char.{code}
 use Prim.Native.Nat.{ℕ, _≤_, _<_, _^_}
-use mathlib.Core.Bool.{Bool, true, false, _&&_, cond}
+use mathlib.Core.Bool.{Bool, true, false, _&&_, cond, and-false}
 use mathlib.Core.List.{List, [], _∷_}
 use mathlib.Core.Logic.{_⊎_, inl, inr}
-use mathlib.Core.Option.{Option, none, some, orElse}
+use mathlib.Core.Option.{Option, none, some, Option·map, orElse}
 use mathlib.Core.Path.{_≡_, refl, sym, ap, ap₂, _∙_}
 use native.Mathlib.Omega.{arith}
 use borrow.Author.Tests.{eqb-true}
-use lib.Dec.{eqb}
-use lib.IntN.{ℤ, pos}
+use lib.Dec.{eqb, ltb}
+use lib.IntN.{ℤ}
 use lib.ListN.{length}
 use mir.Facts.{toZ-ofZ, ofZ-toZ}
 use mir.Syntax.{w32}
 use mir.Val.{toZ}
 use Rattle.policy.proofs.ConstantLaws.{reading-value, reading-limit}
-use Rattle.policy.specs.Limits.{isReadingValue}
+use Rattle.policy.specs.Limits.{isReadingValue, operandInRange, comparisonInRange}
 use Rattle.policy.specs.List.{all}
+use Rattle.policy.specs.declared.comparison.Comparison.{Comparison}
+use Rattle.policy.specs.Number.{readingLimit}
+use Rattle.policy.specs.declared.comparison.Operand.{Operand}
+use Rattle.policy.specs.declared.comparison.Relation.{Relation}
+use Rattle.policy.specs.declared.number.Reading.{Reading}
 use Rattle.lexer.proofs.HexLaws.{hex-bound}
 use Rattle.lexer.specs.Byte.{bytes, isHexDigit}
-use Rattle.lexer.specs.Number.{numberOf, positive, decimalOf, hexNumber, patternDigits, patternOf, hexadecimalOf, constantOf}
+use Rattle.lexer.specs.Number.{numberOf, positive, decimalOf, hexNumber, patternDigits, tooLarge, patternOf, hexadecimalOf, constantOf}
+use Rattle.lexer.specs.Token.{Token, named, readingOf, relationOf, operandOf, both, compare, comparisonOf}
+use Rattle.epoch_line.specs.Epoch.{Item, value, assignmentOf, itemInRange}
 use Rattle.token.proofs.PatternLaws.{not-pattern, pattern-word, pattern-wide}
 use Rattle.acceptance.specs.Patterns.{prefixed, IsPattern, HasWord, Hexadecimal}
 
@@ -49,7 +57,35 @@ module _ (ds : List ℕ) (p : IsPattern ds) where
 -- more digits are out of range
 pub wide-out-of-range : (ds : List ℕ) → all isHexDigit ds ≡ true → patternDigits < length ds → (k : ℤ) × (constantOf (prefixed ds) ≡ some k) × (isReadingValue k ≡ false)
 unfolding isReadingValue
-wide-out-of-range ds e h = (pos 2147483648, by-digits ds ∙ pattern-wide ds e h, refl)
+wide-out-of-range ds e h = (tooLarge, by-digits ds ∙ pattern-wide ds e h, refl)
+
+-- so is a comparison with them, whatever its reading and its relation, and a value that they are given as
+module _ (ds : List ℕ) (e : all isHexDigit ds ≡ true) (h : patternDigits < length ds) where
+  wide : constantOf (prefixed ds) ≡ some tooLarge
+  wide = by-digits ds ∙ pattern-wide ds e h
+
+  wide-operand : operandOf (prefixed ds) ≡ some (Operand.Constant tooLarge)
+  unfolding operandOf readingOf named orElse bytes
+  wide-operand = ap (Option·map Operand.Constant) wide
+
+  pub wide-comparison : (r q : Token) (c : Comparison) → comparisonOf r q (prefixed ds) ≡ some c → comparisonInRange c ≡ false
+  unfolding comparisonOf both comparisonInRange operandInRange isReadingValue
+  wide-comparison r q c p = go (readingOf r) (relationOf q) (sym (ap (both (λ (f : Operand → Comparison) (x : Operand). f x) (both compare (readingOf r) (relationOf q))) wide-operand) ∙ p)
+    where
+      go : (x : Option Reading) (y : Option Relation) → both (λ (f : Operand → Comparison) (o : Operand). f o) (both compare x y) (some (Operand.Constant tooLarge)) ≡ some c → comparisonInRange c ≡ false
+      go none y k = let z : _≡_ {A = ℕ} 0 1 = cc in absurd (omega arith)
+      go (some x) none k = let z : _≡_ {A = ℕ} 0 1 = cc in absurd (omega arith)
+      go (some x) (some y) k =
+          let same : compare x y (Operand.Constant tooLarge) ≡ c = cc in
+          sym (ap comparisonInRange same) ∙ and-false (ltb (x .0) readingLimit)
+
+  pub wide-value : (left : List ℕ) (i : Item) → assignmentOf (some (record { left = left; right = prefixed ds })) ≡ some i → itemInRange i ≡ false
+  unfolding assignmentOf both itemInRange isReadingValue
+  wide-value left i p = go (named (code "R") left) (sym (ap (both value (named (code "R") left)) wide) ∙ p)
+    where
+      go : (o : Option ℕ) → both value o (some tooLarge) ≡ some i → itemInRange i ≡ false
+      go none k = let z : _≡_ {A = ℕ} 0 1 = cc in absurd (omega arith)
+      go (some n) k = let same : value n tooLarge ≡ i = cc in sym (ap itemInRange same) ∙ and-false (ltb n readingLimit)
 
 -- no digit, or another byte than a digit
 pub bare-prefix : constantOf (prefixed []) ≡ none
