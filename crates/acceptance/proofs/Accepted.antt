@@ -17,6 +17,7 @@ use Rattle.policy.specs.Policy.{Policy}
 use Rattle.policy.specs.declared.comparison.Comparison.{Comparison}
 use Rattle.policy.specs.declared.comparison.Literal.{Literal}
 use Rattle.policy.specs.declared.fault.Fault.{Fault}
+use Rattle.policy.specs.declared.fault.Source.{Source}
 use Rattle.policy.specs.declared.line.Test.{Test}
 use Rattle.policy.specs.declared.number.Action.{Action}
 use Rattle.syntax.proofs.JudgeLaws.{Judged, yes-line, no-line, judged-cases}
@@ -25,7 +26,7 @@ use Rattle.syntax.specs.Grammar.{Joined, last, before, joined, conditionFrom, c
 use Rattle.lexer.specs.Byte.{is}
 use Rattle.lexer.specs.Lines.{linesOf, tokensOf}
 use Rattle.syntax.specs.Judge.{LineAnswer, skipped, refused, accepted, judgeLine, isComment, tokensAnswer, lineAnswer}
-use Rattle.rule_text.specs.Text.{Progress, reading, stopped, withRule, withConstraint, advance, readLine, emptyPolicy, textLimit, readText}
+use Rattle.rule_text.specs.Text.{Progress, reading, stopped, withRule, withConstraint, advance, readLine, emptyPolicy, textLimit, readBehind, inText, readText, readSite, readTexts}
 
 -- ---- a line of either shape has a literal or an action
 
@@ -179,25 +180,44 @@ keeps-lines : (ls : List (List ℕ)) (s : Progress) → still s → still (foldl
 keeps-lines [] s w = w
 keeps-lines (l ∷ ls) s w = keeps-lines ls (readLine s l) (keeps-line s l w)
 
-pub accepted-acceptable : (text : List ℕ) (n : ℕ) (p : Policy) → readText text ≡ reading n p → Acceptable p
-unfolding readText still all
-accepted-acceptable text n p e = go (ltb textLimit (length text)) e
+keeps-behind : (p : Policy) (text : List ℕ) → Acceptable p → still (readBehind p text)
+unfolding readBehind still
+keeps-behind p text w = go (ltb textLimit (length text))
   where
-    started : Acceptable emptyPolicy
-    started = record { rules-valid = refl; constraints-valid = refl; few-rules = omega arith; few-constraints = omega arith }
+    go : (b : Bool) → still (cond b (stopped (refusal Fault.TooLong 0)) (foldl readLine (reading 1 p) (linesOf text)))
+    go true = tt
+    go false = keeps-lines (linesOf text) (reading 1 p) w
 
-    of-reading : (s : Progress) → still s → s ≡ reading n p → Acceptable p
-    of-reading (reading m q) w k = rw (← same k) w
-      where
-        same : reading m q ≡ reading n p → q ≡ p
-        same h = cc
-    of-reading (stopped r) w k = let z : _≡_ {A = ℕ} 0 1 = cc in absurd (omega arith)
+keeps-source : (source : Source) (s : Progress) → still s → still (inText source s)
+unfolding inText still
+keeps-source source (reading n p) w = w
+keeps-source source (stopped r) w = tt
 
-    go : (b : Bool) → cond b (stopped (refusal Fault.TooLong 0)) (foldl readLine (reading 1 emptyPolicy) (linesOf text)) ≡ reading n p → Acceptable p
-    go true k = let z : _≡_ {A = ℕ} 0 1 = cc in absurd (omega arith)
-    go false k = of-reading (foldl readLine (reading 1 emptyPolicy) (linesOf text)) (keeps-lines (linesOf text) (reading 1 emptyPolicy) started) k
+keeps-text : (text : List ℕ) → still (readText text)
+unfolding readText all
+keeps-text text = keeps-source Source.Maker (readBehind emptyPolicy text) (keeps-behind emptyPolicy text (record { rules-valid = refl; constraints-valid = refl; few-rules = omega arith; few-constraints = omega arith }))
+
+keeps-site : (s : Progress) (site : List ℕ) → still s → still (readSite s site)
+unfolding readSite still
+keeps-site (reading n p) site w = keeps-source Source.Site (readBehind p site) (keeps-behind p site w)
+keeps-site (stopped r) site w = tt
+
+still-acceptable : (s : Progress) (n : ℕ) (p : Policy) → still s → s ≡ reading n p → Acceptable p
+unfolding still
+still-acceptable (reading m q) n p w k = rw (← same k) w
+  where
+    same : reading m q ≡ reading n p → q ≡ p
+    same h = cc
+still-acceptable (stopped r) n p w k = let z : _≡_ {A = ℕ} 0 1 = cc in absurd (omega arith)
+
+pub accepted-acceptable : (text : List ℕ) (n : ℕ) (p : Policy) → readText text ≡ reading n p → Acceptable p
+accepted-acceptable text n p e = still-acceptable (readText text) n p (keeps-text text) e
+
+pub texts-acceptable : (maker site : List ℕ) (n : ℕ) (p : Policy) → readTexts maker site ≡ reading n p → Acceptable p
+unfolding readTexts
+texts-acceptable maker site n p e = still-acceptable (readSite (readText maker) site) n p (keeps-site (readText maker) site (keeps-text maker)) e
 
 -- two texts within the length with the same lines have the same answer
 pub lines-decide : (s t : List ℕ) → length s ≤ textLimit → length t ≤ textLimit → linesOf s ≡ linesOf t → readText s ≡ readText t
-unfolding readText
-lines-decide s t h k e = rw (le-ltb textLimit (length s) h, le-ltb textLimit (length t) k) (ap (foldl readLine (reading 1 emptyPolicy)) e)
+unfolding readText readBehind
+lines-decide s t h k e = rw (le-ltb textLimit (length s) h, le-ltb textLimit (length t) k) (ap (λ (ls : List (List ℕ)). inText Source.Maker (foldl readLine (reading 1 emptyPolicy) ls)) e)

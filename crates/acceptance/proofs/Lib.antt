@@ -3,3 +3,4 @@ pub mod Examples
 pub mod Given
 pub mod Patterns
 pub mod Refusals
+pub mod Texts

@@ -3,26 +3,27 @@ use Prim.Native.Nat.{ℕ, suc, _+_, _≤_, _<_}
 use mathlib.Core.Bool.{Bool, true, false, not, cond}
 use mathlib.Core.List.{List, [], _∷_, foldl}
 use mathlib.Core.Option.{Option, none, some}
-use mathlib.Core.Path.{_≡_, refl, sym, _∙_}
+use mathlib.Core.Path.{_≡_, refl, sym, ap, _∙_}
 use native.Mathlib.Omega.{arith}
 use lib.Dec.{eqb, ltb}
 use lib.ListN.{length}
-use Rattle.policy.specs.Fault.{faultNumber, refusal}
+use Rattle.policy.specs.Fault.{faultNumber, refusal, within}
 use Rattle.policy.specs.Limits.{inRange, crowded, repeats, repeated, ruleLimit, constraintLimit}
 use Rattle.policy.specs.Line.{PolicyLine, rule, constraint}
 use Rattle.policy.specs.List.{all, any}
 use Rattle.policy.specs.Policy.{Policy}
 use Rattle.policy.specs.declared.fault.Fault.{Fault}
 use Rattle.policy.specs.declared.fault.Refusal.{Refusal}
+use Rattle.policy.specs.declared.fault.Source.{Source}
 use Rattle.lexer.specs.Lines.{linesOf, tokensOf}
-use Rattle.rule_text.specs.Answer.{textReadOf, textRead, refusalInText}
+use Rattle.rule_text.specs.Answer.{textReadOf, textRead, textsRead, refusalInText}
 use Rattle.epoch_line.specs.Answer.{answerRead, epochRead, refusalInEpoch}
 use Rattle.epoch_line.specs.Epoch as Epoch
 use Rattle.epoch_line.specs.Epoch.{Item, EpochAnswer, itemsOf, itemInRange, givenBy, judgeEpoch, epochLimit, readEpoch}
 use Rattle.syntax.specs.Grammar.{lineFrom}
 use Rattle.syntax.specs.Judge.{LineAnswer, skipped, refused, accepted, judgeLine, isComment, tokensAnswer, lineAnswer}
-use Rattle.rule_text.specs.Text.{Progress, reading, stopped, withRule, withConstraint, advance, readLine, emptyPolicy, textLimit, readText}
-use Rattle.acceptance.specs.Refusals.{OfText, too-long, in-line, OfEpoch}
+use Rattle.rule_text.specs.Text.{Progress, reading, stopped, withRule, withConstraint, advance, readLine, emptyPolicy, textLimit, readBehind, inText, readText, readSite, readTexts, policyRead, policyOf}
+use Rattle.acceptance.specs.Refusals.{OfText, too-long, in-line, OfTexts, of-maker, of-site, OfEpoch}
 
 -- ---- the faults of a line
 
@@ -102,27 +103,45 @@ lines-stopped (l ∷ ls) n p r e = go (lineAnswer l) (line-fault l) (lines-stopp
 
 -- ---- a text is refused under 1 at no line, or under one of 2 to 6 at one of its lines
 
-pub text-faults : (text : List ℕ) (r : Refusal) → refusalInText (textRead text) ≡ some r → OfText text r
-unfolding textRead textReadOf readText
-text-faults text r e = go (ltb textLimit (length text)) e
+module _ (source : Source) (p : Policy) (text : List ℕ) (r : Refusal) where
+  same-refusal : (x : Refusal) → stopped (within source x) ≡ stopped r → within source x ≡ r
+  same-refusal x e = cc
+
+  behind-faults : inText source (readBehind p text) ≡ stopped r → OfText source text r
+  unfolding readBehind inText
+  behind-faults e = go (ltb textLimit (length text)) e
+    where
+      lines : (s : Progress) → foldl readLine (reading 1 p) (linesOf text) ≡ s → inText source s ≡ stopped r → OfText source text r
+      lines (reading n q) k h = let w : _≡_ {A = ℕ} 0 1 = cc in absurd (omega arith)
+      lines (stopped x) k h =
+          let a = lines-stopped (linesOf text) 1 p x k in
+          rw (← same-refusal x h) (in-line (x .fault) (x .location) (a .fault .low) (a .fault .high) (a .from) (omega (arith, a .below)))
+
+      go : (b : Bool) → inText source (cond b (stopped (refusal Fault.TooLong 0)) (foldl readLine (reading 1 p) (linesOf text))) ≡ stopped r → OfText source text r
+      go true k = rw (← same-refusal (refusal Fault.TooLong 0) k) too-long
+      go false k = lines (foldl readLine (reading 1 p) (linesOf text)) refl k
+
+of-progress : (s : Progress) (r : Refusal) → refusalInText (textReadOf s) ≡ some r → s ≡ stopped r
+unfolding textReadOf
+of-progress (reading n p) r k = let w : _≡_ {A = ℕ} 0 1 = cc in absurd (omega arith)
+of-progress (stopped x) r k = let q : x ≡ r = cc in ap stopped q
+
+pub text-faults : (text : List ℕ) (r : Refusal) → refusalInText (textRead text) ≡ some r → OfText Source.Maker text r
+unfolding textRead readText
+text-faults text r e = behind-faults Source.Maker emptyPolicy text r (of-progress (inText Source.Maker (readBehind emptyPolicy text)) r e)
+
+pub texts-faults : (maker site : List ℕ) (r : Refusal) → refusalInText (textsRead maker site) ≡ some r → OfTexts maker site r
+unfolding textsRead textRead readTexts readSite policyOf policyRead textReadOf
+texts-faults maker site r e = go (readText maker) refl (of-progress (readSite (readText maker) site) r e)
   where
-    same : (x : Refusal) → some x ≡ some r → x ≡ r
-    same x k = cc
-
-    of-progress : (s : Progress) → refusalInText (textReadOf s) ≡ some r → s ≡ stopped r
-    of-progress (reading n p) k = let w : _≡_ {A = ℕ} 0 1 = cc in absurd (omega arith)
-    of-progress (stopped x) k = let q = same x k in cc
-
-    go : (b : Bool) → refusalInText (textReadOf (cond b (stopped (refusal Fault.TooLong 0)) (foldl readLine (reading 1 emptyPolicy) (linesOf text)))) ≡ some r → OfText text r
-    go true k = rw (← same (refusal Fault.TooLong 0) k) too-long
-    go false k =
-        let a = lines-stopped (linesOf text) 1 emptyPolicy r (of-progress (foldl readLine (reading 1 emptyPolicy) (linesOf text)) k) in
-        in-line (r .fault) (r .location) (a .fault .low) (a .fault .high) (a .from) (omega (arith, a .below))
+    go : (s : Progress) → readText maker ≡ s → readSite s site ≡ stopped r → OfTexts maker site r
+    go (reading n p) k h = of-site p (ap policyRead k) (behind-faults Source.Site p site r h)
+    go (stopped x) k h = of-maker (k ∙ h) (text-faults maker r (ap (λ (y : Progress). refusalInText (textReadOf y)) (k ∙ h)))
 
 -- ---- an epoch line is refused under 1, 12, 13 or 14
 
 of-epoch : (f : Fault) (r : Refusal) → any (eqb (faultNumber f)) (1 ∷ 12 ∷ 13 ∷ 14 ∷ []) ≡ true → some (refusal f 0) ≡ some r → OfEpoch r
-of-epoch f r h e = let s : refusal f 0 ≡ r = cc in rw (← s) (record { number = h; location = refl })
+of-epoch f r h e = let s : refusal f 0 ≡ r = cc in rw (← s) (record { number = h; source = refl; location = refl })
 
 pub epoch-faults : (line : List ℕ) (r : Refusal) → refusalInEpoch (epochRead line) ≡ some r → OfEpoch r
 unfolding epochRead answerRead readEpoch judgeEpoch any

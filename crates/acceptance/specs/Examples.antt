@@ -5,18 +5,19 @@ use mathlib.Core.Bool.{true, false}
 use mathlib.Core.List.{List, [], _∷_}
 use lib.IntN.{ℤ, pos, negsuc}
 use lib.ListN.{set, replicate}
-use Rattle.policy.specs.Fault.{refusal}
+use Rattle.policy.specs.Fault.{refusal, within}
 use Rattle.policy.specs.Policy.{Policy}
 use Rattle.policy.specs.Set.{noEvents}
 use Rattle.policy.specs.declared.comparison.Comparison.{Comparison}
 use Rattle.policy.specs.declared.comparison.Operand.{Operand}
 use Rattle.policy.specs.declared.comparison.Relation.{Relation}
 use Rattle.policy.specs.declared.fault.Fault.{Fault}
+use Rattle.policy.specs.declared.fault.Source.{Source}
 use Rattle.lexer.specs.Byte.{bytes}
 use Rattle.epoch_line.specs.Epoch as Epoch
 use Rattle.epoch_line.specs.Epoch.{EpochAnswer, readEpoch, emptyEpoch}
 use Rattle.lexer.specs.Token.{literalAs}
-use Rattle.rule_text.specs.Text.{Progress, reading, stopped, readText, emptyPolicy}
+use Rattle.rule_text.specs.Text.{Progress, reading, stopped, readText, readTexts, emptyPolicy}
 
 -- ---- rule texts
 
@@ -59,6 +60,10 @@ pub record TextExample : Type 0 where
 abbrev row : String → Progress → TextExample
 row text answer = record { text = text; answer = answer }
 
+-- refused in that text, at that line
+abbrev refusedAt : Source → Fault → ℕ → Progress
+refusedAt source f n = stopped (within source (refusal f n))
+
 unfoldable pub texts : List TextExample
 texts =
     row "E1 & !E2 causes A3 if R0 > 40\nE3 causes A4\nnever A3 & A4\n" (reading 4 worked)
@@ -68,48 +73,74 @@ texts =
     ∷ row
     "E1 causes A1 if R0 = 0x8040 , R1 = 0xFFFFFFFF , R2 = 0x80000000 , R3 = 0x7fffffff\nnever A1 if R0 = 0x00 , R1 = 0x00000001 , R2 = 0xAbCdEf\n"
     (reading 3 patterns)
-    ∷ row "E01 causes A1" (stopped (refusal Fault.Syntax 1))
-    ∷ row "E1 causes A1 if R0 = -0" (stopped (refusal Fault.Syntax 1))
-    ∷ row "E1 causes A1 if R0 = 00" (stopped (refusal Fault.Syntax 1))
-    ∷ row "E1 causes A1 if R0 = 01" (stopped (refusal Fault.Syntax 1))
-    ∷ row "E1 causes A1 if R0 = +1" (stopped (refusal Fault.Syntax 1))
-    ∷ row "E1 causes A1 if R0 = 0x" (stopped (refusal Fault.Syntax 1))
-    ∷ row "E1 causes A1 if R0 = 0X1" (stopped (refusal Fault.Syntax 1))
-    ∷ row "E1 causes A1 if R0 = -0x1" (stopped (refusal Fault.Syntax 1))
-    ∷ row "E1 causes A1 if R0 = 0x1G" (stopped (refusal Fault.Syntax 1))
-    ∷ row "E1 causes A1 if R0 = 0x000000001G" (stopped (refusal Fault.Syntax 1))
-    ∷ row "E1 causes A1 if R0 = 0x 1" (stopped (refusal Fault.Syntax 1))
-    ∷ row "E1 causes A1 if R0 = R0x0" (stopped (refusal Fault.Syntax 1))
-    ∷ row "E1 causes A1 if R0x0 = 1" (stopped (refusal Fault.Syntax 1))
-    ∷ row "E0x1 causes A1" (stopped (refusal Fault.Syntax 1))
-    ∷ row "\nE causes A1" (stopped (refusal Fault.Syntax 2))
-    ∷ row "! E2 causes A1" (stopped (refusal Fault.Syntax 1))
-    ∷ row "!!E2 causes A1" (stopped (refusal Fault.Syntax 1))
-    ∷ row "E1 causes A1 if R0=40" (stopped (refusal Fault.Syntax 1))
-    ∷ row "E1 # x" (stopped (refusal Fault.Syntax 1))
-    ∷ row "never" (stopped (refusal Fault.Syntax 1))
-    ∷ row "E1 causes causes A1" (stopped (refusal Fault.Syntax 1))
-    ∷ row "E1 causes A1 if" (stopped (refusal Fault.Syntax 1))
-    ∷ row "E1 & causes A1" (stopped (refusal Fault.Syntax 1))
-    ∷ row "never A1 &" (stopped (refusal Fault.Syntax 1))
-    ∷ row "E1 causes A1 if R0 = 1 ," (stopped (refusal Fault.Syntax 1))
-    ∷ row "E64 causes A1 if" (stopped (refusal Fault.Syntax 1))
-    ∷ row "E1\tcauses A1" (stopped (refusal Fault.Syntax 1))
-    ∷ row "E1 causes A1\r\n" (stopped (refusal Fault.Syntax 1))
-    ∷ row "E64 causes A1" (stopped (refusal Fault.OutOfRange 1))
-    ∷ row "E1 causes A64" (stopped (refusal Fault.OutOfRange 1))
-    ∷ row "E1 causes A1 if R16 = 1" (stopped (refusal Fault.OutOfRange 1))
-    ∷ row "E1 causes A1 if R0 = R16" (stopped (refusal Fault.OutOfRange 1))
-    ∷ row "E1 causes A1 if R0 = 2147483648" (stopped (refusal Fault.OutOfRange 1))
-    ∷ row "E1 causes A1 if R0 = -2147483649" (stopped (refusal Fault.OutOfRange 1))
-    ∷ row "E1 causes A1 if R0 = 0x100000000" (stopped (refusal Fault.OutOfRange 1))
-    ∷ row "E1 causes A1 if R0 = 0x000000001" (stopped (refusal Fault.OutOfRange 1))
-    ∷ row "E0 & E1 & E2 & E3 & E4 & E5 & E6 & E7 & E100000000000000000000000000000 causes A1" (stopped (refusal Fault.OutOfRange 1))
-    ∷ row "E0 & E1 & E2 & E3 & E4 & E5 & E6 & E7 & E8 causes A1" (stopped (refusal Fault.TooManyParts 1))
-    ∷ row "E0 & E1 & E2 & E3 & E4 & E5 & E6 & E7 & E7 causes A1" (stopped (refusal Fault.TooManyParts 1))
-    ∷ row "never A1 if R0 = 1 , R0 = 1 , R0 = 1 , R0 = 1 , R0 = 1" (stopped (refusal Fault.TooManyParts 1))
-    ∷ row "# first\n\nE1 & !E1 causes A1" (stopped (refusal Fault.Duplicate 3))
-    ∷ row "never A1 & A2 & A1" (stopped (refusal Fault.Duplicate 1))
+    ∷ row "E01 causes A1" (refusedAt Source.Maker Fault.Syntax 1)
+    ∷ row "E1 causes A1 if R0 = -0" (refusedAt Source.Maker Fault.Syntax 1)
+    ∷ row "E1 causes A1 if R0 = 00" (refusedAt Source.Maker Fault.Syntax 1)
+    ∷ row "E1 causes A1 if R0 = 01" (refusedAt Source.Maker Fault.Syntax 1)
+    ∷ row "E1 causes A1 if R0 = +1" (refusedAt Source.Maker Fault.Syntax 1)
+    ∷ row "E1 causes A1 if R0 = 0x" (refusedAt Source.Maker Fault.Syntax 1)
+    ∷ row "E1 causes A1 if R0 = 0X1" (refusedAt Source.Maker Fault.Syntax 1)
+    ∷ row "E1 causes A1 if R0 = -0x1" (refusedAt Source.Maker Fault.Syntax 1)
+    ∷ row "E1 causes A1 if R0 = 0x1G" (refusedAt Source.Maker Fault.Syntax 1)
+    ∷ row "E1 causes A1 if R0 = 0x000000001G" (refusedAt Source.Maker Fault.Syntax 1)
+    ∷ row "E1 causes A1 if R0 = 0x 1" (refusedAt Source.Maker Fault.Syntax 1)
+    ∷ row "E1 causes A1 if R0 = R0x0" (refusedAt Source.Maker Fault.Syntax 1)
+    ∷ row "E1 causes A1 if R0x0 = 1" (refusedAt Source.Maker Fault.Syntax 1)
+    ∷ row "E0x1 causes A1" (refusedAt Source.Maker Fault.Syntax 1)
+    ∷ row "\nE causes A1" (refusedAt Source.Maker Fault.Syntax 2)
+    ∷ row "! E2 causes A1" (refusedAt Source.Maker Fault.Syntax 1)
+    ∷ row "!!E2 causes A1" (refusedAt Source.Maker Fault.Syntax 1)
+    ∷ row "E1 causes A1 if R0=40" (refusedAt Source.Maker Fault.Syntax 1)
+    ∷ row "E1 # x" (refusedAt Source.Maker Fault.Syntax 1)
+    ∷ row "never" (refusedAt Source.Maker Fault.Syntax 1)
+    ∷ row "E1 causes causes A1" (refusedAt Source.Maker Fault.Syntax 1)
+    ∷ row "E1 causes A1 if" (refusedAt Source.Maker Fault.Syntax 1)
+    ∷ row "E1 & causes A1" (refusedAt Source.Maker Fault.Syntax 1)
+    ∷ row "never A1 &" (refusedAt Source.Maker Fault.Syntax 1)
+    ∷ row "E1 causes A1 if R0 = 1 ," (refusedAt Source.Maker Fault.Syntax 1)
+    ∷ row "E64 causes A1 if" (refusedAt Source.Maker Fault.Syntax 1)
+    ∷ row "E1\tcauses A1" (refusedAt Source.Maker Fault.Syntax 1)
+    ∷ row "E1 causes A1\r\n" (refusedAt Source.Maker Fault.Syntax 1)
+    ∷ row "E64 causes A1" (refusedAt Source.Maker Fault.OutOfRange 1)
+    ∷ row "E1 causes A64" (refusedAt Source.Maker Fault.OutOfRange 1)
+    ∷ row "E1 causes A1 if R16 = 1" (refusedAt Source.Maker Fault.OutOfRange 1)
+    ∷ row "E1 causes A1 if R0 = R16" (refusedAt Source.Maker Fault.OutOfRange 1)
+    ∷ row "E1 causes A1 if R0 = 2147483648" (refusedAt Source.Maker Fault.OutOfRange 1)
+    ∷ row "E1 causes A1 if R0 = -2147483649" (refusedAt Source.Maker Fault.OutOfRange 1)
+    ∷ row "E1 causes A1 if R0 = 0x100000000" (refusedAt Source.Maker Fault.OutOfRange 1)
+    ∷ row "E1 causes A1 if R0 = 0x000000001" (refusedAt Source.Maker Fault.OutOfRange 1)
+    ∷ row "E0 & E1 & E2 & E3 & E4 & E5 & E6 & E7 & E100000000000000000000000000000 causes A1" (refusedAt Source.Maker Fault.OutOfRange 1)
+    ∷ row "E0 & E1 & E2 & E3 & E4 & E5 & E6 & E7 & E8 causes A1" (refusedAt Source.Maker Fault.TooManyParts 1)
+    ∷ row "E0 & E1 & E2 & E3 & E4 & E5 & E6 & E7 & E7 causes A1" (refusedAt Source.Maker Fault.TooManyParts 1)
+    ∷ row "never A1 if R0 = 1 , R0 = 1 , R0 = 1 , R0 = 1 , R0 = 1" (refusedAt Source.Maker Fault.TooManyParts 1)
+    ∷ row "# first\n\nE1 & !E1 causes A1" (refusedAt Source.Maker Fault.Duplicate 3)
+    ∷ row "never A1 & A2 & A1" (refusedAt Source.Maker Fault.Duplicate 1)
+    ∷ []
+
+-- ---- two texts as one (document 02, L6)
+
+pub record PairExample : Type 0 where
+  pub maker : String
+  pub site : String
+  pub answer : Progress
+
+abbrev pair : String → String → Progress → PairExample
+pair maker site answer = record { maker = maker; site = site; answer = answer }
+
+unfoldable pub pairs : List PairExample
+pairs =
+    -- the maker's last line lacks its line end; in each part the maker's lines come first
+    pair "never A3 & A4\nE1 & !E2 causes A3 if R0 > 40" "E3 causes A4" (reading 2 worked)
+    ∷ pair "E1 & !E2 causes A3 if R0 > 40\nE3 causes A4\n" "# site\nnever A3 & A4\n" (reading 3 worked)
+    ∷ pair "E1 & !E2 causes A3 if R0 > 40\nE3 causes A4\nnever A3 & A4\n" "" (reading 1 worked)
+    ∷ pair "" "E1 & !E2 causes A3 if R0 > 40\nE3 causes A4\nnever A3 & A4\n" (reading 4 worked)
+    ∷ pair "" "" (reading 1 emptyPolicy)
+    -- the bytes are not joined
+    ∷ pair "E1 causes" " A1" (refusedAt Source.Maker Fault.Syntax 1)
+    -- the maker's faults come first, and lines are counted from 1 in each text
+    ∷ pair "\n\nE1" "E64 causes A1" (refusedAt Source.Maker Fault.Syntax 3)
+    ∷ pair "E64 causes A1" "E1" (refusedAt Source.Maker Fault.OutOfRange 1)
+    ∷ pair "E1 causes A1\n\n" "\nE1 & E1 causes A1\n" (refusedAt Source.Site Fault.Duplicate 2)
     ∷ []
 
 -- ---- epoch lines
@@ -164,6 +195,9 @@ epochLines =
 
 unfoldable pub textAnswer : TextExample → Progress
 textAnswer x = readText (bytes (x .text))
+
+unfoldable pub pairAnswer : PairExample → Progress
+pairAnswer x = readTexts (bytes (x .maker)) (bytes (x .site))
 
 unfoldable pub epochAnswer : LineExample → EpochAnswer
 epochAnswer x = readEpoch (bytes (x .line))

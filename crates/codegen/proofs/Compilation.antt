@@ -1,4 +1,4 @@
--- What a compilation has done: the statements about `compiled`.
+-- What a compilation has done: the statements about `compiled` and `compiledTexts`.
 use Prim.Native.Nat.{ℕ, _≤_, _<_}
 use mathlib.Core.Bool.{Bool, true, false, cond}
 use mathlib.Core.List.{List, _++_}
@@ -14,6 +14,7 @@ use Rattle.policy.proofs.ListLaws.{and-out}
 use Rattle.policy.proofs.FillLaws.{Delivered, fill-delivered, fill-unchanged}
 use Rattle.policy.specs.Fill.{Filled, deliver}
 use Rattle.policy.specs.Fault.{refusal}
+use Rattle.policy.specs.Limits.{Acceptable}
 use Rattle.policy.specs.Policy.{Policy}
 use Rattle.policy.specs.declared.fault.Fault.{Fault}
 use Rattle.policy.specs.declared.fault.Refusal.{Refusal}
@@ -22,20 +23,22 @@ use Rattle.layout.specs.Layout.{imageOf, sizeLimit}
 use Rattle.image.specs.Load.{load}
 use Rattle.image.specs.Check.{wellSized}
 use Rattle.image.specs.Held.{policyIn}
-use Rattle.acceptance.proofs.Accepted.{accepted-acceptable}
-use Rattle.rule_text.specs.Text.{Progress, reading, stopped, readText, policyOf}
+use Rattle.acceptance.proofs.Accepted.{accepted-acceptable, texts-acceptable}
+use Rattle.rule_text.specs.Text.{Progress, reading, stopped, readText, readTexts, policyRead, policyOf, policyOfTexts}
 use Rattle.codegen.proofs.AcceptedLaws.{newest-known}
-use Rattle.codegen.specs.Compile.{newestForm, outputOf, compiled, refusalIn, sizeOf}
-use Rattle.codegen.specs.Written.{writtenIn, Written}
+use Rattle.codegen.specs.Compile.{newestForm, outputOf, compiled, compiledTexts, refusalIn, sizeOf}
+use Rattle.codegen.specs.Written.{writtenBy, WrittenBy, writtenIn, Written, WrittenTexts}
 use Rattle.codegen.specs.declared.Compiled.{Compiled}
 
-module _ (text buffer : List ℕ) where
-  written-by : (n : ℕ) (p : Policy) (size : ℕ) → readText text ≡ reading n p → Delivered (imageOf newestForm p) buffer (compiled text buffer .buffer) size → Written text buffer size
-  unfolding policyOf wellSized
+-- ---- of what was read, be it a text or two
+
+module _ (s : Progress) (keeps : (n : ℕ) (p : Policy) → s ≡ reading n p → Acceptable p) (buffer : List ℕ) where
+  written-by : (n : ℕ) (p : Policy) (size : ℕ) → s ≡ reading n p → Delivered (imageOf newestForm p) buffer (outputOf s buffer .buffer) size → WrittenBy (policyRead s) (outputOf s buffer) buffer size
+  unfolding policyRead wellSized
   written-by n p size r d =
-      let ok = accepted-acceptable text n p r in
+      let ok = keeps n p r in
       let bytes : List ℕ = imageOf newestForm p in
-      let w : writtenIn size text buffer ≡ bytes = d .front in
+      let w : writtenBy size (outputOf s buffer) ≡ bytes = d .front in
       let sized = and-out (leb 8 (length bytes)) (leb (length bytes) sizeLimit) (and-out _ _ (image-size newestForm newest-known p ok) .0) in
       record {
         policy = p;
@@ -50,43 +53,92 @@ module _ (text buffer : List ℕ) where
         again = ap (λ (b : List ℕ). imageOf newestForm (policyIn b)) w ∙ ap (imageOf newestForm) (image-holds newestForm newest-known p ok) ∙ sym w;
       }
 
-  -- where the compiler answers a size, it has written an image of that size
-  pub image-written : (size : ℕ) → compiled text buffer .answer ≡ Compiled.Image size → Written text buffer size
-  unfolding compiled outputOf
-  image-written size e = go (readText text) refl e
+  output-written : (size : ℕ) → outputOf s buffer .answer ≡ Compiled.Image size → WrittenBy (policyRead s) (outputOf s buffer) buffer size
+  unfolding outputOf
+  output-written size e = go s refl e
     where
-      go : (s : Progress) → readText text ≡ s → outputOf s buffer .answer ≡ Compiled.Image size → Written text buffer size
+      go : (x : Progress) → s ≡ x → outputOf x buffer .answer ≡ Compiled.Image size → WrittenBy (policyRead s) (outputOf s buffer) buffer size
       go (reading n p) r k = written-by n p size r (rw r (fill-delivered Compiled.Refused Compiled.Image refusalIn sizeOf (λ x. refl) (λ m. refl) (λ m. refl) (imageOf newestForm p) buffer size k))
       go (stopped x) r k = let w : _≡_ {A = ℕ} 0 1 = cc in absurd (omega arith)
+
+module _ (s : Progress) (buffer : List ℕ) where
+  output-refused : (r : Refusal) → s ≡ stopped r → refusalIn (outputOf s buffer .answer) ≡ some r
+  unfolding outputOf
+  output-refused r e = rw e
+
+  module _ (n : ℕ) (p : Policy) (r : s ≡ reading n p) where
+    output-short : length buffer < length (imageOf newestForm p) → refusalIn (outputOf s buffer .answer) ≡ some (refusal Fault.BufferTooSmall 0)
+    unfolding outputOf
+    output-short h = rw (r, lt-leb (length (imageOf newestForm p)) (length buffer) h)
+
+    output-delivered : length (imageOf newestForm p) ≤ length buffer → outputOf s buffer ≡ deliver Compiled.Refused Compiled.Image (imageOf newestForm p) buffer
+    unfolding outputOf
+    output-delivered h = rw (r, le-leb (length (imageOf newestForm p)) (length buffer) h)
+
+  output-unchanged : (r : Refusal) → refusalIn (outputOf s buffer .answer) ≡ some r → outputOf s buffer .buffer ≡ buffer
+  unfolding outputOf
+  output-unchanged r e = go s e
+    where
+      go : (x : Progress) → refusalIn (outputOf x buffer .answer) ≡ some r → outputOf x buffer .buffer ≡ buffer
+      go (reading n p) k = fill-unchanged Compiled.Refused Compiled.Image refusalIn sizeOf (λ x. refl) (λ m. refl) (λ m. refl) (imageOf newestForm p) buffer r k
+      go (stopped x) k = refl
+
+-- ---- a text
+
+module _ (text buffer : List ℕ) where
+  -- where the compiler answers a size, it has written an image of that size
+  pub image-written : (size : ℕ) → compiled text buffer .answer ≡ Compiled.Image size → Written text buffer size
+  unfolding compiled policyOf
+  image-written size e = output-written (readText text) (accepted-acceptable text) buffer size e
 
   -- ---- when it is refused, and that a refusal changes no byte of the buffer
 
   -- 1 to 6, at the line, whatever room there is
   pub text-refused : (r : Refusal) → readText text ≡ stopped r → refusalIn (compiled text buffer .answer) ≡ some r
-  unfolding compiled outputOf
-  text-refused r e = rw e
+  unfolding compiled
+  text-refused r e = output-refused (readText text) buffer r e
 
   module _ (n : ℕ) (p : Policy) (r : readText text ≡ reading n p) where
     -- 15 where the image has more bytes than the buffer
     pub room-refused : length buffer < length (imageOf newestForm p) → refusalIn (compiled text buffer .answer) ≡ some (refusal Fault.BufferTooSmall 0)
-    unfolding compiled outputOf
-    room-refused h = rw (r, lt-leb (length (imageOf newestForm p)) (length buffer) h)
+    unfolding compiled
+    room-refused h = output-short (readText text) buffer n p r h
 
     -- every other text is accepted, and its image delivered
     pub text-delivered : length (imageOf newestForm p) ≤ length buffer → compiled text buffer ≡ deliver Compiled.Refused Compiled.Image (imageOf newestForm p) buffer
-    unfolding compiled outputOf
-    text-delivered h = rw (r, le-leb (length (imageOf newestForm p)) (length buffer) h)
+    unfolding compiled
+    text-delivered h = output-delivered (readText text) buffer n p r h
 
     pub text-compiled : length (imageOf newestForm p) ≤ length buffer → compiled text buffer .answer ≡ Compiled.Image (length (imageOf newestForm p))
     text-compiled h = ap (λ (o : Filled Compiled). o .answer) (text-delivered h)
 
   pub refused-unchanged : (r : Refusal) → refusalIn (compiled text buffer .answer) ≡ some r → compiled text buffer .buffer ≡ buffer
-  unfolding compiled outputOf
-  refused-unchanged r e = go (readText text) e
-    where
-      go : (s : Progress) → refusalIn (outputOf s buffer .answer) ≡ some r → outputOf s buffer .buffer ≡ buffer
-      go (reading n p) k = fill-unchanged Compiled.Refused Compiled.Image refusalIn sizeOf (λ x. refl) (λ m. refl) (λ m. refl) (imageOf newestForm p) buffer r k
-      go (stopped x) k = refl
+  unfolding compiled
+  refused-unchanged r e = output-unchanged (readText text) buffer r e
+
+-- ---- two texts as one
+
+module _ (maker site buffer : List ℕ) where
+  pub texts-written : (size : ℕ) → compiledTexts maker site buffer .answer ≡ Compiled.Image size → WrittenTexts maker site buffer size
+  unfolding compiledTexts policyOfTexts
+  texts-written size e = output-written (readTexts maker site) (texts-acceptable maker site) buffer size e
+
+  pub texts-refused : (r : Refusal) → readTexts maker site ≡ stopped r → refusalIn (compiledTexts maker site buffer .answer) ≡ some r
+  unfolding compiledTexts
+  texts-refused r e = output-refused (readTexts maker site) buffer r e
+
+  module _ (n : ℕ) (p : Policy) (r : readTexts maker site ≡ reading n p) where
+    pub texts-short : length buffer < length (imageOf newestForm p) → refusalIn (compiledTexts maker site buffer .answer) ≡ some (refusal Fault.BufferTooSmall 0)
+    unfolding compiledTexts
+    texts-short h = output-short (readTexts maker site) buffer n p r h
+
+    pub texts-delivered : length (imageOf newestForm p) ≤ length buffer → compiledTexts maker site buffer ≡ deliver Compiled.Refused Compiled.Image (imageOf newestForm p) buffer
+    unfolding compiledTexts
+    texts-delivered h = output-delivered (readTexts maker site) buffer n p r h
+
+  pub texts-unchanged : (r : Refusal) → refusalIn (compiledTexts maker site buffer .answer) ≡ some r → compiledTexts maker site buffer .buffer ≡ buffer
+  unfolding compiledTexts
+  texts-unchanged r e = output-unchanged (readTexts maker site) buffer r e
 
 -- ---- what an image keeps of a text: its rules in their order and its constraints in theirs, and nothing else
 

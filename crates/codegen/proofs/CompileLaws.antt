@@ -10,6 +10,7 @@ use lib.Seq.{take-at}
 use Rattle.policy.specs.Line.{PolicyLine, rule, constraint, endingOf}
 use Rattle.policy.specs.Policy.{Policy, Rule, Constraint}
 use Rattle.policy.specs.Fault.{refusal}
+use Rattle.policy.specs.Fill.{Filled}
 use Rattle.policy.specs.declared.fault.Fault.{Fault}
 use Rattle.policy.specs.declared.fault.Refusal.{Refusal}
 use Rattle.exactness.proofs.Exact.{content-below, image-length}
@@ -20,14 +21,14 @@ use Rattle.word.specs.Word.{bytesOf, wordsOf}
 use Rattle.layout.specs.Header.{packHeader}
 use Rattle.image.specs.Held.{rulesIn, constraintsIn}
 use Rattle.layout.specs.Layout.{lineWords, linesWords, ruleWords, constraintWords, headerWord, contentWords, checkWords, imageWords, imageOf}
-use Rattle.rule_text.specs.Answer.{textReadOf, textRead}
-use Rattle.lexer.specs.Lines.{linesOf}
-use Rattle.rule_text.specs.Text.{Progress, reading, stopped, readText}
+use Rattle.rule_text.specs.Answer.{textReadOf, textsRead}
+use Rattle.acceptance.proofs.Texts.{restarted, site-empty}
+use Rattle.rule_text.specs.Text.{Progress, reading, stopped, readText, readSite, readTexts}
 use Rattle.rule_text.specs.declared.TextCounts.{TextCounts}
 use Rattle.rule_text.specs.declared.TextRead.{TextRead}
-use Rattle.codegen.proofs.AcceptedLaws.{newest-known, AcceptedText}
-use Rattle.codegen.specs.Compile.{newestForm, outputOf, compiled}
-use Rattle.codegen.specs.Steps.Put.{wordCount, cursorFor, cursorsAfter, acceptedLines, putLines, putContent, putImage}
+use Rattle.codegen.proofs.AcceptedLaws.{newest-known, AcceptedTexts}
+use Rattle.codegen.specs.Compile.{newestForm, outputOf, compiled, compiledTexts}
+use Rattle.codegen.specs.Steps.Put.{wordCount, cursorFor, cursorsAfter, linesOfBoth, putLines, putContent, putImage}
 use Rattle.codegen.specs.declared.Compiled.{Compiled}
 
 -- ---- the lines, one after another, are the two parts
@@ -60,9 +61,9 @@ three-put buffer h r c room =
     let n : 1 + length r ≡ 0 + length (h ∷ r) = omega arith in
     ap₂ (λ (b : List ℕ) (k : ℕ). putWords b k c) (put-append buffer 0 (h ∷ []) r (omega arith)) n ∙ put-append buffer 0 (h ∷ r) c (omega arith)
 
--- ---- the image of an accepted text
+-- ---- the image of two accepted texts
 
-module _ (text : List ℕ) (counts : TextCounts) (t : AcceptedText text counts) (buffer : List ℕ) where
+module _ (maker site : List ℕ) (counts : TextCounts) (t : AcceptedTexts maker site counts) (buffer : List ℕ) where
   abbrev p : Policy
   p = t .policy
 
@@ -87,10 +88,10 @@ module _ (text : List ℕ) (counts : TextCounts) (t : AcceptedText text counts) 
     words-room : P + N + 2 ≤ length buffer / 4
     words-room = omega (arith, image-bytes)
 
-    content-put : putContent (acceptedLines (linesOf text)) P N buffer ≡ putWords buffer 0 (contentWords newestForm p)
+    content-put : putContent (linesOfBoth maker site) P N buffer ≡ putWords buffer 0 (contentWords newestForm p)
     unfolding putContent contentWords headerWord ruleWords constraintWords
     content-put =
-        let ls : List PolicyLine = acceptedLines (linesOf text) in
+        let ls : List PolicyLine = linesOfBoth maker site in
         let h : ℕ = packHeader newestForm P N in
         let r : rulePart ls ≡ ruleWords p = ap (λ (x : List Rule). linesWords (map rule x)) (t .rules) in
         let c : constraintPart ls ≡ constraintWords p = ap (λ (x : List Constraint). linesWords (map constraint x)) (t .constraints) in
@@ -107,7 +108,7 @@ module _ (text : List ℕ) (counts : TextCounts) (t : AcceptedText text counts) 
         ap (λ (b : List ℕ). take (1 + P + N) (wordsOf b)) (put-in buffer 0 w (omega (arith, content-length)))
         ∙ ap (take (1 + P + N)) (words-append w rest (content-below newestForm newest-known p (t .acceptable))) ∙ take-at w (wordsOf rest) (1 + P + N) content-length
 
-    pub image-written : putImage (acceptedLines (linesOf text)) P N buffer ≡ image ++ drop (length image) buffer
+    pub image-written : putImage (linesOfBoth maker site) P N buffer ≡ image ++ drop (length image) buffer
     unfolding putImage imageWords imageOf checkWords putBytes
     image-written =
         let w : List ℕ = contentWords newestForm p in
@@ -128,22 +129,39 @@ module _ (text : List ℕ) (counts : TextCounts) (t : AcceptedText text counts) 
     size-is : size ≡ length image
     size-is = omega (arith, image-bytes, t .rule-count, t .constraint-count)
 
-    pub compiled-short : (x : Refusal) → x ≡ refusal Fault.BufferTooSmall 0 → length buffer < size → (Compiled.Refused x ≡ compiled text buffer .answer) × (buffer ≡ compiled text buffer .buffer)
-    unfolding compiled outputOf
+    pub compiled-short : (x : Refusal) → x ≡ refusal Fault.BufferTooSmall 0 → length buffer < size → (Compiled.Refused x ≡ compiledTexts maker site buffer .answer) × (buffer ≡ compiledTexts maker site buffer .buffer)
+    unfolding compiledTexts outputOf
     compiled-short x e h = rw (e, t .read, lt-leb (length image) (length buffer) (omega (arith, size-is))) (refl, refl)
 
-    pub compiled-image : size ≤ length buffer → (after : List ℕ) → after ≡ putImage (acceptedLines (linesOf text)) rules constraints buffer
-        → (Compiled.Image size ≡ compiled text buffer .answer) × (after ≡ compiled text buffer .buffer)
-    unfolding compiled outputOf
+    pub compiled-image : size ≤ length buffer → (after : List ℕ) → after ≡ putImage (linesOfBoth maker site) rules constraints buffer
+        → (Compiled.Image size ≡ compiledTexts maker site buffer .answer) × (after ≡ compiledTexts maker site buffer .buffer)
+    unfolding compiledTexts outputOf
     compiled-image h after e =
         let room : length image ≤ length buffer = omega (arith, size-is) in
-        let done : after ≡ image ++ drop (length image) buffer = e ∙ ap₂ (λ (m n : ℕ). putImage (acceptedLines (linesOf text)) m n buffer) (r ∙ t .rule-count) (k ∙ t .constraint-count) ∙ image-written room in
+        let done : after ≡ image ++ drop (length image) buffer = e ∙ ap₂ (λ (m n : ℕ). putImage (linesOfBoth maker site) m n buffer) (r ∙ t .rule-count) (k ∙ t .constraint-count) ∙ image-written room in
         rw (t .read, le-leb (length image) (length buffer) room) (ap Compiled.Image size-is, done)
 
-pub compiled-refused : (text buffer : List ℕ) (r : Refusal) → textRead text ≡ TextRead.Refused r → (Compiled.Refused r ≡ compiled text buffer .answer) × (buffer ≡ compiled text buffer .buffer)
-unfolding textRead textReadOf compiled outputOf
-compiled-refused text buffer r e = go (readText text) e
+pub compiled-refused : (maker site buffer : List ℕ) (r : Refusal) → textsRead maker site ≡ TextRead.Refused r → (Compiled.Refused r ≡ compiledTexts maker site buffer .answer) × (buffer ≡ compiledTexts maker site buffer .buffer)
+unfolding textsRead textReadOf compiledTexts outputOf
+compiled-refused maker site buffer r e = go (readTexts maker site) e
   where
     go : (s : Progress) → textReadOf s ≡ TextRead.Refused r → (Compiled.Refused r ≡ outputOf s buffer .answer) × (buffer ≡ outputOf s buffer .buffer)
     go (reading m p) k = let w : _≡_ {A = ℕ} 0 1 = cc in absurd (omega arith)
     go (stopped x) k = let a : Compiled.Refused r ≡ Compiled.Refused x = cc in (a, refl)
+
+-- ---- a single text
+
+-- with an empty site's text all is as for the maker's alone
+pub compiled-alone : (text buffer : List ℕ) → compiledTexts text [] buffer ≡ compiled text buffer
+unfolding compiledTexts compiled readTexts outputOf restarted
+compiled-alone text buffer = ap (λ (s : Progress). outputOf s buffer) (site-empty (readText text)) ∙ go (readText text)
+  where
+    go : (s : Progress) → outputOf (restarted s) buffer ≡ outputOf s buffer
+    go (reading n p) = refl
+    go (stopped r) = refl
+
+pub alone-answer : (text buffer : List ℕ) (x : Compiled) → x ≡ compiledTexts text [] buffer .answer → x ≡ compiled text buffer .answer
+alone-answer text buffer x e = e ∙ ap (λ (o : Filled Compiled). o .answer) (compiled-alone text buffer)
+
+pub alone-buffer : (text buffer after : List ℕ) → after ≡ compiledTexts text [] buffer .buffer → after ≡ compiled text buffer .buffer
+alone-buffer text buffer after e = e ∙ ap (λ (o : Filled Compiled). o .buffer) (compiled-alone text buffer)

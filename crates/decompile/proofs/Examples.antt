@@ -23,11 +23,11 @@ use Rattle.policy.specs.Limits.{isReadingValue, testNumber, operandInRange, com
 use Rattle.policy.specs.Line.{headsOf, comparisonsOf, endingOf}
 use Rattle.policy.specs.List.{all, any}
 use Rattle.printer.specs.Printed.{constantToken, literalToken, actionToken, readingToken, relationToken, operandToken, comparisonTokens, joinedBy, headTokens, conditionTokens, lineTokens, lineBytes, linesText, textOf}
-use Rattle.rule_text.specs.Text.{advance, readLine, readText, policyOf}
+use Rattle.rule_text.specs.Text.{advance, readLine, readBehind, inText, readText, policyRead, policyOf}
 use Rattle.syntax.specs.Grammar.{comparisonsFrom, conditionFrom, joined, ruleAfter, constraintAfter, after, lineFrom}
 use Rattle.syntax.specs.Judge.{judgeLine, isComment, tokensAnswer, lineAnswer}
 use Rattle.word.specs.Word.{wordsOf, bytesOf, between}
 
 pub examples-hold : map computed examples ≡ examples
-unfolding addLiteral addMember addComparison decodeWord decode isPrefix inPart standsAt keepIf lineAt outputOf decompiled workedWith imageIn imageFrom examples computed wellSized countsFit sumsToZero rulesIn constraintsIn linesIn policyIn addLine afterLine linesFrom partLines bodyAnswer loadWords load packHeader conditionWords partWords lineWords linesWords knownForm checkCount sum checkWord checkWords headerWord ruleWords constraintWords contentWords imageWords imageOf bytes sameBytes is prepend pieces linesOf nonEmpty tokensOf decimalFrom isEmpty numberOf positive negative hexValue decimalOf patternOf hexadecimalOf constantOf named literalOf actionOf readingOf relationOf orElse operandOf both comparisonOf pack operationFrom relationFrom constantComparison readingComparison testOperation testWord operandWord constantWords comparisonWord comparisonWords endingWord digits decimal isReadingValue testNumber operandInRange comparisonInRange endingInRange inRange crowded repeats repeated valid headsOf comparisonsOf endingOf all any constantToken literalToken actionToken readingToken relationToken operandToken comparisonTokens joinedBy headTokens conditionTokens lineTokens lineBytes linesText textOf advance readLine readText policyOf comparisonsFrom conditionFrom joined ruleAfter constraintAfter after lineFrom judgeLine isComment tokensAnswer lineAnswer wordsOf bytesOf between
+unfolding addLiteral addMember addComparison decodeWord decode isPrefix inPart standsAt keepIf lineAt outputOf decompiled workedWith imageIn imageFrom examples computed wellSized countsFit sumsToZero rulesIn constraintsIn linesIn policyIn addLine afterLine linesFrom partLines bodyAnswer loadWords load packHeader conditionWords partWords lineWords linesWords knownForm checkCount sum checkWord checkWords headerWord ruleWords constraintWords contentWords imageWords imageOf bytes sameBytes is prepend pieces linesOf nonEmpty tokensOf decimalFrom isEmpty numberOf positive negative hexValue decimalOf patternOf hexadecimalOf constantOf named literalOf actionOf readingOf relationOf orElse operandOf both comparisonOf pack operationFrom relationFrom constantComparison readingComparison testOperation testWord operandWord constantWords comparisonWord comparisonWords endingWord digits decimal isReadingValue testNumber operandInRange comparisonInRange endingInRange inRange crowded repeats repeated valid headsOf comparisonsOf endingOf all any constantToken literalToken actionToken readingToken relationToken operandToken comparisonTokens joinedBy headTokens conditionTokens lineTokens lineBytes linesText textOf advance readLine readBehind inText readText policyRead policyOf comparisonsFrom conditionFrom joined ruleAfter constraintAfter after lineFrom judgeLine isComment tokensAnswer lineAnswer wordsOf bytesOf between
 examples-hold = refl

@@ -101,8 +101,8 @@ sized-few n e = leb-true n 13064 (and-out (leb 8 n) (leb n 13064) (and-out (leb 
 
 location-small : (image : List ℕ) (r : Refusal) → length image ≤ 13064 → RefusalOf (length (wordsOf image)) r
     → (faultNumber (r .fault) < 2 ^ 64) × (r .location < 2 ^ 64)
-location-small image r h (ofChecks a b c) = (omega arith, omega arith)
-location-small image r h (ofBody a b c) = (omega arith, omega (arith, words-length image))
+location-small image r h (ofChecks s a b c) = (omega arith, omega arith)
+location-small image r h (ofBody s a b c) = (omega arith, omega (arith, words-length image))
 
 refusal-small : (image : List ℕ) (r : Refusal) → load image ≡ Loaded.Refused r → (faultNumber (r .fault) < 2 ^ 64) × (r .location < 2 ^ 64)
 refusal-small image r e = go (wellSized (length image)) refl

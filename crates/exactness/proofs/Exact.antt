@@ -18,6 +18,7 @@ use Rattle.policy.specs.List.{all}
 use Rattle.policy.specs.Policy.{Policy}
 use Rattle.policy.specs.declared.fault.Fault.{Fault}
 use Rattle.policy.specs.declared.fault.Refusal.{Refusal}
+use Rattle.policy.specs.declared.fault.Source.{Source}
 use Rattle.exactness.proofs.ImageLaws.{below-append, below-cons, below-none, lines-below, rules-between, constraints-between, rules-size, constraints-size, parts-of}
 use Rattle.exactness.proofs.PartLines.{lines-limit, lines-found, AreLines, same-lines, lines-written, lines-fault, no-line-fault, rules-kind, constraints-kind, rules-back, constraints-back, rules-there, constraints-there}
 use Rattle.layout.proofs.SumLaws.{check-word, check-sum, check-below, sum-append, sum-set}
@@ -460,8 +461,11 @@ refusals bytes r e = go (answered bytes)
     among : (part : Part) (room from location : ℕ) (ws : List ℕ) → NoLineAt part room from ws location → (from ≤ location) × (location < from + length ws)
     among part room from location ws h = (omega (arith, h .located), omega (arith, h .located, h .more, ap length (h .words), length-append (linesWords (h .before)) (h .rest)))
 
+    source-of : (n : ℕ) → some (refusal Fault.ImageBody n) ≡ some r → r .source ≡ Source.Neither
+    source-of n q = let k : refusal Fault.ImageBody n ≡ r = cc in ap (λ (x : Refusal). x .source) (sym k)
+
     given : (n : ℕ) → some (refusal Fault.ImageBody n) ≡ some r → 1 ≤ n → n < length ws′ → RefusalOf (length ws′) r
-    given n q a b = ofBody (sym (ap numberOf q)) (omega (arith, ap locationOf q)) (omega (arith, ap locationOf q))
+    given n q a b = ofBody (source-of n q) (sym (ap numberOf q)) (omega (arith, ap locationOf q)) (omega (arith, ap locationOf q))
 
     body : Checked bytes → (x y : Lines) → ruleLines ws′ ≡ x → constraintLines ws′ ≡ y → refusalIn (bodyAnswer (formByte ws′) (ruleCount ws′) (constraintCount ws′) x y) ≡ some r → RefusalOf (length ws′) r
     body c (fault n) y p q s =
@@ -477,7 +481,8 @@ refusals bytes r e = go (answered bytes)
     go : Answered bytes → RefusalOf (length ws′) r
     go (early x) =
         let a : some r ≡ some (refusal (x .fault) 0) = sym e ∙ x .refused in
-        ofChecks (omega (arith, ap numberOf a, x .from)) (omega (arith, ap numberOf a, x .upto)) (ap locationOf a)
+        let k : r ≡ refusal (x .fault) 0 = cc in
+        ofChecks (ap (λ (y : Refusal). y .source) k) (omega (arith, ap numberOf a, x .from)) (omega (arith, ap numberOf a, x .upto)) (ap locationOf a)
     go (late c q) = body c (ruleLines ws′) (constraintLines ws′) refl refl (sym (ap refusalIn q) ∙ e)
 
 -- ---- one word changed

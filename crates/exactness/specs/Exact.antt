@@ -13,6 +13,7 @@ use Rattle.policy.specs.List.{all}
 use Rattle.policy.specs.Policy.{Policy}
 use Rattle.policy.specs.declared.fault.Fault.{Fault}
 use Rattle.policy.specs.declared.fault.Refusal.{Refusal}
+use Rattle.policy.specs.declared.fault.Source.{Source}
 use Rattle.word.specs.Word.{wordsOf, bytesOf, between}
 use Rattle.image.specs.Check.{formByte, ruleCount, constraintCount, wellSized, countsFit, sumsToZero}
 use Rattle.layout.specs.Layout.{lineWords, linesWords, knownForm, ruleWords, constraintWords, imageOf}
@@ -57,10 +58,10 @@ pub record RefusedEarly (answer : Loaded) : Type 0 where
   pub from : 7 ≤ faultNumber fault
   pub upto : faultNumber fault ≤ 10
 
--- a refusal of so many words: one of the faults 7 to 10 at location 0, or fault 11 at one of the words behind word 0
+-- a refusal of so many words, in no text: one of the faults 7 to 10 at location 0, or fault 11 at one of the words behind word 0
 pub data RefusalOf (words : ℕ) (r : Refusal) : Type 0 where
-  ofChecks : 7 ≤ faultNumber (r .fault) → faultNumber (r .fault) ≤ 10 → r .location ≡ 0 → RefusalOf words r
-  ofBody : faultNumber (r .fault) ≡ 11 → 1 ≤ r .location → r .location < words → RefusalOf words r
+  ofChecks : r .source ≡ Source.Neither → 7 ≤ faultNumber (r .fault) → faultNumber (r .fault) ≤ 10 → r .location ≡ 0 → RefusalOf words r
+  ofBody : r .source ≡ Source.Neither → faultNumber (r .fault) ≡ 11 → 1 ≤ r .location → r .location < words → RefusalOf words r
 
 -- a location in a part at which no line fits, with the whole lines before it: `ws` are the words of the part, of which the
 -- first has the index `from`, and there is room for so many lines

@@ -151,7 +151,7 @@ image-changed image bounded ok i v l small other line = go (one-word-changed ima
     go r =
         subst (λ (d : Decision). CheckFailed (answerOf d))
         (image-refused (changed image i v) line (refusal (r .fault) 0) (refused-load (load (changed image i v)) (refusal (r .fault) 0) (r .refused)))
-        (record { is-refused = refl; from = r .from; upto = r .upto; location = refl; accepts = refl; cancels = refl })
+        (record { is-refused = refl; from = r .from; upto = r .upto; text = refl; location = refl; accepts = refl; cancels = refl })
 
 -- ---- the image of a policy that an accepted text may have
 

@@ -16,7 +16,7 @@ use Rattle.lexer.specs.Lines.{prepend, pieces, linesOf, nonEmpty, tokensOf, tak
 use Rattle.lexer.specs.Token.{named, literalOf, actionOf, readingOf, relationOf, operandOf, both, comparisonOf}
 use Rattle.syntax.specs.Grammar.{comparisonsFrom, conditionFrom, joined, ruleAfter, constraintAfter, after, lineFrom}
 use Rattle.syntax.specs.Judge.{judgeLine, isComment, tokensAnswer, lineAnswer}
-use Rattle.rule_text.specs.Text.{advance, readLine, readText, policyOf}
+use Rattle.rule_text.specs.Text.{advance, readLine, readBehind, inText, readText, policyRead, policyOf}
 use Rattle.epoch_line.specs.Epoch.{toLeft, atEquals, assignmentOf, itemOf, itemsOf, itemInRange, givenBy, addItem, judgeEpoch, readEpoch}
 use Rattle.operation.specs.Operation.{operationFrom, relationFrom}
 use Rattle.word.specs.Word.{wordsOf, bytesOf, between}
@@ -25,9 +25,9 @@ use Rattle.layout.specs.Header.{packHeader}
 use Rattle.operation.specs.Parts.{testOperation, testWord, operandWord, constantWords, comparisonWord, comparisonWords, constantComparison, readingComparison, endingWord}
 use Rattle.layout.specs.Layout.{conditionWords, partWords, lineWords, linesWords, knownForm, checkCount, sum, checkWord, checkWords, headerWord, ruleWords, constraintWords, contentWords, imageWords, imageOf}
 use Rattle.codegen.specs.Compile.{outputOf, compiled}
-use Rattle.guarantees.specs.Machine.{answer, step, steps, machine}
+use Rattle.guarantees.specs.Machine.{answer, step, steps, machineOf}
 use Rattle.guarantees.specs.Examples.{examples, computed}
 
 pub examples-hold : map computed examples ≡ examples
-unfolding all any has insert below valueIn readingValue missingHolds valuesRelate eqZ relationHolds operandValue comparisonHolds headsOf comparisonsOf endingOf constantCount isReadingValue testNumber operandInRange comparisonInRange endingInRange inRange crowded repeats repeated valid tryNext keptBelow greedy literalHolds ruleHolds propose proposals constraintHolds conflict resolve accepted cancelled bytes sameBytes is classOf decimalFrom isEmpty numberOf positive negative hexValue decimalOf patternOf hexadecimalOf constantOf prepend pieces linesOf nonEmpty tokensOf takeWhile skipWhile restOfLine lineEnd named literalOf actionOf readingOf relationOf orElse operandOf both comparisonOf comparisonsFrom conditionFrom joined ruleAfter constraintAfter after lineFrom judgeLine isComment tokensAnswer lineAnswer advance readLine readText policyOf toLeft atEquals assignmentOf itemOf itemsOf itemInRange givenBy addItem judgeEpoch readEpoch operationFrom relationFrom wordsOf bytesOf between pack packHeader testOperation testWord operandWord constantWords comparisonWord comparisonWords constantComparison readingComparison endingWord conditionWords partWords lineWords linesWords knownForm checkCount sum checkWord checkWords headerWord ruleWords constraintWords contentWords imageWords imageOf outputOf compiled answer step steps machine examples computed
+unfolding all any has insert below valueIn readingValue missingHolds valuesRelate eqZ relationHolds operandValue comparisonHolds headsOf comparisonsOf endingOf constantCount isReadingValue testNumber operandInRange comparisonInRange endingInRange inRange crowded repeats repeated valid tryNext keptBelow greedy literalHolds ruleHolds propose proposals constraintHolds conflict resolve accepted cancelled bytes sameBytes is classOf decimalFrom isEmpty numberOf positive negative hexValue decimalOf patternOf hexadecimalOf constantOf prepend pieces linesOf nonEmpty tokensOf takeWhile skipWhile restOfLine lineEnd named literalOf actionOf readingOf relationOf orElse operandOf both comparisonOf comparisonsFrom conditionFrom joined ruleAfter constraintAfter after lineFrom judgeLine isComment tokensAnswer lineAnswer advance readLine readBehind inText readText policyRead policyOf toLeft atEquals assignmentOf itemOf itemsOf itemInRange givenBy addItem judgeEpoch readEpoch operationFrom relationFrom wordsOf bytesOf between pack packHeader testOperation testWord operandWord constantWords comparisonWord comparisonWords constantComparison readingComparison endingWord conditionWords partWords lineWords linesWords knownForm checkCount sum checkWord checkWords headerWord ruleWords constraintWords contentWords imageWords imageOf outputOf compiled answer step steps machineOf examples computed
 examples-hold = refl

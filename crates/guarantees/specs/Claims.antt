@@ -1,9 +1,11 @@
--- What the claims about the whole speak of, in terms of what the contracts of `compile`, `load_image`, `decide` and `decompile` say.
+-- What the claims about the whole speak of, in terms of what the contracts of `compile`, `compile_texts`, `load_image`,
+-- `decide` and `decompile` say.
 use Prim.Native.Nat.{ℕ}
 use mathlib.Core.List.{List, map}
 use mathlib.Core.Path.{_≡_}
 use lib.ListN.{take}
-use Rattle.codegen.specs.Compile.{compiled}
+use Rattle.policy.specs.Fill.{Filled}
+use Rattle.codegen.specs.Compile.{compiled, compiledTexts}
 use Rattle.codegen.specs.declared.Compiled.{Compiled}
 use Rattle.decompile.specs.Decompile.{decompiled}
 use Rattle.decompile.specs.declared.Decompiled.{Decompiled}
@@ -11,12 +13,20 @@ use Rattle.monitor.specs.Decision.{decision, answerOf}
 use Rattle.pdl.specs.Answer.{Answer}
 use Rattle.word.specs.Word.{Bytes}
 
--- the compiler's call on the text was accepted, and the image is the bytes that it wrote, no more and no fewer
-pub record CompilesTo (text image : List ℕ) : Type 0 where
+-- a call of the compiler was accepted, and the image is the bytes that it wrote, no more and no fewer
+pub record Writes (call : List ℕ → Filled Compiled) (image : List ℕ) : Type 0 where
   pub buffer : List ℕ
   pub size : ℕ
-  pub accepted : compiled text buffer .answer ≡ Compiled.Image size
-  pub written : take size (compiled text buffer .buffer) ≡ image
+  pub accepted : call buffer .answer ≡ Compiled.Image size
+  pub written : take size (call buffer .buffer) ≡ image
+
+-- its call on the text
+abbrev pub CompilesTo : List ℕ → List ℕ → Type 0
+CompilesTo text image = Writes (compiled text) image
+
+-- document 02, L6: its call on the maker's and the site's text
+abbrev pub TextsCompileTo : List ℕ → List ℕ → List ℕ → Type 0
+TextsCompileTo maker site image = Writes (compiledTexts maker site) image
 
 -- the decompiler's call on the image was accepted, and the text is the bytes that it wrote, no more and no fewer
 pub record DecompilesTo (image text : List ℕ) : Type 0 where

@@ -35,11 +35,12 @@ pub data OfDecision (words : ℕ) (r : Refusal) : Type 0 where
   ofImage : RefusalOf words r → OfDecision words r
   ofLine : OfEpoch r → OfDecision words r
 
--- refused under one of 7 to 10, at location 0 and with empty sets
+-- refused under one of 7 to 10, in no text, at location 0 and with empty sets
 pub record CheckFailed (a : Answer) : Type 0 where
   pub is-refused : a .isRefused ≡ true
   pub from : 7 ≤ a .number
   pub upto : a .number ≤ 10
+  pub text : a .text ≡ 0
   pub location : a .location ≡ 0
   pub accepts : a .accepted ≡ noActions
   pub cancels : a .cancelled ≡ noActions

@@ -21,7 +21,7 @@ abbrev decided : List ℕ → List ℕ → Answer
 decided accepted cancelled = issues (actionsFrom accepted) (actionsFrom cancelled)
 
 abbrev refusedUnder : ℕ → Answer
-refusedUnder n = record { isRefused = true; number = n; location = 0; accepted = noActions; cancelled = noActions }
+refusedUnder n = record { isRefused = true; number = n; text = 0; location = 0; accepted = noActions; cancelled = noActions }
 
 abbrev worked : String
 worked = "E1 & !E2 causes A3 if R0 > 40\nE3 causes A4\nnever A3 & A4\n"

@@ -8,7 +8,7 @@ use Rattle.policy.specs.Policy.{Policy}
 use Rattle.pdl.specs.Answer.{Answer, refuses, issues}
 use Rattle.pdl.specs.Yield as Yield
 use Rattle.epoch_line.specs.Epoch.{EpochAnswer, refused, accepted, readEpoch}
-use Rattle.rule_text.specs.Text.{policyOf}
+use Rattle.rule_text.specs.Text.{policyOf, policyOfTexts}
 
 unfoldable pub answer : Policy → EpochAnswer → Answer
 answer p (refused f) = refuses (refusal f 0)
@@ -23,5 +23,12 @@ unfoldable pub steps : Policy → List (List ℕ) → List Answer
 steps p lines = map (step p) lines
 
 -- "From the text it has the rules and the never lines"; there are none where the text is refused
-unfoldable pub machine : List ℕ → List (List ℕ) → Option (List Answer)
-machine text lines = Option·map (λ (p : Policy). steps p lines) (policyOf text)
+unfoldable pub machineOf : Option Policy → List (List ℕ) → Option (List Answer)
+machineOf known lines = Option·map (λ (p : Policy). steps p lines) known
+
+abbrev pub machine : List ℕ → List (List ℕ) → Option (List Answer)
+machine text lines = machineOf (policyOf text) lines
+
+-- document 02, L6: the same from the maker's and the site's text
+abbrev pub machineOfTexts : List ℕ → List ℕ → List (List ℕ) → Option (List Answer)
+machineOfTexts maker site lines = machineOf (policyOfTexts maker site) lines

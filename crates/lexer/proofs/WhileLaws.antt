@@ -1,12 +1,12 @@
 -- Laws of `takeWhile` and `skipWhile`: going on by one byte, and what is left behind.
-use Prim.Native.Nat.{ℕ, _+_, _<_, _≤_}
+use Prim.Native.Nat.{ℕ, suc, _+_, _<_, _≤_}
 use mathlib.Core.Bool.{Bool, true, false, cond}
 use mathlib.Core.List.{List, [], _∷_}
 use mathlib.Core.Path.{_≡_, refl, sym, ap, _∙_}
 use native.Mathlib.Nat.{add-assoc}
 use native.Mathlib.Numerals.{add-one}
 use native.Mathlib.Omega.{arith}
-use lib.ListN.{length, getD, drop, drop-of-length-le}
+use lib.ListN.{length, getD, drop, drop-of-length-le, length-drop}
 use lib.Seq.{drop-cons, drop-drop}
 use Rattle.lexer.specs.Lines.{takeWhile, skipWhile}
 
@@ -51,6 +51,19 @@ unfolding skipWhile
 skip-ge p text i = omega arith
 
 -- what is left of a text behind what passes
+while-short : (p : ℕ → Bool) (s : List ℕ) → length (takeWhile p s) ≤ length s
+unfolding takeWhile
+while-short p [] = omega arith
+while-short p (b ∷ s) = go (p b) (while-short p s)
+  where
+    go : (x : Bool) → length (takeWhile p s) ≤ length s → length (cond x (b ∷ takeWhile p s) []) ≤ suc (length s)
+    go true h = omega arith
+    go false h = omega arith
+
+pub skip-inside : (p : ℕ → Bool) (text : List ℕ) (i : ℕ) → i ≤ length text → skipWhile p text i ≤ length text
+unfolding skipWhile
+skip-inside p text i h = omega (arith, while-short p (drop i text), length-drop i text)
+
 pub drop-skip : (p : ℕ → Bool) (text : List ℕ) (at : ℕ) → drop (skipWhile p text at) text ≡ drop (length (takeWhile p (drop at text))) (drop at text)
 unfolding skipWhile
 drop-skip p text at = sym (drop-drop (length (takeWhile p (drop at text))) at text)

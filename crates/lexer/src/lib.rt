@@ -20,6 +20,7 @@ pub use scan::comma_at;
 pub use scan::digits_at;
 pub use scan::event_at;
 pub use scan::if_at;
+pub use scan::line_end;
 pub use scan::never_at;
 pub use scan::number_at;
 pub use scan::reading_at;

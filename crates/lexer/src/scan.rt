@@ -7,7 +7,7 @@ ghost use Rattle.policy.specs.List.{all};
 ghost use Rattle.lexer.specs.Byte.{bytes, isSpace, isDigit};
 ghost use Rattle.lexer.specs.Number.{isEmpty};
 ghost use Rattle.lexer.specs.Steps.Scan.{tokenAt, keywordAt, inToken, clip, clipLimit, leadingDigits, digitsAt, numberAt, nameAt, eventAt, actionAt, readingAt};
-ghost use Rattle.lexer.specs.Lines.{skipWhile};
+ghost use Rattle.lexer.specs.Lines.{skipWhile, lineEnd};
 use crate::class::ends_token;
 use crate::class::is_digit;
 use crate::class::is_space;
@@ -35,6 +35,20 @@ pub fn skip_spaces(text: &[u8], at: usize) -> usize
         } else {
             return i;
         }
+    }
+    i
+}
+
+// Where the line of the position ends.
+pub fn line_end(text: &[u8], at: usize) -> usize
+    ensures { λ r. ⌜ r ≡ lineEnd (now (text .entry)) at ⌝ }
+{
+    let mut i = at;
+    while i < text.len() {
+        if text[i] == b'\n' {
+            return i;
+        }
+        i += 1;
     }
     i
 }

@@ -32,7 +32,7 @@ refusesWith image line number location =
     record {
       image = image;
       line = line;
-      answer = record { isRefused = true; number = number; location = location; accepted = noActions; cancelled = noActions };
+      answer = record { isRefused = true; number = number; text = 0; location = location; accepted = noActions; cancelled = noActions };
       visited = 0;
     }
 

@@ -3,13 +3,13 @@ use Prim.Native.Nat.{ℕ, zero, suc, _+_, _-_, _*_, _/_, _%_, _^_, _≤_, _<_}
 use mathlib.Core.Bool.{Bool, true, false, not, _&&_, _||_}
 use mathlib.Core.Logic.{_⊎_, inl, inr, _≢_}
 use mathlib.Core.Path.{_≡_, refl, sym, ap, _∙_}
-use native.Mathlib.Nat.{mod-lt, div-eq-of-lt, lt-of-lt-of-le, add-comm, zero-lt-suc}
+use native.Mathlib.Nat.{one-mul, mod-eq-of-lt, mod-lt, div-eq-of-lt, lt-of-lt-of-le, add-comm, zero-lt-suc}
 use native.Mathlib.Omega.{arith}
 use borrow.Author.Tests.{lt-ltb, le-ltb, eqb-true, eqb-false, ltb-true, ltb-false}
 use lib.Arith.{bin-ind}
 use lib.Bits.{bitAnd, bitOr, bitXor, and-shr, or-shr, xor-shr, and-mod, or-mod, xor-mod, or-lt}
-use lib.Dec.{ltb, eqb}
-use lib.Pow.{pow-pos, pow-mono, pow-lt, pow-add, shl-shr, shr-shr, field, mod-mod-pow}
+use lib.Dec.{ltb, eqb, lit<}
+use lib.Pow.{shl-exact, pow-pos, pow-mono, pow-lt, pow-add, shl-shr, shr-shr, field, mod-mod-pow}
 use Rattle.policy.specs.Number.{setLimit}
 use Rattle.policy.specs.Set.{has, insert, union, difference, below}
 
@@ -234,3 +234,12 @@ has-below s n m h =
 pub has-below-past : (s n m : ℕ) → n ≤ m → has (below s n) m ≡ false
 unfolding below
 has-below-past s n m h = outside (s % 2 ^ n) m (lt-of-lt-of-le (mod-lt s (pow-pos n)) (pow-mono h))
+
+-- one bit, shifted to a place that a set has
+pub bit-at : (n : ℕ) → n < 64 → 1 * 2 ^ n % 18446744073709551616 ≡ 2 ^ n
+bit-at n h = shl-exact 1 n 64 (lit< tt) (omega arith) ∙ one-mul (2 ^ n)
+
+-- every member of a set is under 64
+pub below-all : (s n : ℕ) → s < 18446744073709551616 → 64 ≤ n → s ≡ below s n
+unfolding below
+below-all s n h k = sym (mod-eq-of-lt (lt-of-lt-of-le h (pow-mono k)))

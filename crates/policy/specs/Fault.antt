@@ -1,10 +1,12 @@
--- Document 01, "Grounds for refusing": the number of each fault, and the number and the place of an answer.
+-- Document 01, "Grounds for refusing": the number of each fault, and the number and the place of an answer. Document 02, L6: a place
+-- also says which text.
 use Prim.Native.Nat.{ℕ}
 use mathlib.Core.Bool.{Bool, true, false}
 use mathlib.Core.Option.{Option, none, some}
 use Rattle.policy.specs.declared.fault.Fault.{Fault}
 use Rattle.policy.specs.declared.fault.Fault.the-variants.{TooLong, Syntax, OutOfRange, TooManyParts, TooManyLines, Duplicate, ImageSize, ImageForm, ImageCount, ImageSum, ImageBody, EpochSyntax, EpochRange, DuplicateReading, BufferTooSmall}
 use Rattle.policy.specs.declared.fault.Refusal.{Refusal}
+use Rattle.policy.specs.declared.fault.Source.{Source}
 
 abbrev pub faultNumber : Fault → ℕ
 faultNumber TooLong = 1
@@ -23,8 +25,19 @@ faultNumber EpochRange = 13
 faultNumber DuplicateReading = 14
 faultNumber BufferTooSmall = 15
 
+-- "maker's 1, site's 2, 0 where neither alone"
+abbrev pub sourceNumber : Source → ℕ
+sourceNumber Source.Neither = 0
+sourceNumber Source.Maker = 1
+sourceNumber Source.Site = 2
+
+-- in neither text
 abbrev pub refusal : Fault → ℕ → Refusal
-refusal f at = record { fault = f; location = at }
+refusal f at = record { fault = f; source = Source.Neither; location = at }
+
+-- the same refusal, in one of the texts
+abbrev pub within : Source → Refusal → Refusal
+within s r = record { fault = r .fault; source = s; location = r .location }
 
 -- ---- of an answer, which may be a refusal
 
@@ -36,6 +49,11 @@ isRefusal (some r) = true
 abbrev pub numberOf : Option Refusal → ℕ
 numberOf none = 0
 numberOf (some r) = faultNumber (r .fault)
+
+-- the number of the text that its place is in; 0 where nothing is refused
+abbrev pub textOf : Option Refusal → ℕ
+textOf none = 0
+textOf (some r) = sourceNumber (r .source)
 
 -- its place; 0 where nothing is refused
 abbrev pub locationOf : Option Refusal → ℕ

@@ -1,6 +1,6 @@
 // Why an input is refused (document 01: the ground), each with its number, and where (the place).
 ghost use mathlib.Core.Path.{_≡_};
-ghost use Rattle.policy.specs.Fault.{faultNumber, refusal};
+ghost use Rattle.policy.specs.Fault.{faultNumber, sourceNumber, refusal, within};
 
 pub enum Fault {
     // A rule text or an epoch line is over its length (long).
@@ -64,14 +64,50 @@ impl Fault {
     {
         Refusal {
             fault: self,
+            source: Source::Neither,
             location,
         }
     }
 }
 
-// Why an input is refused, and where: a line of a text counted from 1, a word of an image counted from 0, or 0 where the fault is
-// at neither.
+// Which of the two texts of an image a fault or a line is in: the maker's, which a single text is too, or the site's. Faults of an
+// image, of an epoch line and of a buffer are in neither.
+pub enum Source {
+    Neither,
+    Maker,
+    Site,
+}
+
+impl Source {
+    pub fn number(self) -> u8
+        ensures { λ r. ⌜ r ≡ sourceNumber self ⌝ }
+    {
+        match self {
+            Source::Neither => 0,
+            Source::Maker => 1,
+            Source::Site => 2,
+        }
+    }
+}
+
+// Why an input is refused, and where: a line of one of the texts counted from 1, a word of an image counted from 0, or 0 where the
+// fault is at neither.
 pub struct Refusal {
     pub fault: Fault,
+    pub source: Source,
     pub location: usize,
+}
+
+impl Refusal {
+    // The same refusal, in one of the texts.
+    pub fn within(self, source: Source) -> Refusal
+        ensures { λ r. ⌜ r ≡ within source self ⌝ }
+    {
+        let fault = self.fault;
+        Refusal {
+            fault,
+            source,
+            location: self.location,
+        }
+    }
 }

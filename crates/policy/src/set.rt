@@ -1,6 +1,6 @@
 // Sets of events, of actions and of readings, one bit a member. Each kind is a type of its own over the same bits.
 ghost use mathlib.Core.Path.{_≡_};
-ghost use Rattle.policy.specs.Set.{has, insert, hasEvent, insertEvent, hasAction, insertAction, actionsWithout, hasReading, insertReading, allEvents};
+ghost use Rattle.policy.specs.Set.{has, insert, below, hasEvent, insertEvent, hasAction, insertAction, actionsWithout, actionsBelow, hasReading, insertReading, allEvents};
 use crate::number::Action;
 use crate::number::Event;
 use crate::number::Reading;
@@ -23,6 +23,13 @@ pub fn with_member(set: u64, n: u8) -> u64
     ensures { λ r. ⌜ r ≡ insert set n ⌝ }
 {
     if n < 64 { set | (1 << n) } else { set }
+}
+
+// The members under n.
+pub fn members_below(set: u64, n: u8) -> u64
+    ensures { λ r. ⌜ r ≡ below set n ⌝ }
+{
+    if n < 64 { set % (1 << n) } else { set }
 }
 
 impl EventSet {
@@ -61,6 +68,13 @@ impl ActionSet {
         ensures { λ r. ⌜ r ≡ actionsWithout self other ⌝ }
     {
         ActionSet(self.0 ^ (self.0 & other.0))
+    }
+
+    // The members with lower numbers than the action's.
+    pub fn below(self, action: Action) -> ActionSet
+        ensures { λ r. ⌜ r ≡ actionsBelow self action ⌝ }
+    {
+        ActionSet(members_below(self.0, action.0))
     }
 }
 

@@ -15,8 +15,8 @@ use Rattle.syntax.specs.Grammar.{comparisonsFrom, conditionFrom, joined, ruleAf
 use Rattle.lexer.specs.Lines.{prepend, pieces, linesOf, nonEmpty, tokensOf}
 use Rattle.lexer.specs.Number.{decimalFrom, isEmpty, numberOf, positive, negative, decimalOf, patternOf, hexadecimalOf, constantOf}
 use Rattle.syntax.specs.Judge.{judgeLine, isComment, tokensAnswer, lineAnswer}
-use Rattle.rule_text.specs.Text.{advance, readLine, readText, policyOf}
+use Rattle.rule_text.specs.Text.{advance, readLine, readBehind, inText, readText, policyRead, policyOf}
 
 pub texts-printed : map reprinted printedTexts ≡ map (λ (s : String). some (bytes s)) printedTexts
-unfolding printedTexts reprinted digits decimal constantToken literalToken actionToken readingToken relationToken operandToken comparisonTokens joinedBy headTokens conditionTokens lineTokens lineBytes linesText textOf bytes sameBytes is named literalOf actionOf readingOf relationOf orElse operandOf both comparisonOf comparisonsFrom conditionFrom joined ruleAfter constraintAfter after lineFrom prepend pieces linesOf nonEmpty tokensOf decimalFrom isEmpty numberOf positive negative hexValue decimalOf patternOf hexadecimalOf constantOf judgeLine isComment tokensAnswer lineAnswer advance readLine readText policyOf isReadingValue testNumber operandInRange comparisonInRange endingInRange inRange crowded repeats repeated headsOf comparisonsOf endingOf all any
+unfolding printedTexts reprinted digits decimal constantToken literalToken actionToken readingToken relationToken operandToken comparisonTokens joinedBy headTokens conditionTokens lineTokens lineBytes linesText textOf bytes sameBytes is named literalOf actionOf readingOf relationOf orElse operandOf both comparisonOf comparisonsFrom conditionFrom joined ruleAfter constraintAfter after lineFrom prepend pieces linesOf nonEmpty tokensOf decimalFrom isEmpty numberOf positive negative hexValue decimalOf patternOf hexadecimalOf constantOf judgeLine isComment tokensAnswer lineAnswer advance readLine readBehind inText readText policyRead policyOf isReadingValue testNumber operandInRange comparisonInRange endingInRange inRange crowded repeats repeated headsOf comparisonsOf endingOf all any
 texts-printed = refl

@@ -13,10 +13,11 @@ use Rattle.policy.proofs.ListLaws.{and-out, all-append}
 use Rattle.policy.specs.Limits.{valid, ruleLimit, constraintLimit, Acceptable}
 use Rattle.policy.specs.Line.{PolicyLine, rule, constraint}
 use Rattle.policy.specs.List.{all}
+use Rattle.policy.specs.declared.fault.Source.{Source}
 use Rattle.policy.specs.Policy.{Policy, Rule, Constraint}
 use Rattle.acceptance.proofs.Accepted.{accepted-acceptable}
 use Rattle.syntax.specs.Judge.{accepted}
-use Rattle.rule_text.specs.Text.{Progress, reading, advance, readLine, emptyPolicy, textLimit, readText, policyOf}
+use Rattle.rule_text.specs.Text.{Progress, reading, advance, readLine, emptyPolicy, textLimit, readBehind, inText, readText, policyRead, policyOf}
 use Rattle.printer.proofs.LengthLaws.{widest, line-length}
 use Rattle.printer.proofs.ParseLaws.{line-read}
 use Rattle.printer.proofs.SplitLaws.{text-lines, ascii, lines-ascii}
@@ -96,11 +97,14 @@ lines-read p a =
 
 -- the number is that of the line that would come next
 pub text-read : (p : Policy) → Acceptable p → readText (textOf p) ≡ reading (1 + length (p .rules) + length (p .constraints)) p
-unfolding readText textOf
-text-read p a = rw (le-ltb textLimit (length (textOf p)) (omega (arith, text-length p a)), text-lines (policyLines p)) (lines-read p a)
+unfolding readText readBehind inText textOf
+text-read p a = rw (le-ltb textLimit (length (textOf p)) (omega (arith, text-length p a)), text-lines (policyLines p)) (ap (inText Source.Maker) (lines-read p a) ∙ kept _ p)
+  where
+    kept : (n : ℕ) (q : Policy) → inText Source.Maker (reading n q) ≡ reading n q
+    kept n q = refl
 
 pub text-policy : (p : Policy) → Acceptable p → policyOf (textOf p) ≡ some p
-unfolding policyOf
+unfolding policyOf policyRead
 text-policy p a = rw (text-read p a)
 
 pub text-injective : (p q : Policy) → Acceptable p → Acceptable q → textOf p ≡ textOf q → p ≡ q

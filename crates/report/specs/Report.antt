@@ -5,11 +5,12 @@ use mathlib.Core.Bool.{cond}
 use mathlib.Core.List.{List, [], _∷_, _++_}
 use Rattle.lexer.specs.Byte.{bytes}
 use Rattle.output.specs.Number.{decimal, hexWord}
-use Rattle.policy.specs.Fault.{faultNumber}
+use Rattle.policy.specs.Fault.{faultNumber, sourceNumber}
 use Rattle.policy.specs.Number.{setLimit}
 use Rattle.policy.specs.Set.{has}
 use Rattle.policy.specs.declared.fault.Fault.{Fault}
 use Rattle.policy.specs.declared.fault.Refusal.{Refusal}
+use Rattle.policy.specs.declared.fault.Source.{Source}
 use Rattle.policy.specs.declared.set.ActionSet.{ActionSet}
 
 -- ---- actions
@@ -50,6 +51,13 @@ locatedLine unit r = bytes "refused " ++ decimal (faultNumber (r .fault)) ++ uni
 -- a refused text
 unfoldable pub refusalLine : Refusal → List ℕ
 refusalLine r = locatedLine (bytes " line ") r
+
+-- document 02, L6: a refused text of two, whose place also says which
+abbrev pub textField : Source → List ℕ
+textField source = bytes " text " ++ decimal (sourceNumber source) ++ bytes " line "
+
+unfoldable pub textsRefusalLine : Refusal → List ℕ
+textsRefusalLine r = locatedLine (textField (r .source)) r
 
 -- a refused image
 unfoldable pub imageRefusalLine : Refusal → List ℕ

@@ -9,4 +9,5 @@ pub use line::put_image_refusal;
 pub use line::put_not_word;
 pub use line::put_refusal;
 pub use line::put_refused;
+pub use line::put_texts_refusal;
 pub use line::put_word_line;

@@ -1,7 +1,7 @@
 // The lines that the programs print.
 ghost use mathlib.Core.Path.{_≡_};
 ghost use Rattle.output.specs.Buffer.{appended, behind};
-ghost use Rattle.report.specs.Report.{wordLine, locatedLine, refusalLine, imageRefusalLine, notWordLine, wordsField, acceptLine, refusedLine};
+ghost use Rattle.report.specs.Report.{wordLine, locatedLine, refusalLine, textsRefusalLine, imageRefusalLine, notWordLine, wordsField, acceptLine, refusedLine};
 use crate::action::put_actions;
 use output::put_byte;
 use output::put_bytes;
@@ -10,6 +10,7 @@ use output::put_hex_word;
 use policy::ActionSet;
 use policy::Fault;
 use policy::Refusal;
+use policy::Source;
 
 // A word of the image.
 pub fn put_word_line(out: &mut [u8], at: usize, word: u32) -> usize
@@ -40,6 +41,19 @@ pub fn put_refusal(out: &mut [u8], at: usize, refusal: Refusal) -> usize
     ensures buffer { λ _. ⌜ now (out .exit) ≡ appended (now (out .entry)) at (refusalLine refusal) ⌝ }
 {
     put_located(out, at, b" line ", refusal)
+}
+
+// A refused text of two.
+pub fn put_texts_refusal(out: &mut [u8], at: usize, refusal: Refusal) -> usize
+    ensures answer { λ r. ⌜ r ≡ behind (now (out .entry)) at (textsRefusalLine refusal) ⌝ }
+    ensures buffer { λ _. ⌜ now (out .exit) ≡ appended (now (out .entry)) at (textsRefusalLine refusal) ⌝ }
+{
+    let source = refusal.source;
+    match source {
+        Source::Neither => put_located(out, at, b" text 0 line ", refusal),
+        Source::Maker => put_located(out, at, b" text 1 line ", refusal),
+        Source::Site => put_located(out, at, b" text 2 line ", refusal),
+    }
 }
 
 // A refused image.

@@ -19,15 +19,17 @@ use Rattle.policy.specs.declared.comparison.Comparison.{Comparison}
 use Rattle.policy.specs.declared.comparison.Operand.{Operand}
 use Rattle.policy.specs.declared.fault.Fault.{Fault}
 use Rattle.policy.specs.declared.fault.Refusal.{Refusal}
+use Rattle.policy.specs.declared.fault.Source.{Source}
 use Rattle.policy.specs.declared.line.Ending.{Ending}
 use Rattle.syntax.proofs.JudgeLaws.{padded-whole, accepted-uncrowded}
-use Rattle.lexer.proofs.WhileLaws.{at-byte, skip-ge}
-use Rattle.rule_text.specs.Answer.{total, countsIn, countsOf, textReadOf, textRead, noLines, noCounts}
+use Rattle.lexer.proofs.WhileLaws.{at-byte, skip-ge, skip-inside}
+use Rattle.rule_text.specs.Answer.{total, countsIn, countsOf, textReadOf, textRead, textsRead, noLines, noCounts}
+use Rattle.rule_text.specs.Steps.Counting.{Counting, going, halted, countedStep, plus, stepped, countLine, countFrom, countBehind, countRead, sourcedIn}
 use Rattle.syntax.specs.Answer.{lineReadOf, lineRead, behindLine}
 use Rattle.rule_text.specs.Steps.Tally.{Within, Small, Counted, oneMore, withLine, tallyAs, talliedBy, stepOf}
 use Rattle.lexer.specs.Lines.{prepend, pieces, linesOf, takeWhile, skipWhile, inLine, restOfLine, lineEnd}
 use Rattle.syntax.specs.Judge.{LineAnswer, skipped, refused, accepted, lineAnswer}
-use Rattle.rule_text.specs.Text.{Progress, reading, stopped, withRule, withConstraint, advance, readLine, emptyPolicy, textLimit, readText}
+use Rattle.rule_text.specs.Text.{Progress, reading, stopped, withRule, withConstraint, advance, readLine, emptyPolicy, textLimit, readBehind, inText, readText, readSite, readTexts}
 use Rattle.syntax.specs.declared.line.LineRead.{LineRead}
 use Rattle.rule_text.specs.declared.LineCounts.{LineCounts}
 use Rattle.rule_text.specs.declared.Tally.{Tally}
@@ -79,30 +81,15 @@ module _ (text : List ℕ) (at : ℕ) (h : at < length text) where
       go true e = omega (arith, skip-ge inLine text at)
       go false e = omega (arith, ltb-false (skipWhile inLine text at) (length text) e)
 
+  pub next-inside : behindLine text (lineEnd text at) ≤ length text
+  unfolding behindLine lineEnd
+  next-inside = go (ltb (skipWhile inLine text at) (length text)) refl
+    where
+      go : (b : Bool) → ltb (skipWhile inLine text at) (length text) ≡ b → cond b (skipWhile inLine text at + 1) (skipWhile inLine text at) ≤ length text
+      go true e = omega (arith, ltb-true (skipWhile inLine text at) (length text) e)
+      go false e = skip-inside inLine text at (omega arith)
+
 -- ---- counting instead of collecting
-
-pub data Counting : Type 0 where
-  -- the number of the next line, and the counts so far
-  going : ℕ → TextCounts → Counting
-  halted : Refusal → Counting
-
-counted-step : ℕ → Tally → Counting
-counted-step n (Tally.Go c) = going (n + 1) c
-counted-step n (Tally.Stop f) = halted (refusal f n)
-
--- one line more, to the counts of its kind
-abbrev plus : LineCounts → PolicyLine → LineCounts
-plus c l = oneMore c (length (headsOf l)) (length (comparisonsOf l)) (constantCount (comparisonsOf l))
-
--- what a line is, to the counts
-stepped : TextCounts → LineAnswer → Tally
-stepped c skipped = Tally.Go c
-stepped c (refused f) = Tally.Stop f
-stepped c (accepted l) = tallyAs (endingOf l) c (plus (c .rules) l) (plus (c .constraints) l)
-
-pub countLine : Counting → List ℕ → Counting
-countLine (going n c) line = counted-step n (stepped c (lineAnswer line))
-countLine (halted r) line = halted r
 
 view : Progress → Counting
 view (reading n p) = going n (countsOf p)
@@ -119,14 +106,14 @@ counts-snoc ls l =
     rw (length-append ls (l ∷ []), total-snoc (λ (x : PolicyLine). length (headsOf x)) ls l, total-snoc (λ (x : PolicyLine). length (comparisonsOf x)) ls l, total-snoc (λ (x : PolicyLine). constantCount (comparisonsOf x)) ls l)
 
 view-line : (s : Progress) (line : List ℕ) → view (readLine s line) ≡ countLine (view s) line
-unfolding readLine view countLine counted-step stepped advance tallyAs endingOf countsOf countsIn
+unfolding readLine view countLine countedStep stepped advance tallyAs endingOf countsOf countsIn
 view-line (stopped r) line = refl
 view-line (reading n p) line = go (lineAnswer line)
   where
-    go : (a : LineAnswer) → view (advance n p a) ≡ counted-step n (stepped (countsOf p) a)
+    go : (a : LineAnswer) → view (advance n p a) ≡ countedStep n (stepped (countsOf p) a)
     go skipped = ap (λ (k : ℕ). going k (countsOf p)) (sym (add-one n))
     go (refused f) = refl
-    go (accepted (rule r)) = room (ltb (length (p .rules)) ruleLimit) ∙ ap (λ (k : ℕ). counted-step n (cond (ltb k ruleLimit) (Tally.Go more) (Tally.Stop Fault.TooManyLines))) (sym (length-map (p .rules) rule))
+    go (accepted (rule r)) = room (ltb (length (p .rules)) ruleLimit) ∙ ap (λ (k : ℕ). countedStep n (cond (ltb k ruleLimit) (Tally.Go more) (Tally.Stop Fault.TooManyLines))) (sym (length-map (p .rules) rule))
       where
         more : TextCounts
         more = record { rules = plus (countsOf p .rules) (rule r); constraints = countsOf p .constraints }
@@ -134,10 +121,10 @@ view-line (reading n p) line = go (lineAnswer line)
         made : countsOf (withRule p r) ≡ more
         made = rw (map-append rule (p .rules) (r ∷ []), counts-snoc (map rule (p .rules)) (rule r))
 
-        room : (b : Bool) → view (cond b (reading (suc n) (withRule p r)) (stopped (refusal Fault.TooManyLines n))) ≡ counted-step n (cond b (Tally.Go more) (Tally.Stop Fault.TooManyLines))
+        room : (b : Bool) → view (cond b (reading (suc n) (withRule p r)) (stopped (refusal Fault.TooManyLines n))) ≡ countedStep n (cond b (Tally.Go more) (Tally.Stop Fault.TooManyLines))
         room true = ap₂ going (sym (add-one n)) made
         room false = refl
-    go (accepted (constraint x)) = room (ltb (length (p .constraints)) constraintLimit) ∙ ap (λ (k : ℕ). counted-step n (cond (ltb k constraintLimit) (Tally.Go more) (Tally.Stop Fault.TooManyLines))) (sym (length-map (p .constraints) constraint))
+    go (accepted (constraint x)) = room (ltb (length (p .constraints)) constraintLimit) ∙ ap (λ (k : ℕ). countedStep n (cond (ltb k constraintLimit) (Tally.Go more) (Tally.Stop Fault.TooManyLines))) (sym (length-map (p .constraints) constraint))
       where
         more : TextCounts
         more = record { rules = countsOf p .rules; constraints = plus (countsOf p .constraints) (constraint x) }
@@ -145,7 +132,7 @@ view-line (reading n p) line = go (lineAnswer line)
         made : countsOf (withConstraint p x) ≡ more
         made = rw (map-append constraint (p .constraints) (x ∷ []), counts-snoc (map constraint (p .constraints)) (constraint x))
 
-        room : (b : Bool) → view (cond b (reading (suc n) (withConstraint p x)) (stopped (refusal Fault.TooManyLines n))) ≡ counted-step n (cond b (Tally.Go more) (Tally.Stop Fault.TooManyLines))
+        room : (b : Bool) → view (cond b (reading (suc n) (withConstraint p x)) (stopped (refusal Fault.TooManyLines n))) ≡ countedStep n (cond b (Tally.Go more) (Tally.Stop Fault.TooManyLines))
         room true = ap₂ going (sym (add-one n)) made
         room false = refl
 
@@ -238,10 +225,6 @@ turn c next (accepted l) h =
     let u = uncrowded l (h l refl) in
     record { step = ap₂ (tallyAs (endingOf l) c) (value-counts (c .rules) l u) (value-counts (c .constraints) l u); goes = λ d q. (refl, λ s. small-step c d l (endingOf l) u s q) }
 
--- the lines from a position on, counted
-pub countFrom : List ℕ → ℕ → TextCounts → ℕ → Counting
-countFrom text n c at = foldl countLine (going n c) (linesOf (drop at text))
-
 module _ (text : List ℕ) (n : ℕ) (c : TextCounts) (at : ℕ) where
   pub count-end : length text ≤ at → countFrom text n c at ≡ going n c
   unfolding countFrom linesOf pieces
@@ -255,12 +238,12 @@ module _ (text : List ℕ) (n : ℕ) (c : TextCounts) (at : ℕ) where
     unfolding lineRead
     taken = rw q (turn c (behindLine text (lineEnd text at)) answer (λ l e. accepted-uncrowded (restOfLine text at) l e))
 
-    here : countFrom text n c at ≡ foldl countLine (counted-step n (stepped c answer)) (linesOf (drop (behindLine text (lineEnd text at)) text))
+    here : countFrom text n c at ≡ foldl countLine (countedStep n (stepped c answer)) (linesOf (drop (behindLine text (lineEnd text at)) text))
     unfolding countFrom countLine
     here = ap (foldl countLine (going n c)) (lines-here text at h)
 
     pub count-stop : (f : Fault) → stepOf c (r .status) (r .line) ≡ Tally.Stop f → countFrom text n c at ≡ halted (refusal f n)
-    unfolding counted-step
+    unfolding countedStep
     count-stop f k = here ∙ rw (sym (taken .step) ∙ k) (stays (refusal f n) (linesOf (drop (behindLine text (lineEnd text at)) text)))
 
     module _ (d : TextCounts) (k : stepOf c (r .status) (r .line) ≡ Tally.Go d) where
@@ -271,7 +254,7 @@ module _ (text : List ℕ) (n : ℕ) (c : TextCounts) (at : ℕ) where
       next-is = taken .goes d went .0
 
       pub count-go : countFrom text n c at ≡ countFrom text (n + 1) d (r .next)
-      unfolding countFrom counted-step
+      unfolding countFrom countedStep
       count-go = here ∙ rw (went, next-is)
 
       pub count-small : Small c → Small d
@@ -281,10 +264,6 @@ module _ (text : List ℕ) (n : ℕ) (c : TextCounts) (at : ℕ) where
       count-later = rw next-is (next-later text at h)
 
 -- ---- the answer
-
-pub countRead : Counting → TextRead
-countRead (going n c) = TextRead.Accepted c
-countRead (halted r) = TextRead.Refused r
 
 pub going-read : (n : ℕ) (c : TextCounts) → countRead (going n c) ≡ TextRead.Accepted c
 unfolding countRead
@@ -310,20 +289,83 @@ read-counted text at r q = rw q (go (lineAnswer (restOfLine text at)))
     go (refused f) = record { heads = omega arith; comparisons = omega arith }
     go (accepted l) = record { heads = omega arith; comparisons = omega arith }
 
-module _ (text : List ℕ) where
-  pub text-long : textLimit < length text → TextRead.Refused (refusal Fault.TooLong 0) ≡ textRead text
-  unfolding textRead readText textReadOf
-  text-long h = rw (lt-ltb textLimit (length text) h)
+-- ---- the lines of a text behind others
 
-  pub text-short : length text ≤ textLimit → countRead (countFrom text 1 noCounts 0) ≡ textRead text
-  unfolding textRead readText countFrom countRead textReadOf view countsOf countsIn total
-  text-short h =
-      rw (le-ltb textLimit (length text) h)
-      (ap countRead (sym (view-lines (reading 1 emptyPolicy) (linesOf text) ∙ ap (λ (x : Counting). foldl countLine x (linesOf text)) started)) ∙ read-view (foldl readLine (reading 1 emptyPolicy) (linesOf text)))
+module _ (c : TextCounts) (text : List ℕ) where
+  pub behind-long : textLimit < length text → TextRead.Refused (refusal Fault.TooLong 0) ≡ countRead (countBehind c text)
+  unfolding countBehind countRead
+  behind-long h = rw (lt-ltb textLimit (length text) h)
+
+  pub behind-short : length text ≤ textLimit → countRead (countFrom text 1 c 0) ≡ countRead (countBehind c text)
+  unfolding countBehind
+  behind-short h = rw (le-ltb textLimit (length text) h)
+
+-- the counts behind a policy are those of what is read behind it
+counts-behind : (p : Policy) (text : List ℕ) → countBehind (countsOf p) text ≡ view (readBehind p text)
+unfolding countBehind readBehind countFrom view
+counts-behind p text = go (ltb textLimit (length text))
+  where
+    go : (b : Bool) → cond b (halted (refusal Fault.TooLong 0)) (foldl countLine (going 1 (countsOf p)) (linesOf text)) ≡ view (cond b (stopped (refusal Fault.TooLong 0)) (foldl readLine (reading 1 p) (linesOf text)))
+    go true = refl
+    go false = sym (view-lines (reading 1 p) (linesOf text))
+
+source-view : (source : Source) (s : Progress) → sourcedIn source (countRead (view s)) ≡ textReadOf (inText source s)
+unfolding sourcedIn countRead view inText textReadOf
+source-view source (reading n p) = refl
+source-view source (stopped r) = refl
+
+-- what is answered of a text behind a policy
+read-behind : (source : Source) (p : Policy) (text : List ℕ) → sourcedIn source (countRead (countBehind (countsOf p) text)) ≡ textReadOf (inText source (readBehind p text))
+read-behind source p text = ap (λ (k : Counting). sourcedIn source (countRead k)) (counts-behind p text) ∙ source-view source (readBehind p text)
+
+pub text-read : (text : List ℕ) → sourcedIn Source.Maker (countRead (countBehind noCounts text)) ≡ textRead text
+unfolding textRead readText countsOf countsIn total
+text-read text = read-behind Source.Maker emptyPolicy text
+
+-- ---- two texts
+
+module _ (maker site : List ℕ) where
+  pub maker-refused : (r : Refusal) → textRead maker ≡ TextRead.Refused r → TextRead.Refused r ≡ textsRead maker site
+  unfolding textRead textsRead readTexts readSite textReadOf
+  maker-refused r e = go (readText maker) e
     where
-      started : view (reading 1 emptyPolicy) ≡ going 1 noCounts
-      started = refl
+      go : (s : Progress) → textReadOf s ≡ TextRead.Refused r → TextRead.Refused r ≡ textReadOf (readSite s site)
+      go (reading n p) k = let w : _≡_ {A = ℕ} 0 1 = cc in absurd (omega arith)
+      go (stopped x) k = sym k
 
-      read-view : (s : Progress) → countRead (view s) ≡ textReadOf s
-      read-view (reading n p) = refl
-      read-view (stopped r) = refl
+  pub site-read : (c : TextCounts) → textRead maker ≡ TextRead.Accepted c → sourcedIn Source.Site (countRead (countBehind c site)) ≡ textsRead maker site
+  unfolding textRead textsRead readTexts readSite textReadOf
+  site-read c e = go (readText maker) e
+    where
+      go : (s : Progress) → textReadOf s ≡ TextRead.Accepted c → sourcedIn Source.Site (countRead (countBehind c site)) ≡ textReadOf (readSite s site)
+      go (reading n p) k = let q : countsOf p ≡ c = cc in rw (← q) (read-behind Source.Site p site)
+      go (stopped x) k = let w : _≡_ {A = ℕ} 0 1 = cc in absurd (omega arith)
+
+-- ---- the counts of a text that is read are no more than its lines may have
+
+step-small : (c d : TextCounts) (line : List ℕ) → Small c → stepped c (lineAnswer line) ≡ Tally.Go d → Small d
+step-small c d line s e = turn c 0 (lineAnswer line) (accepted-uncrowded line) .goes d e .1 s
+
+lines-small : (ls : List (List ℕ)) (n m : ℕ) (c d : TextCounts) → Small c → foldl countLine (going n c) ls ≡ going m d → Small d
+unfolding countLine countedStep
+lines-small [] n m c d s e = let q : c ≡ d = cc in rw (← q) s
+lines-small (l ∷ ls) n m c d s e = go (stepped c (lineAnswer l)) refl (λ x. lines-small ls (n + 1) m x d) e
+  where
+    go : (t : Tally) → stepped c (lineAnswer l) ≡ t → ((x : TextCounts) → Small x → foldl countLine (going (n + 1) x) ls ≡ going m d → Small d) → foldl countLine (countedStep n t) ls ≡ going m d → Small d
+    go (Tally.Go x) q later k = later x (step-small c x l s q) k
+    go (Tally.Stop f) q later k =
+        let h : halted (refusal f n) ≡ going m d = sym (stays (refusal f n) ls) ∙ k in
+        let w : _≡_ {A = ℕ} 0 1 = cc in
+        absurd (omega arith)
+
+pub read-small : (text : List ℕ) (c : TextCounts) → textRead text ≡ TextRead.Accepted c → Small c
+unfolding countBehind countFrom sourcedIn countRead
+read-small text c e = go (ltb textLimit (length text)) (text-read text ∙ e)
+  where
+    kept : (k : Counting) → sourcedIn Source.Maker (countRead k) ≡ TextRead.Accepted c → ((n : ℕ) (d : TextCounts) → k ≡ going n d → Small d) → Small c
+    kept (going n d) q s = let m : d ≡ c = cc in rw (← m) (s n d refl)
+    kept (halted r) q s = let w : _≡_ {A = ℕ} 0 1 = cc in absurd (omega arith)
+
+    go : (b : Bool) → sourcedIn Source.Maker (countRead (cond b (halted (refusal Fault.TooLong 0)) (foldl countLine (going 1 noCounts) (linesOf text)))) ≡ TextRead.Accepted c → Small c
+    go true q = kept (halted (refusal Fault.TooLong 0)) q (λ n d h. absurd (let w : _≡_ {A = ℕ} 0 1 = cc in omega arith))
+    go false q = kept (foldl countLine (going 1 noCounts) (linesOf text)) q (λ n d h. lines-small (linesOf text) 1 n noCounts d none-small h)

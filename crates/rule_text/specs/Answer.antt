@@ -1,4 +1,4 @@
--- What `read_text` answers for every text, by `Text`, and what the answer says in the terms of document 01: the fault with its location,
+-- What `read_text` and `read_texts` answer for every text, by `Text`, and what the answer says in the terms of document 01: the fault with its location,
 -- if it is a refusal, and the counts of what was read, which are 0 in a refusal.
 use Prim.Native.Nat.{ℕ, _+_}
 use mathlib.Core.List.{List, [], _∷_, map}
@@ -7,7 +7,7 @@ use lib.ListN.{length}
 use Rattle.policy.specs.Line.{PolicyLine, rule, constraint, headsOf, comparisonsOf, constantCount}
 use Rattle.policy.specs.Policy.{Policy}
 use Rattle.policy.specs.declared.fault.Refusal.{Refusal}
-use Rattle.rule_text.specs.Text.{Progress, reading, stopped, readText}
+use Rattle.rule_text.specs.Text.{Progress, reading, stopped, readText, readTexts}
 use Rattle.rule_text.specs.declared.LineCounts.{LineCounts}
 use Rattle.rule_text.specs.declared.TextCounts.{TextCounts}
 use Rattle.rule_text.specs.declared.TextRead.{TextRead}
@@ -35,6 +35,9 @@ textReadOf (stopped r) = TextRead.Refused r
 
 unfoldable pub textRead : List ℕ → TextRead
 textRead text = textReadOf (readText text)
+
+unfoldable pub textsRead : List ℕ → List ℕ → TextRead
+textsRead maker site = textReadOf (readTexts maker site)
 
 abbrev pub refusalInText : TextRead → Option Refusal
 refusalInText (TextRead.Refused r) = some r

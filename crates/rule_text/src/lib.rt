@@ -1,7 +1,8 @@
-// Reading a whole rule text. Start with specs/Text.antt.
+// Reading a whole rule text, or two texts as one. Start with specs/Text.antt.
 ghost use mathlib.Core.Path.{_≡_};
 ghost use Rattle.policy.specs.Limits.{ruleLimit};
-ghost use Rattle.rule_text.specs.Answer.{textRead};
+ghost use Rattle.rule_text.specs.Answer.{textRead, textsRead};
+ghost use Rattle.rule_text.specs.Steps.Counting.{countBehind, countRead, sourcedIn};
 ghost use Rattle.rule_text.specs.Steps.Tally.{Within, Small, Counted, withLine, talliedBy, stepOf};
 use line_value::Line;
 use policy::CONSTRAINT_LIMIT;
@@ -9,6 +10,7 @@ use policy::Ending;
 use policy::Fault;
 use policy::RULE_LIMIT;
 use policy::Refusal;
+use policy::Source;
 use syntax::LineStatus;
 use syntax::read_line;
 
@@ -97,23 +99,15 @@ fn step(counts: TextCounts, status: LineStatus, line: Line) -> Tally
     }
 }
 
-const NO_LINES: LineCounts = LineCounts {
-    lines: 0,
-    heads: 0,
-    comparisons: 0,
-    constants: 0,
-};
-
-pub fn read_text(text: &[u8]) -> TextRead
-    ensures { λ r. ⌜ r ≡ textRead (now (text .entry)) ⌝ }
+// The lines of a text, counted behind those before it. A refusal names no text.
+fn read_behind(before: TextCounts, text: &[u8]) -> TextRead
+    requires { ⌜ Small before ⌝ }
+    ensures { λ r. ⌜ r ≡ countRead (countBehind before (now (text .entry))) ⌝ }
 {
     if TEXT_LIMIT < text.len() {
         return TextRead::Refused(Fault::TooLong.at(0));
     }
-    let mut counts = TextCounts {
-        rules: NO_LINES,
-        constraints: NO_LINES,
-    };
+    let mut counts = before;
     let mut at = 0;
     let mut number = 1;
     while at < text.len() {
@@ -133,4 +127,47 @@ pub fn read_text(text: &[u8]) -> TextRead
         number += 1;
     }
     TextRead::Accepted(counts)
+}
+
+// The refusal, if it is one, in one of the texts.
+fn sourced(read: TextRead, source: Source) -> TextRead
+    ensures { λ r. ⌜ r ≡ sourcedIn source read ⌝ }
+{
+    match read {
+        TextRead::Refused(refusal) => TextRead::Refused(refusal.within(source)),
+        TextRead::Accepted(counts) => TextRead::Accepted(counts),
+    }
+}
+
+const NO_LINES: LineCounts = LineCounts {
+    lines: 0,
+    heads: 0,
+    comparisons: 0,
+    constants: 0,
+};
+
+// A single text, which is the maker's.
+pub fn read_text(text: &[u8]) -> TextRead
+    ensures { λ r. ⌜ r ≡ textRead (now (text .entry)) ⌝ }
+{
+    let none = TextCounts {
+        rules: NO_LINES,
+        constraints: NO_LINES,
+    };
+    let read = read_behind(none, text);
+    sourced(read, Source::Maker)
+}
+
+// The maker's and the site's text as one: all faults of the maker's come before those of the site's.
+pub fn read_texts(maker: &[u8], site: &[u8]) -> TextRead
+    ensures { λ r. ⌜ r ≡ textsRead (now (maker .entry)) (now (site .entry)) ⌝ }
+{
+    let first = read_text(maker);
+    match first {
+        TextRead::Refused(refusal) => TextRead::Refused(refusal),
+        TextRead::Accepted(counts) => {
+            let second = read_behind(counts, site);
+            sourced(second, Source::Site)
+        }
+    }
 }

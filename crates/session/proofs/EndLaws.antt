@@ -8,7 +8,7 @@ use lib.Seq.{take-add, drop-at, length-take-le}
 use Rattle.policy.specs.List.{any}
 use Rattle.policy.specs.declared.fault.Refusal.{Refusal}
 use Rattle.lexer.specs.Lines.{pieces, linesOf}
-use Rattle.rule_text.specs.Text.{Progress}
+use Rattle.rule_text.specs.Text.{Progress, readText}
 use Rattle.codegen.specs.Compile.{compiled}
 use Rattle.codegen.specs.declared.Compiled.{Compiled}
 use Rattle.monitor.specs.Decision.{decision}
@@ -44,7 +44,7 @@ module _ (text : List ℕ) (s : State) (image out : List ℕ) (answer : Compiled
   prints-epochs : (size : ℕ) → answer ≡ Compiled.Image size → (epochs : List (List ℕ)) → printedFor text epochs ≡ epochLines (take size image') 0 epochs
   unfolding printedFor answersTo
   prints-epochs size e epochs =
-      let r : Read text (compiled text image .buffer) size = compiled-read text image long size (sym made ∙ e) in
+      let r : Read (readText text) (compiled text image .buffer) size = compiled-read text image long size (sym made ∙ e) in
       ap (λ (p : Progress). answersTo p epochs) (r .read)
       ∙ ap (λ (bytes : List ℕ). epochLines bytes 0 epochs) (sym (ap (take size) wrote ∙ r .image))
 

@@ -16,7 +16,7 @@ use Rattle.lexer.specs.Lines.{prepend, pieces, linesOf, nonEmpty, tokensOf, tak
 use Rattle.lexer.specs.Token.{named, literalOf, actionOf, readingOf, relationOf, operandOf, both, comparisonOf}
 use Rattle.syntax.specs.Grammar.{comparisonsFrom, conditionFrom, joined, ruleAfter, constraintAfter, after, lineFrom}
 use Rattle.syntax.specs.Judge.{judgeLine, isComment, tokensAnswer, lineAnswer}
-use Rattle.rule_text.specs.Text.{advance, readLine, readText, policyOf}
+use Rattle.rule_text.specs.Text.{advance, readLine, readBehind, inText, readText, policyRead, policyOf}
 use Rattle.epoch_line.specs.Epoch.{toLeft, atEquals, assignmentOf, itemOf, itemsOf, itemInRange, givenBy, addItem, judgeEpoch, readEpoch}
 use Rattle.operation.specs.Operation.{operationFrom, relationFrom}
 use Rattle.word.specs.Word.{wordsOf, bytesOf, between}
@@ -39,9 +39,9 @@ use Rattle.session.specs.Listed.{wordLines, listingOf, listed}
 use Rattle.session.specs.Examples.{sessions, listings, expected, sessionPrinted, textListed}
 
 pub sessions-hold : map sessionPrinted sessions ≡ map expected sessions
-unfolding all any has insert below valueIn readingValue missingHolds valuesRelate eqZ relationHolds operandValue comparisonHolds headsOf comparisonsOf endingOf constantCount isReadingValue testNumber operandInRange comparisonInRange endingInRange inRange crowded repeats repeated valid tryNext keptBelow greedy costBelow trialsCost literalHolds ruleHolds propose proposals constraintHolds conflict resolve accepted cancelled bytes sameBytes is classOf decimalFrom isEmpty numberOf positive negative hexValue decimalOf patternOf hexadecimalOf constantOf prepend pieces linesOf nonEmpty tokensOf takeWhile skipWhile restOfLine lineEnd named literalOf actionOf readingOf relationOf orElse operandOf both comparisonOf comparisonsFrom conditionFrom joined ruleAfter constraintAfter after lineFrom judgeLine isComment tokensAnswer lineAnswer advance readLine readText policyOf toLeft atEquals assignmentOf itemOf itemsOf itemInRange givenBy addItem judgeEpoch readEpoch operationFrom relationFrom wordsOf bytesOf between pack packHeader testOperation testWord operandWord constantWords comparisonWord comparisonWords constantComparison readingComparison endingWord conditionWords partWords lineWords linesWords knownForm checkCount sum checkWord checkWords headerWord ruleWords constraintWords contentWords imageWords imageOf wellSized countsFit sumsToZero addLiteral addMember addComparison decodeWord decode isPrefix inPart standsAt keepIf lineAt lineLength addLine afterLine linesFrom partLines bodyAnswer loadWords load ran comparisonTest ruleTest constraintTest proposesAt runRules isNever runConstraints fetches upTo ruleFetches trialFetches keptBy triedWords yieldedBy issuedBy onLine onImage decision outputOf compiled digits decimal hexDigit hexDigits hexDigitValue membersFrom actionName furtherNames actionNames actionList wordLine refusalLine wordsField acceptLine refusedLine toText splitAtRun ended textPart epochPart decisionLine epochLines answersTo printedFor printed wordLines listingOf listed sessions listings expected sessionPrinted textListed
+unfolding all any has insert below valueIn readingValue missingHolds valuesRelate eqZ relationHolds operandValue comparisonHolds headsOf comparisonsOf endingOf constantCount isReadingValue testNumber operandInRange comparisonInRange endingInRange inRange crowded repeats repeated valid tryNext keptBelow greedy costBelow trialsCost literalHolds ruleHolds propose proposals constraintHolds conflict resolve accepted cancelled bytes sameBytes is classOf decimalFrom isEmpty numberOf positive negative hexValue decimalOf patternOf hexadecimalOf constantOf prepend pieces linesOf nonEmpty tokensOf takeWhile skipWhile restOfLine lineEnd named literalOf actionOf readingOf relationOf orElse operandOf both comparisonOf comparisonsFrom conditionFrom joined ruleAfter constraintAfter after lineFrom judgeLine isComment tokensAnswer lineAnswer advance readLine readBehind inText readText policyRead policyOf toLeft atEquals assignmentOf itemOf itemsOf itemInRange givenBy addItem judgeEpoch readEpoch operationFrom relationFrom wordsOf bytesOf between pack packHeader testOperation testWord operandWord constantWords comparisonWord comparisonWords constantComparison readingComparison endingWord conditionWords partWords lineWords linesWords knownForm checkCount sum checkWord checkWords headerWord ruleWords constraintWords contentWords imageWords imageOf wellSized countsFit sumsToZero addLiteral addMember addComparison decodeWord decode isPrefix inPart standsAt keepIf lineAt lineLength addLine afterLine linesFrom partLines bodyAnswer loadWords load ran comparisonTest ruleTest constraintTest proposesAt runRules isNever runConstraints fetches upTo ruleFetches trialFetches keptBy triedWords yieldedBy issuedBy onLine onImage decision outputOf compiled digits decimal hexDigit hexDigits hexDigitValue membersFrom actionName furtherNames actionNames actionList wordLine refusalLine wordsField acceptLine refusedLine toText splitAtRun ended textPart epochPart decisionLine epochLines answersTo printedFor printed wordLines listingOf listed sessions listings expected sessionPrinted textListed
 sessions-hold = refl
 
 pub listings-hold : map textListed listings ≡ map expected listings
-unfolding all any has insert below valueIn readingValue missingHolds valuesRelate eqZ relationHolds operandValue comparisonHolds headsOf comparisonsOf endingOf constantCount isReadingValue testNumber operandInRange comparisonInRange endingInRange inRange crowded repeats repeated valid tryNext keptBelow greedy costBelow trialsCost literalHolds ruleHolds propose proposals constraintHolds conflict resolve accepted cancelled bytes sameBytes is classOf decimalFrom isEmpty numberOf positive negative hexValue decimalOf patternOf hexadecimalOf constantOf prepend pieces linesOf nonEmpty tokensOf takeWhile skipWhile restOfLine lineEnd named literalOf actionOf readingOf relationOf orElse operandOf both comparisonOf comparisonsFrom conditionFrom joined ruleAfter constraintAfter after lineFrom judgeLine isComment tokensAnswer lineAnswer advance readLine readText policyOf toLeft atEquals assignmentOf itemOf itemsOf itemInRange givenBy addItem judgeEpoch readEpoch operationFrom relationFrom wordsOf bytesOf between pack packHeader testOperation testWord operandWord constantWords comparisonWord comparisonWords constantComparison readingComparison endingWord conditionWords partWords lineWords linesWords knownForm checkCount sum checkWord checkWords headerWord ruleWords constraintWords contentWords imageWords imageOf wellSized countsFit sumsToZero addLiteral addMember addComparison decodeWord decode isPrefix inPart standsAt keepIf lineAt lineLength addLine afterLine linesFrom partLines bodyAnswer loadWords load ran comparisonTest ruleTest constraintTest proposesAt runRules isNever runConstraints fetches upTo ruleFetches trialFetches keptBy triedWords yieldedBy issuedBy onLine onImage decision outputOf compiled digits decimal hexDigit hexDigits hexDigitValue membersFrom actionName furtherNames actionNames actionList wordLine refusalLine wordsField acceptLine refusedLine toText splitAtRun ended textPart epochPart decisionLine epochLines answersTo printedFor printed wordLines listingOf listed sessions listings expected sessionPrinted textListed
+unfolding all any has insert below valueIn readingValue missingHolds valuesRelate eqZ relationHolds operandValue comparisonHolds headsOf comparisonsOf endingOf constantCount isReadingValue testNumber operandInRange comparisonInRange endingInRange inRange crowded repeats repeated valid tryNext keptBelow greedy costBelow trialsCost literalHolds ruleHolds propose proposals constraintHolds conflict resolve accepted cancelled bytes sameBytes is classOf decimalFrom isEmpty numberOf positive negative hexValue decimalOf patternOf hexadecimalOf constantOf prepend pieces linesOf nonEmpty tokensOf takeWhile skipWhile restOfLine lineEnd named literalOf actionOf readingOf relationOf orElse operandOf both comparisonOf comparisonsFrom conditionFrom joined ruleAfter constraintAfter after lineFrom judgeLine isComment tokensAnswer lineAnswer advance readLine readBehind inText readText policyRead policyOf toLeft atEquals assignmentOf itemOf itemsOf itemInRange givenBy addItem judgeEpoch readEpoch operationFrom relationFrom wordsOf bytesOf between pack packHeader testOperation testWord operandWord constantWords comparisonWord comparisonWords constantComparison readingComparison endingWord conditionWords partWords lineWords linesWords knownForm checkCount sum checkWord checkWords headerWord ruleWords constraintWords contentWords imageWords imageOf wellSized countsFit sumsToZero addLiteral addMember addComparison decodeWord decode isPrefix inPart standsAt keepIf lineAt lineLength addLine afterLine linesFrom partLines bodyAnswer loadWords load ran comparisonTest ruleTest constraintTest proposesAt runRules isNever runConstraints fetches upTo ruleFetches trialFetches keptBy triedWords yieldedBy issuedBy onLine onImage decision outputOf compiled digits decimal hexDigit hexDigits hexDigitValue membersFrom actionName furtherNames actionNames actionList wordLine refusalLine wordsField acceptLine refusedLine toText splitAtRun ended textPart epochPart decisionLine epochLines answersTo printedFor printed wordLines listingOf listed sessions listings expected sessionPrinted textListed
 listings-hold = refl

@@ -8,21 +8,24 @@ use borrow.Author.Tests.{lt-ltb}
 use lib.ListN.{length, take, drop, length-append, drop-of-length-le}
 use lib.Seq.{drop-cons}
 use Rattle.policy.specs.Fault.{refusal}
+use Rattle.policy.specs.Limits.{Acceptable}
+use Rattle.policy.specs.Policy.{Policy}
 use Rattle.policy.specs.declared.fault.Fault.{Fault}
 use Rattle.policy.specs.declared.fault.Refusal.{Refusal}
 use Rattle.word.specs.Word.{wordsOf, wordAt}
 use Rattle.layout.specs.Layout.{imageOf}
 use Rattle.word.proofs.WordLaws.{words-length}
-use Rattle.rule_text.specs.Text.{Progress, reading, stopped, readText}
-use Rattle.codegen.specs.Compile.{newestForm, compiled}
+use Rattle.acceptance.proofs.Accepted.{accepted-acceptable, texts-acceptable}
+use Rattle.rule_text.specs.Text.{Progress, reading, stopped, readBehind, inText, readText, readTexts}
+use Rattle.codegen.specs.Compile.{newestForm, outputOf, compiled, compiledTexts}
 use Rattle.codegen.specs.declared.Compiled.{Compiled}
 use Rattle.output.specs.Number.{hexDigits}
-use Rattle.report.specs.Report.{wordLine, refusalLine}
+use Rattle.report.specs.Report.{wordLine, refusalLine, textsRefusalLine}
 use Rattle.output.proofs.AppendLaws.{Put, Left, left-turn, left-none}
-use Rattle.session.specs.Listed.{wordLines, listingOf, listed}
-use Rattle.session.proofs.CompileLaws.{Read, image-small, compiled-stopped, compiled-read}
-use Rattle.session.proofs.LocationLaws.{location-small}
-use Rattle.session.proofs.LengthLaws.{refusal-short}
+use Rattle.session.specs.Listed.{wordLines, listingOf, listed, listedTexts}
+use Rattle.session.proofs.CompileLaws.{Read, image-small, output-stopped, output-read}
+use Rattle.session.proofs.LocationLaws.{location-small, locations-small}
+use Rattle.session.proofs.LengthLaws.{refusal-short, texts-refusal-short}
 
 -- ---- the loop over the words of an image
 
@@ -57,34 +60,71 @@ lines-length (w ∷ ws) = simp (length-append, hex-length 8 w, lines-length ws) 
 
 -- ---- what a compilation lists
 
+module _ (refused : Refusal → List ℕ) (s : Progress) (keeps : (n : ℕ) (p : Policy) → s ≡ reading n p → Acceptable p) (image : List ℕ) (answer : Compiled)
+    (image' : List ℕ) (made : answer ≡ outputOf s image .answer) (wrote : image' ≡ outputOf s image .buffer) (long : length image ≡ 13064) where
+  refusal-listed : (x : Refusal) → answer ≡ Compiled.Refused x → refused x ≡ listingOf refused s
+  unfolding listingOf
+  refusal-listed x e = sym (ap (listingOf refused) (output-stopped s keeps image long x (sym made ∙ e)))
+
+  image-listed : (size : ℕ) → answer ≡ Compiled.Image size → wordLines (wordsOf (take size image')) ≡ listingOf refused s
+  unfolding listingOf
+  image-listed size e =
+      let r : Read s (outputOf s image .buffer) size = output-read s keeps image long size (sym made ∙ e) in
+      ap (λ (b : List ℕ). wordLines (wordsOf b)) (ap (take size) wrote ∙ r .image) ∙ sym (ap (listingOf refused) (r .read))
+
+  image-few : (size : ℕ) → answer ≡ Compiled.Image size → size ≤ 13064
+  image-few size e = output-read s keeps image long size (sym made ∙ e) .small
+
 module _ (text image : List ℕ) (answer : Compiled) (image' : List ℕ) (made : answer ≡ compiled text image .answer)
     (wrote : image' ≡ compiled text image .buffer) (long : length image ≡ 13064) where
   pub lists-refusal : (x : Refusal) → answer ≡ Compiled.Refused x → refusalLine x ≡ listed text
-  unfolding listed listingOf
-  lists-refusal x e = sym (ap listingOf (compiled-stopped text image long x (sym made ∙ e)))
+  unfolding listed compiled
+  lists-refusal = refusal-listed refusalLine (readText text) (accepted-acceptable text) image answer image' made wrote long
 
   pub lists-image : (size : ℕ) → answer ≡ Compiled.Image size → wordLines (wordsOf (take size image')) ≡ listed text
-  unfolding listed listingOf
-  lists-image size e =
-      let r : Read text (compiled text image .buffer) size = compiled-read text image long size (sym made ∙ e) in
-      ap (λ (b : List ℕ). wordLines (wordsOf b)) (ap (take size) wrote ∙ r .image) ∙ sym (ap listingOf (r .read))
+  unfolding listed compiled
+  lists-image = image-listed refusalLine (readText text) (accepted-acceptable text) image answer image' made wrote long
 
   pub image-within : (size : ℕ) → answer ≡ Compiled.Image size → size ≤ 13064
-  image-within size e = compiled-read text image long size (sym made ∙ e) .small
+  unfolding compiled
+  image-within = image-few refusalLine (readText text) (accepted-acceptable text) image answer image' made wrote long
+
+module _ (maker site image : List ℕ) (answer : Compiled) (image' : List ℕ) (made : answer ≡ compiledTexts maker site image .answer)
+    (wrote : image' ≡ compiledTexts maker site image .buffer) (long : length image ≡ 13064) where
+  pub lists-refusals : (x : Refusal) → answer ≡ Compiled.Refused x → textsRefusalLine x ≡ listedTexts maker site
+  unfolding listedTexts compiledTexts
+  lists-refusals = refusal-listed textsRefusalLine (readTexts maker site) (texts-acceptable maker site) image answer image' made wrote long
+
+  pub lists-images : (size : ℕ) → answer ≡ Compiled.Image size → wordLines (wordsOf (take size image')) ≡ listedTexts maker site
+  unfolding listedTexts compiledTexts
+  lists-images = image-listed textsRefusalLine (readTexts maker site) (texts-acceptable maker site) image answer image' made wrote long
+
+  pub images-within : (size : ℕ) → answer ≡ Compiled.Image size → size ≤ 13064
+  unfolding compiledTexts
+  images-within = image-few textsRefusalLine (readTexts maker site) (texts-acceptable maker site) image answer image' made wrote long
 
 -- ---- how long a listing is
 
 pub listed-long : (text : List ℕ) → 32768 < length text → listed text ≡ refusalLine (refusal Fault.TooLong 0)
-unfolding listed listingOf readText
+unfolding listed listingOf readText readBehind inText refusalLine
 listed-long text h = rw (lt-ltb 32768 (length text) h)
 
 image-lines : (image : List ℕ) → length image ≤ 13064 → length (wordLines (wordsOf image)) ≤ 29394
 image-lines image h = omega (arith, lines-length (wordsOf image), words-length image)
 
+module _ (refused : Refusal → List ℕ) (s : Progress) (keeps : (n : ℕ) (p : Policy) → s ≡ reading n p → Acceptable p) where
+  listing-short : ((x : Refusal) → s ≡ stopped x → length (refused x) ≤ 512) → length (listingOf refused s) ≤ 29394
+  unfolding listingOf
+  listing-short short = go s refl
+    where
+      go : (p : Progress) → s ≡ p → length (listingOf refused p) ≤ 29394
+      go (stopped x) e = omega (arith, short x e)
+      go (reading n p) e = image-lines (imageOf newestForm p) (image-small p (keeps n p e))
+
 pub listed-short : (text : List ℕ) → length (listed text) ≤ 29394
-unfolding listed listingOf
-listed-short text = go (readText text) refl
-  where
-    go : (p : Progress) → readText text ≡ p → length (listingOf p) ≤ 29394
-    go (stopped x) e = omega (arith, refusal-short x (omega (arith, location-small text x e)))
-    go (reading n p) e = image-lines (imageOf newestForm p) (image-small text n p e)
+unfolding listed
+listed-short text = listing-short refusalLine (readText text) (accepted-acceptable text) (λ x e. refusal-short x (omega (arith, location-small text x e)))
+
+pub texts-listed-short : (maker site : List ℕ) → length (listedTexts maker site) ≤ 29394
+unfolding listedTexts
+texts-listed-short maker site = listing-short textsRefusalLine (readTexts maker site) (texts-acceptable maker site) (λ x e. texts-refusal-short x (omega (arith, locations-small maker site x e)))

@@ -13,9 +13,10 @@ use Rattle.policy.specs.Policy.{Policy}
 use Rattle.policy.specs.Fault.{refusal}
 use Rattle.policy.specs.declared.fault.Fault.{Fault}
 use Rattle.policy.specs.declared.fault.Refusal.{Refusal}
+use Rattle.policy.specs.declared.fault.Source.{Source}
 use Rattle.lexer.specs.Lines.{prepend, pieces, linesOf}
 use Rattle.syntax.specs.Judge.{LineAnswer, skipped, refused, accepted, lineAnswer}
-use Rattle.rule_text.specs.Text.{Progress, reading, stopped, withRule, withConstraint, advance, readLine, emptyPolicy, textLimit, readText}
+use Rattle.rule_text.specs.Text.{Progress, reading, stopped, withRule, withConstraint, advance, readLine, emptyPolicy, textLimit, readBehind, inText, readText, readSite, readTexts}
 
 abbrev reachedLine : Progress → ℕ
 reachedLine (reading n p) = n
@@ -55,13 +56,32 @@ pieces-count end (b ∷ s) = go (eqb b end) (pieces-count end s)
     go true h = omega arith
     go false h = omega (arith, prepend-count b (pieces end s))
 
-pub location-small : (text : List ℕ) (x : Refusal) → readText text ≡ stopped x → x .location ≤ 32769
-unfolding readText linesOf
-location-small text x e = omega (arith, small (ltb textLimit (length text)) refl, ap reachedLine e)
+behind-location : (source : Source) (p : Policy) (text : List ℕ) → reachedLine (inText source (readBehind p text)) ≤ 32769
+unfolding readBehind inText linesOf
+behind-location source p text = go (ltb textLimit (length text)) refl
   where
-    small : (b : Bool) → ltb textLimit (length text) ≡ b → reachedLine (readText text) ≤ 32769
-    small true h = rw h (omega arith)
-    small false h =
-        rw h
-        (let k : length text ≤ 32768 = ltb-false 32768 (length text) h in
-        omega (arith, lines-location (reading 1 emptyPolicy) (pieces 10 text), pieces-count 10 text))
+    same : (s : Progress) → reachedLine (inText source s) ≡ reachedLine s
+    same (reading n q) = refl
+    same (stopped x) = refl
+
+    go : (b : Bool) → ltb textLimit (length text) ≡ b → reachedLine (inText source (cond b (stopped (refusal Fault.TooLong 0)) (foldl readLine (reading 1 p) (pieces 10 text)))) ≤ 32769
+    go true h = omega arith
+    go false h =
+        let k : length text ≤ 32768 = ltb-false 32768 (length text) h in
+        omega (arith, same (foldl readLine (reading 1 p) (pieces 10 text)), lines-location (reading 1 p) (pieces 10 text), pieces-count 10 text)
+
+text-location : (text : List ℕ) → reachedLine (readText text) ≤ 32769
+unfolding readText
+text-location text = behind-location Source.Maker emptyPolicy text
+
+site-location : (s : Progress) (site : List ℕ) → reachedLine s ≤ 32769 → reachedLine (readSite s site) ≤ 32769
+unfolding readSite
+site-location (reading n p) site h = behind-location Source.Site p site
+site-location (stopped x) site h = h
+
+pub location-small : (text : List ℕ) (x : Refusal) → readText text ≡ stopped x → x .location ≤ 32769
+location-small text x e = omega (arith, text-location text, ap reachedLine e)
+
+pub locations-small : (maker site : List ℕ) (x : Refusal) → readTexts maker site ≡ stopped x → x .location ≤ 32769
+unfolding readTexts
+locations-small maker site x e = omega (arith, site-location (readText maker) site (text-location maker), ap reachedLine e)

@@ -11,7 +11,7 @@ use Rattle.policy.specs.Fault.{refusal}
 use Rattle.policy.specs.declared.fault.Fault.{Fault}
 use Rattle.lexer.specs.Byte.{is}
 use Rattle.lexer.specs.Lines.{pieces, linesOf}
-use Rattle.rule_text.specs.Text.{readText}
+use Rattle.rule_text.specs.Text.{readBehind, inText, readText}
 use Rattle.report.specs.Report.{refusalLine}
 use Rattle.session.specs.Printed.{Session, textOnly, withEpochs, toText, splitAtRun, ended, textPart, epochPart, answersTo, printedFor}
 use Rattle.session.specs.Owed.{printedBehind}
@@ -74,7 +74,7 @@ end-text done (b ∷ bs) h e =
 -- ---- a text that is too long, whatever follows
 
 text-long : (text : List ℕ) (epochs : List (List ℕ)) → 32768 < length text → printedFor text epochs ≡ refusalLine (refusal Fault.TooLong 0)
-unfolding printedFor answersTo readText
+unfolding printedFor answersTo readText readBehind inText refusalLine
 text-long text epochs h = rw (lt-ltb 32768 (length text) h)
 
 covers : (line rest : List ℕ) → OneLine line → 4 ≤ length line

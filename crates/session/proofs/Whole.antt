@@ -10,14 +10,14 @@ use lib.Dec.{leb}
 use lib.ListN.{length, take, length-take}
 use lib.Seq.{take-all}
 use Rattle.output.specs.Buffer.{appended, behind}
-use Rattle.session.specs.Listed.{listed}
+use Rattle.session.specs.Listed.{listed, listedTexts}
 use Rattle.lexer.specs.Lines.{pieces, linesOf}
 use Rattle.session.specs.Printed.{epochLines, printed}
 use Rattle.session.specs.Owed.{leftIn, owed, Good, Seen, see, nothingSeen, TracksIn, Fed, Finished, Called, begun, fed, handedOut, Reached, startState, emptied}
 use Rattle.session.specs.declared.state.Phase.{Phase}
 use Rattle.session.specs.declared.state.State.{State}
 use Rattle.session.proofs.BufferLaws.{put-take}
-use Rattle.session.proofs.ListingLaws.{listed-short, listed-long}
+use Rattle.session.proofs.ListingLaws.{listed-short, listed-long, texts-listed-short}
 use Rattle.session.proofs.TookLaws.{Represents, represents-start, represents-took, represents-emptied, represents-all}
 
 -- ---- the engine
@@ -87,3 +87,9 @@ listing-cut input = go (leb (length input) 32769) refl
         let h : 32769 ≤ length input = let k = leb-false (length input) 32769 e in omega arith in
         let l : length (take 32769 input) ≡ 32769 = length-take 32769 input ∙ omega arith in
         listed-long (take 32769 input) (omega arith) ∙ sym (listed-long input (omega arith))
+
+-- ---- the compiler on two texts
+
+pub texts-listing-whole : (maker site out after : List ℕ) (end : ℕ) → 29394 ≤ length out
+    → (end ≡ behind out 0 (listedTexts maker site)) × (after ≡ appended out 0 (listedTexts maker site)) → take end after ≡ listedTexts maker site
+texts-listing-whole maker site out after end room p = put-take out 0 (listedTexts maker site) after end (omega (arith, texts-listed-short maker site)) p

@@ -14,6 +14,7 @@ use epoch::line_byte;
 pub use image::IMAGE_SIZE;
 pub use listing::LISTING_SIZE;
 pub use listing::put_listing;
+pub use listing::put_texts_listing;
 pub use state::HELD_SIZE;
 pub use state::OUT_SIZE;
 pub use state::Phase;

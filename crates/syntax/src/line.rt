@@ -22,6 +22,7 @@ use lexer::at_token_end;
 use lexer::causes_at;
 use lexer::comma_at;
 use lexer::if_at;
+use lexer::line_end;
 use lexer::never_at;
 use lexer::skip_spaces;
 use line_value::Line;
@@ -330,19 +331,6 @@ fn behind_line(text: &[u8], end: usize) -> usize
     ensures { λ r. ⌜ r ≡ behindLine (now (text .entry)) end ⌝ }
 {
     if end < text.len() { end + 1 } else { end }
-}
-
-fn line_end(text: &[u8], at: usize) -> usize
-    ensures { λ r. ⌜ r ≡ lineEnd (now (text .entry)) at ⌝ }
-{
-    let mut i = at;
-    while i < text.len() {
-        if text[i] == b'\n' {
-            return i;
-        }
-        i += 1;
-    }
-    i
 }
 
 fn skipped(next: usize) -> LineRead

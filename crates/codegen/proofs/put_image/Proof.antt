@@ -1,4 +1,5 @@
 use Rattle.codegen.proofs.PutLaws.{image-put}
+use native.Mathlib.Omega.{arith}
 use borrow.Author.Needs.{needs}
 use Rattle.codegen.proofs.put_image.Statement.{statement}
 use Rattle.codegen.proofs.put_image.Tie as tie
@@ -15,6 +16,9 @@ add-middle c = search needs
 put-lines-requires : tie.Need-put-lines-requires
 put-lines-requires c κs = search needs
 
+put-lines-requires-2 : tie.Need-put-lines-requires-2
+put-lines-requires-2 c κs = search needs
+
 add-put-check-words : tie.Need-add-put-check-words
 add-put-check-words c = search needs
 
@@ -26,8 +30,8 @@ same-length c = search needs
 
 returns : tie.Need-returns
 returns c =
-    let p = c .before .before .before .before .before .before .before .before .before .before .before .before .before .before .before .pre in
-    image-put _ _ _ _ _ _ _ _ (p .1 .0) (p .1 .1) (c .before .before .before .before .before .before .before .before .before .before .before .header .ensures) (c .before .before .before .before .before .before .before .before .before .before .put-word .ensures .1) (c .before .before .before .before .before .before .put-lines .ensures) (c .before .before .put-check-words .ensures .1)
+    let p = c .before .before .before .before .before .before .before .before .before .before .before .before .before .before .before .before .before .before .before .before .pre in
+    image-put _ _ _ _ _ _ _ _ _ _ _ (p .1 .1 .0) (p .1 .1 .1) (c .before .before .before .before .before .before .before .before .before .before .before .before .before .before .before .header .ensures) (c .before .before .before .before .before .before .before .before .before .before .before .before .before .before .put-word .ensures .1) (c .before .before .before .before .before .before .before .before .before .before .put-lines .ensures .0) (c .before .before .before .before .before .before .before .before .before .before .put-lines .ensures .1 .1) (c .before .before .before .before .before .before .put-lines2 .ensures .1 .1) (c .before .before .put-check-words .ensures .1)
 
 pub put-image-spec : {M : Type 1} → statement M
 put-image-spec =
@@ -37,6 +41,7 @@ put-image-spec =
     put-word-requires
     add-middle
     put-lines-requires
+    put-lines-requires-2
     add-put-check-words
     put-check-words-requires
     same-length

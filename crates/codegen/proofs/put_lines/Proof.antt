@@ -24,7 +24,7 @@ enum-told c = search needs
 put-next-requires : tie.Need-put-next-requires Inv-loop μ-loop
 put-next-requires c κs =
     let p = c .before .before .before .before .before .before .before .before .before .pre in (
-      putting-near _ _ _ _ _ _ (c .before .before .before .before .before .before .loop .inv) (p .0) (p .1 .0) (p .1 .1) (c .before .before .before .before .before .loop-test .taken),
+      putting-near _ _ _ _ _ _ (c .before .before .before .before .before .before .loop .inv) (p .0) (p .1),
       putting-take _ _ _ _ _ _ (c .before .before .before .before .before .before .loop .inv) (c .before .before .before .before .before .loop-test .taken) _ (c .before .before .before .before .read-line .ensures) (c .before .enum-told .given .1) .small,
     )
 
@@ -38,7 +38,7 @@ same-length : tie.Need-same-length Inv-loop μ-loop
 same-length c = search needs
 
 returns : tie.Need-returns Inv-loop μ-loop
-returns c = putting-stop _ _ _ _ _ _ (c .before .before .before .before .before .loop .inv) (c .before .before .before .before .loop-test .taken) _ (c .before .before .before .read-line .ensures) _ (c .enum-told3 .given .1)
+returns c = putting-stop _ _ _ _ _ _ (c .before .before .before .before .before .loop .inv) (c .before .before .before .before .loop-test .taken) _ (c .before .before .before .read-line .ensures) (c .before .before .before .before .before .before .before .before .pre .1) _ (c .enum-told3 .given .1)
 
 loop-less : tie.Need-loop-less Inv-loop μ-loop
 loop-less c =
@@ -62,7 +62,7 @@ same-length-2 : tie.Need-same-length-2 Inv-loop μ-loop
 same-length-2 c = search needs
 
 returns-2 : tie.Need-returns-2 Inv-loop μ-loop
-returns-2 c = putting-all _ _ _ _ _ _ (c .before .loop .inv) (c .loop-test .left)
+returns-2 c = putting-all _ _ _ _ _ _ (c .before .loop .inv) (c .before .before .before .before .pre .1) (c .loop-test .left)
 
 pub put-lines-spec : {M : Type 1} → statement M
 put-lines-spec =

@@ -1,11 +1,12 @@
--- How the compiler puts the lines of a text into the buffer, one after another.
+-- How the compiler puts the lines of its texts into the buffer, one after another.
 use Prim.Native.Nat.{ℕ, _+_, _≤_}
-use mathlib.Core.List.{List, [], _∷_}
+use mathlib.Core.List.{List, [], _∷_, _++_}
 use lib.ListN.{length, take}
 use Rattle.policy.specs.Line.{PolicyLine, endingOf}
 use Rattle.policy.specs.declared.line.Ending.{Ending}
 use Rattle.word.specs.Steps.Write.{putWords}
 use Rattle.word.specs.Word.{wordsOf}
+use Rattle.lexer.specs.Lines.{linesOf}
 use Rattle.layout.specs.Header.{packHeader}
 use Rattle.layout.specs.Layout.{lineWords, checkWords}
 use Rattle.syntax.specs.Judge.{LineAnswer, skipped, refused, accepted, lineAnswer}
@@ -28,9 +29,14 @@ cursorsAfter (Ending.Causes a) p n = record { rules = p .rules + n; constraints 
 cursorsAfter Ending.Never p n = record { rules = p .rules; constraints = p .constraints + n }
 
 -- cursors that are far from overflowing
-pub record Near (p : Cursors) : Type 0 where
-  pub rules : p .rules ≤ 1000000
-  pub constraints : p .constraints ≤ 1000000
+pub record Near (limit : ℕ) (p : Cursors) : Type 0 where
+  pub rules : p .rules ≤ limit
+  pub constraints : p .constraints ≤ limit
+
+-- as far behind others as 32,768 lines of 17 words
+pub record Further (p q : Cursors) : Type 0 where
+  pub rules : q .rules ≤ p .rules + 557056
+  pub constraints : q .constraints ≤ p .constraints + 557056
 
 -- one line more, unless it is skipped; none from a refused one on
 unfoldable pub acceptedLine : LineAnswer → List PolicyLine → List PolicyLine
@@ -41,6 +47,15 @@ acceptedLine (accepted l) ls = l ∷ ls
 unfoldable pub acceptedLines : List (List ℕ) → List PolicyLine
 acceptedLines [] = []
 acceptedLines (line ∷ lines) = acceptedLine (lineAnswer line) (acceptedLines lines)
+
+-- the lines of the maker's text and, behind them, of the site's
+abbrev pub linesOfBoth : List ℕ → List ℕ → List PolicyLine
+linesOfBoth maker site = acceptedLines (linesOf maker) ++ acceptedLines (linesOf site)
+
+-- the cursors behind lines
+unfoldable pub cursorsBehind : List PolicyLine → Cursors → Cursors
+cursorsBehind [] p = p
+cursorsBehind (l ∷ ls) p = cursorsBehind ls (cursorsAfter (endingOf l) p (length (lineWords l)))
 
 unfoldable pub putLines : List PolicyLine → Cursors → List ℕ → List ℕ
 putLines [] p buffer = buffer

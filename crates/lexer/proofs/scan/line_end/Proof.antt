@@ -4,11 +4,11 @@ use mathlib.Core.Path.{_≡_, refl, sym, ap, _∙_}
 use borrow.Author.Tests.{eq-eqb, ne-eqb}
 use lib.ListN.{length}
 use denote.Ref.{now}
 use Rattle.lexer.proofs.WhileLaws.{skip-here, skip-past, skip-end}
 use Rattle.lexer.specs.Lines.{skipWhile, inLine, lineEnd}
 use borrow.Author.Needs.{needs}
-use Rattle.syntax.proofs.line.line_end.Statement.{statement}
-use Rattle.syntax.proofs.line.line_end.Tie as tie
+use Rattle.lexer.proofs.scan.line_end.Statement.{statement}
+use Rattle.lexer.proofs.scan.line_end.Tie as tie
 
 abbrev Inv-loop : tie.InvT-loop
 Inv-loop text at i₀ i = skipWhile inLine text at ≡ skipWhile inLine text i
