@@ -40,7 +40,7 @@ use Rattle.image.specs.declared.load.Contents.{Contents}
 use Rattle.image.specs.declared.load.Loaded.{Loaded}
 use Rattle.exactness.proofs.Exact.{refusals, took, image-taken, image-holds, held-acceptable, one-word-changed}
 use Rattle.exactness.specs.Exact.{contentsOf, changed, Checked, RefusedEarly}
-use Rattle.meaning.proofs.Taken.{taken-rules-run, taken-constraints-run}
+use Rattle.meaning.proofs.Decided.{decided-is, image-bounded, image-refuses, image-decides}
 use Rattle.monitor.proofs.DecideLaws.{image-refused, line-refused, line-accepted}
 use Rattle.monitor.specs.Decision.{keptBy, actionsOf, yieldedBy, issuedBy, onLine, onImage, decision, answerOf}
 use Rattle.monitor.specs.declared.decision.Actions.{Actions}
@@ -105,23 +105,11 @@ module _ (image : List ℕ) (bounded : Bytes image) (contents : Contents) (taken
   abbrev P : Policy
   P = policyIn image
 
-  abbrev constraintPart : List ℕ
-  constraintPart = between (1 + contents .«rule_words») (1 + contents .«rule_words» + contents .«constraint_words») (wordsOf image)
-
-  kept-is : (rs : Readings) (s : ActionSet) → keptBy constraintPart rs s ≡ resolve (P .constraints) rs s
-  unfolding keptBy resolve
-  kept-is rs s =
-      λ i. record { 0 = greedy (λ (kept : ℕ). taken-constraints-run image bounded contents taken rs (record { 0 = kept }) i) (s .0) }
-
-  issued-is : (e : Epoch) → issuedBy contents (wordsOf image) e ≡ actionsOf (proposed (P .rules) e) (Yield.accepted P e) (issuedBy contents (wordsOf image) e .visited)
-  unfolding issuedBy yieldedBy Yield.accepted
-  issued-is e = rw (taken-rules-run image bounded contents taken (allEvents (e .events)) (e .readings), kept-is (e .readings) (proposed (P .rules) e))
-
   module _ (line : List ℕ) (e : Epoch) (read : readEpoch line ≡ accepted e) where
     -- the decision is what the policy that the image holds yields
     pub holds-policy : answerOf (decision image line) ≡ yieldOf P e
     unfolding cancelled
-    holds-policy = ap answerOf (sym (line-accepted image line contents taken e read) ∙ ap Decision.Issued (issued-is e))
+    holds-policy = ap answerOf (decided-is image bounded contents taken line e read)
 
     -- and so it is a maximal action cancellation of what that policy proposes
     pub obeys-policy : Obeys P e (answerOf (decision image line))
@@ -156,29 +144,21 @@ image-changed image bounded ok i v l small other line = go (one-word-changed ima
 -- ---- the image of a policy that an accepted text may have
 
 module _ (form : ℕ) (known : knownForm form ≡ true) (p : Policy) (ok : Acceptable p) where
-  taken : load (imageOf form p) ≡ Loaded.Image (contentsOf form p)
-  taken = image-taken form known p ok
-
-  bounded : Bytes (imageOf form p)
-  unfolding imageOf
-  bounded = bytes-below (imageWords form p)
-
   -- on a line that is refused
   pub written-refuses : (line : List ℕ) (f : Fault) → readEpoch line ≡ refused f → answerOf (decision (imageOf form p) line) ≡ refuses (refusal f 0)
-  written-refuses line f q = ap answerOf (sym (line-refused (imageOf form p) line (contentsOf form p) taken f q))
+  written-refuses line f q = ap answerOf (image-refuses form known p ok line f q)
 
   -- on a line that is an epoch it decides what the policy yields
   pub written-yields : (line : List ℕ) (e : Epoch) → readEpoch line ≡ accepted e → answerOf (decision (imageOf form p) line) ≡ yieldOf p e
-  written-yields line e q =
-      holds-policy (imageOf form p) bounded (contentsOf form p) taken line e q
-      ∙ ap (λ (x : Policy). yieldOf x e) (image-holds form known p ok)
+  unfolding cancelled
+  written-yields line e q = ap answerOf (image-decides form known p ok line e q)
 
   pub written-obeys : (line : List ℕ) (e : Epoch) → readEpoch line ≡ accepted e → Obeys p e (answerOf (decision (imageOf form p) line))
   written-obeys line e q =
       subst (λ (x : Policy). Obeys x e (answerOf (decision (imageOf form p) line))) (image-holds form known p ok)
-      (obeys-policy (imageOf form p) bounded (contentsOf form p) taken line e q)
+      (obeys-policy (imageOf form p) (image-bounded form known p ok) (contentsOf form p) (image-taken form known p ok) line e q)
 
   -- with any other value in the place of one word it is refused whatever the line
   pub written-changed : (i v : ℕ) → i < length (wordsOf (imageOf form p)) → v < wordLimit → ¬ (v ≡ wordAt (imageOf form p) i)
       → (line : List ℕ) → CheckFailed (answerOf (decision (changed (imageOf form p) i v) line))
-  written-changed = image-changed (imageOf form p) bounded (took (imageOf form p) (contentsOf form p) taken .checked)
+  written-changed = image-changed (imageOf form p) (image-bounded form known p ok) (took (imageOf form p) (contentsOf form p) (image-taken form known p ok) .checked)

@@ -12,7 +12,7 @@ use Rattle.codegen.specs.Compile.{compiledTexts}
 use Rattle.codegen.specs.declared.Compiled.{Compiled}
 use Rattle.monitor.specs.Decision.{decision, answerOf}
 use Rattle.monitor.specs.declared.decision.Decision.{Decision}
-use Rattle.session.proofs.CompileLaws.{texts-stopped, texts-read}
+use Rattle.codegen.proofs.RoomLaws.{texts-stopped, texts-read}
 use Rattle.guarantees.proofs.Demand3.{image-of-texts, same-answer}
 use Rattle.guarantees.specs.Claims.{TextsCompileTo}
 use Rattle.guarantees.specs.Machine.{step}

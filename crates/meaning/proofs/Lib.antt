@@ -1,4 +1,5 @@
 pub mod Meaning
 pub mod Taken
+pub mod Decided
 pub mod Fetched
 pub mod Examples

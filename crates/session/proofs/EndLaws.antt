@@ -21,7 +21,7 @@ use Rattle.session.specs.Steps.Ended.{TextEnded, LineEnded}
 use Rattle.session.specs.declared.state.Phase.{Phase}
 use Rattle.session.specs.declared.state.State.{State}
 use Rattle.session.proofs.BufferLaws.{put-end, put-take}
-use Rattle.session.proofs.CompileLaws.{Read, compiled-stopped, compiled-read}
+use Rattle.codegen.proofs.RoomLaws.{Read, compiled-stopped, compiled-read}
 use Rattle.session.proofs.LengthLaws.{refusal-short, decision-short}
 
 -- ---- a part of a slice

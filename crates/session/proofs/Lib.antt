@@ -4,7 +4,6 @@ pub mod LineLaws
 pub mod SplitLaws
 pub mod EpochLaws
 pub mod BufferLaws
-pub mod CompileLaws
 pub mod LengthLaws
 pub mod EndLaws
 pub mod HeldLaws

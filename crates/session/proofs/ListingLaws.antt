@@ -23,7 +23,7 @@ use Rattle.output.specs.Number.{hexDigits}
 use Rattle.report.specs.Report.{wordLine, refusalLine, textsRefusalLine}
 use Rattle.output.proofs.AppendLaws.{Put, Left, left-turn, left-none}
 use Rattle.session.specs.Listed.{wordLines, listingOf, listed, listedTexts}
-use Rattle.session.proofs.CompileLaws.{Read, image-small, output-stopped, output-read}
+use Rattle.codegen.proofs.RoomLaws.{Read, image-small, output-stopped, output-read}
 use Rattle.session.proofs.LocationLaws.{location-small, locations-small}
 use Rattle.session.proofs.LengthLaws.{refusal-short, texts-refusal-short}
 

@@ -1,0 +1,4 @@
+pub mod TrimLaws
+pub mod TellLaws
+pub mod FindLaws
+pub mod WhyLaws

@@ -1,0 +1,70 @@
+-- What is decided on an image that the loader took is what the policy that it holds yields.
+use Prim.Native.Nat.{ℕ, _+_}
+use mathlib.Core.Bool.{true}
+use mathlib.Core.List.{List}
+use mathlib.Core.Path.{_≡_, sym, ap, _∙_}
+use Rattle.policy.specs.Epoch.{Epoch, Readings}
+use Rattle.policy.specs.Fault.{refusal}
+use Rattle.policy.specs.Limits.{Acceptable}
+use Rattle.policy.specs.Policy.{Policy}
+use Rattle.policy.specs.Set.{allEvents}
+use Rattle.policy.specs.declared.fault.Fault.{Fault}
+use Rattle.policy.specs.declared.set.ActionSet.{ActionSet}
+use Rattle.pdl.specs.Greedy.{greedy}
+use Rattle.pdl.specs.Yield as Yield
+use Rattle.pdl.specs.Yield.{proposed, resolve}
+use Rattle.epoch_line.specs.Epoch.{refused, accepted, readEpoch}
+use Rattle.word.proofs.WordLaws.{bytes-below}
+use Rattle.word.specs.Word.{Bytes, wordsOf, between}
+use Rattle.layout.specs.Layout.{knownForm, imageWords, imageOf}
+use Rattle.image.specs.Held.{policyIn}
+use Rattle.image.specs.Load.{load}
+use Rattle.image.specs.declared.load.Contents.{Contents}
+use Rattle.image.specs.declared.load.Loaded.{Loaded}
+use Rattle.exactness.proofs.Exact.{image-taken, image-holds}
+use Rattle.exactness.specs.Exact.{contentsOf}
+use Rattle.monitor.proofs.DecideLaws.{line-refused, line-accepted}
+use Rattle.monitor.specs.Decision.{keptBy, actionsOf, yieldedBy, issuedBy, decision}
+use Rattle.monitor.specs.declared.decision.Decision.{Decision}
+use Rattle.meaning.proofs.Taken.{taken-rules-run, taken-constraints-run}
+
+module _ (image : List ℕ) (bounded : Bytes image) (contents : Contents) (taken : load image ≡ Loaded.Image contents) where
+  abbrev P : Policy
+  P = policyIn image
+
+  abbrev constraintPart : List ℕ
+  constraintPart = between (1 + contents .«rule_words») (1 + contents .«rule_words» + contents .«constraint_words») (wordsOf image)
+
+  kept-is : (rs : Readings) (s : ActionSet) → keptBy constraintPart rs s ≡ resolve (P .constraints) rs s
+  unfolding keptBy resolve
+  kept-is rs s =
+      λ i. record { 0 = greedy (λ (kept : ℕ). taken-constraints-run image bounded contents taken rs (record { 0 = kept }) i) (s .0) }
+
+  issued-is : (e : Epoch) → issuedBy contents (wordsOf image) e ≡ actionsOf (proposed (P .rules) e) (Yield.accepted P e) (issuedBy contents (wordsOf image) e .visited)
+  unfolding issuedBy yieldedBy Yield.accepted
+  issued-is e = rw (taken-rules-run image bounded contents taken (allEvents (e .events)) (e .readings), kept-is (e .readings) (proposed (P .rules) e))
+
+  pub decided-is : (line : List ℕ) (e : Epoch) → readEpoch line ≡ accepted e
+      → decision image line ≡ Decision.Issued (actionsOf (proposed (P .rules) e) (Yield.accepted P e) (issuedBy contents (wordsOf image) e .visited))
+  decided-is line e read = sym (line-accepted image line contents taken e read) ∙ ap Decision.Issued (issued-is e)
+
+-- ---- the image of a policy that an accepted text may have
+
+module _ (form : ℕ) (known : knownForm form ≡ true) (p : Policy) (ok : Acceptable p) where
+  taken : load (imageOf form p) ≡ Loaded.Image (contentsOf form p)
+  taken = image-taken form known p ok
+
+  pub image-bounded : Bytes (imageOf form p)
+  unfolding imageOf
+  image-bounded = bytes-below (imageWords form p)
+
+  -- on a line that is refused
+  pub image-refuses : (line : List ℕ) (f : Fault) → readEpoch line ≡ refused f → decision (imageOf form p) line ≡ Decision.Refused (refusal f 0)
+  image-refuses line f q = sym (line-refused (imageOf form p) line (contentsOf form p) taken f q)
+
+  -- on a line that is an epoch it decides what the policy yields
+  pub image-decides : (line : List ℕ) (e : Epoch) → readEpoch line ≡ accepted e
+      → decision (imageOf form p) line ≡ Decision.Issued (actionsOf (proposed (p .rules) e) (Yield.accepted p e) (issuedBy (contentsOf form p) (wordsOf (imageOf form p)) e .visited))
+  image-decides line e q =
+      decided-is (imageOf form p) image-bounded (contentsOf form p) taken line e q
+      ∙ ap (λ (x : Policy). Decision.Issued (actionsOf (proposed (x .rules) e) (Yield.accepted x e) (issuedBy (contentsOf form p) (wordsOf (imageOf form p)) e .visited))) (image-holds form known p ok)
