@@ -40,6 +40,7 @@ use Rattle.epoch_line.specs.declared.EpochRead.{EpochRead}
 use Rattle.monitor.specs.Decision.{decision}
 use Rattle.monitor.specs.declared.decision.Actions.{Actions}
 use Rattle.monitor.specs.declared.decision.Decision.{Decision}
+use Rattle.rule_text.specs.Text.{Progress, reading, stopped, readTexts}
 use Rattle.explanation.proofs.TellLaws.{rules-sought, constraints-sought}
 use Rattle.explanation.specs.Part.{shownAt, nothing, orLater, firstFrom, orSite, firstShown, partIn, shownPart}
 use Rattle.explanation.specs.Why.{proposedBy, cancelledBy, because, reasonFor, onAction, onEpoch, onTexts, explained, partShown}
@@ -177,6 +178,19 @@ module _ (maker site line : List ℕ) (n : ℕ) (buffer written : List ℕ) (ans
       let image : take size written ≡ imageOf newestForm (r .policy) = ap (take size) wrote ∙ r .image in
       h ∙ ap (explainedOn maker site line n) image ∙ on-image maker site line n (r .policy) (texts-acceptable maker site (r .lines) (r .policy) (r .read))
       ∙ sym (ap (onTexts maker site line n) (r .read))
+
+-- a number counts only by the action that it is
+pub same-action : (maker site line : List ℕ) (m n : ℕ) → checkAction m ≡ checkAction n → explained maker site line m ≡ explained maker site line n
+unfolding explained onTexts onEpoch
+same-action maker site line m n h = go (readTexts maker site)
+  where
+    on : (p : Policy) (a : EpochAnswer) → onEpoch maker site p m a ≡ onEpoch maker site p n a
+    on p (Epoch.refused f) = refl
+    on p (Epoch.accepted e) = ap (onAction maker site (Yield.accepted p e) (Yield.cancelled p e) e) h
+
+    go : (s : Progress) → onTexts maker site line m s ≡ onTexts maker site line n s
+    go (stopped r) = refl
+    go (reading next p) = on p (readEpoch line)
 
 -- ---- the bytes that are shown
 
