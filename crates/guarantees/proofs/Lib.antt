@@ -6,5 +6,6 @@ pub mod Output
 pub mod Patterns
 pub mod Pipe
 pub mod RoundTrip
+pub mod Explanations
 pub mod Examples
 pub mod Together
