@@ -1,34 +1,40 @@
 -- Document 02, L6: when an action is explained, what is told of it, and which part of which text is shown.
-use Prim.Native.Nat.{ℕ, _+_, _<_, _≤_}
-use mathlib.Core.Bool.{Bool, true, false, cond}
-use mathlib.Core.List.{List, [], _∷_, _++_, List·Memᴰ}
+use Prim.Native.Nat.{ℕ, _<_, _≤_}
+use mathlib.Core.Bool.{Bool, true, false, cond, _&&_}
+use mathlib.Core.List.{List, [], _∷_, List·Memᴰ, List·Memᴰ·head, List·Memᴰ·eq-of-singleton}
 use mathlib.Core.Logic.{_↔_}
-use mathlib.Core.Option.{Option, none, some}
-use mathlib.Core.Path.{_≡_, refl, sym, ap, _∙_, subst}
+use mathlib.Core.Option.{some}
+use mathlib.Core.Path.{_≡_, refl, sym, ap, _∙_, subst, subst⁻¹}
 use native.Mathlib.Omega.{arith}
-use borrow.Author.Tests.{lt-ltb, le-ltb, ltb-true, ltb-false}
-use lib.Dec.{ltb}
-use Rattle.policy.proofs.ListLaws.{true-false}
+use borrow.Author.Tests.{lt-ltb, le-ltb, ltb-true, ltb-false, eqb-true, eq-eqb}
+use lib.Dec.{ltb, eqb}
+use Rattle.policy.proofs.ListLaws.{true-false, and-in, and-out}
+use Rattle.policy.proofs.SetLaws.{has-insert-same}
 use Rattle.policy.specs.Epoch.{Epoch}
 use Rattle.policy.specs.Fault.{refusal}
-use Rattle.policy.specs.Limits.{Acceptable}
+use Rattle.policy.specs.Line.{PolicyLine, rule, constraint}
 use Rattle.policy.specs.Number.{checkAction}
-use Rattle.policy.specs.Policy.{Policy}
-use Rattle.policy.specs.Set.{hasAction}
+use Rattle.policy.specs.Policy.{Policy, Rule}
+use Rattle.policy.specs.Set.{allEvents, hasAction, insertAction, actionsBelow}
 use Rattle.policy.specs.declared.fault.Fault.{Fault}
 use Rattle.policy.specs.declared.fault.Refusal.{Refusal}
 use Rattle.policy.specs.declared.number.Action.{Action}
-use Rattle.policy.specs.declared.number.ActionCheck.{ActionCheck}
 use Rattle.policy.specs.declared.set.ActionSet.{ActionSet}
-use Rattle.pdl.proofs.Monitor.{cancelled-apart}
-use Rattle.pdl.specs.Answer.{Answer, issues}
+use Rattle.policy.specs.declared.set.Events.{Events}
+use Rattle.pdl.proofs.Monitor.{accepted-within, cancelled-apart, cancelled-trial}
+use Rattle.pdl.proofs.Proposals.{rule-holds, proposals-derived}
+use Rattle.pdl.proofs.Resolution.{holds-in, holds-out}
+use Rattle.pdl.specs.Answer.{issues}
+use Rattle.pdl.specs.Pdl.{Derives}
 use Rattle.pdl.specs.Yield as Yield
+use Rattle.pdl.specs.Yield.{ruleHolds, propose, proposals}
 use Rattle.epoch_line.specs.Epoch.{EpochAnswer, refused, accepted, readEpoch}
 use Rattle.rule_text.specs.Text.{Progress, reading, stopped, readTexts, policyRead, policyOfTexts}
 use Rattle.codegen.proofs.AcceptedLaws.{newest-known}
 use Rattle.codegen.specs.Compile.{newestForm}
+use Rattle.codegen.specs.Steps.Put.{linesOfBoth}
 use Rattle.monitor.specs.Decision.{decision, answerOf}
-use Rattle.explanation.specs.Part.{nothing, firstShown}
+use Rattle.explanation.specs.Part.{nothing, firstShown, partIn, shownPart}
 use Rattle.explanation.specs.Why.{proposedBy, cancelledBy, because, reasonFor, onAction, onEpoch, onTexts, explained, partShown}
 use Rattle.explanation.specs.declared.part.Shown.{Shown}
 use Rattle.explanation.specs.declared.why.Explained.{Explained}
@@ -36,9 +42,10 @@ use Rattle.explanation.specs.declared.why.Outcome.{Outcome}
 use Rattle.explanation.specs.declared.why.Reason.{Reason}
 use Rattle.guarantees.proofs.Decisions.{written-yields}
 use Rattle.guarantees.proofs.Demand3.{image-of-texts}
+use Rattle.guarantees.proofs.FirstLaws.{Both, both, rule-line, constraint-line, first-line}
 use Rattle.guarantees.specs.Claims.{TextsCompileTo}
 use Rattle.guarantees.specs.Decisions.{yieldOf}
-use Rattle.guarantees.specs.Explanations.{action, Asked, Unexplained, theTexts, theLine, theAction, Told}
+use Rattle.guarantees.specs.Explanations.{action, Asked, Unexplained, theTexts, theLine, theAction, Told, Proposes, Cancels, textOfSource, Straight, FirstLine}
 
 -- ---- when there is an explanation
 
@@ -164,3 +171,97 @@ outcome-told maker site image c line n why h =
     ap (λ (x : List ℕ). answerOf (decision x line)) (t .same) ∙ written-yields newestForm newest-known (t .policy) (t .acceptable) line (q .epoch) (q .read)
     ∙ ap (λ (p : Policy). yieldOf p (q .epoch)) same in
     rw e (asked-told maker site line n q why h)
+
+-- ---- what is shown
+
+-- a line passes a test of the definitions exactly where it says so in the paper's words
+proposed-means : (e : Epoch) (a : Action) → a .0 < 64 → (l : PolicyLine) → (proposedBy e a l ≡ true) ↔ Proposes e a l
+unfolding proposedBy proposals propose
+proposed-means e a small (constraint c) = (λ h. true-false h refl, λ h. absurd h)
+proposed-means e a small (rule r) = (there, back)
+  where
+    ev : Events
+    ev = allEvents (e .events)
+
+    there : ruleHolds ev (e .readings) r && eqb (r .action .0) (a .0) ≡ true → Derives (r ∷ []) ev (e .readings) a
+    there h =
+        let x = and-out (ruleHolds ev (e .readings) r) (eqb (r .action .0) (a .0)) h in
+        proposals-derived (r ∷ []) ev (e .readings) a small .0 (rw (x .0, eqb-true (r .action .0) (a .0) (x .1)) (has-insert-same 0 (a .0) small))
+
+    back : Derives (r ∷ []) ev (e .readings) a → ruleHolds ev (e .readings) r && eqb (r .action .0) (a .0) ≡ true
+    back d =
+        let w : r ≡ d .rule = sym (List·Memᴰ·eq-of-singleton (d .listed)) in
+        and-in (ap (ruleHolds ev (e .readings)) w ∙ rule-holds ev (e .readings) (d .rule) (d .event) (d .condition))
+        (eq-eqb (r .action .0) (a .0) (ap (λ (x : Rule). x .action .0) w ∙ ap (λ (x : Action). x .0) (d .causes)))
+
+cancelled-means : (e : Epoch) (accepts : ActionSet) (a : Action) (l : PolicyLine) → (cancelledBy (e .readings) accepts a l ≡ true) ↔ Cancels e accepts a l
+unfolding cancelledBy
+cancelled-means e accepts a (rule r) = (λ h. true-false h refl, λ h. absurd h)
+cancelled-means e accepts a (constraint c) = (holds-out (e .readings) (insertAction (actionsBelow accepts a) a) c, holds-in (e .readings) (insertAction (actionsBelow accepts a) a) c)
+
+module _ (maker site : List ℕ) (accepts cancels : ActionSet) (e : Epoch) (a : Action) where
+  accepted-part : hasAction accepts a ≡ true → reasonFor maker site accepts cancels e a .shown ≡ firstShown (proposedBy e a) maker site
+  unfolding reasonFor
+  accepted-part h = rw h
+
+  cancelled-part : hasAction accepts a ≡ false → hasAction cancels a ≡ true → reasonFor maker site accepts cancels e a .shown ≡ firstShown (cancelledBy (e .readings) accepts a) maker site
+  unfolding reasonFor
+  cancelled-part h k = rw (h, k)
+
+  no-part : hasAction accepts a ≡ false → hasAction cancels a ≡ false → reasonFor maker site accepts cancels e a .shown ≡ nothing
+  unfolding reasonFor
+  no-part h k = rw (h, k)
+
+module _ (maker site line : List ℕ) (n : ℕ) (q : Asked maker site line n) (why : Reason) (h : explained maker site line n ≡ Explained.Because why) where
+  abbrev P : Policy
+  P = q .policy
+
+  abbrev E : Epoch
+  E = q .epoch
+
+  shown-is : (shown : Shown) → reasonFor maker site (Yield.accepted P E) (Yield.cancelled P E) E (action n) .shown ≡ shown → why .shown ≡ shown
+  shown-is shown e = ap (λ (x : Reason). x .shown) (because-is maker site line n q why h) ∙ e
+
+  lines : Both maker site P
+  lines = let t = texts-known maker site P (q .both) in both maker site (t .0) P (t .1)
+
+  -- for an accepted action the first rule that proposed it
+  pub accepted-shown : why .outcome ≡ Outcome.Accepted → FirstLine (Proposes E (action n)) P maker site (why .shown)
+  accepted-shown o =
+      let k : hasAction (Yield.accepted P E) (action n) ≡ true = asked-told maker site line n q why h .accepted .0 o in
+      let d = proposals-derived (P .rules) (allEvents (E .events)) (E .readings) (action n) (q .number) .0 (accepted-within P E (action n) k) in
+      let m : List·Memᴰ (rule (d .rule)) (linesOfBoth maker site) = rule-line (linesOfBoth maker site) (d .rule) (rw (lines .rules) (d .listed)) in
+      let t : proposedBy E (action n) (rule (d .rule)) ≡ true =
+      proposed-means E (action n) (q .number) (rule (d .rule)) .1 (record { rule = d .rule; listed = List·Memᴰ·head refl; causes = d .causes; event = d .event; condition = d .condition }) in
+      subst⁻¹ (FirstLine (Proposes E (action n)) P maker site) (shown-is (firstShown (proposedBy E (action n)) maker site) (accepted-part maker site (Yield.accepted P E) (Yield.cancelled P E) E (action n) k))
+      (first-line (proposedBy E (action n)) (Proposes E (action n)) (proposed-means E (action n) (q .number)) maker site P lines (rule (d .rule)) m t)
+
+  -- for a cancelled one the first constraint that held on the lower-numbered accepted actions together with it
+  pub cancelled-shown : why .outcome ≡ Outcome.Cancelled → FirstLine (Cancels E (Yield.accepted P E) (action n)) P maker site (why .shown)
+  cancelled-shown o =
+      let k : hasAction (Yield.cancelled P E) (action n) ≡ true = asked-told maker site line n q why h .cancelled .0 o in
+      let v = cancelled-trial P E (action n) k in
+      let m : List·Memᴰ (constraint (v .constraint)) (linesOfBoth maker site) = constraint-line (linesOfBoth maker site) (v .constraint) (rw (lines .constraints) (v .listed)) in
+      subst⁻¹ (FirstLine (Cancels E (Yield.accepted P E) (action n)) P maker site)
+      (shown-is (firstShown (cancelledBy (E .readings) (Yield.accepted P E) (action n)) maker site)
+      (cancelled-part maker site (Yield.accepted P E) (Yield.cancelled P E) E (action n) (cancelled-apart P E (action n) k) k))
+      (first-line (cancelledBy (E .readings) (Yield.accepted P E) (action n)) (Cancels E (Yield.accepted P E) (action n)) (cancelled-means E (Yield.accepted P E) (action n)) maker site P lines
+      (constraint (v .constraint)) m (cancelled-means E (Yield.accepted P E) (action n) (constraint (v .constraint)) .1 (v .holds)))
+
+  -- for one not proposed nothing
+  pub nothing-shown : why .outcome ≡ Outcome.NotProposed → (why .shown ≡ nothing) × (partShown maker site (explained maker site line n) ≡ [])
+  unfolding partIn
+  nothing-shown o =
+      let k = asked-told maker site line n q why h .neither .0 o in
+      let e : why .shown ≡ nothing = shown-is nothing (no-part maker site (Yield.accepted P E) (Yield.cancelled P E) E (action n) (k .0) (k .1)) in
+      (e, ap (partShown maker site) h ∙ ap (shownPart maker site) e)
+
+  -- what is shown stands in the text that it is from, with no space at either end and no line end
+  pub part-straight : ¬ (why .outcome ≡ Outcome.NotProposed)
+      → Straight (textOfSource maker site (why .shown .source)) (why .shown) (partShown maker site (explained maker site line n))
+  part-straight proposed = rw h (go (why .outcome) refl)
+    where
+      go : (o : Outcome) → why .outcome ≡ o → Straight (textOfSource maker site (why .shown .source)) (why .shown) (shownPart maker site (why .shown))
+      go Outcome.Accepted e = accepted-shown e .straight
+      go Outcome.Cancelled e = cancelled-shown e .straight
+      go Outcome.NotProposed e = absurd (proposed e)

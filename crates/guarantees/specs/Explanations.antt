@@ -102,7 +102,7 @@ pub record Unspaced (part : List ℕ) : Type 0 where
 pub record Trimmed (line part : List ℕ) : Type 0 where
   pub ahead : List ℕ
   pub behind : List ℕ
-  pub whole : line ≡ ahead ++ part ++ behind
+  pub whole : line ≡ ahead ++ (part ++ behind)
   pub spaces-ahead : Spaces ahead
   pub spaces-behind : Spaces behind
   pub unspaced : Unspaced part
@@ -111,7 +111,7 @@ pub record Trimmed (line part : List ℕ) : Type 0 where
 pub record Straight (text : List ℕ) (shown : Shown) (part : List ℕ) : Type 0 where
   pub before : List ℕ
   pub behind : List ℕ
-  pub whole : text ≡ before ++ part ++ behind
+  pub whole : text ≡ before ++ (part ++ behind)
   pub start : length before ≡ shown .start
   pub long : length part ≡ shown .length
   pub some : ¬ (part ≡ [])
