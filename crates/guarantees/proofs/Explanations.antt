@@ -1,13 +1,14 @@
 -- Document 02, L6: when an action is explained, what is told of it, and which part of which text is shown.
-use Prim.Native.Nat.{ℕ, _<_, _≤_}
+use Prim.Native.Nat.{ℕ, _<_}
 use mathlib.Core.Bool.{Bool, true, false, cond, _&&_}
-use mathlib.Core.List.{List, [], _∷_, List·Memᴰ, List·Memᴰ·head, List·Memᴰ·eq-of-singleton}
+use mathlib.Core.List.{List, [], _∷_, _++_, List·Memᴰ, List·Memᴰ·head, List·Memᴰ·eq-of-singleton}
 use mathlib.Core.Logic.{_↔_}
 use mathlib.Core.Option.{some}
 use mathlib.Core.Path.{_≡_, refl, sym, ap, _∙_, subst, subst⁻¹}
 use native.Mathlib.Omega.{arith}
 use borrow.Author.Tests.{lt-ltb, le-ltb, ltb-true, ltb-false, eqb-true, eq-eqb}
 use lib.Dec.{ltb, eqb}
+use lib.ListN.{length, length-append}
 use Rattle.policy.proofs.ListLaws.{true-false, and-in, and-out}
 use Rattle.policy.proofs.SetLaws.{has-insert-same}
 use Rattle.policy.specs.Epoch.{Epoch}
@@ -18,6 +19,7 @@ use Rattle.policy.specs.Policy.{Policy, Rule}
 use Rattle.policy.specs.Set.{allEvents, hasAction, insertAction, actionsBelow}
 use Rattle.policy.specs.declared.fault.Fault.{Fault}
 use Rattle.policy.specs.declared.fault.Refusal.{Refusal}
+use Rattle.policy.specs.declared.fault.Source.{Source}
 use Rattle.policy.specs.declared.number.Action.{Action}
 use Rattle.policy.specs.declared.set.ActionSet.{ActionSet}
 use Rattle.policy.specs.declared.set.Events.{Events}
@@ -29,7 +31,9 @@ use Rattle.pdl.specs.Pdl.{Derives}
 use Rattle.pdl.specs.Yield as Yield
 use Rattle.pdl.specs.Yield.{ruleHolds, propose, proposals}
 use Rattle.epoch_line.specs.Epoch.{EpochAnswer, refused, accepted, readEpoch}
-use Rattle.rule_text.specs.Text.{Progress, reading, stopped, readTexts, policyRead, policyOfTexts}
+use Rattle.lexer.specs.Lines.{pieces, linesOf}
+use Rattle.acceptance.proofs.Texts.{restarted, site-empty}
+use Rattle.rule_text.specs.Text.{Progress, reading, stopped, readText, readTexts, policyRead, policyOfTexts}
 use Rattle.codegen.proofs.AcceptedLaws.{newest-known}
 use Rattle.codegen.specs.Compile.{newestForm}
 use Rattle.codegen.specs.Steps.Put.{linesOfBoth}
@@ -41,9 +45,9 @@ use Rattle.explanation.specs.declared.why.Explained.{Explained}
 use Rattle.explanation.specs.declared.why.Outcome.{Outcome}
 use Rattle.explanation.specs.declared.why.Reason.{Reason}
 use Rattle.guarantees.proofs.Decisions.{written-yields}
-use Rattle.guarantees.proofs.Demand3.{image-of-texts}
+use Rattle.guarantees.proofs.Demand3.{image-of-texts, alone-writes}
 use Rattle.guarantees.proofs.FirstLaws.{Both, both, rule-line, constraint-line, first-line}
-use Rattle.guarantees.specs.Claims.{TextsCompileTo}
+use Rattle.guarantees.specs.Claims.{CompilesTo, TextsCompileTo}
 use Rattle.guarantees.specs.Decisions.{yieldOf}
 use Rattle.guarantees.specs.Explanations.{action, Asked, Unexplained, theTexts, theLine, theAction, Told, Proposes, Cancels, textOfSource, Straight, FirstLine}
 
@@ -149,28 +153,32 @@ module _ (maker site : List ℕ) (accepts cancels : ActionSet) (e : Epoch) (a : 
             neither = (λ q. (h, k), λ q. refl);
           }
 
--- what is told is whether the sets that the policy of both texts yields have the action
 module _ (maker site line : List ℕ) (n : ℕ) (q : Asked maker site line n) (why : Reason) (h : explained maker site line n ≡ Explained.Because why) where
   because-is : why ≡ reasonFor maker site (Yield.accepted (q .policy) (q .epoch)) (Yield.cancelled (q .policy) (q .epoch)) (q .epoch) (action n)
   because-is = let k = reason-is maker site line n q in cc
 
+  -- what is told is whether the sets that the policy of both texts yields have the action
   asked-told : Told (yieldOf (q .policy) (q .epoch)) (action n) (why .outcome)
   asked-told =
       rw because-is
       (told maker site (Yield.accepted (q .policy) (q .epoch)) (Yield.cancelled (q .policy) (q .epoch)) (q .epoch) (action n) (cancelled-apart (q .policy) (q .epoch) (action n)))
 
--- that is membership in the accepted and the cancelled set of the decision on the image of both texts
+-- these are the sets of the decision on the image of both texts
+pub asked-decided : (maker site image : List ℕ) → TextsCompileTo maker site image → (line : List ℕ) (n : ℕ) (q : Asked maker site line n)
+    → answerOf (decision image line) ≡ yieldOf (q .policy) (q .epoch)
+asked-decided maker site image c line n q =
+    let t = image-of-texts maker site image c in
+    let k : some (q .policy) ≡ some (t .policy) = sym (q .both) ∙ t .read in
+    let same : t .policy ≡ q .policy = cc in
+    ap (λ (x : List ℕ). answerOf (decision x line)) (t .same) ∙ written-yields newestForm newest-known (t .policy) (t .acceptable) line (q .epoch) (q .read)
+    ∙ ap (λ (p : Policy). yieldOf p (q .epoch)) same
+
+-- so what is told is membership in the accepted and the cancelled set of that decision
 pub outcome-told : (maker site image : List ℕ) → TextsCompileTo maker site image → (line : List ℕ) (n : ℕ) (why : Reason) → explained maker site line n ≡ Explained.Because why
     → Told (answerOf (decision image line)) (action n) (why .outcome)
 outcome-told maker site image c line n why h =
     let q = explained-exactly maker site line n .0 (why, h) in
-    let t = image-of-texts maker site image c in
-    let k : some (q .policy) ≡ some (t .policy) = sym (q .both) ∙ t .read in
-    let same : t .policy ≡ q .policy = cc in
-    let e : answerOf (decision image line) ≡ yieldOf (q .policy) (q .epoch) =
-    ap (λ (x : List ℕ). answerOf (decision x line)) (t .same) ∙ written-yields newestForm newest-known (t .policy) (t .acceptable) line (q .epoch) (q .read)
-    ∙ ap (λ (p : Policy). yieldOf p (q .epoch)) same in
-    rw e (asked-told maker site line n q why h)
+    rw (asked-decided maker site image c line n q) (asked-told maker site line n q why h)
 
 -- ---- what is shown
 
@@ -265,3 +273,50 @@ module _ (maker site line : List ℕ) (n : ℕ) (q : Asked maker site line n) (w
       go Outcome.Accepted e = accepted-shown e .straight
       go Outcome.Cancelled e = cancelled-shown e .straight
       go Outcome.NotProposed e = absurd (proposed e)
+
+  -- and that text is one of the two, with a line
+  pub shown-from : ¬ (why .outcome ≡ Outcome.NotProposed) → ¬ (textOfSource maker site (why .shown .source) ≡ [])
+  unfolding linesOf pieces
+  shown-from proposed e = go (why .outcome) refl
+    where
+      none : (Says : PolicyLine → Type 0) → FirstLine Says P maker site (why .shown) → ⊥
+      none Says f =
+          let z : f .before ++ f .line ∷ f .behind ≡ [] = sym (f .stands) ∙ ap linesOf e in
+          omega (arith, ap length z, length-append (f .before) (f .line ∷ f .behind))
+
+      go : (o : Outcome) → why .outcome ≡ o → ⊥
+      go Outcome.Accepted k = none (Proposes E (action n)) (accepted-shown k)
+      go Outcome.Cancelled k = none (Cancels E (Yield.accepted P E) (action n)) (cancelled-shown k)
+      go Outcome.NotProposed k = proposed k
+
+-- ---- where the site's text is empty
+
+module _ (maker line : List ℕ) (n : ℕ) where
+  -- the answer, refused or not, is by what was read of the maker's text alone
+  pub explained-alone : explained maker [] line n ≡ onTexts maker [] line n (readText maker)
+  unfolding explained onTexts readTexts restarted
+  explained-alone = ap (onTexts maker [] line n) (site-empty (readText maker)) ∙ go (readText maker)
+    where
+      go : (s : Progress) → onTexts maker [] line n (restarted s) ≡ onTexts maker [] line n s
+      go (reading m p) = refl
+      go (stopped r) = refl
+
+  module _ (why : Reason) (h : explained maker [] line n ≡ Explained.Because why) where
+    -- what is told is the decision's on the image of the maker's text
+    pub alone-told : (image : List ℕ) → CompilesTo maker image → Told (answerOf (decision image line)) (action n) (why .outcome)
+    alone-told image c = outcome-told maker [] image (alone-writes maker image .0 c) line n why h
+
+    -- and nothing is shown of the site's
+    pub alone-shown : ¬ (why .shown .source ≡ Source.Site)
+    alone-shown e = go (why .outcome) refl
+      where
+        q : Asked maker [] line n
+        q = explained-exactly maker [] line n .0 (why, h)
+
+        go : (o : Outcome) → why .outcome ≡ o → ⊥
+        go Outcome.NotProposed k =
+            let z : Source.Neither ≡ Source.Site = sym (ap (λ (s : Shown). s .source) (nothing-shown maker [] line n q why h k .0)) ∙ e in
+            let w : _≡_ {A = ℕ} 0 1 = cc in
+            omega arith
+        go Outcome.Accepted k = shown-from maker [] line n q why h (λ z. let w : _≡_ {A = ℕ} 0 1 = cc in omega arith) (ap (textOfSource maker []) e)
+        go Outcome.Cancelled k = shown-from maker [] line n q why h (λ z. let w : _≡_ {A = ℕ} 0 1 = cc in omega arith) (ap (textOfSource maker []) e)

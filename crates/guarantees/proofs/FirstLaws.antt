@@ -17,14 +17,13 @@ use Rattle.policy.specs.declared.fault.Fault.{Fault}
 use Rattle.policy.specs.declared.fault.Refusal.{Refusal}
 use Rattle.policy.specs.declared.fault.Source.{Source}
 use Rattle.image.specs.Held.{rulesIn, constraintsIn}
-use Rattle.lexer.specs.Byte.{isSpace}
-use Rattle.lexer.specs.Lines.{linesOf, takeWhile}
+use Rattle.lexer.specs.Lines.{linesOf}
 use Rattle.syntax.specs.Judge.{LineAnswer, skipped, refused, accepted, lineAnswer}
 use Rattle.rule_text.specs.Answer.{countsOf, textReadOf, textsRead}
 use Rattle.rule_text.specs.Text.{Progress, reading, stopped, withRule, withConstraint, advance, readLine, emptyPolicy, textLimit, readBehind, inText, readText, readSite, readTexts}
 use Rattle.codegen.proofs.AcceptedLaws.{accepted-texts}
 use Rattle.codegen.specs.Steps.Put.{acceptedLine, acceptedLines, linesOfBoth}
-use Rattle.explanation.specs.Part.{trim, shownAt, nothing, orLater, firstFrom, orSite, firstShown, partAt, partIn, shownPart}
+use Rattle.explanation.specs.Part.{trim, shownAt, orLater, firstFrom, orSite, firstShown, partAt, partIn}
 use Rattle.explanation.specs.declared.part.Shown.{Shown}
 use Rattle.guarantees.proofs.ShownLaws.{trimming, not-empty, LineAt, line-at, part-at, part-straight}
 use Rattle.guarantees.specs.Explanations.{Listed, NoneSays, endedLength, textOfSource, Trimmed, FirstLine}

@@ -1,7 +1,7 @@
 -- What is shown of a line: it stands in its text, without line end and trimmed of spaces at both ends.
 use Prim.Native.Nat.{ℕ, suc, _+_, _-_, _≤_}
 use mathlib.Core.Bool.{Bool, true, false, cond}
-use mathlib.Core.List.{List, [], _∷_, _++_, foldl, append-assoc, List·Memᴰ, List·Memᴰ·head, List·Memᴰ·tail, List·Memᴰ·not-nil, List·Memᴰ·cases-cons, List·Memᴰ·append-cases, List·Memᴰ·eq-of-singleton, Memᴰ·append-left, Memᴰ·append-right}
+use mathlib.Core.List.{List, [], _∷_, _++_, append-assoc, List·Memᴰ, List·Memᴰ·head, List·Memᴰ·tail, List·Memᴰ·not-nil, List·Memᴰ·cases-cons, List·Memᴰ·append-cases, List·Memᴰ·eq-of-singleton, Memᴰ·append-left, Memᴰ·append-right}
 use mathlib.Core.Logic.{⊎-elim}
 use mathlib.Core.Path.{_≡_, refl, sym, ap, _∙_}
 use native.Mathlib.Omega.{arith}
@@ -15,10 +15,9 @@ use Rattle.policy.specs.declared.fault.Source.{Source}
 use Rattle.lexer.proofs.RunLaws.{all-run}
 use Rattle.lexer.specs.Byte.{isSpace}
 use Rattle.lexer.specs.Lines.{prepend, pieces, linesOf, nonEmpty, tokensOf, takeWhile}
-use Rattle.syntax.specs.Judge.{LineAnswer, skipped, refused, accepted, tokensAnswer, lineAnswer}
+use Rattle.syntax.specs.Judge.{skipped, accepted, tokensAnswer, lineAnswer}
 use Rattle.explanation.specs.Part.{trimStart, keepByte, trimEnd, trim, partAt}
-use Rattle.explanation.specs.declared.part.Shown.{Shown}
-use Rattle.guarantees.specs.Explanations.{endedLength, Spaces, Unspaced, Trimmed, Straight}
+use Rattle.guarantees.specs.Explanations.{endedLength, Spaces, Trimmed, Straight}
 
 -- ---- what passes at the start
 
