@@ -26,7 +26,6 @@ use Rattle.policy.specs.declared.set.Events.{Events}
 use Rattle.pdl.proofs.Monitor.{accepted-within, cancelled-apart, cancelled-trial}
 use Rattle.pdl.proofs.Proposals.{rule-holds, proposals-derived}
 use Rattle.pdl.proofs.Resolution.{holds-in, holds-out}
-use Rattle.pdl.specs.Answer.{issues}
 use Rattle.pdl.specs.Pdl.{Derives}
 use Rattle.pdl.specs.Yield as Yield
 use Rattle.pdl.specs.Yield.{ruleHolds, propose, proposals}
@@ -50,6 +49,55 @@ use Rattle.guarantees.proofs.FirstLaws.{Both, both, rule-line, constrai
 use Rattle.guarantees.specs.Claims.{CompilesTo, TextsCompileTo}
 use Rattle.guarantees.specs.Decisions.{yieldOf}
 use Rattle.guarantees.specs.Explanations.{action, Asked, Unexplained, theTexts, theLine, theAction, Told, Proposes, Cancels, textOfSource, Straight, FirstLine}
+
+-- ---- the reason that is given
+
+module _ (maker site : List ℕ) (p : Policy) (e : Epoch) (a : Action) where
+  abbrev accepts : ActionSet
+  accepts = Yield.accepted p e
+
+  abbrev cancels : ActionSet
+  cancels = Yield.cancelled p e
+
+  abbrev reason : Reason
+  reason = reasonFor maker site accepts cancels e a
+
+  told : Told (yieldOf p e) a (reason .outcome)
+  unfolding reasonFor
+  told = go (hasAction accepts a) (hasAction cancels a) refl refl
+    where
+      go : (x y : Bool) → hasAction accepts a ≡ x → hasAction cancels a ≡ y
+          → Told (yieldOf p e) a (cond x (because Outcome.Accepted (firstShown (proposedBy e a) maker site)) (cond y (because Outcome.Cancelled (firstShown (cancelledBy (e .readings) accepts a) maker site)) (because Outcome.NotProposed nothing)) .outcome)
+      go true y h k =
+          record {
+            accepted = (λ q. h, λ q. refl);
+            cancelled = (λ q. let w : _≡_ {A = ℕ} 0 1 = cc in absurd (omega arith), λ q. absurd (true-false h (cancelled-apart p e a q)));
+            neither = (λ q. let w : _≡_ {A = ℕ} 0 1 = cc in absurd (omega arith), λ q. absurd (true-false h (q .0)));
+          }
+      go false true h k =
+          record {
+            accepted = (λ q. let w : _≡_ {A = ℕ} 0 1 = cc in absurd (omega arith), λ q. absurd (true-false q h));
+            cancelled = (λ q. k, λ q. refl);
+            neither = (λ q. let w : _≡_ {A = ℕ} 0 1 = cc in absurd (omega arith), λ q. absurd (true-false k (q .1)));
+          }
+      go false false h k =
+          record {
+            accepted = (λ q. let w : _≡_ {A = ℕ} 0 1 = cc in absurd (omega arith), λ q. absurd (true-false q h));
+            cancelled = (λ q. let w : _≡_ {A = ℕ} 0 1 = cc in absurd (omega arith), λ q. absurd (true-false q k));
+            neither = (λ q. (h, k), λ q. refl);
+          }
+
+  accepted-part : hasAction accepts a ≡ true → reason .shown ≡ firstShown (proposedBy e a) maker site
+  unfolding reasonFor
+  accepted-part h = rw h
+
+  cancelled-part : hasAction cancels a ≡ true → reason .shown ≡ firstShown (cancelledBy (e .readings) accepts a) maker site
+  unfolding reasonFor
+  cancelled-part h = rw (cancelled-apart p e a h, h)
+
+  no-part : (hasAction accepts a ≡ false) × (hasAction cancels a ≡ false) → reason .shown ≡ nothing
+  unfolding reasonFor
+  no-part h = rw (h .0, h .1)
 
 -- ---- when there is an explanation
 
@@ -76,14 +124,9 @@ module _ (maker site line : List ℕ) (n : ℕ) where
   unfolding onEpoch
   on-line p q e r = on-texts p q ∙ ap (onEpoch maker site p n) r
 
-  reason-is : (q : Asked maker site line n)
-      → explained maker site line n ≡ Explained.Because (reasonFor maker site (Yield.accepted (q .policy) (q .epoch)) (Yield.cancelled (q .policy) (q .epoch)) (q .epoch) (action n))
+  reason-is : (q : Asked maker site line n) → explained maker site line n ≡ Explained.Because (reason maker site (q .policy) (q .epoch) (action n))
   unfolding onAction
   reason-is q = on-line (q .policy) (q .both) (q .epoch) (q .read) ∙ rw (lt-ltb n 64 (q .number))
-
-  data Explaining : Type 0 where
-    refuses : (r : Refusal) → Unexplained maker site line n r → explained maker site line n ≡ Explained.Refused r → Explaining
-    explains : Asked maker site line n → Explaining
 
   unexplained : (r : Refusal) → Unexplained maker site line n r → explained maker site line n ≡ Explained.Refused r
   unfolding explained onTexts onEpoch onAction
@@ -91,22 +134,23 @@ module _ (maker site line : List ℕ) (n : ℕ) where
   unexplained r (theLine p q f k w) = on-texts p q ∙ ap (onEpoch maker site p n) k ∙ ap Explained.Refused (sym w)
   unexplained r (theAction p q e k over w) = on-line p q e k ∙ rw (le-ltb n 64 over, w)
 
+  data Explaining : Type 0 where
+    refuses : (r : Refusal) → Unexplained maker site line n r → Explaining
+    explains : Asked maker site line n → Explaining
+
   explaining : Explaining
   explaining = texts (readTexts maker site) refl
     where
-      refusing : (r : Refusal) → Unexplained maker site line n r → Explaining
-      refusing r u = refuses r u (unexplained r u)
-
       number : (p : Policy) → policyOfTexts maker site ≡ some p → (e : Epoch) → readEpoch line ≡ accepted e → (b : Bool) → ltb n 64 ≡ b → Explaining
       number p q e k true l = explains (record { policy = p; both = q; epoch = e; read = k; number = ltb-true n 64 l })
-      number p q e k false l = refusing (refusal Fault.EpochRange 0) (theAction p q e k (ltb-false n 64 l) refl)
+      number p q e k false l = refuses (refusal Fault.EpochRange 0) (theAction p q e k (ltb-false n 64 l) refl)
 
       epoch : (p : Policy) → policyOfTexts maker site ≡ some p → (a : EpochAnswer) → readEpoch line ≡ a → Explaining
-      epoch p q (refused f) k = refusing (refusal f 0) (theLine p q f k refl)
+      epoch p q (refused f) k = refuses (refusal f 0) (theLine p q f k refl)
       epoch p q (accepted e) k = number p q e k (ltb n 64) refl
 
       texts : (s : Progress) → readTexts maker site ≡ s → Explaining
-      texts (stopped r) k = refusing r (theTexts k)
+      texts (stopped r) k = refuses r (theTexts k)
       texts (reading m p) k = epoch p (texts-policy maker site m p k) (readEpoch line) refl
 
   -- an explanation is refused exactly for these, in this order
@@ -114,73 +158,18 @@ module _ (maker site line : List ℕ) (n : ℕ) where
   explained-refused r = (go explaining, unexplained r)
     where
       go : Explaining → explained maker site line n ≡ Explained.Refused r → Unexplained maker site line n r
-      go (refuses x u h) e = let w : x ≡ r = cc in subst (Unexplained maker site line n) w u
+      go (refuses x u) e = let w : x ≡ r = cc (unexplained x u) in subst (Unexplained maker site line n) w u
       go (explains q) e = let w : _≡_ {A = ℕ} 0 1 = cc (reason-is q) in absurd (omega arith)
 
   -- and there is one exactly where the texts, the line and the number pass
   pub explained-exactly : ((why : Reason) × (explained maker site line n ≡ Explained.Because why)) ↔ Asked maker site line n
-  explained-exactly = (go explaining, λ q. (_, reason-is q))
+  explained-exactly = (λ e. go explaining (e .0) (e .1), λ q. (_, reason-is q))
     where
-      go : Explaining → (why : Reason) × (explained maker site line n ≡ Explained.Because why) → Asked maker site line n
-      go (refuses x u h) e = let k = e .1 in let w : _≡_ {A = ℕ} 0 1 = cc in absurd (omega arith)
-      go (explains q) e = q
+      go : Explaining → (why : Reason) → explained maker site line n ≡ Explained.Because why → Asked maker site line n
+      go (refuses x u) why e = let w : _≡_ {A = ℕ} 0 1 = cc (unexplained x u) in absurd (omega arith)
+      go (explains q) why e = q
 
--- ---- what became of an action
-
-module _ (maker site : List ℕ) (accepts cancels : ActionSet) (e : Epoch) (a : Action) (apart : hasAction cancels a ≡ true → hasAction accepts a ≡ false) where
-  told : Told (issues accepts cancels) a (reasonFor maker site accepts cancels e a .outcome)
-  unfolding reasonFor
-  told = go (hasAction accepts a) (hasAction cancels a) refl refl
-    where
-      go : (x y : Bool) → hasAction accepts a ≡ x → hasAction cancels a ≡ y
-          → Told (issues accepts cancels) a (cond x (because Outcome.Accepted (firstShown (proposedBy e a) maker site)) (cond y (because Outcome.Cancelled (firstShown (cancelledBy (e .readings) accepts a) maker site)) (because Outcome.NotProposed nothing)) .outcome)
-      go true y h k =
-          record {
-            accepted = (λ q. h, λ q. refl);
-            cancelled = (λ q. let w : _≡_ {A = ℕ} 0 1 = cc in absurd (omega arith), λ q. absurd (true-false h (apart q)));
-            neither = (λ q. let w : _≡_ {A = ℕ} 0 1 = cc in absurd (omega arith), λ q. absurd (true-false h (q .0)));
-          }
-      go false true h k =
-          record {
-            accepted = (λ q. let w : _≡_ {A = ℕ} 0 1 = cc in absurd (omega arith), λ q. absurd (true-false q h));
-            cancelled = (λ q. k, λ q. refl);
-            neither = (λ q. let w : _≡_ {A = ℕ} 0 1 = cc in absurd (omega arith), λ q. absurd (true-false k (q .1)));
-          }
-      go false false h k =
-          record {
-            accepted = (λ q. let w : _≡_ {A = ℕ} 0 1 = cc in absurd (omega arith), λ q. absurd (true-false q h));
-            cancelled = (λ q. let w : _≡_ {A = ℕ} 0 1 = cc in absurd (omega arith), λ q. absurd (true-false q k));
-            neither = (λ q. (h, k), λ q. refl);
-          }
-
-module _ (maker site line : List ℕ) (n : ℕ) (q : Asked maker site line n) (why : Reason) (h : explained maker site line n ≡ Explained.Because why) where
-  because-is : why ≡ reasonFor maker site (Yield.accepted (q .policy) (q .epoch)) (Yield.cancelled (q .policy) (q .epoch)) (q .epoch) (action n)
-  because-is = let k = reason-is maker site line n q in cc
-
-  -- what is told is whether the sets that the policy of both texts yields have the action
-  asked-told : Told (yieldOf (q .policy) (q .epoch)) (action n) (why .outcome)
-  asked-told =
-      rw because-is
-      (told maker site (Yield.accepted (q .policy) (q .epoch)) (Yield.cancelled (q .policy) (q .epoch)) (q .epoch) (action n) (cancelled-apart (q .policy) (q .epoch) (action n)))
-
--- these are the sets of the decision on the image of both texts
-pub asked-decided : (maker site image : List ℕ) → TextsCompileTo maker site image → (line : List ℕ) (n : ℕ) (q : Asked maker site line n)
-    → answerOf (decision image line) ≡ yieldOf (q .policy) (q .epoch)
-asked-decided maker site image c line n q =
-    let t = image-of-texts maker site image c in
-    let k : some (q .policy) ≡ some (t .policy) = sym (q .both) ∙ t .read in
-    let same : t .policy ≡ q .policy = cc in
-    ap (λ (x : List ℕ). answerOf (decision x line)) (t .same) ∙ written-yields newestForm newest-known (t .policy) (t .acceptable) line (q .epoch) (q .read)
-    ∙ ap (λ (p : Policy). yieldOf p (q .epoch)) same
-
--- so what is told is membership in the accepted and the cancelled set of that decision
-pub outcome-told : (maker site image : List ℕ) → TextsCompileTo maker site image → (line : List ℕ) (n : ℕ) (why : Reason) → explained maker site line n ≡ Explained.Because why
-    → Told (answerOf (decision image line)) (action n) (why .outcome)
-outcome-told maker site image c line n why h =
-    let q = explained-exactly maker site line n .0 (why, h) in
-    rw (asked-decided maker site image c line n q) (asked-told maker site line n q why h)
-
--- ---- what is shown
+-- ---- which lines say so
 
 -- a line passes a test of the definitions exactly where it says so in the paper's words
 proposed-means : (e : Epoch) (a : Action) → a .0 < 64 → (l : PolicyLine) → (proposedBy e a l ≡ true) ↔ Proposes e a l
@@ -207,87 +196,100 @@ unfolding cancelledBy
 cancelled-means e accepts a (rule r) = (λ h. true-false h refl, λ h. absurd h)
 cancelled-means e accepts a (constraint c) = (holds-out (e .readings) (insertAction (actionsBelow accepts a) a) c, holds-in (e .readings) (insertAction (actionsBelow accepts a) a) c)
 
-module _ (maker site : List ℕ) (accepts cancels : ActionSet) (e : Epoch) (a : Action) where
-  accepted-part : hasAction accepts a ≡ true → reasonFor maker site accepts cancels e a .shown ≡ firstShown (proposedBy e a) maker site
-  unfolding reasonFor
-  accepted-part h = rw h
+-- ---- what is told, and what is shown
 
-  cancelled-part : hasAction accepts a ≡ false → hasAction cancels a ≡ true → reasonFor maker site accepts cancels e a .shown ≡ firstShown (cancelledBy (e .readings) accepts a) maker site
-  unfolding reasonFor
-  cancelled-part h k = rw (h, k)
-
-  no-part : hasAction accepts a ≡ false → hasAction cancels a ≡ false → reasonFor maker site accepts cancels e a .shown ≡ nothing
-  unfolding reasonFor
-  no-part h k = rw (h, k)
-
-module _ (maker site line : List ℕ) (n : ℕ) (q : Asked maker site line n) (why : Reason) (h : explained maker site line n ≡ Explained.Because why) where
+module _ (maker site line : List ℕ) (n : ℕ) (q : Asked maker site line n) where
   abbrev P : Policy
   P = q .policy
 
   abbrev E : Epoch
   E = q .epoch
 
-  shown-is : (shown : Shown) → reasonFor maker site (Yield.accepted P E) (Yield.cancelled P E) E (action n) .shown ≡ shown → why .shown ≡ shown
-  shown-is shown e = ap (λ (x : Reason). x .shown) (because-is maker site line n q why h) ∙ e
+  abbrev A : Action
+  A = action n
+
+  -- the sets that the policy of both texts yields are those of the decision on the image of both
+  pub asked-decided : (image : List ℕ) → TextsCompileTo maker site image → answerOf (decision image line) ≡ yieldOf (q .policy) (q .epoch)
+  asked-decided image c =
+      let t = image-of-texts maker site image c in
+      let k : some (q .policy) ≡ some (t .policy) = sym (q .both) ∙ t .read in
+      let same : t .policy ≡ q .policy = cc in
+      ap (λ (x : List ℕ). answerOf (decision x line)) (t .same) ∙ written-yields newestForm newest-known (t .policy) (t .acceptable) line (q .epoch) (q .read)
+      ∙ ap (λ (p : Policy). yieldOf p (q .epoch)) same
 
   lines : Both maker site P
   lines = let t = texts-known maker site P (q .both) in both maker site (t .0) P (t .1)
 
-  -- for an accepted action the first rule that proposed it
-  pub accepted-shown : why .outcome ≡ Outcome.Accepted → FirstLine (Proposes E (action n)) P maker site (why .shown)
-  accepted-shown o =
-      let k : hasAction (Yield.accepted P E) (action n) ≡ true = asked-told maker site line n q why h .accepted .0 o in
-      let d = proposals-derived (P .rules) (allEvents (E .events)) (E .readings) (action n) (q .number) .0 (accepted-within P E (action n) k) in
-      let m : List·Memᴰ (rule (d .rule)) (linesOfBoth maker site) = rule-line (linesOfBoth maker site) (d .rule) (rw (lines .rules) (d .listed)) in
-      let t : proposedBy E (action n) (rule (d .rule)) ≡ true =
-      proposed-means E (action n) (q .number) (rule (d .rule)) .1 (record { rule = d .rule; listed = List·Memᴰ·head refl; causes = d .causes; event = d .event; condition = d .condition }) in
-      subst⁻¹ (FirstLine (Proposes E (action n)) P maker site) (shown-is (firstShown (proposedBy E (action n)) maker site) (accepted-part maker site (Yield.accepted P E) (Yield.cancelled P E) E (action n) k))
-      (first-line (proposedBy E (action n)) (Proposes E (action n)) (proposed-means E (action n) (q .number)) maker site P lines (rule (d .rule)) m t)
+  module _ (why : Reason) (h : explained maker site line n ≡ Explained.Because why) where
+    because-is : why ≡ reason maker site P E A
+    because-is = let k = reason-is maker site line n q in cc
 
-  -- for a cancelled one the first constraint that held on the lower-numbered accepted actions together with it
-  pub cancelled-shown : why .outcome ≡ Outcome.Cancelled → FirstLine (Cancels E (Yield.accepted P E) (action n)) P maker site (why .shown)
-  cancelled-shown o =
-      let k : hasAction (Yield.cancelled P E) (action n) ≡ true = asked-told maker site line n q why h .cancelled .0 o in
-      let v = cancelled-trial P E (action n) k in
-      let m : List·Memᴰ (constraint (v .constraint)) (linesOfBoth maker site) = constraint-line (linesOfBoth maker site) (v .constraint) (rw (lines .constraints) (v .listed)) in
-      subst⁻¹ (FirstLine (Cancels E (Yield.accepted P E) (action n)) P maker site)
-      (shown-is (firstShown (cancelledBy (E .readings) (Yield.accepted P E) (action n)) maker site)
-      (cancelled-part maker site (Yield.accepted P E) (Yield.cancelled P E) E (action n) (cancelled-apart P E (action n) k) k))
-      (first-line (cancelledBy (E .readings) (Yield.accepted P E) (action n)) (Cancels E (Yield.accepted P E) (action n)) (cancelled-means E (Yield.accepted P E) (action n)) maker site P lines
-      (constraint (v .constraint)) m (cancelled-means E (Yield.accepted P E) (action n) (constraint (v .constraint)) .1 (v .holds)))
+    shown-is : (shown : Shown) → reason maker site P E A .shown ≡ shown → why .shown ≡ shown
+    shown-is shown e = ap (λ (x : Reason). x .shown) because-is ∙ e
 
-  -- for one not proposed nothing
-  pub nothing-shown : why .outcome ≡ Outcome.NotProposed → (why .shown ≡ nothing) × (partShown maker site (explained maker site line n) ≡ [])
-  unfolding partIn
-  nothing-shown o =
-      let k = asked-told maker site line n q why h .neither .0 o in
-      let e : why .shown ≡ nothing = shown-is nothing (no-part maker site (Yield.accepted P E) (Yield.cancelled P E) E (action n) (k .0) (k .1)) in
-      (e, ap (partShown maker site) h ∙ ap (shownPart maker site) e)
+    asked-told : Told (yieldOf P E) A (why .outcome)
+    asked-told = rw because-is (told maker site P E A)
 
-  -- what is shown stands in the text that it is from, with no space at either end and no line end
-  pub part-straight : ¬ (why .outcome ≡ Outcome.NotProposed)
-      → Straight (textOfSource maker site (why .shown .source)) (why .shown) (partShown maker site (explained maker site line n))
-  part-straight proposed = rw h (go (why .outcome) refl)
-    where
-      go : (o : Outcome) → why .outcome ≡ o → Straight (textOfSource maker site (why .shown .source)) (why .shown) (shownPart maker site (why .shown))
-      go Outcome.Accepted e = accepted-shown e .straight
-      go Outcome.Cancelled e = cancelled-shown e .straight
-      go Outcome.NotProposed e = absurd (proposed e)
+    -- for an accepted action the first rule that proposed it
+    pub accepted-shown : why .outcome ≡ Outcome.Accepted → FirstLine (Proposes (q .epoch) (action n)) (q .policy) maker site (why .shown)
+    accepted-shown o =
+        let k : hasAction (Yield.accepted P E) A ≡ true = asked-told .accepted .0 o in
+        let d = proposals-derived (P .rules) (allEvents (E .events)) (E .readings) A (q .number) .0 (accepted-within P E A k) in
+        let m : List·Memᴰ (rule (d .rule)) (linesOfBoth maker site) = rule-line (linesOfBoth maker site) (d .rule) (rw (lines .rules) (d .listed)) in
+        let alone : Derives (d .rule ∷ []) (allEvents (E .events)) (E .readings) A = record { rule = d .rule; listed = List·Memᴰ·head refl; causes = d .causes; event = d .event; condition = d .condition } in
+        let means = proposed-means E A (q .number) in
+        subst⁻¹ (FirstLine (Proposes E A) P maker site) (shown-is (firstShown (proposedBy E A) maker site) (accepted-part maker site P E A k))
+        (first-line (proposedBy E A) (Proposes E A) means maker site P lines (rule (d .rule)) m (means (rule (d .rule)) .1 alone))
 
-  -- and that text is one of the two, with a line
-  pub shown-from : ¬ (why .outcome ≡ Outcome.NotProposed) → ¬ (textOfSource maker site (why .shown .source) ≡ [])
-  unfolding linesOf pieces
-  shown-from proposed e = go (why .outcome) refl
-    where
-      none : (Says : PolicyLine → Type 0) → FirstLine Says P maker site (why .shown) → ⊥
-      none Says f =
-          let z : f .before ++ f .line ∷ f .behind ≡ [] = sym (f .stands) ∙ ap linesOf e in
-          omega (arith, ap length z, length-append (f .before) (f .line ∷ f .behind))
+    -- for a cancelled one the first constraint that held on the lower-numbered accepted actions together with it
+    pub cancelled-shown : why .outcome ≡ Outcome.Cancelled → FirstLine (Cancels (q .epoch) (Yield.accepted (q .policy) (q .epoch)) (action n)) (q .policy) maker site (why .shown)
+    cancelled-shown o =
+        let k : hasAction (Yield.cancelled P E) A ≡ true = asked-told .cancelled .0 o in
+        let v = cancelled-trial P E A k in
+        let m : List·Memᴰ (constraint (v .constraint)) (linesOfBoth maker site) = constraint-line (linesOfBoth maker site) (v .constraint) (rw (lines .constraints) (v .listed)) in
+        let test : PolicyLine → Bool = cancelledBy (E .readings) (Yield.accepted P E) A in
+        let means = cancelled-means E (Yield.accepted P E) A in
+        subst⁻¹ (FirstLine (Cancels E (Yield.accepted P E) A) P maker site) (shown-is (firstShown test maker site) (cancelled-part maker site P E A k))
+        (first-line test (Cancels E (Yield.accepted P E) A) means maker site P lines (constraint (v .constraint)) m (means (constraint (v .constraint)) .1 (v .holds)))
 
-      go : (o : Outcome) → why .outcome ≡ o → ⊥
-      go Outcome.Accepted k = none (Proposes E (action n)) (accepted-shown k)
-      go Outcome.Cancelled k = none (Cancels E (Yield.accepted P E) (action n)) (cancelled-shown k)
-      go Outcome.NotProposed k = proposed k
+    -- for one not proposed nothing
+    pub nothing-shown : why .outcome ≡ Outcome.NotProposed → (why .shown ≡ nothing) × (partShown maker site (explained maker site line n) ≡ [])
+    unfolding partIn
+    nothing-shown o =
+        let e : why .shown ≡ nothing = shown-is nothing (no-part maker site P E A (asked-told .neither .0 o)) in
+        (e, ap (partShown maker site) h ∙ ap (shownPart maker site) e)
+
+    -- what is shown stands in the text that it is from, with no space at either end and no line end
+    pub shown-straight : ¬ (why .outcome ≡ Outcome.NotProposed)
+        → Straight (textOfSource maker site (why .shown .source)) (why .shown) (partShown maker site (explained maker site line n))
+    shown-straight proposed = rw h (go (why .outcome) refl)
+      where
+        go : (o : Outcome) → why .outcome ≡ o → Straight (textOfSource maker site (why .shown .source)) (why .shown) (shownPart maker site (why .shown))
+        go Outcome.Accepted e = accepted-shown e .straight
+        go Outcome.Cancelled e = cancelled-shown e .straight
+        go Outcome.NotProposed e = absurd (proposed e)
+
+    -- and that text is one of the two, with a line
+    pub shown-from : ¬ (why .outcome ≡ Outcome.NotProposed) → ¬ (textOfSource maker site (why .shown .source) ≡ [])
+    unfolding linesOf pieces
+    shown-from proposed e = go (why .outcome) refl
+      where
+        none : (Says : PolicyLine → Type 0) → FirstLine Says P maker site (why .shown) → ⊥
+        none Says f =
+            let z : f .before ++ f .line ∷ f .behind ≡ [] = sym (f .stands) ∙ ap linesOf e in
+            omega (arith, ap length z, length-append (f .before) (f .line ∷ f .behind))
+
+        go : (o : Outcome) → why .outcome ≡ o → ⊥
+        go Outcome.Accepted k = none (Proposes E A) (accepted-shown k)
+        go Outcome.Cancelled k = none (Cancels E (Yield.accepted P E) A) (cancelled-shown k)
+        go Outcome.NotProposed k = proposed k
+
+-- what is told is membership in the accepted and the cancelled set of the decision on the image of both texts
+pub outcome-told : (maker site line : List ℕ) (n : ℕ) (why : Reason) → explained maker site line n ≡ Explained.Because why
+    → (image : List ℕ) → TextsCompileTo maker site image → Told (answerOf (decision image line)) (action n) (why .outcome)
+outcome-told maker site line n why h image c =
+    let q = explained-exactly maker site line n .0 (why, h) in
+    rw (asked-decided maker site line n q image c) (asked-told maker site line n q why h)
 
 -- ---- where the site's text is empty
 
@@ -304,7 +306,7 @@ module _ (maker line : List ℕ) (n : ℕ) where
   module _ (why : Reason) (h : explained maker [] line n ≡ Explained.Because why) where
     -- what is told is the decision's on the image of the maker's text
     pub alone-told : (image : List ℕ) → CompilesTo maker image → Told (answerOf (decision image line)) (action n) (why .outcome)
-    alone-told image c = outcome-told maker [] image (alone-writes maker image .0 c) line n why h
+    alone-told image c = outcome-told maker [] line n why h image (alone-writes maker image .0 c)
 
     -- and nothing is shown of the site's
     pub alone-shown : ¬ (why .shown .source ≡ Source.Site)
