@@ -2,3 +2,4 @@ pub mod TrimLaws
 pub mod TellLaws
 pub mod FindLaws
 pub mod WhyLaws
+pub mod Examples

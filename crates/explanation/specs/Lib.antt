@@ -2,4 +2,5 @@
 -- answered. `Examples` are rows of document 02's L6. `Steps` need not be read.
 pub mod Part
 pub mod Why
+pub mod Examples
 pub mod Steps

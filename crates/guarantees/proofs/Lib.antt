@@ -6,5 +6,8 @@ pub mod Output
 pub mod Patterns
 pub mod Pipe
 pub mod RoundTrip
+pub mod ShownLaws
+pub mod FirstLaws
+pub mod Explanations
 pub mod Examples
 pub mod Together
