@@ -37,7 +37,7 @@ pub(crate) fn is_space(b: u8) -> bool
     }
 }
 
-pub(crate) fn is_digit(b: u8) -> bool
+pub fn is_digit(b: u8) -> bool
     ensures { λ r. ⌜ r ≡ isDigit b ⌝ }
 {
     let class = class_of(b);

@@ -8,6 +8,7 @@ mod table;
 pub use class::Class;
 pub use class::class_of;
 pub use class::hex_value;
+pub use class::is_digit;
 pub use hex::hex_digits;
 pub use scan::Digits;
 pub use scan::KeywordAt;

@@ -79,3 +79,15 @@ acceptLine n accepted cancelled words =
 -- the epoch of that number, refused: "A refused decision reports 0."
 unfoldable pub refusedLine : ℕ → Fault → List ℕ
 refusedLine n fault = decimal n ++ bytes " refused " ++ decimal (faultNumber fault) ++ wordsField 0
+
+-- ---- document 02, L6: the answers to questions, each with its number
+
+unfoldable pub notProposedLine : ℕ → List ℕ
+notProposedLine n = decimal n ++ bytes " not proposed" ++ newline
+
+-- what became of the action, the text that the part stands in, and the part
+unfoldable pub shownLine : ℕ → List ℕ → Source → List ℕ → List ℕ
+shownLine n became source part = decimal n ++ became ++ decimal (sourceNumber source) ++ bytes " " ++ part ++ newline
+
+unfoldable pub notExplainedLine : ℕ → Fault → List ℕ
+notExplainedLine n fault = decimal n ++ bytes " refused " ++ decimal (faultNumber fault) ++ newline

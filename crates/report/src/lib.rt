@@ -2,6 +2,7 @@
 // answers the position behind them. Start with specs/Report.antt.
 mod action;
 mod line;
+mod question;
 
 pub use action::put_actions;
 pub use line::put_accept;
@@ -11,3 +12,6 @@ pub use line::put_refusal;
 pub use line::put_refused;
 pub use line::put_texts_refusal;
 pub use line::put_word_line;
+pub use question::put_not_explained;
+pub use question::put_not_proposed;
+pub use question::put_shown;

@@ -1,4 +1,4 @@
-// Standard input and standard output of a program. A read or a write that a signal interrupts is tried again. Any other failure
+// Input and output of a program. A read or a write that a signal interrupts is tried again. Any other failure
 // is told apart from the end of the input, and errno then says what it was.
 ghost use Prim.Native.Nat.{_<_};
 ghost use mathlib.Core.Bool.{true, false};
@@ -22,14 +22,15 @@ fn was_interrupted(answer: isize) -> bool {
     false
 }
 
-// One read. The bytes that came are at the start of the buffer; there are none at the end of the input.
-pub fn read(buffer: &mut [u8]) -> Input
+// One read of what the descriptor is open on. The bytes that came are at the start of the buffer; there are none at the end of the
+// input.
+pub fn read_from(fd: i32, buffer: &mut [u8]) -> Input
     ensures { λ r. ⌜ Counts (r .size) (now (buffer .exit)) ⌝ }
     ensures { λ r. ⌜ (r .failed ≡ true → r .size ≡ 0) ⌝ }
 {
     let mut turns = u64::MAX;
     while 0 < turns {
-        let got = libc::read(STDIN_FILENO, buffer);
+        let got = libc::read(fd, buffer);
         if !was_interrupted(got) {
             return Input {
                 size: io::count(got, buffer),
@@ -42,6 +43,14 @@ pub fn read(buffer: &mut [u8]) -> Input
         size: 0,
         failed: true,
     }
+}
+
+// One read of the standard input.
+pub fn read(buffer: &mut [u8]) -> Input
+    ensures { λ r. ⌜ Counts (r .size) (now (buffer .exit)) ⌝ }
+    ensures { λ r. ⌜ (r .failed ≡ true → r .size ≡ 0) ⌝ }
+{
+    read_from(STDIN_FILENO, buffer)
 }
 
 // Writes all of the bytes and answers true, or stops at the first write that fails or takes nothing and answers false; some of

@@ -4,14 +4,14 @@ use Prim.Native.Nat.{_≤_}
 use mathlib.Core.Path.{_≡_}
 use lib.ListN.{length}
 use borrow.Author.Needs.{needs}
-use Rattle.compiler.proofs.read_text.Statement.{statement}
-use Rattle.compiler.proofs.read_text.Tie as tie
+use Rattle.files.proofs.read_all.Statement.{statement}
+use Rattle.files.proofs.read_all.Tie as tie
 
 abbrev Inv-loop : tie.InvT-loop
-Inv-loop text₀ chunk₀ size₀ turns₀ text chunk size turns = (length chunk ≡ 65536) × (size ≤ length text)
+Inv-loop fd text₀ chunk₀ size₀ turns₀ text chunk size turns = (length chunk ≡ 65536) × (size ≤ length text)
 
 abbrev μ-loop : tie.MeasureT-loop
-μ-loop text₀ chunk₀ size₀ turns₀ text chunk size turns = turns
+μ-loop fd text₀ chunk₀ size₀ turns₀ text chunk size turns = turns
 
 large-buffer-requires : tie.Need-large-buffer-requires Inv-loop μ-loop
 large-buffer-requires c κs = search needs
@@ -19,11 +19,11 @@ large-buffer-requires c κs = search needs
 loop-holds : tie.Need-loop-holds Inv-loop μ-loop
 loop-holds c = search needs
 
-slice-aggregate-read : tie.Need-slice-aggregate-read Inv-loop μ-loop
-slice-aggregate-read c = search needs
+slice-aggregate-read-from : tie.Need-slice-aggregate-read-from Inv-loop μ-loop
+slice-aggregate-read-from c = search needs
 
-read-requires : tie.Need-read-requires Inv-loop μ-loop
-read-requires c κs = search needs
+read-from-requires : tie.Need-read-from-requires Inv-loop μ-loop
+read-from-requires c κs = search needs
 
 returns : tie.Need-returns Inv-loop μ-loop
 returns c = counts _ _ (c .before .before .before .before .before .loop .inv .1)
@@ -49,16 +49,16 @@ loop-again c = (search needs, put-within _ _ _ _ _ (c .put-bytes .ensures))
 returns-2 : tie.Need-returns-2 Inv-loop μ-loop
 returns-2 c = counts _ _ (c .before .loop .inv .1)
 
-pub read-text-spec : {M : Type 1} → statement M
-read-text-spec =
+pub read-all-spec : {M : Type 1} → statement M
+read-all-spec =
     tie.close
     (tie.spec
     Inv-loop
     μ-loop
     large-buffer-requires
     loop-holds
-    slice-aggregate-read
-    read-requires
+    slice-aggregate-read-from
+    read-from-requires
     returns
     array-share-prefix-chunk
     slice-aggregate-put-bytes

@@ -10,8 +10,8 @@ use mir.Syntax.{w64}
 use borrow.Author.Tests.{ltb-true}
 use Rattle.io.specs.Counts.{clamped}
 use borrow.Author.Needs.{needs}
-use Rattle.stream.proofs.read.Statement.{statement}
-use Rattle.stream.proofs.read.Tie as tie
+use Rattle.stream.proofs.read_from.Statement.{statement}
+use Rattle.stream.proofs.read_from.Tie as tie
 
 -- a call that failed moved nothing
 none-failed : (got : ℤ) (n most : ℕ) → n ≡ clamped got most → ltZ got (pos 0) ≡ true → n ≡ 0
@@ -19,10 +19,10 @@ none-failed (pos k) n most e h = let l : k < 0 = ltb-true k 0 h in absurd (omega
 none-failed (negsuc k) n most e h = e
 
 abbrev Inv-loop : tie.InvT-loop
-Inv-loop buffer₀ turns₀ buffer turns = length buffer ≡ length buffer₀
+Inv-loop fd buffer₀ turns₀ buffer turns = length buffer ≡ length buffer₀
 
 abbrev μ-loop : tie.MeasureT-loop
-μ-loop buffer₀ turns₀ buffer turns = turns
+μ-loop fd buffer₀ turns₀ buffer turns = turns
 
 loop-holds : tie.Need-loop-holds Inv-loop μ-loop
 loop-holds c = search needs
@@ -57,8 +57,8 @@ same-length-2 c = search needs
 returns-2 : tie.Need-returns-2 Inv-loop μ-loop
 returns-2 c = search needs
 
-pub read-spec : {M : Type 1} → statement M
-read-spec =
+pub read-from-spec : {M : Type 1} → statement M
+read-from-spec =
     tie.close
     (tie.spec
     Inv-loop
