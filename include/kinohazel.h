@@ -1,14 +1,15 @@
-/* Kinohazel for C and C++: compile a rule text to an image, check an image, write its text, decide an epoch on it.
+/* Kinohazel for C and C++: compile a rule text to an image, check an image, write its text, decide an epoch on it, and say why an
+ * action is issued or not.
  *
  * The header is for C99, C++11 and later. The library is for x86-64 with the System V calling convention, as Linux has it; it uses
  * the red zone and the SSE2 registers of that convention. `rt staticlib kinohazel` builds it as target/staticlib/libkinohazel.a.
  *
  * No function keeps state, allocates memory or needs a start-up call, and each ends for every input.
  *
- * The caller lends areas of bytes for the time of a call, each as a pointer and a length: `text`, `image`, `line` and `out`. A
- * function reads only the bytes it is lent, and writes only to `out`. The caller must see to this:
+ * The caller lends areas of bytes for the time of a call, each as a pointer and a length: `text`, `maker`, `site`, `image`, `line`
+ * and `out`. A function reads only the bytes it is lent, and writes only to `out`. The caller must see to this:
  *
- *   - `out` overlaps no other area of the call. `image` and `line` may overlap or be the same, since they are only read.
+ *   - `out` overlaps no other area of the call. The others may overlap or be the same, since they are only read.
  *   - Nobody else changes an area during the call, or reads `out`.
  *   - No pointer is null where its length is over 0. That is the caller's fault, and no function looks for it. Where its length
  *     is 0, a pointer may be null.
@@ -26,9 +27,9 @@ extern "C" {
 #endif
 
 #define KINOHAZEL_VERSION_MAJOR 3
-#define KINOHAZEL_VERSION_MINOR 1
+#define KINOHAZEL_VERSION_MINOR 2
 #define KINOHAZEL_VERSION_PATCH 0
-#define KINOHAZEL_VERSION "3.1.0"
+#define KINOHAZEL_VERSION "3.2.0"
 
 /* Limits. A buffer of KINOHAZEL_IMAGE_LIMIT bytes has room for every image, one of KINOHAZEL_WRITTEN_TEXT_LIMIT bytes for the text
  * of every image. */
@@ -42,10 +43,12 @@ extern "C" {
 /* Bytes of stack that a call takes at most, rounded up. They are measured, not proved: tests/library/stack.c makes some thousand
  * calls through this header, compiled without optimisation, on painted stacks, with the largest inputs and with others. They belong
  * to the library as the kit builds it. */
-#define KINOHAZEL_COMPILE_STACK 1152
+#define KINOHAZEL_COMPILE_STACK 1792
+#define KINOHAZEL_COMPILE_TEXTS_STACK 1792
 #define KINOHAZEL_CHECK_STACK 640
 #define KINOHAZEL_TEXT_STACK 1024
-#define KINOHAZEL_DECIDE_STACK 896
+#define KINOHAZEL_DECIDE_STACK 1152
+#define KINOHAZEL_EXPLAIN_STACK 15360 /* it has an image */
 
 /* Why something is refused. The words for each stand in kinohazel_fault_words. */
 enum kinohazel_fault {
@@ -84,7 +87,7 @@ static inline const char *kinohazel_fault_words(uint64_t fault)
     case KINOHAZEL_IMAGE_SUM: return "words of the image do not add up to 0";
     case KINOHAZEL_IMAGE_BODY: return "no accepted text compiles to the image";
     case KINOHAZEL_EPOCH_SYNTAX: return "part of an epoch line of neither shape";
-    case KINOHAZEL_EPOCH_RANGE: return "number in an epoch line out of range";
+    case KINOHAZEL_EPOCH_RANGE: return "number in an epoch line, or of the action asked about, out of range";
     case KINOHAZEL_DUPLICATE_READING: return "a reading given twice";
     case KINOHAZEL_BUFFER_TOO_SMALL: return "buffer lent for an image or a text has too few bytes";
     default: return "unknown fault";
@@ -94,6 +97,14 @@ static inline const char *kinohazel_fault_words(uint64_t fault)
 struct kinohazel_compilation {
     uint64_t fault; /* enum kinohazel_fault */
     uint64_t line;  /* the line at fault, counted from 1, for 2 to 6; otherwise 0 */
+    uint64_t size;  /* bytes of the image; 0 on a refusal */
+};
+
+/* For two texts that are compiled as one. */
+struct kinohazel_texts_compilation {
+    uint64_t fault; /* enum kinohazel_fault */
+    uint64_t text;  /* the text at fault for 1 to 6: 1 the maker's, 2 the site's; otherwise 0 */
+    uint64_t line;  /* the line of that text, counted from 1, for 2 to 6; otherwise 0 */
     uint64_t size;  /* bytes of the image; 0 on a refusal */
 };
 
@@ -118,15 +129,37 @@ struct kinohazel_decision {
     uint64_t visited;   /* words of the image that were fetched; 0 on a refusal */
 };
 
+/* What becomes of an action in an epoch. */
+enum kinohazel_outcome {
+    KINOHAZEL_NONE = 0, /* refused */
+    KINOHAZEL_NOT_PROPOSED = 1,
+    KINOHAZEL_ACCEPTED = 2,
+    KINOHAZEL_CANCELLED = 3
+};
+
+struct kinohazel_explanation {
+    uint64_t fault;       /* enum kinohazel_fault */
+    uint64_t text;        /* the text at fault: 1 the maker's, 2 the site's; otherwise 0, as for a line or an action at fault */
+    uint64_t line;        /* the line of that text, counted from 1, for 2 to 6; otherwise 0 */
+    uint64_t outcome;     /* enum kinohazel_outcome */
+    uint64_t part_text;   /* the text with the line that says why: 1 the maker's, 2 the site's, 0 if there is none */
+    uint64_t part_start;  /* from which byte of that text, counted from 0 */
+    uint64_t part_length; /* bytes */
+};
+
 /* The functions as the library exports them, for callers from other languages. Here no pointer is null, even where its length
  * is 0. */
 struct kinohazel_compilation kinohazel_compile_nonnull(
     const uint8_t *text, size_t text_length, uint8_t *out, size_t out_length);
+struct kinohazel_texts_compilation kinohazel_compile_texts_nonnull(
+    const uint8_t *maker, size_t maker_length, const uint8_t *site, size_t site_length, uint8_t *out, size_t out_length);
 struct kinohazel_image_check kinohazel_check_nonnull(const uint8_t *image, size_t image_length);
 struct kinohazel_text_written kinohazel_text_nonnull(
     const uint8_t *image, size_t image_length, uint8_t *out, size_t out_length);
 struct kinohazel_decision kinohazel_decide_nonnull(
     const uint8_t *image, size_t image_length, const uint8_t *line, size_t line_length);
+struct kinohazel_explanation kinohazel_explain_nonnull(const uint8_t *maker, size_t maker_length, const uint8_t *site,
+    size_t site_length, const uint8_t *line, size_t line_length, uint64_t action);
 
 /* For the functions below: the area, or `none` in place of a null pointer with length 0. */
 static inline const uint8_t *kinohazel_lent(const uint8_t *area, size_t length, const uint8_t *none)
@@ -151,6 +184,21 @@ static inline struct kinohazel_compilation kinohazel_compile(
     uint8_t none = 0;
     return kinohazel_compile_nonnull(kinohazel_lent(text, text_length, &none), text_length,
         kinohazel_lent_out(out, out_length, &none), out_length);
+}
+
+/* Compiles two rule texts as one: the maker's text and the lines that a site adds to it. The image has the maker's rules, then the
+ * site's, then the maker's never lines, then the site's. Otherwise it is as kinohazel_compile, which compiles a text as the maker's
+ * with an empty one of the site.
+ *
+ * Each text has its own limit of KINOHAZEL_TEXT_LIMIT bytes. The limits of 128 rules and 64 never lines are for both together, so the
+ * 129th rule (5) may stand in either. A text begins a line of its own, even where the last line of the maker's text lacks its line
+ * end. The faults of the maker's text come before those of the site's, and the lines of each are counted from 1. */
+static inline struct kinohazel_texts_compilation kinohazel_compile_texts(
+    const uint8_t *maker, size_t maker_length, const uint8_t *site, size_t site_length, uint8_t *out, size_t out_length)
+{
+    uint8_t none = 0;
+    return kinohazel_compile_texts_nonnull(kinohazel_lent(maker, maker_length, &none), maker_length,
+        kinohazel_lent(site, site_length, &none), site_length, kinohazel_lent_out(out, out_length, &none), out_length);
 }
 
 /* Checks an image: every word of it. */
@@ -189,6 +237,33 @@ static inline struct kinohazel_decision kinohazel_decide(
     uint8_t none = 0;
     return kinohazel_decide_nonnull(kinohazel_lent(image, image_length, &none), image_length,
         kinohazel_lent(line, line_length, &none), line_length);
+}
+
+/* Says why an action, 0 to 63, is issued or not by two texts in the epoch of a line: the maker's text and the site's, which are read
+ * as kinohazel_compile_texts reads them, and a line as for kinohazel_decide.
+ *
+ *   - KINOHAZEL_NOT_PROPOSED: no rule proposes the action. There is no line to show.
+ *   - KINOHAZEL_ACCEPTED: it is issued. The line to show is the first rule that proposes it.
+ *   - KINOHAZEL_CANCELLED: it is proposed, and a never line forbids it. The line to show is the first never line that holds on the
+ *     accepted actions of lower numbers together with it.
+ *
+ * First is the maker's text before the site's, and each from its start. The line is shown as it stands in its text, without its
+ * line end and without the spaces at both ends:
+ *
+ *   const uint8_t *part = (why.part_text == 2 ? site : maker) + why.part_start;
+ *   printf("%.*s\n", (int)why.part_length, (const char *)part);
+ *
+ * It has part_length bytes, and no byte 0 is behind them. It points into the text that was lent, so it is there as long as that is.
+ * Where there is no line to show, all three members are 0.
+ *
+ * The texts are looked at first, then the line, then the action: one over 63 is out of range (13). Texts, line and action are looked
+ * at anew in each call; a controller decides by kinohazel_decide, and asks here only for those who want to know. */
+static inline struct kinohazel_explanation kinohazel_explain(const uint8_t *maker, size_t maker_length, const uint8_t *site,
+    size_t site_length, const uint8_t *line, size_t line_length, uint64_t action)
+{
+    uint8_t none = 0;
+    return kinohazel_explain_nonnull(kinohazel_lent(maker, maker_length, &none), maker_length,
+        kinohazel_lent(site, site_length, &none), site_length, kinohazel_lent(line, line_length, &none), line_length, action);
 }
 
 #ifdef __cplusplus

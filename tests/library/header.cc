@@ -1,4 +1,4 @@
-// Uses all of include/kinohazel.h from C++: each struct and the enum by its name alone, each function and each macro. What it
+// Uses all of include/kinohazel.h from C++: each struct and each enum by its name alone, each function and each macro. What it
 // prints is stored in header.out.
 #include "kinohazel.h"
 
@@ -19,6 +19,11 @@ static void print(const char *name, std::initializer_list<uint64_t> members)
 
 static void print(const kinohazel_compilation &answer) { print("compile", {answer.fault, answer.line, answer.size}); }
 
+static void print(const kinohazel_texts_compilation &answer)
+{
+    print("compile texts", {answer.fault, answer.text, answer.line, answer.size});
+}
+
 static void print(const kinohazel_image_check &answer)
 {
     print("check", {answer.fault, answer.word, answer.rules, answer.constraints});
@@ -29,6 +34,12 @@ static void print(const kinohazel_text_written &answer) { print("text", {answer.
 static void print(const kinohazel_decision &answer)
 {
     print("decide", {answer.fault, answer.word, answer.accepted, answer.cancelled, answer.visited});
+}
+
+static void print(const kinohazel_explanation &answer)
+{
+    print("explain", {answer.fault, answer.text, answer.line, answer.outcome, answer.part_text, answer.part_start,
+                         answer.part_length});
 }
 
 int main()
@@ -42,8 +53,8 @@ int main()
               << KINOHAZEL_VERSION_PATCH << '\n';
     std::cout << "limits " << KINOHAZEL_TEXT_LIMIT << ' ' << KINOHAZEL_EPOCH_LIMIT << ' ' << KINOHAZEL_IMAGE_LIMIT << ' '
               << KINOHAZEL_WRITTEN_TEXT_LIMIT << ' ' << KINOHAZEL_RULE_LIMIT << ' ' << KINOHAZEL_CONSTRAINT_LIMIT << '\n';
-    std::cout << "stack " << KINOHAZEL_COMPILE_STACK << ' ' << KINOHAZEL_CHECK_STACK << ' ' << KINOHAZEL_TEXT_STACK << ' '
-              << KINOHAZEL_DECIDE_STACK << '\n';
+    std::cout << "stack " << KINOHAZEL_COMPILE_STACK << ' ' << KINOHAZEL_COMPILE_TEXTS_STACK << ' ' << KINOHAZEL_CHECK_STACK
+              << ' ' << KINOHAZEL_TEXT_STACK << ' ' << KINOHAZEL_DECIDE_STACK << ' ' << KINOHAZEL_EXPLAIN_STACK << '\n';
 
     const kinohazel_compilation compilation = kinohazel_compile(bytes_of(text), text_length, &image[0], image.size());
     const size_t size = static_cast<size_t>(compilation.size);
@@ -66,6 +77,30 @@ int main()
     print(kinohazel_decide_nonnull(&image[0], size, bytes_of("R0=1 R0=1"), 9));
     print(kinohazel_decide(&image[0], size, nothing.data(), nothing.size()));
     print(kinohazel_decide(nothing.data(), nothing.size(), nothing.data(), nothing.size()));
+
+    static const char site[] = "  E1 causes A5  \nnever A3 & A5";
+    const size_t site_length = std::strlen(site);
+    const kinohazel_texts_compilation joint =
+        kinohazel_compile_texts(bytes_of(text), text_length, bytes_of(site), site_length, &image[0], image.size());
+    print(joint);
+    print(kinohazel_compile_texts_nonnull(bytes_of(text), text_length, bytes_of(site), site_length, &image[0], size));
+    print(kinohazel_compile_texts(bytes_of(text), text_length, bytes_of("\nx"), 2, no_room.data(), no_room.size()));
+    print(kinohazel_compile_texts(bytes_of("x"), 1, bytes_of("\nx"), 2, no_room.data(), no_room.size()));
+    print(kinohazel_compile_texts(nothing.data(), nothing.size(), nothing.data(), nothing.size(), no_room.data(), no_room.size()));
+    for (uint64_t action = 2; action < 6; action++) {
+        const kinohazel_explanation why = kinohazel_explain(
+            bytes_of(text), text_length, bytes_of(site), site_length, bytes_of(line), line_length, action);
+        print(why);
+        std::cout.write((why.part_text == 2 ? site : text) + why.part_start, static_cast<std::streamsize>(why.part_length));
+        std::cout << '\n';
+    }
+    print(kinohazel_explain_nonnull(bytes_of(text), text_length, bytes_of("E64 causes A1"), 13, bytes_of(line), line_length, 64));
+    print(kinohazel_explain(bytes_of(text), text_length, nothing.data(), nothing.size(), nothing.data(), nothing.size(), 64));
+    print(kinohazel_explain(nothing.data(), nothing.size(), nothing.data(), nothing.size(), nothing.data(), nothing.size(), 3));
+    const kinohazel_outcome outcomes[] = {
+        KINOHAZEL_NONE, KINOHAZEL_NOT_PROPOSED, KINOHAZEL_ACCEPTED, KINOHAZEL_CANCELLED};
+    for (const kinohazel_outcome outcome : outcomes)
+        std::cout << outcome << (outcome == KINOHAZEL_CANCELLED ? "\n" : " ");
 
     const kinohazel_fault last = KINOHAZEL_BUFFER_TOO_SMALL;
     for (uint64_t fault = KINOHAZEL_OK; fault <= last + 1u; fault++)

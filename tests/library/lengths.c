@@ -150,6 +150,73 @@ static void try_lines(uint8_t *area, const uint8_t *image, size_t size)
             }
 }
 
+/* Two texts, one of them too long by any power of 2, are refused under 1 with the text's number, unless the maker's is refused
+   before. */
+static void try_long_texts(uint8_t *area, uint8_t *out)
+{
+    static const char text[] = "E1 causes A2\n", faulty[] = "E64 causes A2\n";
+    const size_t size = sizeof text - 1;
+    size_t length;
+    unsigned bit, k;
+    put(area, text, size);
+    for (bit = 16; bit <= LAST_BIT; bit++)
+        for (k = 0; k < 3; k++) {
+            const uint8_t *other = (const uint8_t *)(k < 2 ? text : faulty);
+            const uint8_t *maker = k == 0 ? area : other, *site = k == 0 ? other : area;
+            uint64_t fault = k < 2 ? KINOHAZEL_TOO_LONG : KINOHAZEL_OUT_OF_RANGE, number = k == 1 ? 2 : 1;
+            size_t lengths[2];
+            struct kinohazel_texts_compilation answer;
+            struct kinohazel_explanation why;
+            length = ((size_t)1 << bit) + size;
+            lengths[0] = k == 0 ? length : k == 1 ? size : sizeof faulty - 1;
+            lengths[1] = k == 0 ? size : length;
+            paint(out);
+            answer = kinohazel_compile_texts(maker, lengths[0], site, lengths[1], out, length);
+            why = kinohazel_explain(maker, lengths[0], site, lengths[1], (const uint8_t *)"E1", 2, 2);
+            if (answer.fault != fault || answer.text != number || answer.line != (k == 2) || answer.size != 0 || !painted(out, 0))
+                fail("of two texts one too long is not refused under 1", length);
+            if (why.fault != fault || why.text != number || why.line != (k == 2)
+                || (why.outcome | why.part_text | why.part_start | why.part_length) != 0)
+                fail("an explanation by two texts, one too long, is not refused under 1", length);
+            calls += 2;
+        }
+}
+
+/* Rooms of any power of 2 and somewhat more are enough for the image of two texts; lines too long by any power of 2 are refused
+   under 1, and actions over 63 under 13. */
+static void try_two_texts(uint8_t *area, uint8_t *out)
+{
+    static const uint8_t maker[] = "E1 causes A2", site[] = "never A2 if R0 > 5\n";
+    const size_t lengths[2] = {sizeof maker - 1, sizeof site - 1};
+    const struct texts texts = {{maker, lengths[0]}, {site, lengths[1]}};
+    static uint8_t image[IMAGE_BYTES];
+    size_t size, room;
+    unsigned bit;
+    compile_texts(texts, image, sizeof image, &size);
+    put(area, "E1 R0=6", 7);
+    for (bit = 6; bit <= LAST_BIT; bit++) {
+        struct kinohazel_texts_compilation answer;
+        struct kinohazel_explanation why;
+        uint64_t action = ((uint64_t)1 << bit) + 2;
+        room = ((size_t)1 << bit) + 7;
+        paint(out);
+        answer = kinohazel_compile_texts(maker, lengths[0], site, lengths[1], out, room);
+        if (answer.fault != KINOHAZEL_OK || (answer.text | answer.line) != 0 || answer.size != size || memcmp(out, image, size) != 0
+            || !painted(out, size))
+            fail("a large room is not enough for two texts", room);
+        why = kinohazel_explain(maker, lengths[0], site, lengths[1], area, room, 2);
+        if (bit >= 10 && (why.fault != KINOHAZEL_TOO_LONG || (why.text | why.outcome | why.part_text | why.part_length) != 0))
+            fail("an explanation for a line too long is not refused under 1", room);
+        why = kinohazel_explain(maker, lengths[0], site, lengths[1], area, 7, action);
+        if (why.fault != KINOHAZEL_EPOCH_RANGE || (why.text | why.outcome | why.part_text | why.part_length) != 0)
+            fail("an action over 63 is not refused under 13", room);
+        why = kinohazel_explain(maker, lengths[0], site, lengths[1], area, 7, 2);
+        if (why.outcome != KINOHAZEL_CANCELLED || why.part_text != 2 || why.part_start != 0 || why.part_length != lengths[1] - 1)
+            fail("an action is not explained", room);
+        calls += 4;
+    }
+}
+
 /* A text that is written so, and its image. */
 static void try_text(uint8_t *area, uint8_t *out, const char *text)
 {
@@ -172,6 +239,8 @@ int main(void)
     signal(SIGBUS, stop);
     for (i = 0; i < sizeof texts / sizeof *texts; i++)
         try_long(area, out, fill_with_image, texts[i], strlen(texts[i]), 16, KINOHAZEL_TOO_LONG);
+    try_long_texts(area, out);
+    try_two_texts(area, out);
     try_text(area, out, EXAMPLE);
     try_text(area, out, "");
     printf("library: %lu calls with lengths up to 2 to the power of %d and more agree\n", calls, LAST_BIT);

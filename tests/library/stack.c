@@ -8,26 +8,37 @@
 #include <string.h>
 #include <ucontext.h>
 
-enum { STACK_BYTES = 1 << 14, PAINT = 0xA5, ROUNDS = 300 };
+enum { STACK_BYTES = 1 << 15, PAINT = 0xA5, ROUNDS = 300 };
 
 /* What is lent, and where the calling function's frame begins. */
 static struct {
     const uint8_t *text, *image, *line;
     uint8_t *out, *frame;
     size_t text_length, image_length, line_length, out_length;
+    struct texts texts;
+    uint64_t action;
 } call;
 
 static struct {
     struct kinohazel_compilation compilation;
+    struct kinohazel_texts_compilation texts_compilation;
     struct kinohazel_image_check check;
     struct kinohazel_text_written written;
     struct kinohazel_decision decision;
+    struct kinohazel_explanation explanation;
 } answer;
 
 static void call_compile(void)
 {
     call.frame = __builtin_frame_address(0);
     answer.compilation = kinohazel_compile(call.text, call.text_length, call.out, call.out_length);
+}
+
+static void call_compile_texts(void)
+{
+    call.frame = __builtin_frame_address(0);
+    answer.texts_compilation = kinohazel_compile_texts(call.texts.maker.bytes, call.texts.maker.length, call.texts.site.bytes,
+        call.texts.site.length, call.out, call.out_length);
 }
 
 static void call_check(void)
@@ -49,15 +60,24 @@ static void call_decide(void)
     answer.decision = kinohazel_decide(call.image, call.image_length, call.line, call.line_length);
 }
 
+static void call_explain(void)
+{
+    call.frame = __builtin_frame_address(0);
+    answer.explanation = kinohazel_explain(call.texts.maker.bytes, call.texts.maker.length, call.texts.site.bytes,
+        call.texts.site.length, call.line, call.line_length, call.action);
+}
+
 static struct function {
     const char *name;
     void (*call)(void);
     size_t figure, most;
     unsigned long calls;
 } compiling = {"compile", call_compile, KINOHAZEL_COMPILE_STACK, 0, 0},
+  compiling_texts = {"compile_texts", call_compile_texts, KINOHAZEL_COMPILE_TEXTS_STACK, 0, 0},
   checking = {"check", call_check, KINOHAZEL_CHECK_STACK, 0, 0},
   writing = {"text", call_text, KINOHAZEL_TEXT_STACK, 0, 0},
-  deciding = {"decide", call_decide, KINOHAZEL_DECIDE_STACK, 0, 0};
+  deciding = {"decide", call_decide, KINOHAZEL_DECIDE_STACK, 0, 0},
+  explaining = {"explain", call_explain, KINOHAZEL_EXPLAIN_STACK, 0, 0};
 
 static void measure(struct function *function)
 {
@@ -90,6 +110,29 @@ static void measure_image(const uint8_t *image, size_t length, const uint8_t *li
     measure(&deciding);
 }
 
+/* A text split over two, and some of the epoch lines of an input from `at` on. */
+static void measure_texts(const struct buffer *input, size_t at, struct dice *dice)
+{
+    static uint8_t image[KINOHAZEL_IMAGE_LIMIT];
+    struct buffer maker = new_buffer(), site = new_buffer();
+    unsigned lines;
+    split_text(call.text, call.text_length, dice, &maker, &site);
+    call.texts = texts_of(&maker, &site);
+    call.out = image;
+    call.out_length = below(dice, sizeof image);
+    measure(&compiling_texts);
+    call.out_length = sizeof image;
+    measure(&compiling_texts);
+    for (lines = 0; lines < 4; lines++) {
+        if (lines == 0 || !next_line(input->bytes, input->length, &at, &call.line, &call.line_length))
+            call.line_length = 0;
+        for (call.action = lines % 2 == 0 ? 0 : 58; call.action < (lines % 2 == 0 ? 6 : 66); call.action++)
+            measure(&explaining);
+    }
+    free(maker.bytes);
+    free(site.bytes);
+}
+
 /* The text and the epoch lines of an input of the engine. The image is tried with a changed byte too. */
 static void measure_input(const struct buffer *input, struct dice *dice)
 {
@@ -99,6 +142,7 @@ static void measure_input(const struct buffer *input, struct dice *dice)
     unsigned lines = 0;
     call.text = input->bytes;
     find_run(input->bytes, input->length, &call.text_length, &at);
+    measure_texts(input, at, dice);
     call.out = image;
     call.out_length = below(dice, sizeof image);
     measure(&compiling);
@@ -145,10 +189,12 @@ static bool report(const struct function *function)
 
 int main(void)
 {
+    static const struct function *const functions[] = {
+        &compiling, &compiling_texts, &checking, &writing, &deciding, &explaining};
     struct buffer input = new_buffer();
     struct dice dice = {UINT64_C(0x57) << 32};
     unsigned i;
-    bool right;
+    bool right = true;
     measure_largest(&input, &dice);
     for (i = 0; i < ROUNDS; i++) {
         input.length = 0;
@@ -160,13 +206,10 @@ int main(void)
     }
     free(input.bytes);
     printf("library: stack: ");
-    right = report(&compiling);
-    printf("; ");
-    right = report(&checking) && right;
-    printf("; ");
-    right = report(&writing) && right;
-    printf("; ");
-    right = report(&deciding) && right;
+    for (i = 0; i < sizeof functions / sizeof *functions; i++) {
+        printf("%s", i == 0 ? "" : "; ");
+        right = report(functions[i]) && right;
+    }
     printf("\n");
     if (!right)
         printf("library: a figure of the header for the stack is too small or too large\n");

@@ -12,15 +12,17 @@ enum { THREADS = 8, CASES = 24, LINES = 16, TURNS = 100 };
 
 struct answers {
     struct kinohazel_compilation compilation;
+    struct kinohazel_texts_compilation texts_compilation;
     struct kinohazel_image_check check;
     struct kinohazel_text_written written;
     struct kinohazel_decision decisions[LINES];
-    uint8_t out[IMAGE_BYTES], text[WRITTEN_BYTES];
+    struct kinohazel_explanation explanations[LINES];
+    uint8_t out[IMAGE_BYTES], joint[IMAGE_BYTES], text[WRITTEN_BYTES];
 };
 
-/* An input of the engine, the image of its text, and what one thread answers. */
+/* An input of the engine, the image of its text, the text split over two, and what one thread answers. */
 struct sample {
-    struct buffer input;
+    struct buffer input, maker, site;
     const uint8_t *lines[LINES];
     size_t text_length, lengths[LINES], count, size;
     uint8_t image[IMAGE_BYTES];
@@ -32,13 +34,19 @@ static pthread_barrier_t start;
 
 static void answer(const struct sample *sample, struct answers *to)
 {
+    const struct buffer *maker = &sample->maker, *site = &sample->site;
     size_t i;
     memset(to, 0, sizeof *to);
     to->compilation = kinohazel_compile(sample->input.bytes, sample->text_length, to->out, sizeof to->out);
+    to->texts_compilation = kinohazel_compile_texts(
+        maker->bytes, maker->length, site->bytes, site->length, to->joint, sizeof to->joint);
     to->check = kinohazel_check(sample->image, sample->size);
     to->written = kinohazel_text(sample->image, sample->size, to->text, sizeof to->text);
-    for (i = 0; i < sample->count; i++)
+    for (i = 0; i < sample->count; i++) {
         to->decisions[i] = kinohazel_decide(sample->image, sample->size, sample->lines[i], sample->lengths[i]);
+        to->explanations[i] = kinohazel_explain(
+            maker->bytes, maker->length, site->bytes, site->length, sample->lines[i], sample->lengths[i], i % 6);
+    }
 }
 
 /* The first is the largest. */
@@ -47,6 +55,8 @@ static void make(struct sample *sample, struct dice *dice)
     struct buffer *input = &sample->input;
     size_t at;
     *input = new_buffer();
+    sample->maker = new_buffer();
+    sample->site = new_buffer();
     if (sample == samples)
         add_largest_input(input);
     else
@@ -55,6 +65,7 @@ static void make(struct sample *sample, struct dice *dice)
     while (sample->count < LINES
         && next_line(input->bytes, input->length, &at, &sample->lines[sample->count], &sample->lengths[sample->count]))
         sample->count++;
+    split_text(input->bytes, sample->text_length, dice, &sample->maker, &sample->site);
     compile(input->bytes, sample->text_length, sample->image, sizeof sample->image, &sample->size);
     answer(sample, &sample->answers);
 }
@@ -95,8 +106,11 @@ int main(void)
         pthread_join(threads[i], &wrong);
         right += wrong == NULL;
     }
-    for (i = 0; i < CASES; i++)
+    for (i = 0; i < CASES; i++) {
         free(samples[i].input.bytes);
+        free(samples[i].maker.bytes);
+        free(samples[i].site.bytes);
+    }
     if (right < THREADS) {
         printf("library: threads: %u of %d had other answers than one thread alone\n", THREADS - right, (int)THREADS);
         return 1;

@@ -1,11 +1,12 @@
 /* The programs where reads and writes fail, are interrupted or move few bytes, and before clients that wait:
-   `failures PROGRAMS SHIM REPORT` runs PROGRAMS/compiler, PROGRAMS/decompiler and PROGRAMS/engine and prints the number
-   of cases. What no real descriptor does is done by the shared object SHIM (shim.c), which is put before the C library;
-   REPORT is a file that may be written. What has to be printed is computed by the reference.
+   `failures PROGRAMS SHIM REPORT` runs the programs that stand in PROGRAMS and prints the number of cases. What no real
+   descriptor does is done by the shared object SHIM (shim.c), which is put before the C library; REPORT is a file that may be
+   written, and so may others whose names begin with its name. What has to be printed is computed by the reference.
 
    A failing read or write is reported by one line on standard error; after it nothing is read and nothing printed. Of
    the input only what was read whole counts: the compiler and the decompiler print nothing for a part of their input, the
-   engine nothing for a part of a line. A call that is interrupted is made again. */
+   engine and `explain` nothing for a part of a line. A file that cannot be opened or read whole is reported likewise, and nothing
+   is printed. A call that is interrupted is made again. */
 #define _XOPEN_SOURCE 700
 #include "../reference/inputs.h"
 #include "shim.h"
@@ -19,6 +20,7 @@
 #include <string.h>
 #include <sys/ioctl.h>
 #include <sys/mman.h>
+#include <sys/stat.h>
 #include <sys/wait.h>
 #include <termios.h>
 #include <time.h>
@@ -107,31 +109,54 @@ static const char *shown(const char *bytes, size_t length)
     return line;
 }
 
-static const char *const program_names[] = {"compiler", "decompiler", "engine"};
-enum { PROGRAMS = sizeof program_names / sizeof *program_names };
+/* What is called: a program, and the names of two files with their texts if it is called with them. */
+struct tool {
+    const char *program;
+    char *names[2];
+    struct texts texts;
+};
 
-static struct bytes due_of(const char *program, const uint8_t *input, size_t length)
+static const struct tool compiler = {.program = "compiler"}, decompiler = {.program = "decompiler"},
+                         engine = {.program = "engine"};
+
+static bool has_files(const struct tool *tool)
+{
+    return tool->names[0] != NULL;
+}
+
+/* Whether standard input is read: not by a compiler that has files, nor before questions about texts that are refused. */
+static bool reads_input(const struct tool *tool)
+{
+    static struct policy policy;
+    return !has_files(tool)
+        || (strcmp(tool->program, "explain") == 0 && read_texts(tool->texts, &policy).fault == FAULT_NONE);
+}
+
+static struct bytes due_of(const struct tool *tool, const uint8_t *input, size_t length)
 {
     struct bytes due = {NULL, 0};
     FILE *out = open_memstream(&due.at, &due.length);
     if (out == NULL)
         fail("no memory");
-    print_program(program, input, length, out);
+    if (has_files(tool))
+        print_on_texts(tool->program, tool->texts, input, length, out);
+    else
+        print_program(tool->program, input, length, out);
     fclose(out);
     return due;
 }
 
 /* What is printed when the input breaks off after `length` bytes: by the engine the answers to whole lines behind a line
-   `run`, by the others nothing. */
-static struct bytes due_of_part(const char *program, const uint8_t *input, size_t length)
+   `run`, by `explain` those to whole lines, by others that read it nothing. */
+static struct bytes due_of_part(const struct tool *tool, const uint8_t *input, size_t length)
 {
     struct bytes none = {NULL, 0};
     size_t text, epochs;
     while (length > 0 && input[length - 1] != '\n')
         length--;
-    if (strcmp(program, "engine") != 0 || !find_run(input, length, &text, &epochs))
+    if (!has_files(tool) && (strcmp(tool->program, "engine") != 0 || !find_run(input, length, &text, &epochs)))
         return none;
-    return due_of(program, input, length);
+    return due_of(tool, input, length);
 }
 
 /* Descriptors. A program gets none but those it is started with. */
@@ -166,6 +191,37 @@ static void write_all(int to, const void *bytes, size_t length)
 static int open_file(const char *name, int flags)
 {
     return keep(open(name, flags));
+}
+
+/* The name of a file that is not there. */
+static char *new_name(void)
+{
+    static unsigned count;
+    char *name = malloc(strlen(report_name) + 20);
+    if (name == NULL)
+        fail("no memory");
+    sprintf(name, "%s.%u", report_name, ++count);
+    unlink(name);
+    return name;
+}
+
+/* The name of a file with these bytes. */
+static char *named_file_of(const void *bytes, size_t length)
+{
+    char *name = new_name();
+    int file = keep(open(name, O_WRONLY | O_CREAT | O_TRUNC, 0600));
+    write_all(file, bytes, length);
+    close(file);
+    return name;
+}
+
+/* A program with two texts, which stand in files. */
+static struct tool tool_on(const char *program, const struct buffer *maker, const struct buffer *site)
+{
+    struct tool tool = {program, {NULL, NULL}, texts_of(maker, site)};
+    tool.names[0] = named_file_of(maker->bytes, maker->length);
+    tool.names[1] = named_file_of(site->bytes, site->length);
+    return tool;
 }
 
 /* A file with these bytes. */
@@ -208,9 +264,9 @@ struct setting {
     bool ignores_pipe; /* SIGPIPE is ignored */
 };
 
-static struct setting setting_of(const char *program)
+static struct setting setting_of(const struct tool *tool)
 {
-    struct setting setting = {program, CLOSED, CLOSED, NULL, {NULL, NULL, NULL}, false};
+    struct setting setting = {tool->program, CLOSED, CLOSED, NULL, {tool->names[0], tool->names[1], NULL}, false};
     return setting;
 }
 
@@ -374,19 +430,22 @@ static void check_said_line(const struct run *run, const char *beginning)
             beginning);
 }
 
-/* The line about a stream, `input` or `output`. */
+/* The line about a stream, `standard input`, `standard output` or the name of a file. */
 static void check_error(const struct run *run, const char *stream, int error)
 {
-    char line[200];
-    snprintf(line, sizeof line, "%s: standard %s: %s\n", run->program, stream, strerror(error));
+    char line[600];
+    snprintf(line, sizeof line, "%s: %s: %s\n", run->program, stream, strerror(error));
     check_said(run, line);
 }
 
-/* What the shim counted: only so much failed, and nothing was read or written behind it. */
-static void check_calls(unsigned long failed_reads, unsigned long failed_writes)
+/* What the shim counted: only so much failed, and nothing was read or written behind it. `reads` is whether standard input has
+   to be read. */
+static void check_calls(bool reads, unsigned long failed_reads, unsigned long failed_writes)
 {
-    if (report->reads == 0)
+    if (report->reads + report->file_reads == 0)
         fail("the shim counted no read");
+    if (reads != (report->reads > 0))
+        fail(reads ? "standard input is not read" : "standard input is read");
     if (report->failed_reads != failed_reads || report->failed_writes != failed_writes)
         fail("%lu reads and %lu writes failed where %lu and %lu had to", report->failed_reads, report->failed_writes,
             failed_reads, failed_writes);
@@ -396,27 +455,28 @@ static void check_calls(unsigned long failed_reads, unsigned long failed_writes)
         fail("%lu reads behind a failed read", report->after_failed_read);
     if (report->after_failed_write > 0)
         fail("%lu reads and writes behind a failed write", report->after_failed_write);
-    if (failed_reads + failed_writes == 0 && report->ended != 1)
+    if (reads && failed_reads + failed_writes == 0 && report->ended != 1)
         fail("the end of the input was not reached");
 }
 
 /* The inputs */
 
 struct sample {
-    const char *program, *name;
+    struct tool tool;
+    const char *name;
     struct buffer input;
     struct bytes due;
     int file; /* with the input */
 };
 
-static struct sample samples[48];
+static struct sample samples[64];
 static size_t sample_count;
 
 /* A further input, which begins with this text. */
-static struct buffer *add_sample(const char *program, const char *name, const char *text)
+static struct buffer *add_sample(struct tool tool, const char *name, const char *text)
 {
     struct sample *sample = &samples[sample_count++];
-    sample->program = program;
+    sample->tool = tool;
     sample->name = name;
     sample->input = new_buffer();
     add(&sample->input, text);
@@ -428,17 +488,17 @@ static struct buffer *add_sample(const char *program, const char *name, const ch
 static void add_compiler_samples(void)
 {
     struct buffer *input;
-    add_sample("compiler", "nothing", "");
-    add_sample("compiler", "the example", EXAMPLE);
-    add_sample("compiler", "a last line without its end", "E1 causes A1\nnever A1");
-    add_sample("compiler", "a faulty line", "E1 causes A1\nE64 causes A2\nE3 causes A3\n");
-    add_largest(add_sample("compiler", "the largest image", ""));
-    add_length(add_sample("compiler", "32,768 bytes", ""), TEXT_BYTES, true);
-    add_length(add_sample("compiler", "32,769 bytes", ""), TEXT_BYTES + 1, true);
-    input = add_sample("compiler", "a faulty line in 33,000 bytes", "E64 causes A1\n");
+    add_sample(compiler, "nothing", "");
+    add_sample(compiler, "the example", EXAMPLE);
+    add_sample(compiler, "a last line without its end", "E1 causes A1\nnever A1");
+    add_sample(compiler, "a faulty line", "E1 causes A1\nE64 causes A2\nE3 causes A3\n");
+    add_largest(add_sample(compiler, "the largest image", ""));
+    add_length(add_sample(compiler, "32,768 bytes", ""), TEXT_BYTES, true);
+    add_length(add_sample(compiler, "32,769 bytes", ""), TEXT_BYTES + 1, true);
+    input = add_sample(compiler, "a faulty line in 33,000 bytes", "E64 causes A1\n");
     add_length(input, 33000 - input->length, true);
-    add_length(add_sample("compiler", "65,536 bytes", ""), 65536, true);
-    add_length(add_sample("compiler", "200,000 bytes", ""), 200000, false);
+    add_length(add_sample(compiler, "65,536 bytes", ""), 65536, true);
+    add_length(add_sample(compiler, "200,000 bytes", ""), 200000, false);
 }
 
 static void add_decompiler_samples(void)
@@ -446,24 +506,24 @@ static void add_decompiler_samples(void)
     static uint8_t image[IMAGE_BYTES];
     struct buffer text = new_buffer(), *input;
     size_t size;
-    add_sample("decompiler", "nothing", "");
-    add_sample("decompiler", "the empty text", "01000000\nFF000000\n");
+    add_sample(decompiler, "nothing", "");
+    add_sample(decompiler, "the empty text", "01000000\nFF000000\n");
     add(&text, EXAMPLE);
     compile(text.bytes, text.length, image, sizeof image, &size);
-    add_dump(add_sample("decompiler", "the example", ""), image, size);
-    add_sample("decompiler", "a last line without its end", "01002000\n10400001\n50400000\n9e7fdfff");
-    add_sample("decompiler", "a line that is no word", "01000000\nFF00000\nFF000000\nx\n");
+    add_dump(add_sample(decompiler, "the example", ""), image, size);
+    add_sample(decompiler, "a last line without its end", "01002000\n10400001\n50400000\n9e7fdfff");
+    add_sample(decompiler, "a line that is no word", "01000000\nFF00000\nFF000000\nx\n");
     text.length = 0;
     add_widest(&text);
     compile(text.bytes, text.length, image, sizeof image, &size);
-    add_dump(add_sample("decompiler", "the longest text", ""), image, size);
+    add_dump(add_sample(decompiler, "the longest text", ""), image, size);
     image[size - 1] ^= 1;
-    add_dump(add_sample("decompiler", "a changed word", ""), image, size);
-    add_times(add_sample("decompiler", "3,267 words", ""), "01000000\n", IMAGE_WORDS + 1);
-    input = add_sample("decompiler", "22,222 words, then none", "");
+    add_dump(add_sample(decompiler, "a changed word", ""), image, size);
+    add_times(add_sample(decompiler, "3,267 words", ""), "01000000\n", IMAGE_WORDS + 1);
+    input = add_sample(decompiler, "22,222 words, then none", "");
     add_times(input, "01000000\n", 22222);
     add(input, "0");
-    add_times(add_sample("decompiler", "200,000 digits", ""), "0", 200000);
+    add_times(add_sample(decompiler, "200,000 digits", ""), "0", 200000);
     free(text.bytes);
 }
 
@@ -471,35 +531,89 @@ static void add_engine_samples(void)
 {
     struct buffer *input;
     unsigned i;
-    add_sample("engine", "nothing", "");
-    add_sample("engine", "the example", EXAMPLE "run\nE1 E3 R0=41\nE1 E3 R0=40\nE1 E2 E3 R0=41\n\nE64\n");
-    add_sample("engine", "a last line without its end", "E1 causes A3\nrun\nE1\n\n\nE1 E63");
-    add_sample("engine", "a faulty line", "E1 causes A1\nE64 causes A2\nrun\nE1\nrun\nE1\n");
-    add_sample("engine", "no run", EXAMPLE);
-    add_sample("engine", "a faulty line and no run", "E1 causes\nE1 causes A1\n");
-    add_sample("engine", "run without its end", "E1 causes A1\nrun");
-    add_largest_input(add_sample("engine", "the largest image", ""));
+    add_sample(engine, "nothing", "");
+    add_sample(engine, "the example", EXAMPLE "run\nE1 E3 R0=41\nE1 E3 R0=40\nE1 E2 E3 R0=41\n\nE64\n");
+    add_sample(engine, "a last line without its end", "E1 causes A3\nrun\nE1\n\n\nE1 E63");
+    add_sample(engine, "a faulty line", "E1 causes A1\nE64 causes A2\nrun\nE1\nrun\nE1\n");
+    add_sample(engine, "no run", EXAMPLE);
+    add_sample(engine, "a faulty line and no run", "E1 causes\nE1 causes A1\n");
+    add_sample(engine, "run without its end", "E1 causes A1\nrun");
+    add_largest_input(add_sample(engine, "the largest image", ""));
     for (i = 0; i < 3; i++) {
         static const char *const names[] = {"32,768 bytes", "32,769 bytes", "200,000 bytes"};
         static const size_t lengths[] = {TEXT_BYTES, TEXT_BYTES + 1, 200000};
-        input = add_sample("engine", names[i], "");
+        input = add_sample(engine, names[i], "");
         add_length(input, lengths[i], true);
         add(input, "run\nE1\n\nE1");
     }
-    input = add_sample("engine", "33,000 bytes and no run", "");
+    input = add_sample(engine, "33,000 bytes and no run", "");
     add_length(input, 33000, true);
     add(input, NEAR_RUN);
-    input = add_sample("engine", "a faulty line in 60,000 bytes", "E64 causes A1\n");
+    input = add_sample(engine, "a faulty line in 60,000 bytes", "E64 causes A1\n");
     add_length(input, 60000 - input->length, true);
     add(input, NEAR_RUN "run\nE1\n");
-    input = add_sample("engine", "many answers", "E1 causes A3\nrun\n");
+    input = add_sample(engine, "many answers", "E1 causes A3\nrun\n");
     add_times(input, "\n", 3500);
     add(input, "E1");
-    input = add_sample("engine", "long answers", "");
+    input = add_sample(engine, "long answers", "");
     for (i = 0; i < ACTIONS; i++)
         add_format(input, "E1 causes A%u\n", i);
     add(input, "run\n");
     add_times(input, "E1\n", 700);
+}
+
+/* Two texts in buffers of their own. */
+static struct tool tool_of(const char *program, const char *maker, const char *site)
+{
+    struct buffer texts[2] = {new_buffer(), new_buffer()};
+    add(&texts[0], maker);
+    add(&texts[1], site);
+    return tool_on(program, &texts[0], &texts[1]);
+}
+
+/* The example as two texts; the maker's last line lacks its end. */
+#define EXAMPLE_OF_MAKER "E1 & !E2 causes A3 if R0 > 40\nnever A3 & A4"
+#define EXAMPLE_OF_SITE "E3 causes A4\n"
+
+static const char *const on_texts[] = {"compiler", "explain"};
+enum { ON_TEXTS = sizeof on_texts / sizeof *on_texts };
+
+/* For both programs that are called with two texts; the compiler reads no questions. */
+static void add_texts_samples(void)
+{
+    struct buffer closed = new_buffer(), open = new_buffer(), longer = new_buffer();
+    size_t i;
+    add_length(&closed, TEXT_BYTES, true);
+    add_length(&open, TEXT_BYTES, false);
+    add_length(&longer, 200000, true);
+    for (i = 0; i < ON_TEXTS; i++) {
+        const char *program = on_texts[i];
+        add_sample(tool_of(program, "", ""), "two empty texts", "");
+        add_sample(tool_of(program, EXAMPLE_OF_MAKER, EXAMPLE_OF_SITE), "two texts",
+            "A3 E1 E3 R0=41\nA4 E1 E3 R0=41\n\nA4\nA4 E3 R0=4");
+        add_sample(tool_of(program, "E1 causes A1\nnever A1", "\nE64 causes A1\n"), "a faulty line of the site", "A1 E1\n");
+        add_sample(tool_on(program, &open, &closed), "two texts of 32,768 bytes", "A3 E1\n");
+        add_sample(tool_on(program, &closed, &longer), "a text of 200,000 bytes", "A3 E1\n");
+    }
+}
+
+static void add_explain_samples(void)
+{
+    struct buffer maker = new_buffer(), site = new_buffer(), *input;
+    input = add_sample(tool_of("explain", "E1 causes A3", ""), "many answers", "");
+    add_times(input, "\nA3\n", 2000);
+    add(input, "A3 E1");
+    add(&maker, "never A1 & A2 if R0 > 5\nE1 causes A1\n");
+    add(&site, "E1");
+    add_times(&site, " ", 20000);
+    add(&site, "causes A2");
+    input = add_sample(tool_on("explain", &maker, &site), "long answers", "A2 E1 R0=6\n");
+    add_times(input, "A2 E1 R0=5\nA1 E1\n", 10);
+    input = add_sample(tool_of("explain", EXAMPLE_OF_MAKER, EXAMPLE_OF_SITE), "long questions", "A4 E3");
+    add_times(input, " ", 70000);
+    add(input, "\nA1");
+    add_times(input, "0", 70000);
+    add(input, "\nA4 E3");
 }
 
 static void make_samples(void)
@@ -509,9 +623,11 @@ static void make_samples(void)
     add_compiler_samples();
     add_decompiler_samples();
     add_engine_samples();
+    add_texts_samples();
+    add_explain_samples();
     for (i = 0; i < sample_count; i++) {
         struct sample *sample = &samples[i];
-        sample->due = due_of(sample->program, sample->input.bytes, sample->input.length);
+        sample->due = due_of(&sample->tool, sample->input.bytes, sample->input.length);
         sample->file = file_of(sample->input.bytes, sample->input.length);
     }
 }
@@ -520,7 +636,7 @@ static const struct sample *sample_of(const char *program, const char *name)
 {
     size_t i;
     for (i = 0; i < sample_count; i++)
-        if (strcmp(samples[i].program, program) == 0 && strcmp(samples[i].name, name) == 0)
+        if (strcmp(samples[i].tool.program, program) == 0 && strcmp(samples[i].name, name) == 0)
             return &samples[i];
     fail("no sample %s", name);
     return NULL;
@@ -529,7 +645,7 @@ static const struct sample *sample_of(const char *program, const char *name)
 /* A program on the file of a sample. */
 static struct setting on(const struct sample *sample, const char *script)
 {
-    struct setting setting = setting_of(sample->program);
+    struct setting setting = setting_of(&sample->tool);
     lseek(sample->file, 0, SEEK_SET);
     setting.in = sample->file;
     setting.script = script;
@@ -563,7 +679,7 @@ static size_t find_places(size_t length, size_t places[FEW])
 static struct run run_script(const struct sample *sample, const char *script)
 {
     struct run run;
-    begin("%s, %s, '%s'", sample->program, sample->name, script);
+    begin("%s, %s, '%s'", sample->tool.program, sample->name, script);
     run = start_piped(on(sample, script));
     end(&run);
     check_status(&run);
@@ -578,7 +694,8 @@ static void test_sound(void)
         "read_short=7", "read_short=1000 write_short=1000", "write_short=1", "read_short=1 write_again=1",
         "read_short=4096 read_every=2 write_short=4096 write_every=2", "read_short=65535", "write_short=65535",
         "read_short=3 read_again=2 read_every=5 write_short=5 write_again=1 write_every=3",
-        "read_short=32768 write_every=2"};
+        "read_short=32768 write_every=2", "maker_short=1 site_again=1", "maker_again=2 site_short=3",
+        "maker_short=1000 maker_every=2 site_short=32768 site_every=3 read_short=5 write_short=2"};
     size_t i, k;
     for (i = 0; i < sample_count; i++)
         for (k = 0; k < sizeof scripts / sizeof *scripts; k++) {
@@ -586,8 +703,9 @@ static void test_sound(void)
             struct run run = run_script(sample, scripts[k]);
             check_said(&run, "");
             check_printed(&run, sample->due.at, sample->due.length);
-            check_calls(0, 0);
-            if (strstr(scripts[k], "read_again") != NULL && report->interrupted == 0)
+            check_calls(reads_input(&sample->tool), 0, 0);
+            if (strstr(scripts[k], reads_input(&sample->tool) ? "read_again" : "site_again") != NULL
+                && report->interrupted == 0)
                 fail("nothing was interrupted");
             forget(&run);
         }
@@ -602,18 +720,18 @@ static void test_failing_reads(void)
     } ways[] = {{EIO, ""}, {EIO, " read_short=1"}, {EAGAIN, " read_short=5 read_again=1"}};
     size_t places[FEW], i, k, n, count;
     for (i = 0; i < sample_count; i++)
-        for (k = 0; k < (samples[i].input.length < FEW ? sizeof ways / sizeof *ways : 1); k++)
+        for (k = 0; k < (samples[i].input.length < FEW ? sizeof ways / sizeof *ways : 1) && reads_input(&samples[i].tool); k++)
             for (count = find_places(samples[i].input.length, places), n = 0; n < count; n++) {
                 const struct sample *sample = &samples[i];
-                struct bytes due = due_of_part(sample->program, sample->input.bytes, places[n]);
+                struct bytes due = due_of_part(&sample->tool, sample->input.bytes, places[n]);
                 struct run run;
                 char script[200];
                 snprintf(script, sizeof script, "read_stop=%lu read_error=%d%s", (unsigned long)places[n],
                     ways[k].error, ways[k].script);
                 run = run_script(sample, script);
-                check_error(&run, "input", ways[k].error);
+                check_error(&run, "standard input", ways[k].error);
                 check_printed(&run, due.at, due.length);
-                check_calls(1, 0);
+                check_calls(true, 1, 0);
                 forget(&run);
                 free(due.at);
             }
@@ -635,20 +753,43 @@ static void test_failing_writes(void)
                 bool fails = places[n] < sample->due.length;
                 struct run run;
                 char script[200], beginning[40];
-                snprintf(beginning, sizeof beginning, "%s: standard output: ", sample->program);
+                snprintf(beginning, sizeof beginning, "%s: standard output: ", sample->tool.program);
                 snprintf(script, sizeof script, "write_stop=%lu write_error=%d%s", (unsigned long)places[n],
                     ways[k].error, ways[k].script);
                 run = run_script(sample, script);
                 if (!fails)
                     check_said(&run, "");
                 else if (ways[k].error != 0)
-                    check_error(&run, "output", ways[k].error);
+                    check_error(&run, "standard output", ways[k].error);
                 else
                     check_said_line(&run, beginning);
                 check_printed(&run, sample->due.at, places[n]);
-                check_calls(0, fails);
+                check_calls(reads_input(&sample->tool), 0, fails);
                 forget(&run);
             }
+}
+
+/* A read of a file that fails after any number of bytes. */
+static void test_failing_files(void)
+{
+    static const char *const files[] = {"maker", "site"};
+    size_t places[FEW], i, k, n, count;
+    for (i = 0; i < sample_count; i++)
+        for (k = 0; k < 2 && has_files(&samples[i].tool); k++) {
+            const struct sample *sample = &samples[i];
+            size_t length = (k == 0 ? sample->tool.texts.maker : sample->tool.texts.site).length;
+            for (count = find_places(length, places), n = 0; n < count; n++) {
+                struct run run;
+                char script[200];
+                snprintf(script, sizeof script, "%s_stop=%lu %s_error=%d %s_short=%d", files[k], (unsigned long)places[n],
+                    files[k], EIO, files[1 - k], n % 2 == 0 ? 1000 : 65536);
+                run = run_script(sample, script);
+                check_error(&run, sample->tool.names[k], EIO);
+                check_printed(&run, "", 0);
+                check_calls(false, 1, 0);
+                forget(&run);
+            }
+        }
 }
 
 /* With real descriptors */
@@ -664,18 +805,19 @@ static void test_unreadable(void)
         {"input only for writing", "/dev/null", O_WRONLY, EBADF, true},
         {"closed input and output", NULL, 0, EBADF, false},
         {"a directory and closed output", "/", O_RDONLY, EISDIR, false}};
+    const struct tool tools[] = {compiler, decompiler, engine, sample_of("explain", "two texts")->tool};
     size_t i, k;
-    for (i = 0; i < PROGRAMS; i++)
+    for (i = 0; i < sizeof tools / sizeof *tools; i++)
         for (k = 0; k < sizeof ways / sizeof *ways; k++) {
-            struct setting setting = setting_of(program_names[i]);
+            struct setting setting = setting_of(&tools[i]);
             struct run run;
-            begin("%s, %s", program_names[i], ways[k].name);
+            begin("%s, %s", tools[i].program, ways[k].name);
             if (ways[k].path != NULL)
                 setting.in = open_file(ways[k].path, ways[k].flags);
             run = ways[k].prints ? start_piped(setting) : start(setting, CLOSED);
             end(&run);
             check_status(&run);
-            check_error(&run, "input", ways[k].error);
+            check_error(&run, "standard input", ways[k].error);
             check_printed(&run, "", 0);
             if (ways[k].path != NULL)
                 close(setting.in);
@@ -683,20 +825,97 @@ static void test_unreadable(void)
         }
 }
 
-/* Input that would block behind these bytes. */
-static void block_behind(const char *program, const void *bytes, size_t length)
+/* Input that is not read: it stays open and keeps its bytes, or is closed or a directory. */
+static void test_unread_input(void)
 {
-    struct setting setting = setting_of(program);
-    struct bytes due = due_of_part(program, bytes, length);
+    static const char *const names[] = {"input kept open", "a directory", "closed input"};
+    static const char input[] = "A3 E1 E3 R0=41\nE1 causes A1\n";
+    size_t i, k;
+    for (i = 0; i < sample_count; i++)
+        for (k = 0; k < 3 && !reads_input(&samples[i].tool); k++) {
+            struct setting setting = setting_of(&samples[i].tool);
+            struct run run;
+            int writer = CLOSED;
+            begin("%s, %s, %s", samples[i].tool.program, samples[i].name, names[k]);
+            if (k < 2)
+                setting.in = k == 0 ? pipe_of(input, sizeof input - 1, &writer) : open_file("/", O_RDONLY);
+            run = start_piped(setting);
+            end(&run);
+            check_status(&run);
+            check_said(&run, "");
+            check_printed(&run, samples[i].due.at, samples[i].due.length);
+            if (k == 0 && held(setting.in) != (int)sizeof input - 1)
+                fail("input was read");
+            if (k < 2)
+                close(setting.in);
+            if (k == 0)
+                close(writer);
+            forget(&run);
+        }
+}
+
+/* Two files of which the given one cannot be opened or read. No input is read. */
+static void fail_on_file(const char *program, char *maker, char *site, const char *named, int error)
+{
+    static const char input[] = "A1 E1\n";
+    struct tool tool = {.program = program, .names = {maker, site}};
+    struct setting setting = setting_of(&tool);
     struct run run;
     int writer;
-    begin("%s, input that would block after %lu bytes '%s'", program, (unsigned long)length, shown(bytes, length));
+    begin("%s '%.40s' '%.40s'", program, maker, site);
+    setting.in = pipe_of(input, sizeof input - 1, &writer);
+    run = start_piped(setting);
+    end(&run);
+    check_status(&run);
+    check_error(&run, named, error);
+    check_printed(&run, "", 0);
+    if (held(setting.in) != (int)sizeof input - 1)
+        fail("input was read");
+    close(setting.in);
+    close(writer);
+    forget(&run);
+}
+
+/* Files that cannot be opened or read, as the maker's, as the site's and as both. The maker's is opened and read first; that its
+   text is refused does not count while the site's file cannot be read. */
+static void test_files(void)
+{
+    static char none[] = "", folder[] = "/", slash[] = "/dev/null/", long_name[300];
+    char *const missing = new_name(), *const loop = new_name(), *const locked = named_file_of("", 0);
+    char *const good = named_file_of("E1 causes A1\n", 13), *const refused = named_file_of("E64 causes A1\n", 14);
+    const struct {
+        char *name;
+        int error;
+    } bad[] = {{missing, ENOENT}, {none, ENOENT}, {folder, EISDIR}, {slash, ENOTDIR}, {long_name, ENAMETOOLONG}, {loop, ELOOP},
+        {locked, EACCES}};
+    size_t count = sizeof bad / sizeof *bad - (geteuid() == 0), i, k; /* root reads what is locked */
+    memset(long_name, 'n', sizeof long_name - 1);
+    if (symlink(loop, loop) < 0 || chmod(locked, 0) < 0)
+        fail("%s", strerror(errno));
+    for (k = 0; k < ON_TEXTS; k++)
+        for (i = 0; i < count; i++) {
+            fail_on_file(on_texts[k], bad[i].name, good, bad[i].name, bad[i].error);
+            fail_on_file(on_texts[k], good, bad[i].name, bad[i].name, bad[i].error);
+            fail_on_file(on_texts[k], refused, bad[i].name, bad[i].name, bad[i].error);
+            fail_on_file(on_texts[k], bad[i].name, missing, bad[i].name, bad[i].error);
+            fail_on_file(on_texts[k], bad[i].name, folder, bad[i].name, bad[i].error);
+        }
+}
+
+/* Input that would block behind these bytes. */
+static void block_behind(const struct tool *tool, const void *bytes, size_t length)
+{
+    struct setting setting = setting_of(tool);
+    struct bytes due = due_of_part(tool, bytes, length);
+    struct run run;
+    int writer;
+    begin("%s, input that would block after %lu bytes '%s'", tool->program, (unsigned long)length, shown(bytes, length));
     setting.in = pipe_of(bytes, length, &writer);
     set_nonblocking(setting.in);
     run = start_piped(setting);
     end(&run);
     check_status(&run);
-    check_error(&run, "input", EAGAIN);
+    check_error(&run, "standard input", EAGAIN);
     check_printed(&run, due.at, due.length);
     close(setting.in);
     close(writer);
@@ -713,21 +932,24 @@ static void test_blocking_input(void)
     static const char *const inputs[] = {"", "E1 causes A1\n", "E1 causes A1\nrun", "E1 causes A1\nrun\n",
         "E1 causes A1\nrun\nE1", "E1 causes A1\nrun\nE1\n", "E1 causes A1\nrun\nE1\n\nE64\nE1 E2", "E64 causes A1\n",
         "E64 causes A1\nru", "E64 causes A1\nrun\nE1\nE", "run\n\n\n "};
+    static const char *const questions[] = {"", "A", "A3 E1 R0=41", "A4 E3\n", "A4 E3\n\nA64\nA3 E", "\n\nx\n "};
     static const char *const names[] = {"32,769 bytes", "33,000 bytes and no run", "a faulty line in 60,000 bytes",
         "many answers", "long answers"};
     size_t i;
     for (i = 0; i < sizeof texts / sizeof *texts; i++)
-        block_behind("compiler", texts[i], strlen(texts[i]));
+        block_behind(&compiler, texts[i], strlen(texts[i]));
     for (i = 0; i < sizeof dumps / sizeof *dumps; i++)
-        block_behind("decompiler", dumps[i], strlen(dumps[i]));
+        block_behind(&decompiler, dumps[i], strlen(dumps[i]));
     for (i = 0; i < sizeof inputs / sizeof *inputs; i++)
-        block_behind("engine", inputs[i], strlen(inputs[i]));
+        block_behind(&engine, inputs[i], strlen(inputs[i]));
+    for (i = 0; i < sizeof questions / sizeof *questions; i++)
+        block_behind(&sample_of("explain", "two texts")->tool, questions[i], strlen(questions[i]));
     for (i = 0; i < sizeof names / sizeof *names; i++) {
         const struct sample *sample = sample_of("engine", names[i]);
-        block_behind("engine", sample->input.bytes, sample->input.length);
-        block_behind("compiler", sample->input.bytes, sample->input.length);
+        block_behind(&engine, sample->input.bytes, sample->input.length);
+        block_behind(&compiler, sample->input.bytes, sample->input.length);
     }
-    block_behind("decompiler", sample_of("decompiler", "the longest text")->input.bytes,
+    block_behind(&decompiler, sample_of("decompiler", "the longest text")->input.bytes,
         sample_of("decompiler", "the longest text")->input.length);
 }
 
@@ -766,7 +988,7 @@ static void check_sink(const struct run *run, const struct sample *sample, enum 
     else
         check_status(run);
     if (writes && sink != NO_READER_SIGNAL)
-        check_error(run, "output", errors[sink]);
+        check_error(run, "standard output", errors[sink]);
     else
         check_said(run, "");
 }
@@ -779,7 +1001,7 @@ static void print_to_sink(const struct sample *sample, enum sink sink, bool stay
     struct setting setting = on(sample, NULL);
     struct run run;
     int writer = CLOSED, reader, before;
-    begin("%s, %s, %s%s", sample->program, sample->name, names[sink], stays_open ? ", input kept open" : "");
+    begin("%s, %s, %s%s", sample->tool.program, sample->name, names[sink], stays_open ? ", input kept open" : "");
     if (stays_open)
         setting.in = pipe_of(sample->input.bytes, sample->input.length, &writer);
     setting.out = open_sink(sink, &reader);
@@ -808,7 +1030,7 @@ static void test_sinks(void)
     for (i = 0; i < sample_count; i++)
         for (sink = 0; sink < SINKS; sink++) {
             const struct sample *sample = &samples[i];
-            struct bytes due = due_of_part(sample->program, sample->input.bytes, sample->input.length);
+            struct bytes due = due_of_part(&sample->tool, sample->input.bytes, sample->input.length);
             print_to_sink(sample, (enum sink)sink, false);
             if (due.length > 0 && sample->input.length <= PIPE_BYTES)
                 print_to_sink(sample, (enum sink)sink, true);
@@ -835,7 +1057,7 @@ static void test_blocking_output(void)
         close(ends[1]);
         end(&run);
         check_status(&run);
-        check_error(&run, "output", EAGAIN);
+        check_error(&run, "standard output", EAGAIN);
         run.out = ends[0];
         while (run.out != CLOSED)
             take(&run.out, &run.printed, PIPE_BYTES);
@@ -853,7 +1075,7 @@ static void test_blocking_output(void)
 static void leave_after(const struct buffer *input, struct bytes due, size_t count, bool ignores_pipe)
 {
     static const char more[] = "E1\n\nE1\nE1\n";
-    struct setting setting = setting_of("engine");
+    struct setting setting = setting_of(&engine);
     struct pollfd first;
     struct run run;
     int writer, left;
@@ -879,7 +1101,7 @@ static void leave_after(const struct buffer *input, struct bytes due, size_t cou
     check_prefix(&run, due);
     if (ignores_pipe) {
         check_status(&run);
-        check_error(&run, "output", EPIPE);
+        check_error(&run, "standard output", EPIPE);
     } else {
         check_broken_pipe(&run);
         check_said(&run, "");
@@ -899,7 +1121,7 @@ static void test_leaving_reader(void)
     size_t i;
     add(&input, "E1 causes A3\nrun\n");
     add_times(&input, "\n", 60000);
-    due = due_of("engine", input.bytes, input.length);
+    due = due_of(&engine, input.bytes, input.length);
     for (i = 0; i < sizeof counts / sizeof *counts; i++) {
         leave_after(&input, due, counts[i], true);
         leave_after(&input, due, counts[i], false);
@@ -908,29 +1130,38 @@ static void test_leaving_reader(void)
     free(due.at);
 }
 
-/* Any argument: nothing is read. */
+/* A wrong number of arguments: nothing is read. */
 static void test_arguments(void)
 {
-    static const char *const beginnings[PROGRAMS] = {"usage: compiler, with a rule text on standard input",
-        "usage: decompiler, with the words of an image on standard input",
-        "usage: engine, with a rule text, a line run and epoch lines on standard input"};
-    static char x[] = "x", none[] = "", help[] = "--help", dash[] = "-";
-    char *const lists[][3] = {{x, NULL, NULL}, {none, NULL, NULL}, {help, NULL, NULL}, {dash, NULL, NULL}, {x, x, NULL},
-        {none, none, help}};
+    static const struct {
+        const char *program, *beginning;
+        bool alone, files; /* whether it takes no argument, and two */
+    } usages[] = {{"compiler", "usage: compiler", true, true},
+        {"decompiler", "usage: decompiler, with the words of an image on standard input", true, false},
+        {"engine", "usage: engine, with a rule text, a line run and epoch lines on standard input", true, false},
+        {"explain", "usage: explain", false, true}};
+    static char x[] = "x", none[] = "", help[] = "--help", dash[] = "-", null[] = "/dev/null";
+    char *const lists[][3] = {{NULL, NULL, NULL}, {x, NULL, NULL}, {none, NULL, NULL}, {help, NULL, NULL}, {dash, NULL, NULL},
+        {null, NULL, NULL}, {x, x, NULL}, {null, null, NULL}, {none, none, help}, {null, null, null}};
     static const char input[] = "E1 causes A1\nrun\nE1\n";
     size_t i, k;
-    for (i = 0; i < PROGRAMS; i++)
+    for (i = 0; i < sizeof usages / sizeof *usages; i++)
         for (k = 0; k < sizeof lists / sizeof *lists; k++) {
-            struct setting setting = setting_of(program_names[i]);
+            struct tool tool = {.program = usages[i].program};
+            struct setting setting = setting_of(&tool);
             struct run run;
-            int writer;
-            begin("%s with the argument '%s'", program_names[i], lists[k][0]);
+            int writer, count = 0;
+            while (count < 3 && lists[k][count] != NULL)
+                count++;
+            if ((count == 0 && usages[i].alone) || (count == 2 && usages[i].files))
+                continue;
+            begin("%s with %d arguments, '%s'", tool.program, count, count == 0 ? "" : lists[k][0]);
             memcpy(setting.arguments, lists[k], sizeof setting.arguments);
             setting.in = pipe_of(input, strlen(input), &writer);
             run = start_piped(setting);
             end(&run);
             check_status(&run);
-            check_said_line(&run, beginnings[i]);
+            check_said_line(&run, usages[i].beginning);
             check_printed(&run, "", 0);
             if (held(setting.in) != (int)strlen(input))
                 fail("input was read");
@@ -981,7 +1212,7 @@ static void stay_silent(struct run *run, int milliseconds)
 
 static struct run start_client(int *to)
 {
-    struct setting setting = setting_of("engine");
+    struct setting setting = setting_of(&engine);
     struct run run;
     setting.in = pipe_of("", 0, to);
     run = start_piped(setting);
@@ -1047,21 +1278,24 @@ static void answer_after(size_t length)
     free(text.bytes);
 }
 
-/* Lines that just fill a read, or nearly, are answered while the input stays open. */
-static void answer_full_read(size_t length)
+/* Lines that just fill a read, or nearly, are answered while the input stays open. The input begins with `start`, each line
+   with `first`. */
+static void answer_full_read(const struct tool *tool, const char *start, const char *first, size_t length)
 {
-    struct setting setting = setting_of("engine");
+    struct setting setting = setting_of(tool);
     struct buffer input = new_buffer();
     struct bytes due;
     struct run run;
     int to;
-    begin("engine, a client that sends %lu bytes at once and waits", (unsigned long)length);
-    add(&input, "E1 causes A3\nrun\n");
-    while (input.length + 1000 < length)
+    begin("%s, a client that sends %lu bytes at once and waits", tool->program, (unsigned long)length);
+    add(&input, start);
+    while (input.length + 1000 < length) {
+        add(&input, first);
         add(&input, "E1                                     R0=-4                                   E2\n");
+    }
     add_times(&input, " ", (unsigned)(length - input.length - 1));
     add(&input, "\n");
-    due = due_of("engine", input.bytes, input.length);
+    due = due_of(tool, input.bytes, input.length);
     setting.in = pipe_of(input.bytes, input.length, &to);
     run = start_piped(setting);
     close(setting.in);
@@ -1073,6 +1307,7 @@ static void answer_full_read(size_t length)
 
 static void test_clients(void)
 {
+    static const size_t lengths[] = {4096, PIPE_BYTES - 1, PIPE_BYTES};
     size_t n;
     refuse_long(33000, "");
     refuse_long(200000, "");
@@ -1080,20 +1315,21 @@ static void test_clients(void)
     refuse_long(200000, NEAR_RUN);
     for (n = TEXT_BYTES - 6; n <= TEXT_BYTES + 6; n++)
         answer_after(n);
-    answer_full_read(4096);
-    answer_full_read(PIPE_BYTES - 1);
-    answer_full_read(PIPE_BYTES);
+    for (n = 0; n < sizeof lengths / sizeof *lengths; n++) {
+        answer_full_read(&engine, "E1 causes A3\nrun\n", "", lengths[n]);
+        answer_full_read(&sample_of("explain", "many answers")->tool, "", "A3 ", lengths[n]);
+    }
 }
 
 /* A terminal: each EOT at the start of a line is an end of the input, and only one is sent. */
-static void type(const char *program, const char *typed, const char *input)
+static void type(const struct tool *tool, const char *typed, const char *input)
 {
-    struct setting setting = setting_of(program);
-    struct bytes due = due_of(program, (const uint8_t *)input, strlen(input));
+    struct setting setting = setting_of(tool);
+    struct bytes due = due_of(tool, (const uint8_t *)input, strlen(input));
     struct termios modes;
     struct run run;
     int terminal;
-    begin("%s on a terminal, '%s'", program, shown(typed, strlen(typed)));
+    begin("%s on a terminal, '%s'", tool->program, shown(typed, strlen(typed)));
     terminal = keep(posix_openpt(O_RDWR | O_NOCTTY));
     if (grantpt(terminal) < 0 || unlockpt(terminal) < 0)
         fail("no terminal: %s", strerror(errno));
@@ -1117,19 +1353,23 @@ static void type(const char *program, const char *typed, const char *input)
 
 static void test_terminal(void)
 {
-    type("compiler", "\4", "");
-    type("compiler", EXAMPLE "\4", EXAMPLE);
-    type("compiler", "E64 causes A1\n\4", "E64 causes A1\n");
-    type("compiler", "E1 causes A1\4\4", "E1 causes A1"); /* the first EOT only sends the line */
-    type("decompiler", "\4", "");
-    type("decompiler", "01000000\nff000000\n\4", "01000000\nff000000\n");
-    type("decompiler", "01000000\nff000000\4\4", "01000000\nff000000");
-    type("decompiler", "01000000\n\nff000000\n\4", "01000000\n\nff000000\n");
-    type("engine", "\4", "");
-    type("engine", EXAMPLE "\4", EXAMPLE);
-    type("engine", EXAMPLE "run\nE1 E3 R0=41\n\nE64\n\4", EXAMPLE "run\nE1 E3 R0=41\n\nE64\n");
-    type("engine", EXAMPLE "run\nE1 E3 R0=41\n\nE3\4\4", EXAMPLE "run\nE1 E3 R0=41\n\nE3");
-    type("engine", "E64 causes A1\nrun\nE1\n\4", "E64 causes A1\nrun\nE1\n");
+    const struct tool *explaining = &sample_of("explain", "two texts")->tool;
+    type(&compiler, "\4", "");
+    type(&compiler, EXAMPLE "\4", EXAMPLE);
+    type(&compiler, "E64 causes A1\n\4", "E64 causes A1\n");
+    type(&compiler, "E1 causes A1\4\4", "E1 causes A1"); /* the first EOT only sends the line */
+    type(&decompiler, "\4", "");
+    type(&decompiler, "01000000\nff000000\n\4", "01000000\nff000000\n");
+    type(&decompiler, "01000000\nff000000\4\4", "01000000\nff000000");
+    type(&decompiler, "01000000\n\nff000000\n\4", "01000000\n\nff000000\n");
+    type(&engine, "\4", "");
+    type(&engine, EXAMPLE "\4", EXAMPLE);
+    type(&engine, EXAMPLE "run\nE1 E3 R0=41\n\nE64\n\4", EXAMPLE "run\nE1 E3 R0=41\n\nE64\n");
+    type(&engine, EXAMPLE "run\nE1 E3 R0=41\n\nE3\4\4", EXAMPLE "run\nE1 E3 R0=41\n\nE3");
+    type(&engine, "E64 causes A1\nrun\nE1\n\4", "E64 causes A1\nrun\nE1\n");
+    type(explaining, "\4", "");
+    type(explaining, "A3 E1 E3 R0=41\nA4 E1 E3 R0=41\n\4", "A3 E1 E3 R0=41\nA4 E1 E3 R0=41\n");
+    type(explaining, "A4 E3\n\nA4\4\4", "A4 E3\n\nA4");
 }
 
 int main(int argc, char **argv)
@@ -1150,7 +1390,9 @@ int main(int argc, char **argv)
         fail("%s: %s", report_name, strerror(errno));
     make_samples();
     test_arguments();
+    test_files();
     test_unreadable();
+    test_unread_input();
     test_blocking_input();
     test_terminal();
     test_sinks();
@@ -1159,6 +1401,7 @@ int main(int argc, char **argv)
     test_clients();
     test_sound();
     test_failing_reads();
+    test_failing_files();
     test_failing_writes();
     printf("%lu\n", cases);
     return 0;

@@ -1,11 +1,15 @@
 /* Makes inputs for the programs and the outputs that the reference expects, the same on each run: `generate DIR` writes
-   DIR/PROGRAM/NAME.in and .out, and prints how often each fault was met. It fails if one was never met. */
+   DIR/PROGRAM/NAME.in and .out, or .maker, .site and .out with the .in of `explain`, and prints how often each fault was met. It
+   fails if one was never met. */
 #include "../reference/inputs.h"
 
 #include <stdlib.h>
 #include <string.h>
 
-enum { COMPILER_CASES = 3200, DECOMPILER_CASES = 1600, ENGINE_CASES = 3200 };
+enum { COMPILER_CASES = 3200, DECOMPILER_CASES = 1600, ENGINE_CASES = 3200, TEXTS_CASES = 1600, EXPLAIN_CASES = 2400 };
+
+/* How often each fault has to be met in each of two texts, and each answer to a question. */
+enum { TEXTS_LEAST = 20, ANSWERS_LEAST = 500 };
 
 static void fail(const char *message, const char *name)
 {
@@ -19,6 +23,9 @@ struct tally {
     unsigned long text[FAULTS], epoch[FAULTS], dump[FAULTS], no_words;
     unsigned long decisions, cancelling, loaded, bodies;
     unsigned long most_accepted, most_cancelled, most_visited, most_epochs; /* in one decision, in one input */
+    unsigned long texts[FAULTS][OWNERS], refused_texts[FAULTS][OWNERS]; /* of the compiler, of explain */
+    unsigned long question[FAULTS], outcomes[OUTCOMES][OWNERS], over; /* refused for the number of the action alone */
+    unsigned long both, most_questions; /* accepted texts with lines of both; in one input */
 };
 
 static FILE *open_file(const char *folder, const char *program, const char *name, const char *end)
@@ -142,11 +149,18 @@ static void check_reference(const struct buffer *input, const char *name, bool e
     }
 }
 
+static void write_file(
+    const char *folder, const char *program, const char *name, const char *end, const struct buffer *bytes)
+{
+    FILE *file = open_file(folder, program, name, end);
+    fwrite(bytes->bytes, 1, bytes->length, file);
+    close_file(file, name);
+}
+
 static void write_files(const char *folder, const char *program, const char *name, const struct buffer *input)
 {
-    FILE *file = open_file(folder, program, name, "in");
-    fwrite(input->bytes, 1, input->length, file);
-    close_file(file, name);
+    FILE *file;
+    write_file(folder, program, name, "in", input);
     file = open_file(folder, program, name, "out");
     print_program(program, input->bytes, input->length, file);
     close_file(file, name);
@@ -185,6 +199,153 @@ static void write_case(
     check_reference(input, name, engine, tally);
     if (!engine)
         write_dump_of(folder, name, input, tally);
+}
+
+/* Cases with two texts */
+
+/* Two texts, and questions about them. */
+struct asked {
+    struct buffer maker, site, questions;
+};
+
+static void clear(struct asked *asked)
+{
+    asked->maker.length = asked->site.length = asked->questions.length = 0;
+}
+
+static struct texts texts_in(const struct asked *asked)
+{
+    return texts_of(&asked->maker, &asked->site);
+}
+
+/* Two texts have the image of one text with the lines of both, unless that is too long. */
+static void check_joined(const struct asked *asked, const uint8_t *image, size_t size, const char *name)
+{
+    static uint8_t other[IMAGE_BYTES];
+    struct buffer joined = new_buffer();
+    size_t written;
+    add_bytes(&joined, asked->maker.bytes, asked->maker.length);
+    add(&joined, "\n");
+    add_bytes(&joined, asked->site.bytes, asked->site.length);
+    if (joined.length <= TEXT_BYTES
+        && (compile(joined.bytes, joined.length, other, sizeof other, &written).fault != FAULT_NONE || written != size
+            || memcmp(image, other, size) != 0))
+        fail("two texts have not the image of their lines in one text", name);
+    free(joined.bytes);
+}
+
+/* The policy of two texts. False if they are refused. */
+static bool check_texts(const struct asked *asked, const char *name, unsigned long counts[FAULTS][OWNERS],
+    struct policy *policy, struct tally *tally)
+{
+    static uint8_t image[IMAGE_BYTES], less[IMAGE_BYTES];
+    size_t size, written, i;
+    bool lines[OWNERS] = {false, false, false};
+    struct verdict verdict = compile_texts(texts_in(asked), image, sizeof image, &size);
+    counts[verdict.fault][verdict.text]++;
+    if (verdict.fault != FAULT_NONE)
+        return false;
+    check_joined(asked, image, size, name);
+    verdict = compile_texts(texts_in(asked), less, size - 1, &written);
+    if (verdict.fault != FAULT_ROOM || verdict.text != NEITHER || verdict.location != 0 || written != 0)
+        fail("a buffer with too little room was taken, or a text is named for it", name);
+    read_texts(texts_in(asked), policy);
+    for (i = 0; i < policy->rule_count; i++)
+        lines[policy->rules[i].shown.text] = true;
+    for (i = 0; i < policy->constraint_count; i++)
+        lines[policy->constraints[i].shown.text] = true;
+    tally->both += lines[MAKER] && lines[SITE];
+    return true;
+}
+
+/* The line that is shown, read alone, is a rule that proposes the action or a never line that cancels it after those kept before
+   it. */
+static void check_shown(const struct asked *asked, struct part shown, const struct epoch *epoch, struct decision decision,
+    unsigned action, const char *name)
+{
+    static struct policy alone;
+    const struct buffer *text = shown.text == MAKER ? &asked->maker : &asked->site;
+    action_set one = UINT64_C(1) << action, before = decision.accepted & (one - 1);
+    const uint8_t *line = text->bytes + shown.start;
+    if (read_text(line, shown.length, &alone).fault != FAULT_NONE || line[0] == ' ' || line[shown.length - 1] == ' '
+        || (in_set(decision.accepted, action) ? proposed(&alone, epoch) != one || alone.rule_count != 1
+                                              : accepted(&alone, epoch, before | one) != before || alone.constraint_count != 1))
+        fail("the line that is shown does not say why", name);
+}
+
+/* What a question asks, if it is not refused. */
+static unsigned action_of(const uint8_t *question, size_t length)
+{
+    unsigned action = 0;
+    size_t at;
+    for (at = 1; at < length && question[at] != ' '; at++)
+        action = action * 10 + (unsigned)(question[at] - '0');
+    return action;
+}
+
+static struct slice line_of(const uint8_t *question, size_t length)
+{
+    const uint8_t *space = memchr(question, ' ', length), *end = question + length;
+    struct slice line = {space == NULL ? end : space + 1, 0};
+    line.length = (size_t)(end - line.bytes);
+    return line;
+}
+
+static void check_question(const struct asked *asked, const struct policy *policy, const uint8_t *question, size_t length,
+    const char *name, struct tally *tally)
+{
+    struct explanation why = answer_question(policy, question, length);
+    struct slice line = line_of(question, length);
+    unsigned action = action_of(question, length);
+    enum outcome due = NOT_PROPOSED;
+    struct decision decision;
+    struct epoch epoch;
+    enum fault fault = read_epoch(line.bytes, line.length, &epoch).fault;
+    tally->question[why.verdict.fault]++;
+    tally->outcomes[why.outcome][why.shown.text]++;
+    tally->over += why.verdict.fault == FAULT_EPOCH_RANGE && fault == FAULT_NONE;
+    if (why.verdict.fault != FAULT_NONE)
+        return;
+    decision = decide_by_policy(policy, line.bytes, line.length);
+    if (in_set(decision.accepted | decision.cancelled, action))
+        due = in_set(decision.accepted, action) ? IS_ACCEPTED : IS_CANCELLED;
+    if (why.outcome != due)
+        fail("an action is explained otherwise than it is decided", name);
+    if (due != NOT_PROPOSED)
+        check_shown(asked, why.shown, &epoch, decision, action, name);
+}
+
+static void write_on_texts(const char *folder, const char *program, const char *name, const struct asked *asked)
+{
+    FILE *file;
+    write_file(folder, program, name, "maker", &asked->maker);
+    write_file(folder, program, name, "site", &asked->site);
+    file = open_file(folder, program, name, "out");
+    print_on_texts(program, texts_in(asked), asked->questions.bytes, asked->questions.length, file);
+    close_file(file, name);
+}
+
+static void write_texts(const char *folder, const char *name, const struct asked *asked, struct tally *tally)
+{
+    static struct policy policy;
+    write_on_texts(folder, "compiler", name, asked);
+    check_texts(asked, name, tally->texts, &policy, tally);
+}
+
+static void write_explain(const char *folder, const char *name, const struct asked *asked, struct tally *tally)
+{
+    static struct policy policy;
+    const uint8_t *question;
+    size_t at = 0, length;
+    unsigned long questions = 0;
+    write_on_texts(folder, "explain", name, asked);
+    write_file(folder, "explain", name, "in", &asked->questions);
+    if (!check_texts(asked, name, tally->refused_texts, &policy, tally))
+        return;
+    while (next_line(asked->questions.bytes, asked->questions.length, &at, &question, &length)) {
+        check_question(asked, &policy, question, length, name, tally);
+        raise_to(&tally->most_questions, ++questions);
+    }
 }
 
 /* Cases at the limits, by name */
@@ -756,6 +917,244 @@ static void add_any_dump(struct buffer *to, struct dice *dice, unsigned kind)
     free(image.bytes);
 }
 
+/* Two texts at the limits */
+
+/* Two texts for both programs, which have to be answered so. */
+static void write_limit_texts(const char *folder, const char *name, const struct asked *asked, struct verdict due,
+    struct tally *tally)
+{
+    static struct policy policy;
+    struct verdict verdict = read_texts(texts_in(asked), &policy);
+    if (verdict.fault != due.fault || verdict.text != due.text || verdict.location != due.location)
+        fail("not the fault, text and line that are due", name);
+    write_texts(folder, name, asked, tally);
+    write_explain(folder, name, asked, tally);
+}
+
+/* Texts of about the full length: each has its own limit, and the maker's faults come first. */
+static void write_text_lengths(const char *folder, struct asked *asked, struct tally *tally)
+{
+    static const struct {
+        const char *name, *maker, *site; /* the texts begin so */
+        size_t lengths[2]; /* and have so many bytes; 0: no more than that */
+        struct verdict due;
+    } cases[] = {{"32768_32768", "", "", {32768, 32768}, {FAULT_NONE, NEITHER, 0}},
+        {"32769_0", "", "", {32769, 0}, {FAULT_LONG, MAKER, 0}}, {"0_32769", "", "", {0, 32769}, {FAULT_LONG, SITE, 0}},
+        {"32769_32769", "", "", {32769, 32769}, {FAULT_LONG, MAKER, 0}},
+        {"32768_32769", "", "", {32768, 32769}, {FAULT_LONG, SITE, 0}},
+        {"range_32769", "\nE64 causes A1\n", "", {0, 32769}, {FAULT_RANGE, MAKER, 2}},
+        {"32769_range", "", "E64 causes A1\n", {32769, 0}, {FAULT_LONG, MAKER, 0}},
+        {"32768_range", "", "\nE64 causes A1\n", {32768, 0}, {FAULT_RANGE, SITE, 2}},
+        {"range_in_32768", "E64 causes A1\n", "", {32768, 100000}, {FAULT_RANGE, MAKER, 1}},
+        {"range_in_32769", "E64 causes A1\n", "", {32769, 0}, {FAULT_LONG, MAKER, 0}},
+        {"range_in_32769_site", "", "E64 causes A1\n", {0, 32769}, {FAULT_LONG, SITE, 0}},
+        {"range_in_32768_site", "", "E64 causes A1\n", {0, 32768}, {FAULT_RANGE, SITE, 1}},
+        {"65536_0", "", "", {65536, 0}, {FAULT_LONG, MAKER, 0}}, {"0_65536", "", "", {0, 65536}, {FAULT_LONG, SITE, 0}},
+        {"500000_900000", "", "", {500000, 900000}, {FAULT_LONG, MAKER, 0}},
+        {"0_900000", "", "", {0, 900000}, {FAULT_LONG, SITE, 0}}};
+    size_t i;
+    unsigned open;
+    char name[40];
+    for (i = 0; i < sizeof cases / sizeof *cases; i++)
+        for (open = 0; open < 2; open++) {
+            clear(asked);
+            add(&asked->maker, cases[i].maker);
+            add(&asked->site, cases[i].site);
+            if (cases[i].lengths[0] > 0)
+                add_length(&asked->maker, cases[i].lengths[0] - asked->maker.length, open == 0);
+            if (cases[i].lengths[1] > 0)
+                add_length(&asked->site, cases[i].lengths[1] - asked->site.length, open == 0);
+            add(&asked->questions, "A3 E1\nA3\nA64\n");
+            sprintf(name, "limit_two_%s_%u", cases[i].name, open);
+            write_limit_texts(folder, name, asked, cases[i].due, tally);
+        }
+}
+
+/* As many lines as there may be, or one more, over the two texts in many ways. */
+static void write_shared_lines(const char *folder, struct asked *asked, struct tally *tally)
+{
+    unsigned rule, more, first;
+    char name[40];
+    for (rule = 0; rule < 2; rule++)
+        for (more = 0; more < 2; more++) {
+            const char *line = rule ? "E0 causes A0\n" : "never A0\n";
+            unsigned limit = rule ? RULES : CONSTRAINTS, all = limit + more;
+            for (first = 0; first <= all; first += first % 8 == 1 ? 6 : 1) {
+                struct verdict due = {FAULT_NONE, NEITHER, 0};
+                if (more > 0)
+                    due = (struct verdict){FAULT_FULL, first == all ? MAKER : SITE, first == all ? all : all - first};
+                clear(asked);
+                add_times(&asked->maker, line, first);
+                add_times(&asked->site, line, all - first);
+                if (first % 3 == 1)
+                    asked->maker.length--;
+                add(&asked->questions, "A0 E0\nA0");
+                sprintf(name, "two_%s_%u_%u", rule ? "rules" : "nevers", first, all - first);
+                write_limit_texts(folder, name, asked, due, tally);
+            }
+        }
+}
+
+/* The largest text and the widest, split at some lines, with every action and the epochs of the largest. */
+static void write_largest_texts(const char *folder, struct asked *asked, struct tally *tally)
+{
+    static const unsigned shares[] = {0, 1, 64, 96, 128, 191, 192}; /* lines of the maker */
+    struct buffer text = new_buffer(), epochs = new_buffer();
+    const struct verdict due = {FAULT_NONE, NEITHER, 0};
+    size_t i, at, from, length;
+    const uint8_t *line;
+    unsigned kind;
+    char name[40];
+    add_epochs_of_largest(&epochs);
+    for (kind = 0; kind < 2; kind++)
+        for (i = 0; i < sizeof shares / sizeof *shares; i++) {
+            clear(asked);
+            text.length = 0;
+            if (kind == 0)
+                add_largest(&text);
+            else
+                add_widest(&text);
+            for (at = from = 0; from < shares[i] && next_line(text.bytes, text.length, &at, &line, &length); from++)
+                continue;
+            add_bytes(&asked->maker, text.bytes, at);
+            add_bytes(&asked->site, text.bytes + at, text.length - at);
+            for (at = 0; next_line(epochs.bytes, epochs.length, &at, &line, &length);)
+                add_every_question(&asked->questions, line, length);
+            sprintf(name, "large_%s_%u", kind == 0 ? "largest" : "widest", shares[i]);
+            write_limit_texts(folder, name, asked, due, tally);
+        }
+    free(text.bytes);
+    free(epochs.bytes);
+}
+
+/* Lines that are shown, as long as a text may be, at its start and at its end. */
+static void write_long_parts(const char *folder, struct asked *asked, struct tally *tally)
+{
+    const struct verdict due = {FAULT_NONE, NEITHER, 0};
+    unsigned i;
+    char name[40];
+    for (i = 0; i < 4; i++) {
+        clear(asked);
+        add(&asked->maker, i % 2 == 0 ? "E1" : "     E1 causes A2\n  E1");
+        add_times(&asked->maker, " ", TEXT_BYTES - 9 - (unsigned)asked->maker.length - i);
+        add(&asked->maker, "causes A1");
+        add_times(&asked->maker, " ", i);
+        add(&asked->site, i < 2 ? "never" : "E1 causes A1\nnever A1 & A9\n never");
+        add_times(&asked->site, " ", TEXT_BYTES - 12 - (unsigned)asked->site.length - i);
+        add(&asked->site, "A1 if R0 > 5");
+        add_times(&asked->site, " ", i);
+        add_times(&asked->questions, "A1 E1 R0=5\nA1 E1\nA2 E1\nA1\nA1 E1 R0=6\nA64\n", i == 3 ? 12 : 1);
+        sprintf(name, "limit_part_%u", i);
+        write_limit_texts(folder, name, asked, due, tally);
+    }
+}
+
+/* Questions */
+
+/* Texts with answers of all kinds. */
+static void add_asked_texts(struct asked *asked)
+{
+    clear(asked);
+    add(&asked->maker, "E1 causes A4\n  E2 causes A6 \nnever A4 & A5 if R0 > 1");
+    add(&asked->site, "# E9 causes A9\n!E1 causes A4 \nE1 causes A5\n never A6 if R1 < 0x10");
+}
+
+/* Every byte in the place of each byte of a question, before each and behind the last. */
+static void write_question_bytes(const char *folder, struct asked *asked, struct tally *tally)
+{
+    static const char question[] = "A5 E1 R0=2";
+    const size_t length = sizeof question - 1;
+    unsigned byte, inserted;
+    size_t at;
+    for (inserted = 0; inserted < 2; inserted++) {
+        add_asked_texts(asked);
+        for (at = 0; at < length + inserted; at++)
+            for (byte = 0; byte < 256; byte++) {
+                add_bytes(&asked->questions, question, at);
+                add_byte(&asked->questions, byte);
+                add(&asked->questions, question + at + !inserted);
+                add(&asked->questions, "\n");
+            }
+        write_explain(folder, inserted == 0 ? "large_bytes_replaced" : "large_bytes_inserted", asked, tally);
+    }
+}
+
+/* Actions of any number of digits, before epoch lines about as long as they may be, and far longer lines. */
+static void write_question_lengths(const char *folder, struct asked *asked, struct tally *tally)
+{
+    static const char *const actions[] = {"A4", "A63", "A64", "A", "x", "", "A04"};
+    static const unsigned lengths[] = {2, 3, 1020, 1021, 1022, 1023, 1024, 1025, 1026, 2048, 4096, 65537};
+    unsigned i, k, digits;
+    add_asked_texts(asked);
+    for (i = 0; i < sizeof lengths / sizeof *lengths; i++)
+        for (k = 0; k < 7; k++) {
+            add(&asked->questions, actions[k]);
+            add(&asked->questions, k % 2 == 0 ? " E1" : "   ");
+            add_times(&asked->questions, " ", lengths[i] - 2);
+            add(&asked->questions, i % 4 == 3 ? "\nA5 E1 R0=2\n" : "\n");
+        }
+    write_explain(folder, "large_lengths", asked, tally);
+    add_asked_texts(asked);
+    for (digits = 1; digits < 70000; digits += digits < 24 ? 1 : digits < 2000 ? 499 : 16384)
+        for (k = 0; k < 4; k++) {
+            add(&asked->questions, k < 2 ? "A6" : k == 2 ? "A0" : "E6");
+            add_times(&asked->questions, "0", digits - 1);
+            add(&asked->questions, k == 1 ? " E2 R1=0x10\n" : "\n");
+        }
+    write_explain(folder, "large_digits", asked, tally);
+}
+
+/* Many questions at once. */
+static void write_question_floods(const char *folder, struct asked *asked, struct tally *tally)
+{
+    static const char *const lines[] = {"A4", "A5 E1 R0=2", "A6 E2", "A64", "", "A6 E2 R1=16", "x", "A4 E1", "A5 R0=1 R0=1", "A6"};
+    unsigned i;
+    struct dice dice = {UINT64_C(0xF6) << 32};
+    add_asked_texts(asked);
+    for (i = 1; i <= 100200; i++)
+        add(&asked->questions, i % 1000 == 0 ? "A4\n" : i % 1000 == 536 ? "A6 E2\n" : "\n");
+    write_explain(folder, "large_questions", asked, tally);
+    add_asked_texts(asked);
+    for (i = 0; i < 6000; i++) {
+        add(&asked->questions, CHOOSE(&dice, lines));
+        if (chance(&dice, 5))
+            add_times(&asked->questions, " ", 1024);
+        add(&asked->questions, "\n");
+    }
+    write_explain(folder, "large_flood", asked, tally);
+}
+
+static void write_two_texts(const char *folder, struct tally *tally)
+{
+    struct asked asked = {new_buffer(), new_buffer(), new_buffer()};
+    char name[32];
+    unsigned i;
+    write_text_lengths(folder, &asked, tally);
+    write_shared_lines(folder, &asked, tally);
+    write_largest_texts(folder, &asked, tally);
+    write_long_parts(folder, &asked, tally);
+    write_question_bytes(folder, &asked, tally);
+    write_question_lengths(folder, &asked, tally);
+    write_question_floods(folder, &asked, tally);
+    for (i = 0; i < TEXTS_CASES; i++) {
+        struct dice dice = {UINT64_C(0xC6) << 32 | i};
+        clear(&asked);
+        add_texts(&asked.maker, &asked.site, &dice, i % 10);
+        sprintf(name, "seed_two_%04u", i);
+        write_texts(folder, name, &asked, tally);
+    }
+    for (i = 0; i < EXPLAIN_CASES; i++) {
+        struct dice dice = {UINT64_C(0xE6) << 32 | i};
+        clear(&asked);
+        add_explain_input(&asked.maker, &asked.site, &asked.questions, &dice, i % 16);
+        sprintf(name, "seed_%04u", i);
+        write_explain(folder, name, &asked, tally);
+    }
+    free(asked.maker.bytes);
+    free(asked.site.bytes);
+    free(asked.questions.bytes);
+}
+
 /* Prints how often each of these faults was met. False if one never was. */
 static bool print_counts(const unsigned long counts[FAULTS], const enum fault *faults, size_t size)
 {
@@ -768,8 +1167,45 @@ static bool print_counts(const unsigned long counts[FAULTS], const enum fault *f
     return all;
 }
 
-/* Prints the counts. False if a fault was never met, or a set of all actions, the most words that can be visited, or an epoch over
-   100,000. */
+/* Prints how often two texts were refused. False if that was seldom for one of the faults in one of the texts. */
+static bool print_texts(const unsigned long counts[FAULTS][OWNERS])
+{
+    bool all = counts[FAULT_NONE][NEITHER] >= TEXTS_LEAST;
+    int fault, owner;
+    printf(" accepted %lu", counts[FAULT_NONE][NEITHER]);
+    for (owner = MAKER; owner <= SITE; owner++) {
+        printf(", refused in the %s under", owner == MAKER ? "maker's" : "site's");
+        for (fault = FAULT_LONG; fault <= FAULT_REPEAT; fault++) {
+            printf(" %d: %lu", fault, counts[fault][owner]);
+            all = all && counts[fault][owner] >= TEXTS_LEAST;
+        }
+    }
+    return all;
+}
+
+/* The same for questions and their answers. */
+static bool print_questions(const struct tally *tally, const enum fault *faults, size_t size)
+{
+    static const char *const names[OUTCOMES] = {[IS_ACCEPTED] = "accepted", [IS_CANCELLED] = "cancelled"};
+    bool all = tally->outcomes[NOT_PROPOSED][NEITHER] >= ANSWERS_LEAST && tally->over >= ANSWERS_LEAST;
+    int outcome, owner;
+    size_t i;
+    printf(" not proposed %lu", tally->outcomes[NOT_PROPOSED][NEITHER]);
+    for (outcome = IS_ACCEPTED; outcome <= IS_CANCELLED; outcome++)
+        for (owner = MAKER; owner <= SITE; owner++) {
+            printf(", %s by the %s %lu", names[outcome], owner == MAKER ? "maker's" : "site's", tally->outcomes[outcome][owner]);
+            all = all && tally->outcomes[outcome][owner] >= ANSWERS_LEAST;
+        }
+    printf(", refused under");
+    print_counts(tally->question, faults, size);
+    printf(", for the action alone %lu", tally->over);
+    for (i = 0; i < size; i++)
+        all = all && tally->question[faults[i]] >= ANSWERS_LEAST;
+    return all;
+}
+
+/* Prints the counts. False if a fault was never met, or a set of all actions, the most words that can be visited, or an epoch or
+   a question over 100,000; or if something was seldom met in the cases with two texts. */
 static bool report(const struct tally *tally)
 {
     static const enum fault text[] = {FAULT_LONG, FAULT_SHAPE, FAULT_RANGE, FAULT_CROWD, FAULT_FULL, FAULT_REPEAT};
@@ -784,11 +1220,17 @@ static bool report(const struct tally *tally)
     printf("; epochs decided %lu (%lu accept an action, %lu cancel one), refused under", tally->epoch[FAULT_NONE],
         tally->decisions, tally->cancelling);
     all = print_counts(tally->epoch, epoch, sizeof epoch / sizeof *epoch) && all;
-    printf("; at most %lu words visited\n", tally->most_visited);
+    printf("; at most %lu words visited; two texts", tally->most_visited);
+    all = print_texts(tally->texts) && all;
+    printf("; before questions");
+    all = print_texts(tally->refused_texts) && all;
+    printf("; %lu accepted with lines of both; questions", tally->both);
+    all = print_questions(tally, epoch, sizeof epoch / sizeof *epoch) && all;
+    printf("\n");
     return all && tally->text[FAULT_NONE] > 0 && tally->dump[FAULT_NONE] > 0 && tally->no_words > 0
         && tally->decisions > 0 && tally->cancelling > 0 && tally->loaded > 0 && tally->bodies > 0
         && tally->most_accepted == ACTIONS && tally->most_cancelled == ACTIONS && tally->most_visited == MOST_VISITED
-        && tally->most_epochs > 100000;
+        && tally->most_epochs > 100000 && tally->most_questions > 100000 && tally->both >= TEXTS_LEAST;
 }
 
 int main(int argc, char **argv)
@@ -834,8 +1276,11 @@ int main(int argc, char **argv)
         write_case(argv[1], true, name, &input, &tally);
     }
     free(input.bytes);
+    write_two_texts(argv[1], &tally);
     if (!report(&tally)) {
-        fprintf(stderr, "generate: a fault, a set of all actions, 62,784 words or an epoch over 100,000 was never met\n");
+        fprintf(stderr,
+            "generate: a fault, a set of all actions, 62,784 words or an epoch over 100,000 was never met, or something with two "
+            "texts seldom\n");
         return 1;
     }
     return 0;

@@ -1,5 +1,5 @@
-/* Put before the C library (LD_PRELOAD), makes a program's reads of descriptor 0 and its writes on descriptor 1 do what
-   a script says, and counts them. The script is a list of NAME=NUMBER, separated by single spaces:
+/* Put before the C library (LD_PRELOAD), makes a program's reads and its writes on descriptor 1 do what a script says, and counts
+   them. The script is a list of NAME=NUMBER, separated by single spaces:
 
    read_short=K    a call moves at most K bytes
    read_again=K    K calls are interrupted before each one that goes through
@@ -7,7 +7,8 @@
    read_stop=N     when N bytes were moved one call fails, and never again
    read_error=E    that call's error number; with 0 it moves 0 bytes
 
-   and the same for `write`. */
+   for the reads of descriptor 0, and the same for `write`, and for `maker` and `site`: the reads of the file that is read first
+   and of the other one. */
 #define _XOPEN_SOURCE 700
 #include "shim.h"
 
@@ -18,34 +19,43 @@
 #include <stdlib.h>
 #include <string.h>
 #include <sys/mman.h>
+#include <sys/stat.h>
 #include <sys/uio.h>
 #include <unistd.h>
 
-/* The calls in one direction: what the script says of them, and how far they are. */
+/* The calls on one stream: what the script says of them, and how far they are. */
 struct side {
     unsigned long piece, again, every, stop, error;
     unsigned long calls, refused, moved;
+    bool ended;
 };
 
-static struct side reading = {0, 0, 0, ULONG_MAX, 0, 0, 0, 0}, writing = {0, 0, 0, ULONG_MAX, 0, 0, 0, 0};
+enum { READING, WRITING, MAKER, SITE, SIDES };
+
+static struct side sides[SIDES];
 static struct report *report;
+
+/* Which of these words the script goes on with; it moves behind the word. */
+static size_t next_word(const char **script, const char *const *words, size_t count)
+{
+    size_t i;
+    for (i = 0; strncmp(*script, words[i], strlen(words[i])) != 0;)
+        if (++i == count)
+            _exit(99);
+    *script += strlen(words[i]);
+    return i;
+}
 
 static void read_script(const char *script)
 {
-    static const struct {
-        const char *name;
-        unsigned long *number;
-    } settings[] = {{"read_short=", &reading.piece}, {"read_again=", &reading.again}, {"read_every=", &reading.every},
-        {"read_stop=", &reading.stop}, {"read_error=", &reading.error}, {"write_short=", &writing.piece},
-        {"write_again=", &writing.again}, {"write_every=", &writing.every}, {"write_stop=", &writing.stop},
-        {"write_error=", &writing.error}};
+    static const char *const names[SIDES] = {"read_", "write_", "maker_", "site_"};
+    static const char *const settings[] = {"short=", "again=", "every=", "stop=", "error="};
     char *end;
-    size_t i;
     while (*script != '\0') {
-        for (i = 0; strncmp(script, settings[i].name, strlen(settings[i].name)) != 0;)
-            if (++i == sizeof settings / sizeof *settings)
-                _exit(99);
-        *settings[i].number = strtoul(script + strlen(settings[i].name), &end, 10);
+        struct side *side = &sides[next_word(&script, names, SIDES)];
+        unsigned long *const numbers[] = {&side->piece, &side->again, &side->every, &side->stop, &side->error};
+        size_t i = next_word(&script, settings, sizeof settings / sizeof *settings);
+        *numbers[i] = strtoul(script, &end, 10);
         script = *end == ' ' ? end + 1 : end;
     }
 }
@@ -54,12 +64,14 @@ static void read_script(const char *script)
 static void set_up(void)
 {
     const char *script = getenv(SHIM_SCRIPT), *name = getenv(SHIM_REPORT);
-    int file = name == NULL ? -1 : open(name, O_RDWR | O_CLOEXEC);
+    int file = name == NULL ? -1 : open(name, O_RDWR | O_CLOEXEC), i;
     void *place = file < 0 ? MAP_FAILED : mmap(NULL, sizeof *report, PROT_READ | PROT_WRITE, MAP_SHARED, file, 0);
     if (script == NULL || place == MAP_FAILED)
         _exit(99);
     close(file);
     report = place;
+    for (i = 0; i < SIDES; i++)
+        sides[i].stop = ULONG_MAX;
     read_script(script);
 }
 
@@ -96,23 +108,38 @@ static bool has_failed(ssize_t answer)
     return answer == 0 || (answer < 0 && errno != EINTR);
 }
 
+/* The file that is read first is the maker's, any other one the site's. */
+static struct side *side_of(int descriptor)
+{
+    static struct stat first;
+    struct stat file;
+    if (descriptor == 0)
+        return &sides[READING];
+    if (fstat(descriptor, &file) < 0)
+        _exit(99);
+    if (report->file_reads == 0)
+        first = file;
+    return &sides[file.st_dev == first.st_dev && file.st_ino == first.st_ino ? MAKER : SITE];
+}
+
 ssize_t read(int descriptor, void *bytes, size_t size)
 {
     struct iovec part = {bytes, size};
+    struct side *side;
     ssize_t answer;
-    if (descriptor != 0)
-        return readv(descriptor, &part, 1);
     if (report == NULL)
         set_up();
-    report->reads++;
-    report->after_end += report->ended > 0;
+    side = side_of(descriptor);
+    *(descriptor == 0 ? &report->reads : &report->file_reads) += 1;
+    report->after_end += side->ended;
     report->after_failed_read += report->failed_reads > 0;
     report->after_failed_write += report->failed_writes > 0;
-    if (goes_through(&reading, &part.iov_len, &answer))
-        answer = readv(0, &part, 1);
+    if (goes_through(side, &part.iov_len, &answer))
+        answer = readv(descriptor, &part, 1);
     if (answer > 0)
-        reading.moved += (unsigned long)answer;
-    report->ended += answer == 0;
+        side->moved += (unsigned long)answer;
+    side->ended = side->ended || answer == 0;
+    report->ended += answer == 0 && descriptor == 0;
     report->failed_reads += answer != 0 && has_failed(answer);
     return answer;
 }
@@ -127,10 +154,10 @@ ssize_t write(int descriptor, const void *bytes, size_t size)
         set_up();
     report->writes++;
     report->after_failed_write += report->failed_writes > 0;
-    if (goes_through(&writing, &part.iov_len, &answer))
+    if (goes_through(&sides[WRITING], &part.iov_len, &answer))
         answer = writev(1, &part, 1);
     if (answer > 0)
-        writing.moved += (unsigned long)answer;
+        sides[WRITING].moved += (unsigned long)answer;
     report->failed_writes += has_failed(answer);
     return answer;
 }

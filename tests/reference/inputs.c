@@ -65,6 +65,12 @@ void add_events(struct buffer *to, unsigned first, unsigned count)
         add_format(to, "E%u ", first++);
 }
 
+struct texts texts_of(const struct buffer *maker, const struct buffer *site)
+{
+    struct texts texts = {{maker->bytes, maker->length}, {site->bytes, site->length}};
+    return texts;
+}
+
 void splice(struct buffer *in, size_t from, size_t until, const void *bytes, size_t length)
 {
     if (in->length - (until - from) + length > ROOM)
@@ -762,6 +768,119 @@ void add_engine_input(struct buffer *to, struct dice *dice, unsigned kind)
         if (count > 0 || chance(dice, 600))
             add(to, "\n");
     }
+}
+
+/* Two texts, and questions */
+
+/* Takes away the line end of the last line, or not. */
+static void open_last(struct buffer *text, struct dice *dice)
+{
+    if (text->length > 0 && text->bytes[text->length - 1] == '\n' && chance(dice, 300))
+        text->length--;
+}
+
+void split_text(const uint8_t *text, size_t length, struct dice *dice, struct buffer *maker, struct buffer *site)
+{
+    static const unsigned shares[] = {0, 100, 500, 500, 900, 1000}; /* of the maker, of 1000 lines */
+    unsigned share = CHOOSE(dice, shares);
+    size_t from = 0, at = 0, line_length, cut = below(dice, (unsigned)length + 1);
+    bool cuts = chance(dice, 400);
+    const uint8_t *line;
+    while (next_line(text, length, &at, &line, &line_length)) {
+        bool makers = cuts ? from < cut : chance(dice, share);
+        add_bytes(makers ? maker : site, line, at - from);
+        from = at;
+    }
+    open_last(maker, dice);
+    open_last(site, dice);
+}
+
+void add_texts(struct buffer *maker, struct buffer *site, struct dice *dice, unsigned kind)
+{
+    enum { GOOD = 0, MANY_LINES = 7, MANY_BYTES = 8 }; /* the last two about as large as they may be */
+    unsigned first = below(dice, 10), second = below(dice, 10);
+    struct buffer text;
+    if (kind < 5) {
+        text = new_buffer();
+        add_text(&text, dice, kind == 0 ? MANY_LINES : first, false);
+        split_text(text.bytes, text.length, dice, maker, site);
+        free(text.bytes);
+        return;
+    }
+    switch (kind) {
+    case 5: first = MANY_LINES; break;
+    case 6: first = MANY_BYTES; break;
+    case 7:
+        first = GOOD;
+        second = MANY_BYTES;
+        break;
+    default: break;
+    }
+    add_text(maker, dice, first, false);
+    add_text(site, dice, second, false);
+}
+
+void add_every_question(struct buffer *to, const uint8_t *line, size_t length)
+{
+    unsigned action;
+    for (action = 0; action < ACTIONS; action++) {
+        add_format(to, "A%u ", action);
+        add_bytes(to, line, length);
+        add(to, "\n");
+    }
+}
+
+/* A question, or something like one. */
+static void add_question(struct buffer *to, struct dice *dice, const uint8_t *line, size_t length)
+{
+    static const char *const odd[] = {"", "A", "a1", "A01", "A00", "1", "E1", " A1", "A-1", "A1x", "A1,", "!A1", "A1\t", "A1\r",
+        "A0x1", "AA1", "\xC1", "A\xB1", "A1E1", "#", "run", "A1 A1"};
+    static const char *const outside[] = {"64", "65", "68", "100", "127", "128", "255", "256", "260", "65536", "4294967295",
+        "4294967296", "4294967300", "18446744073709551615", "18446744073709551616", "18446744073709551620",
+        "340282366920938463463374607431768211460", "99999999999999999999999999999999999999999999"};
+    size_t from = to->length;
+    if (chance(dice, 100))
+        add(to, CHOOSE(dice, odd));
+    else if (chance(dice, 100))
+        add_format(to, "A%s", CHOOSE(dice, outside));
+    else
+        add_format(to, "A%u", below(dice, chance(dice, 900) ? 6 : ACTIONS));
+    if (chance(dice, 950)) {
+        add(to, " ");
+        add_bytes(to, line, length);
+    }
+    if (chance(dice, 80))
+        damage(to, from, dice);
+    add(to, "\n");
+}
+
+void add_questions(struct buffer *to, struct dice *dice, const uint8_t *lines, size_t length)
+{
+    const uint8_t *line;
+    size_t at = 0, line_length;
+    unsigned number = 0, chosen = below(dice, 3), i;
+    while (to->length < 100000 && next_line(lines, length, &at, &line, &line_length)) {
+        if (number++ == chosen && line_length <= EPOCH_BYTES)
+            add_every_question(to, line, line_length);
+        for (i = line_length > 2 * EPOCH_BYTES ? 1 : below(dice, 12); i > 0; i--)
+            add_question(to, dice, line, line_length);
+    }
+    open_last(to, dice);
+}
+
+void add_explain_input(
+    struct buffer *maker, struct buffer *site, struct buffer *questions, struct dice *dice, unsigned kind)
+{
+    struct buffer input = new_buffer();
+    size_t text_length, at;
+    add_engine_input(&input, dice, kind);
+    find_run(input.bytes, input.length, &text_length, &at);
+    if (kind < 10)
+        split_text(input.bytes, text_length, dice, maker, site);
+    else
+        add_texts(maker, site, dice, below(dice, 10));
+    add_questions(questions, dice, input.bytes + at, input.length - at);
+    free(input.bytes);
 }
 
 /* Texts at the limits */

@@ -24,6 +24,9 @@ void add_format(struct buffer *to, const char *format, ...); /* at most 255 byte
 void add_times(struct buffer *to, const char *string, unsigned times);
 void add_events(struct buffer *to, unsigned first, unsigned count); /* E3 E4 E5, each with a space behind it */
 
+/* The maker's text and the site's. */
+struct texts texts_of(const struct buffer *maker, const struct buffer *site);
+
 /* Puts other bytes in the place of those from `from` to `until`. */
 void splice(struct buffer *in, size_t from, size_t until, const void *bytes, size_t length);
 
@@ -82,6 +85,22 @@ void add_epoch(struct buffer *to, struct dice *dice, const struct taste *taste);
 
 /* A whole input of the engine, of a kind from 0 to 15. */
 void add_engine_input(struct buffer *to, struct dice *dice, unsigned kind);
+
+/* The lines of a text, each in the maker's text or in the site's, in their order. The last of each may lack its line end. */
+void split_text(const uint8_t *text, size_t length, struct dice *dice, struct buffer *maker, struct buffer *site);
+
+/* Two texts, of a kind from 0 to 9: one that was split, or two. */
+void add_texts(struct buffer *maker, struct buffer *site, struct dice *dice, unsigned kind);
+
+/* A question for every action about one epoch line. */
+void add_every_question(struct buffer *to, const uint8_t *line, size_t length);
+
+/* Questions about epoch lines: for one of the lines about every action, for all of them some by chance, with and without faults. */
+void add_questions(struct buffer *to, struct dice *dice, const uint8_t *lines, size_t length);
+
+/* Two texts and questions, of a kind from 0 to 15: those under 10 are from inputs of the engine that are accepted. */
+void add_explain_input(
+    struct buffer *maker, struct buffer *site, struct buffer *questions, struct dice *dice, unsigned kind);
 
 /* 128 rules and 64 constraints of 17 words each. With E0 to E31 and R0=7 R1=0 R2=0 R3=0, the epoch of the largest, every
    rule proposes its action, and all 64 actions are proposed. */

@@ -3,20 +3,20 @@
 #include <inttypes.h>
 #include <string.h>
 
-static const struct verdict ACCEPTED = {FAULT_NONE, 0};
+static const struct verdict ACCEPTED = {FAULT_NONE, NEITHER, 0};
 
-static struct verdict refuse(enum fault fault, size_t location)
+static struct verdict refuse_text(enum fault fault, enum owner text, size_t line)
 {
-    struct verdict verdict = {fault, location};
+    struct verdict verdict = {fault, text, line};
     return verdict;
 }
 
-/* Bytes and tokens */
+static struct verdict refuse(enum fault fault, size_t location)
+{
+    return refuse_text(fault, NEITHER, location);
+}
 
-struct slice {
-    const uint8_t *bytes;
-    size_t length;
-};
+/* Bytes and tokens */
 
 static struct slice part(struct slice whole, size_t from, size_t to)
 {
@@ -289,8 +289,8 @@ static bool read_constraint(struct tokens tokens, struct constraint *constraint,
     }
 }
 
-/* Adds what one line of a text says to the policy. */
-static enum fault read_line(struct slice line, struct policy *policy)
+/* Adds what one line of a text says to the policy; `shown` is where it stands. */
+static enum fault read_line(struct slice line, struct part shown, struct policy *policy)
 {
     struct tokens tokens = {line, 0}, behind = tokens;
     struct slice first;
@@ -311,30 +311,69 @@ static enum fault read_line(struct slice line, struct policy *policy)
         return FAULT_REPEAT;
     if (is_rule ? policy->rule_count == RULES : policy->constraint_count == CONSTRAINTS)
         return FAULT_FULL;
-    if (is_rule)
+    if (is_rule) {
+        rule.shown = shown;
         policy->rules[policy->rule_count++] = rule;
-    else
+    } else {
+        constraint.shown = shown;
         policy->constraints[policy->constraint_count++] = constraint;
+    }
     return FAULT_NONE;
+}
+
+/* A line of a text without the spaces at both ends. */
+static struct part trim(struct slice line, enum owner owner, struct slice text)
+{
+    size_t from = 0, to = line.length;
+    struct part shown = {owner, (size_t)(line.bytes - text.bytes), 0};
+    while (from < to && line.bytes[from] == ' ')
+        from++;
+    while (from < to && line.bytes[to - 1] == ' ')
+        to--;
+    shown.start += from;
+    shown.length = to - from;
+    return shown;
+}
+
+/* Adds what one text says to the policy. */
+static struct verdict read_lines(struct slice text, enum owner owner, struct policy *policy)
+{
+    struct slice line;
+    size_t at = 0, number = 0;
+    enum fault fault;
+    if (text.length > TEXT_BYTES)
+        return refuse_text(FAULT_LONG, owner, 0);
+    while (next_line(text.bytes, text.length, &at, &line.bytes, &line.length)) {
+        number++;
+        fault = read_line(line, trim(line, owner, text), policy);
+        if (fault != FAULT_NONE)
+            return refuse_text(fault, owner, number);
+    }
+    return ACCEPTED;
+}
+
+struct verdict read_texts(struct texts texts, struct policy *policy)
+{
+    struct policy result;
+    struct verdict verdict;
+    memset(&result, 0, sizeof result);
+    verdict = read_lines(texts.maker, MAKER, &result);
+    if (verdict.fault == FAULT_NONE)
+        verdict = read_lines(texts.site, SITE, &result);
+    if (verdict.fault == FAULT_NONE)
+        *policy = result;
+    return verdict;
+}
+
+static struct texts one_text(const uint8_t *text, size_t length)
+{
+    struct texts texts = {{text, length}, {NULL, 0}};
+    return texts;
 }
 
 struct verdict read_text(const uint8_t *text, size_t length, struct policy *policy)
 {
-    struct policy result;
-    struct slice line;
-    size_t at = 0, number = 0;
-    enum fault fault;
-    memset(&result, 0, sizeof result);
-    if (length > TEXT_BYTES)
-        return refuse(FAULT_LONG, 0);
-    while (next_line(text, length, &at, &line.bytes, &line.length)) {
-        number++;
-        fault = read_line(line, &result);
-        if (fault != FAULT_NONE)
-            return refuse(fault, number);
-    }
-    *policy = result;
-    return ACCEPTED;
+    return read_texts(one_text(text, length), policy);
 }
 
 /* Images */
@@ -430,15 +469,20 @@ static struct verdict hand_over(const uint8_t *bytes, size_t size, uint8_t *buff
     return ACCEPTED;
 }
 
-struct verdict compile(const uint8_t *text, size_t length, uint8_t *buffer, size_t room, size_t *written)
+struct verdict compile_texts(struct texts texts, uint8_t *buffer, size_t room, size_t *written)
 {
     struct policy policy;
     uint8_t image[IMAGE_BYTES];
-    struct verdict verdict = read_text(text, length, &policy);
+    struct verdict verdict = read_texts(texts, &policy);
     *written = 0;
     if (verdict.fault != FAULT_NONE)
         return verdict;
     return hand_over(image, write_image(&policy, image), buffer, room, written);
+}
+
+struct verdict compile(const uint8_t *text, size_t length, uint8_t *buffer, size_t room, size_t *written)
+{
+    return compile_texts(one_text(text, length), buffer, room, written);
 }
 
 /* Loading. A line is read from its operations and numbers, then written again: the words have to be the same. */
@@ -738,35 +782,42 @@ static bool condition_holds(const struct condition *condition, enum line_kind ki
     return true;
 }
 
+static bool rule_holds(const struct rule *rule, const struct epoch *epoch)
+{
+    size_t i;
+    for (i = 0; i < rule->count; i++)
+        if (in_set(epoch->events, rule->literals[i].event) == rule->literals[i].negated)
+            return false;
+    return condition_holds(&rule->condition, IN_RULE, epoch);
+}
+
 action_set proposed(const struct policy *policy, const struct epoch *epoch)
 {
     action_set set = 0;
-    size_t i, k;
-    for (i = 0; i < policy->rule_count; i++) {
-        const struct rule *rule = &policy->rules[i];
-        bool holds = condition_holds(&rule->condition, IN_RULE, epoch);
-        for (k = 0; k < rule->count; k++)
-            if (in_set(epoch->events, rule->literals[k].event) == rule->literals[k].negated)
-                holds = false;
-        if (holds)
-            set |= UINT64_C(1) << rule->action;
-    }
+    size_t i;
+    for (i = 0; i < policy->rule_count; i++)
+        if (rule_holds(&policy->rules[i], epoch))
+            set |= UINT64_C(1) << policy->rules[i].action;
     return set;
 }
 
-static bool violated(const struct policy *policy, const struct epoch *epoch, action_set set)
+static bool constraint_holds(const struct constraint *constraint, const struct epoch *epoch, action_set set)
 {
-    size_t i, k;
-    for (i = 0; i < policy->constraint_count; i++) {
-        const struct constraint *constraint = &policy->constraints[i];
-        bool holds = condition_holds(&constraint->condition, IN_CONSTRAINT, epoch);
-        for (k = 0; k < constraint->count; k++)
-            if (!in_set(set, constraint->members[k]))
-                holds = false;
-        if (holds)
-            return true;
-    }
-    return false;
+    size_t i;
+    for (i = 0; i < constraint->count; i++)
+        if (!in_set(set, constraint->members[i]))
+            return false;
+    return condition_holds(&constraint->condition, IN_CONSTRAINT, epoch);
+}
+
+/* The first never line that holds on a set; NULL if none does. */
+static const struct constraint *violated(const struct policy *policy, const struct epoch *epoch, action_set set)
+{
+    size_t i;
+    for (i = 0; i < policy->constraint_count; i++)
+        if (constraint_holds(&policy->constraints[i], epoch, set))
+            return &policy->constraints[i];
+    return NULL;
 }
 
 action_set accepted(const struct policy *policy, const struct epoch *epoch, action_set candidates)
@@ -774,14 +825,14 @@ action_set accepted(const struct policy *policy, const struct epoch *epoch, acti
     action_set kept = 0;
     unsigned action;
     for (action = 0; action < ACTIONS; action++)
-        if (in_set(candidates, action) && !violated(policy, epoch, kept | UINT64_C(1) << action))
+        if (in_set(candidates, action) && violated(policy, epoch, kept | UINT64_C(1) << action) == NULL)
             kept |= UINT64_C(1) << action;
     return kept;
 }
 
 struct decision decide_by_policy(const struct policy *policy, const uint8_t *line, size_t length)
 {
-    struct decision decision = {{FAULT_NONE, 0}, 0, 0, 0};
+    struct decision decision = {ACCEPTED, 0, 0, 0};
     struct epoch epoch;
     action_set candidates;
     decision.verdict = read_epoch(line, length, &epoch);
@@ -791,6 +842,69 @@ struct decision decide_by_policy(const struct policy *policy, const uint8_t *lin
     decision.accepted = accepted(policy, &epoch, candidates);
     decision.cancelled = candidates & ~decision.accepted;
     return decision;
+}
+
+/* Why an action is accepted or not */
+
+/* The first rule that proposes a proposed action. */
+static const struct rule *proposer(const struct policy *policy, const struct epoch *epoch, uint64_t action)
+{
+    const struct rule *rule = policy->rules;
+    while (rule->action != action || !rule_holds(rule, epoch))
+        rule++;
+    return rule;
+}
+
+struct explanation explain_by_policy(const struct policy *policy, const uint8_t *line, size_t length, uint64_t action)
+{
+    struct explanation why = {ACCEPTED, OUTCOME_NONE, {NEITHER, 0, 0}};
+    struct epoch epoch;
+    action_set candidates, kept, one;
+    why.verdict = read_epoch(line, length, &epoch);
+    if (why.verdict.fault == FAULT_NONE && action >= ACTIONS)
+        why.verdict = refuse(FAULT_EPOCH_RANGE, 0);
+    if (why.verdict.fault != FAULT_NONE)
+        return why;
+    candidates = proposed(policy, &epoch);
+    kept = accepted(policy, &epoch, candidates);
+    one = UINT64_C(1) << action;
+    if ((candidates & one) == 0) {
+        why.outcome = NOT_PROPOSED;
+    } else if ((kept & one) != 0) {
+        why.outcome = IS_ACCEPTED;
+        why.shown = proposer(policy, &epoch, action)->shown;
+    } else { /* on those that were kept before it, and itself */
+        why.outcome = IS_CANCELLED;
+        why.shown = violated(policy, &epoch, (kept & (one - 1)) | one)->shown;
+    }
+    return why;
+}
+
+struct explanation explain(struct texts texts, const uint8_t *line, size_t length, uint64_t action)
+{
+    struct explanation why = {ACCEPTED, OUTCOME_NONE, {NEITHER, 0, 0}};
+    struct policy policy;
+    why.verdict = read_texts(texts, &policy);
+    if (why.verdict.fault != FAULT_NONE)
+        return why;
+    return explain_by_policy(&policy, line, length, action);
+}
+
+/* The action is all before the first space, the epoch line all behind it. Its length is looked at first. */
+struct explanation answer_question(const struct policy *policy, const uint8_t *question, size_t length)
+{
+    struct explanation why = {ACCEPTED, OUTCOME_NONE, {NEITHER, 0, 0}};
+    struct slice whole = {question, length}, line;
+    size_t space = 0;
+    uint64_t action = 0;
+    while (space < length && question[space] != ' ')
+        space++;
+    line = part(whole, space < length ? space + 1 : length, length);
+    if (!read_name(part(whole, 0, space), 'A', &action) && line.length <= EPOCH_BYTES) {
+        why.verdict = refuse(FAULT_EPOCH_SHAPE, 0);
+        return why;
+    }
+    return explain_by_policy(policy, line.bytes, line.length, action);
 }
 
 /* The words that a decision visits, by the policy. In a line the parts are tested in the order of the text, up to and with
@@ -913,7 +1027,7 @@ static bool run_words(struct fetcher *words, size_t end, enum line_kind kind, co
 
 struct decision decide(const uint8_t *image, size_t image_length, const uint8_t *line, size_t length)
 {
-    struct decision decision = {{FAULT_NONE, 0}, 0, 0, 0};
+    struct decision decision = {ACCEPTED, 0, 0, 0};
     struct policy policy;
     struct epoch epoch;
     struct header header;
@@ -1001,17 +1115,22 @@ void print_decision(unsigned long number, struct decision decision, FILE *out)
     fprintf(out, " words %lu\n", (unsigned long)decision.visited);
 }
 
+static void print_words(const uint8_t *image, size_t size, FILE *out)
+{
+    size_t i;
+    for (i = 0; i < size / WORD_BYTES; i++)
+        fprintf(out, "%08" PRIX32 "\n", word_at(image, i));
+}
+
 static void print_compiler(const uint8_t *input, size_t length, FILE *out)
 {
     uint8_t image[IMAGE_BYTES];
-    size_t written, i;
+    size_t written;
     struct verdict verdict = compile(input, length, image, sizeof image, &written);
-    if (verdict.fault != FAULT_NONE) {
+    if (verdict.fault != FAULT_NONE)
         print_refusal(verdict, "line", out);
-        return;
-    }
-    for (i = 0; i < written / WORD_BYTES; i++)
-        fprintf(out, "%08" PRIX32 "\n", word_at(image, i));
+    else
+        print_words(image, written, out);
 }
 
 size_t read_dump(const uint8_t *input, size_t length, uint8_t image[DUMP_BYTES], size_t *size)
@@ -1078,4 +1197,64 @@ bool print_program(const char *program, const uint8_t *input, size_t length, FIL
             return true;
         }
     return false;
+}
+
+/* The programs with the names of two texts */
+
+static void print_refusal_of_text(struct verdict verdict, FILE *out)
+{
+    fprintf(out, "refused %d text %d line %lu\n", (int)verdict.fault, (int)verdict.text, (unsigned long)verdict.location);
+}
+
+static void print_compiler_on_texts(struct texts texts, FILE *out)
+{
+    uint8_t image[IMAGE_BYTES];
+    size_t written;
+    struct verdict verdict = compile_texts(texts, image, sizeof image, &written);
+    if (verdict.fault != FAULT_NONE)
+        print_refusal_of_text(verdict, out);
+    else
+        print_words(image, written, out);
+}
+
+static void print_explanation(unsigned long number, struct explanation why, struct texts texts, FILE *out)
+{
+    static const char *const outcomes[OUTCOMES] = {
+        [NOT_PROPOSED] = "not proposed", [IS_ACCEPTED] = "accepted", [IS_CANCELLED] = "cancelled"};
+    if (why.verdict.fault != FAULT_NONE) {
+        fprintf(out, "%lu refused %d\n", number, (int)why.verdict.fault);
+        return;
+    }
+    fprintf(out, "%lu %s", number, outcomes[why.outcome]);
+    if (why.shown.text != NEITHER) {
+        fprintf(out, " %d ", (int)why.shown.text);
+        fwrite((why.shown.text == MAKER ? texts.maker : texts.site).bytes + why.shown.start, 1, why.shown.length, out);
+    }
+    fputs("\n", out);
+}
+
+static void print_explain(struct texts texts, const uint8_t *input, size_t length, FILE *out)
+{
+    struct policy policy;
+    struct slice question;
+    size_t at = 0;
+    unsigned long number = 0;
+    struct verdict verdict = read_texts(texts, &policy);
+    if (verdict.fault != FAULT_NONE) {
+        print_refusal_of_text(verdict, out);
+        return;
+    }
+    while (next_line(input, length, &at, &question.bytes, &question.length))
+        print_explanation(++number, answer_question(&policy, question.bytes, question.length), texts, out);
+}
+
+bool print_on_texts(const char *program, struct texts texts, const uint8_t *input, size_t length, FILE *out)
+{
+    if (strcmp(program, "compiler") == 0)
+        print_compiler_on_texts(texts, out);
+    else if (strcmp(program, "explain") == 0)
+        print_explain(texts, input, length, out);
+    else
+        return false;
+    return true;
 }

@@ -1,6 +1,7 @@
 /* Rule texts, images and epochs as document 01 defines them, with the text of an image (request L1 of document 02),
-   readings that are not given (request L2), the words that a decision visits (request L4) and constants in hexadecimal
-   (request L5), in plain C, written from the documents. The programs and the library are compared with it. */
+   readings that are not given (request L2), the words that a decision visits (request L4), constants in hexadecimal
+   (request L5) and two texts as one with the reason for an action (request L6), in plain C, written from the documents. The
+   programs and the library are compared with it. */
 #ifndef REFERENCE_H
 #define REFERENCE_H
 
@@ -38,10 +39,31 @@ enum fault {
     FAULTS = 16
 };
 
-/* What a call answers: no fault, or a fault and its location. */
+/* Lent bytes. */
+struct slice {
+    const uint8_t *bytes;
+    size_t length;
+};
+
+/* The maker's text and the site's, which are read as one. A text alone is the maker's, and the site's is empty. */
+struct texts {
+    struct slice maker, site;
+};
+
+/* Which of them something is about: 0 where it is about neither alone. */
+enum owner { NEITHER = 0, MAKER = 1, SITE = 2, OWNERS = 3 };
+
+/* What a call answers: no fault, or a fault and its location, with the text that it is in. */
 struct verdict {
     enum fault fault;
+    enum owner text;
     size_t location;
+};
+
+/* A line as it stands in a text: from which byte, and how many, without its line end and the spaces at both ends. */
+struct part {
+    enum owner text;
+    size_t start, length;
 };
 
 /* How a text writes each relation. */
@@ -71,6 +93,7 @@ struct rule {
     struct literal literals[LITERALS];
     unsigned action;
     struct condition condition;
+    struct part shown; /* none if it was not read from a text */
 };
 
 /* never A3 & A4 if ... */
@@ -78,6 +101,7 @@ struct constraint {
     size_t count;
     unsigned members[MEMBERS];
     struct condition condition;
+    struct part shown; /* likewise */
 };
 
 struct policy {
@@ -105,15 +129,26 @@ struct decision {
     size_t visited; /* words of the image that were fetched; 0 on a refusal */
 };
 
-/* Reads a rule text. A refused one leaves the policy as it was. */
+/* What becomes of an action in an epoch. */
+enum outcome { OUTCOME_NONE = 0, NOT_PROPOSED = 1, IS_ACCEPTED = 2, IS_CANCELLED = 3, OUTCOMES = 4 };
+
+struct explanation {
+    struct verdict verdict;
+    enum outcome outcome; /* none on a refusal */
+    struct part shown;    /* the line that says why; none on a refusal and for an action that is not proposed */
+};
+
+/* Reads a rule text, or two as one. Refused ones leave the policy as it was. */
 struct verdict read_text(const uint8_t *text, size_t length, struct policy *policy);
+struct verdict read_texts(struct texts texts, struct policy *policy);
 
 /* Writes the image of a policy; the number of its bytes is returned. */
 size_t write_image(const struct policy *policy, uint8_t image[IMAGE_BYTES]);
 
-/* Compiles a rule text into a lent buffer; `written` is the number of image bytes. A refused text leaves the buffer as
-   it was and writes 0 bytes. */
+/* Compiles a rule text, or two as one, into a lent buffer; `written` is the number of image bytes. Refused texts leave the
+   buffer as it was and write 0 bytes. */
 struct verdict compile(const uint8_t *text, size_t length, uint8_t *buffer, size_t room, size_t *written);
+struct verdict compile_texts(struct texts texts, uint8_t *buffer, size_t room, size_t *written);
 
 /* Loads an image as the policy that compiles to it. A refused one leaves the policy as it was. */
 struct verdict load_image(const uint8_t *bytes, size_t length, struct policy *policy);
@@ -142,6 +177,13 @@ struct decision decide_by_policy(const struct policy *policy, const uint8_t *lin
 /* What the engine answers: the image is loaded and its words are run. */
 struct decision decide(const uint8_t *image, size_t image_length, const uint8_t *line, size_t length);
 
+/* Why an action is accepted or not in an epoch, by two texts or by their policy. */
+struct explanation explain(struct texts texts, const uint8_t *line, size_t length, uint64_t action);
+struct explanation explain_by_policy(const struct policy *policy, const uint8_t *line, size_t length, uint64_t action);
+
+/* The same for a question, such as `A4 E1 E3 R0=41`: an action, a space and an epoch line. */
+struct explanation answer_question(const struct policy *policy, const uint8_t *question, size_t length);
+
 /* The most words that a decision on an image may visit: P + 64 * N. */
 size_t visit_limit(const uint8_t *image);
 
@@ -161,6 +203,9 @@ bool next_line(const uint8_t *input, size_t length, size_t *at, const uint8_t **
 
 /* What a program, `compiler`, `decompiler` or `engine`, prints for its input. False if there is no such program. */
 bool print_program(const char *program, const uint8_t *input, size_t length, FILE *out);
+
+/* What `compiler` or `explain` prints that is called with the names of two texts. `compiler` reads no input. */
+bool print_on_texts(const char *program, struct texts texts, const uint8_t *input, size_t length, FILE *out);
 void print_decision(unsigned long number, struct decision decision, FILE *out);
 
 #endif

@@ -37,21 +37,30 @@ static bool has_pattern(const uint8_t *bytes, size_t length)
     return false;
 }
 
+/* What the buffer and all around it has to hold after a call. */
+static uint8_t wanted_out[OUT_BYTES];
+
+/* A buffer with so much room, which is to be filled with this output. */
+static uint8_t *lend_out(size_t room, const uint8_t *output, size_t size)
+{
+    uint8_t *out = tally.comparisons % 3 == 0 ? out_pen.from + GUARD
+        : tally.comparisons % 3 == 1          ? out_pen.end - GUARD - room
+                                              : out_pen.end - room;
+    memcpy(out_pen.from, pattern, OUT_BYTES);
+    memcpy(wanted_out, pattern, OUT_BYTES);
+    memcpy(wanted_out + (out - out_pen.from), output, size);
+    return room == 0 && out_pen.null ? NULL : out;
+}
+
 struct verdict compare_filler(const struct filler *filler, const uint8_t *input, size_t length, size_t room)
 {
-    static uint8_t output[OUT_BYTES], wanted[OUT_BYTES];
+    static uint8_t output[OUT_BYTES];
     char what[200];
     size_t size;
     struct verdict verdict = filler->reference(input, length, output, room, &size);
     struct filled answer;
     const uint8_t *lent = lend(text_pen, input, length);
-    uint8_t *out = tally.comparisons % 3 == 0 ? out_pen.from + GUARD
-        : tally.comparisons % 3 == 1          ? out_pen.end - GUARD - room
-                                              : out_pen.end - room;
-    uint8_t *lent_out = room == 0 && out_pen.null ? NULL : out;
-    memcpy(out_pen.from, pattern, OUT_BYTES);
-    memcpy(wanted, pattern, OUT_BYTES);
-    memcpy(wanted + (out - out_pen.from), output, size);
+    uint8_t *lent_out = lend_out(room, output, size);
     start_call(true);
     answer = filler->library(lent, length, lent_out, room);
     end_call();
@@ -61,7 +70,7 @@ struct verdict compare_filler(const struct filler *filler, const uint8_t *input,
             (unsigned long)verdict.location, (unsigned long)size);
         fail_on(filler->name, what, input, length);
     }
-    if (!same(out_pen.from, wanted, OUT_BYTES))
+    if (!same(out_pen.from, wanted_out, OUT_BYTES))
         fail_on(filler->name, "wrong bytes in the buffer, or changed ones outside the output", input, length);
     if (!same(lent, input, length))
         fail_on(filler->name, "the input was changed", input, length);
@@ -82,6 +91,53 @@ struct verdict compare_text(const uint8_t *image, size_t length, size_t room)
 {
     struct verdict verdict = compare_filler(&writing, image, length, room);
     count_location(tally.text_locations, verdict, image);
+    return verdict;
+}
+
+/* These end the program, and show two texts. */
+static void fail_on_texts(const char *function, const char *what, struct texts texts)
+{
+    describe(function, what);
+    print_bytes("maker's", texts.maker.bytes, texts.maker.length);
+    print_bytes("site's", texts.site.bytes, texts.site.length);
+    printf("\n");
+    exit(1);
+}
+
+static bool same_texts(const uint8_t *maker, const uint8_t *site, struct texts texts)
+{
+    return same(maker, texts.maker.bytes, texts.maker.length) && same(site, texts.site.bytes, texts.site.length);
+}
+
+struct verdict compare_texts(struct texts texts, size_t room)
+{
+    static const char name[] = "kinohazel_compile_texts";
+    static uint8_t output[OUT_BYTES];
+    char what[300];
+    size_t size;
+    struct verdict verdict = compile_texts(texts, output, room, &size);
+    const uint8_t *maker = lend(text_pen, texts.maker.bytes, texts.maker.length),
+                  *site = lend(site_pen, texts.site.bytes, texts.site.length);
+    uint8_t *out = lend_out(room, output, size);
+    struct kinohazel_texts_compilation answer;
+    start_call(true);
+    answer = kinohazel_compile_texts(maker, texts.maker.length, site, texts.site.length, out, room);
+    end_call();
+    if (answer.fault != (uint64_t)verdict.fault || answer.text != (uint64_t)verdict.text
+        || answer.line != verdict.location || answer.size != size) {
+        sprintf(what,
+            "room %lu, fault %" PRIu64 " text %" PRIu64 " line %" PRIu64 " size %" PRIu64 ", expected %d, %d, %lu, %lu",
+            (unsigned long)room, answer.fault, answer.text, answer.line, answer.size, (int)verdict.fault, (int)verdict.text,
+            (unsigned long)verdict.location, (unsigned long)size);
+        fail_on_texts(name, what, texts);
+    }
+    if (!same(out_pen.from, wanted_out, OUT_BYTES))
+        fail_on_texts(name, "wrong bytes in the buffer, or changed ones outside the output", texts);
+    if (!same_texts(maker, site, texts))
+        fail_on_texts(name, "a text was changed", texts);
+    tally.texts[verdict.fault][verdict.text]++;
+    tally.texts_nulls[nulls(maker, site) + (out == NULL ? 4 : 0)]++;
+    tally.comparisons++;
     return verdict;
 }
 
@@ -248,6 +304,55 @@ struct decision compare_decide(const uint8_t *image, size_t length, const uint8_
     tally.decide_nulls[nulls(lent, lent_line)]++;
     tally.accepting += wanted.accepted != 0;
     tally.cancelling += wanted.cancelled != 0;
+    tally.comparisons++;
+    return wanted;
+}
+
+bool agree_why(struct kinohazel_explanation answer, struct explanation wanted)
+{
+    return answer.fault == (uint64_t)wanted.verdict.fault && answer.text == (uint64_t)wanted.verdict.text
+        && answer.line == wanted.verdict.location && answer.outcome == (uint64_t)wanted.outcome
+        && answer.part_text == (uint64_t)wanted.shown.text && answer.part_start == wanted.shown.start
+        && answer.part_length == wanted.shown.length;
+}
+
+static void count_explanation(struct explanation wanted, const uint8_t *line, size_t length, uint64_t action)
+{
+    struct epoch epoch;
+    tally.explain[wanted.verdict.fault][wanted.verdict.text]++;
+    tally.outcomes[wanted.outcome][wanted.shown.text]++;
+    tally.over += wanted.verdict.text == NEITHER && wanted.verdict.fault == FAULT_EPOCH_RANGE && action >= ACTIONS
+        && read_epoch(line, length, &epoch).fault == FAULT_NONE;
+}
+
+struct explanation compare_explain(
+    struct texts texts, const struct policy *policy, const uint8_t *line, size_t length, uint64_t action)
+{
+    static const char name[] = "kinohazel_explain";
+    char what[500];
+    struct explanation wanted =
+        policy == NULL ? explain(texts, line, length, action) : explain_by_policy(policy, line, length, action);
+    const uint8_t *maker = lend(text_pen, texts.maker.bytes, texts.maker.length),
+                  *site = lend(site_pen, texts.site.bytes, texts.site.length), *lent_line = lend(line_pen, line, length);
+    struct kinohazel_explanation answer;
+    start_call(false);
+    answer = kinohazel_explain(maker, texts.maker.length, site, texts.site.length, lent_line, length, action);
+    end_call();
+    if (!agree_why(answer, wanted)) {
+        sprintf(what,
+            "action %" PRIu64 ", fault %" PRIu64 " text %" PRIu64 " line %" PRIu64 " outcome %" PRIu64 " part %" PRIu64 " %" PRIu64
+            " %" PRIu64 ", expected %d, %d, %lu, %d, %d %lu %lu",
+            action, answer.fault, answer.text, answer.line, answer.outcome, answer.part_text, answer.part_start,
+            answer.part_length, (int)wanted.verdict.fault, (int)wanted.verdict.text, (unsigned long)wanted.verdict.location,
+            (int)wanted.outcome, (int)wanted.shown.text, (unsigned long)wanted.shown.start, (unsigned long)wanted.shown.length);
+        describe(name, what);
+        print_bytes("line", line, length);
+        fail_on_texts(name, "the texts", texts);
+    }
+    if (!same_texts(maker, site, texts) || !same(lent_line, line, length))
+        fail_on_texts(name, "a text or the line was changed", texts);
+    count_explanation(wanted, line, length, action);
+    tally.explain_nulls[nulls(maker, site) + (lent_line == NULL ? 4 : 0)]++;
     tally.comparisons++;
     return wanted;
 }

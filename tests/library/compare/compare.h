@@ -63,7 +63,7 @@ enum counted {
 };
 
 /* What was met. Locations of fault 11: the first line of the rules, a later one, and the same of the constraints. Nulls: 1 if the
-   first area of a call is null, and 2 more if the second one is. */
+   first area of a call is null, 2 more if the second one is, and 4 more if the third one is. */
 struct tally {
     unsigned long comparisons, compile[FAULTS], check[FAULTS], text[FAULTS], decide[FAULTS];
     unsigned long check_locations[4], text_locations[4], flaws[2][FLAWS], accepting, cancelling, extremes[EXTREMES];
@@ -71,6 +71,9 @@ struct tally {
     unsigned long missing[2]; /* proposals, and cancellations, that would be others if missing readings were 0 */
     unsigned long counted[COUNTED];
     unsigned long patterns[2]; /* accepted texts, and epoch lines, that have 0x behind a space or an equals sign */
+    unsigned long texts[FAULTS][OWNERS], explain[FAULTS][OWNERS]; /* refusals by the text at fault */
+    unsigned long outcomes[OUTCOMES][OWNERS], over; /* by the text of the part; actions over 63 as the only fault */
+    unsigned long texts_nulls[8], explain_nulls[8], overlapping;
     unsigned long written, empty, longest; /* texts that compile to their image again; those of 0 and of 27,968 bytes */
 };
 
@@ -103,14 +106,14 @@ struct pen {
     bool null;
 };
 
-extern struct pen text_pen, line_pen, out_pen;
+extern struct pen text_pen, site_pen, line_pen, out_pen;
 
 /* What the buffer holds before a call. */
 extern uint8_t pattern[OUT_BYTES];
 
 void make_pens(void);
 
-/* Bit 0 is for the texts and images, bit 1 for the lines, bit 2 for the buffer. */
+/* Bit 0 is for the texts and images, bit 1 for the lines, bit 2 for the buffer, bit 3 for the texts of the site. */
 void set_nulls(unsigned which);
 void make_pattern(struct dice *dice);
 
@@ -146,12 +149,34 @@ struct decision compare_decide(const uint8_t *image, size_t length, const uint8_
     const struct policy *policy);
 bool agree(struct kinohazel_decision answer, struct decision wanted);
 
+/* Two texts, and why an action is issued or not by them. The policy, if there is one, is theirs. */
+struct verdict compare_texts(struct texts texts, size_t room);
+struct explanation compare_explain(
+    struct texts texts, const struct policy *policy, const uint8_t *line, size_t length, uint64_t action);
+bool agree_why(struct kinohazel_explanation answer, struct explanation wanted);
+
 /* texts.c */
 
 /* A text or an image with buffers of several lengths. */
 struct verdict compare_filler_rooms(const struct filler *filler, const uint8_t *input, size_t length, struct dice *dice);
 struct verdict compare_rooms(const uint8_t *text, size_t length, struct dice *dice);
 void compare_limit_texts(struct buffer *input, struct dice *dice);
+
+/* joint.c: two texts as one, and why an action is issued or not. */
+
+/* Two texts with buffers of several lengths. */
+struct verdict compare_texts_rooms(struct texts texts, struct dice *dice);
+
+/* A text beside an empty one is compiled as it is alone, but for the text that a refusal names. */
+void compare_beside_empty(const uint8_t *text, size_t length);
+
+/* Two texts by chance. */
+void compare_any_texts(struct buffer *maker, struct buffer *site, struct dice *dice);
+
+/* A text split over two, the epoch lines of an input from `at` on, and actions: every one, and numbers that are none. */
+void compare_why(const struct buffer *input, size_t text_length, size_t at, struct buffer *maker, struct buffer *site,
+    struct dice *dice);
+void compare_limit_joint(struct buffer *maker, struct buffer *site, struct dice *dice);
 
 /* written.c */
 

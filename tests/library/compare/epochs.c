@@ -94,8 +94,10 @@ void compare_limit_epochs(struct buffer *input)
         {"R0=0x000000001 R0=1", FAULT_EPOCH_RANGE}, {"R0=0x1 R0=0x1 E64", FAULT_EPOCH_RANGE},
         {"R0=0x1 R0=0x00000001", FAULT_TWICE}, {"R0=1 R0=0x1", FAULT_TWICE}};
     static const char text[] = "E1 & !E2 causes A3 if R0 > 40\nE3 causes A4\nE3 causes A63\nnever A3 & A4\n";
+    static const uint64_t actions[] = {3, 5, 63, 64, UINT64_MAX};
     static struct subject subject;
-    size_t i, k;
+    const struct texts texts = {{(const uint8_t *)text, strlen(text)}, {NULL, 0}};
+    size_t i, k, n;
     step = "epochs at the limits";
     make_subject(&subject, text, strlen(text));
     compare_line(&subject, NULL, 0);
@@ -110,6 +112,8 @@ void compare_limit_epochs(struct buffer *input)
             decision = compare_line(&subject, input->bytes, input->length);
             if (decision.verdict.fault != (k > 2 ? FAULT_LONG : lines[i].fault))
                 fail("reference", lines[i].line);
+            for (n = 0; n < COUNT(actions); n++)
+                compare_explain(texts, &subject.policy, input->bytes, input->length, actions[n]);
         }
     input->length = 0; /* a line as long as there is room for */
     add_times(input, "E1 ", ROOM / 3);

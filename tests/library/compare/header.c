@@ -14,11 +14,12 @@ static void compare_limits(void)
         {KINOHAZEL_IMAGE_FORM, FAULT_FORM}, {KINOHAZEL_IMAGE_COUNT, FAULT_COUNT}, {KINOHAZEL_IMAGE_SUM, FAULT_SUM},
         {KINOHAZEL_IMAGE_BODY, FAULT_BODY}, {KINOHAZEL_EPOCH_SYNTAX, FAULT_EPOCH_SHAPE},
         {KINOHAZEL_EPOCH_RANGE, FAULT_EPOCH_RANGE}, {KINOHAZEL_DUPLICATE_READING, FAULT_TWICE},
-        {KINOHAZEL_BUFFER_TOO_SMALL, FAULT_ROOM}};
+        {KINOHAZEL_BUFFER_TOO_SMALL, FAULT_ROOM}, {KINOHAZEL_NONE, OUTCOME_NONE}, {KINOHAZEL_NOT_PROPOSED, NOT_PROPOSED},
+        {KINOHAZEL_ACCEPTED, IS_ACCEPTED}, {KINOHAZEL_CANCELLED, IS_CANCELLED}};
     size_t i;
     for (i = 0; i < COUNT(pairs); i++)
         if (pairs[i][0] != pairs[i][1])
-            fail("kinohazel.h", "a limit or a fault has another number");
+            fail("kinohazel.h", "a limit, a fault or an outcome has another number");
 }
 
 /* Each fault has words of its own; header.out has them all. */
@@ -48,16 +49,28 @@ void compare_header(void)
     compare_words();
 }
 
+/* The same for two texts and a line. */
+static void compare_texts_nulls(const char *maker, const char *site)
+{
+    const struct texts texts = {{(const uint8_t *)maker, strlen(maker)}, {(const uint8_t *)site, strlen(site)}};
+    compare_texts(texts, 0);
+    compare_texts(texts, 7);
+    compare_texts(texts, IMAGE_BYTES);
+    compare_explain(texts, NULL, NULL, 0, 3);
+    compare_explain(texts, NULL, NULL, 0, 64);
+    compare_explain(texts, NULL, (const uint8_t *)"E1", 2, 3);
+}
+
 /* Each area of length 0 as null and as another pointer, beside each other area. */
 void compare_nulls(void)
 {
     static const char *const texts[] = {"", "E1 causes A3\n", "E64 causes A3\n", "x"};
     static uint8_t image[IMAGE_BYTES], changed[IMAGE_BYTES], blanks[TEXT_BYTES + 1];
-    size_t i, size;
+    size_t i, k, size;
     unsigned which;
     step = "null pointers";
     memset(blanks, ' ', sizeof blanks);
-    for (which = 0; which < 8; which++) {
+    for (which = 0; which < 16; which++) {
         set_nulls(which);
         for (i = 0; i < COUNT(texts); i++) {
             const uint8_t *text = (const uint8_t *)texts[i];
@@ -73,6 +86,8 @@ void compare_nulls(void)
             compare_decide(image, size, (const uint8_t *)"E1", 2, NULL);
             compare_decide(image, size, (const uint8_t *)"E64", 3, NULL);
             compare_decide(image, size, blanks, EPOCH_BYTES + 1, NULL);
+            for (k = 0; k < COUNT(texts); k++)
+                compare_texts_nulls(texts[i], texts[k]);
             if (size == 0)
                 continue;
             memcpy(changed, image, size);

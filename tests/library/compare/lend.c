@@ -8,7 +8,7 @@
 #include <sys/mman.h>
 #include <unistd.h>
 
-struct pen text_pen, line_pen, out_pen;
+struct pen text_pen, site_pen, line_pen, out_pen;
 uint8_t pattern[OUT_BYTES];
 
 static void stop(int number)
@@ -37,6 +37,7 @@ void make_pens(void)
     signal(SIGSEGV, stop);
     signal(SIGBUS, stop);
     text_pen = new_pen(ROOM + 4096);
+    site_pen = new_pen(ROOM + 4096);
     line_pen = new_pen(ROOM + 4096);
     out_pen = new_pen(OUT_BYTES);
     if (out_pen.end - out_pen.from != OUT_BYTES)
@@ -48,6 +49,7 @@ void set_nulls(unsigned which)
     text_pen.null = (which & 1) != 0;
     line_pen.null = (which & 2) != 0;
     out_pen.null = (which & 4) != 0;
+    site_pen.null = (which & 8) != 0;
 }
 
 void make_pattern(struct dice *dice)
@@ -78,6 +80,7 @@ void start_call(bool filling)
     if (tally.comparisons % 499 != 0)
         return;
     let_write(text_pen, false);
+    let_write(site_pen, false);
     let_write(line_pen, false);
     let_write(out_pen, filling);
 }
@@ -87,6 +90,7 @@ void end_call(void)
     if (tally.comparisons % 499 != 0)
         return;
     let_write(text_pen, true);
+    let_write(site_pen, true);
     let_write(line_pen, true);
     let_write(out_pen, true);
 }
@@ -94,13 +98,21 @@ void end_call(void)
 /* What the header hands on to the library has no null pointer. */
 
 struct kinohazel_compilation __real_kinohazel_compile_nonnull(const uint8_t *, size_t, uint8_t *, size_t);
+struct kinohazel_texts_compilation __real_kinohazel_compile_texts_nonnull(
+    const uint8_t *, size_t, const uint8_t *, size_t, uint8_t *, size_t);
 struct kinohazel_image_check __real_kinohazel_check_nonnull(const uint8_t *, size_t);
 struct kinohazel_text_written __real_kinohazel_text_nonnull(const uint8_t *, size_t, uint8_t *, size_t);
 struct kinohazel_decision __real_kinohazel_decide_nonnull(const uint8_t *, size_t, const uint8_t *, size_t);
+struct kinohazel_explanation __real_kinohazel_explain_nonnull(
+    const uint8_t *, size_t, const uint8_t *, size_t, const uint8_t *, size_t, uint64_t);
 struct kinohazel_compilation __wrap_kinohazel_compile_nonnull(const uint8_t *, size_t, uint8_t *, size_t);
+struct kinohazel_texts_compilation __wrap_kinohazel_compile_texts_nonnull(
+    const uint8_t *, size_t, const uint8_t *, size_t, uint8_t *, size_t);
 struct kinohazel_image_check __wrap_kinohazel_check_nonnull(const uint8_t *, size_t);
 struct kinohazel_text_written __wrap_kinohazel_text_nonnull(const uint8_t *, size_t, uint8_t *, size_t);
 struct kinohazel_decision __wrap_kinohazel_decide_nonnull(const uint8_t *, size_t, const uint8_t *, size_t);
+struct kinohazel_explanation __wrap_kinohazel_explain_nonnull(
+    const uint8_t *, size_t, const uint8_t *, size_t, const uint8_t *, size_t, uint64_t);
 
 static void refuse_null(const uint8_t *pointer)
 {
@@ -114,6 +126,15 @@ struct kinohazel_compilation __wrap_kinohazel_compile_nonnull(
     refuse_null(text);
     refuse_null(out);
     return __real_kinohazel_compile_nonnull(text, text_length, out, out_length);
+}
+
+struct kinohazel_texts_compilation __wrap_kinohazel_compile_texts_nonnull(
+    const uint8_t *maker, size_t maker_length, const uint8_t *site, size_t site_length, uint8_t *out, size_t out_length)
+{
+    refuse_null(maker);
+    refuse_null(site);
+    refuse_null(out);
+    return __real_kinohazel_compile_texts_nonnull(maker, maker_length, site, site_length, out, out_length);
 }
 
 struct kinohazel_image_check __wrap_kinohazel_check_nonnull(const uint8_t *image, size_t image_length)
@@ -136,4 +157,13 @@ struct kinohazel_decision __wrap_kinohazel_decide_nonnull(
     refuse_null(image);
     refuse_null(line);
     return __real_kinohazel_decide_nonnull(image, image_length, line, line_length);
+}
+
+struct kinohazel_explanation __wrap_kinohazel_explain_nonnull(const uint8_t *maker, size_t maker_length, const uint8_t *site,
+    size_t site_length, const uint8_t *line, size_t line_length, uint64_t action)
+{
+    refuse_null(maker);
+    refuse_null(site);
+    refuse_null(line);
+    return __real_kinohazel_explain_nonnull(maker, maker_length, site, site_length, line, line_length, action);
 }

@@ -6,8 +6,10 @@
 
 #include <stdlib.h>
 
-/* A text, its image with and without damages, the text of that, and epoch lines, from an input of the engine. */
-static void compare_input(const struct buffer *input, struct buffer *work, struct dice *dice, unsigned share)
+/* A text, its image with and without damages, the text of that, epoch lines, and the text split over two, from an input of the
+   engine. */
+static void compare_input(
+    const struct buffer *input, struct buffer *work, struct buffer *other, struct dice *dice, unsigned share)
 {
     static struct subject subject;
     size_t text_length, at;
@@ -19,17 +21,18 @@ static void compare_input(const struct buffer *input, struct buffer *work, struc
     if (compare_check(subject.image, subject.size).fault != FAULT_NONE)
         fail_on("reference", "the image of a text is refused", subject.image, subject.size);
     compare_lines(&subject, input, at, work, dice);
+    compare_why(input, text_length, at, work, other, dice);
     step = "written texts";
     compare_written(subject.image, subject.size, work, dice);
     damage_image(subject.image, subject.size, dice, share);
 }
 
-static void run_round(struct buffer *input, struct buffer *work)
+static void run_round(struct buffer *input, struct buffer *work, struct buffer *other)
 {
     struct dice dice = {UINT64_C(0xF0) << 32 | current_round};
     unsigned i;
     make_pattern(&dice);
-    set_nulls((unsigned)(current_round % 8));
+    set_nulls((unsigned)(current_round % 16));
     step = "texts";
     for (i = 0; i < 20; i++) {
         input->length = 0;
@@ -39,8 +42,9 @@ static void run_round(struct buffer *input, struct buffer *work)
     for (i = 0; i < 4; i++) { /* the first with damages at every place */
         input->length = 0;
         add_engine_input(input, &dice, (unsigned)(current_round * 4 + i) % 16);
-        compare_input(input, work, &dice, i == 0 ? 1000 : 100);
+        compare_input(input, work, other, &dice, i == 0 ? 1000 : 100);
     }
+    compare_any_texts(input, work, &dice);
     compare_flaws(&dice, work);
     step = "lines with any parts";
     for (i = 0; i < 60; i++)
@@ -51,7 +55,7 @@ static void run_round(struct buffer *input, struct buffer *work)
 }
 
 /* Round 0. */
-static void run_limits(struct buffer *input, struct buffer *work)
+static void run_limits(struct buffer *input, struct buffer *work, struct buffer *other)
 {
     struct dice dice = {UINT64_C(0xF0) << 32};
     unsigned i;
@@ -67,31 +71,33 @@ static void run_limits(struct buffer *input, struct buffer *work)
     compare_each_byte(input);
     compare_each_number(input, work, &dice);
     compare_patterns(input, work, &dice);
+    compare_limit_joint(input, work, &dice);
     for (i = 0; i < 2; i++) { /* the largest image and the smallest, with all damages */
         input->length = 0;
         if (i == 0)
             add_largest(input);
         add(input, "run\n");
         add_epochs_of_largest(input);
-        compare_input(input, work, &dice, 1000);
+        compare_input(input, work, other, &dice, 1000);
     }
 }
 
 int main(int argc, char **argv)
 {
-    struct buffer input = new_buffer(), work = new_buffer();
+    struct buffer input = new_buffer(), work = new_buffer(), other = new_buffer();
     unsigned long rounds = argc > 1 ? strtoul(argv[1], NULL, 10) : 0, first = argc > 2 ? strtoul(argv[2], NULL, 10) : 0;
     if (rounds == 0)
         fail("usage", "compare ROUNDS [FIRST]");
     make_pens();
     for (current_round = first; current_round < first + rounds; current_round++) {
         if (current_round == 0)
-            run_limits(&input, &work);
+            run_limits(&input, &work, &other);
         else
-            run_round(&input, &work);
+            run_round(&input, &work, &other);
     }
     free(input.bytes);
     free(work.bytes);
+    free(other.bytes);
     if (!report() && first == 0) {
         printf("library: something that is counted was never met\n");
         return 1;

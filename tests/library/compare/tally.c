@@ -42,6 +42,44 @@ static void print_locations(const char *function, const unsigned long locations[
         locations[0], locations[1], locations[2], locations[3]);
 }
 
+/* Prints how often each fault was met for each text that it can be in. False if one never was. */
+static bool print_by_text(const char *function, unsigned long counts[FAULTS][OWNERS], const enum fault *others, size_t size)
+{
+    bool all = counts[FAULT_NONE][NEITHER] > 0;
+    int fault, owner;
+    size_t i;
+    printf("; %s 0: %lu", function, counts[FAULT_NONE][NEITHER]);
+    for (owner = MAKER; owner <= SITE; owner++) {
+        printf(", text %d", owner);
+        for (fault = FAULT_LONG; fault <= FAULT_REPEAT; fault++) {
+            printf(" %d: %lu", fault, counts[fault][owner]);
+            all = all && counts[fault][owner] > 0;
+        }
+    }
+    printf(", neither");
+    for (i = 0; i < size; i++) {
+        printf(" %d: %lu", (int)others[i], counts[others[i]][NEITHER]);
+        all = all && counts[others[i]][NEITHER] > 0;
+    }
+    return all;
+}
+
+static bool print_outcomes(void)
+{
+    bool all = tally.outcomes[NOT_PROPOSED][NEITHER] > 0 && tally.over > 0 && tally.overlapping > 0;
+    int owner, i;
+    printf("; explained as not proposed %lu", tally.outcomes[NOT_PROPOSED][NEITHER]);
+    for (owner = MAKER; owner <= SITE; owner++) {
+        printf(", accepted by text %d %lu, cancelled by it %lu", owner, tally.outcomes[IS_ACCEPTED][owner],
+            tally.outcomes[IS_CANCELLED][owner]);
+        all = all && tally.outcomes[IS_ACCEPTED][owner] > 0 && tally.outcomes[IS_CANCELLED][owner] > 0;
+    }
+    printf(", refused for the action alone %lu", tally.over);
+    for (i = 0; i < 8; i++)
+        all = all && tally.texts_nulls[i] > 0 && tally.explain_nulls[i] > 0;
+    return all;
+}
+
 bool report(void)
 {
     static const enum fault compile_faults[] = {FAULT_NONE, FAULT_LONG, FAULT_SHAPE, FAULT_RANGE, FAULT_CROWD,
@@ -49,6 +87,8 @@ bool report(void)
     static const enum fault text_faults[] = {
         FAULT_NONE, FAULT_SIZE, FAULT_FORM, FAULT_COUNT, FAULT_SUM, FAULT_BODY, FAULT_ROOM};
     static const enum fault check_faults[] = {FAULT_NONE, FAULT_SIZE, FAULT_FORM, FAULT_COUNT, FAULT_SUM, FAULT_BODY};
+    static const enum fault texts_others[] = {FAULT_ROOM};
+    static const enum fault explain_others[] = {FAULT_LONG, FAULT_EPOCH_SHAPE, FAULT_EPOCH_RANGE, FAULT_TWICE};
     static const enum fault decide_faults[] = {FAULT_NONE, FAULT_LONG, FAULT_SIZE, FAULT_FORM, FAULT_COUNT, FAULT_SUM,
         FAULT_BODY, FAULT_EPOCH_SHAPE, FAULT_EPOCH_RANGE, FAULT_TWICE};
     static const struct {
@@ -89,6 +129,9 @@ bool report(void)
             all = all && count > 0;
         }
     }
+    all = print_by_text("compile_texts", tally.texts, texts_others, COUNT(texts_others)) && all;
+    all = print_by_text("explain", tally.explain, explain_others, COUNT(explain_others)) && all;
+    all = print_outcomes() && all;
     print_locations("check", tally.check_locations);
     print_locations("text", tally.text_locations);
     printf("; %lu written texts compile again, %lu of them of 0 bytes, %lu of %d; %lu accept an action, %lu cancel one; "

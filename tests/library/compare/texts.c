@@ -26,6 +26,7 @@ struct verdict compare_filler_rooms(const struct filler *filler, const uint8_t *
 
 struct verdict compare_rooms(const uint8_t *text, size_t length, struct dice *dice)
 {
+    compare_beside_empty(text, length);
     return compare_filler_rooms(&compiling, text, length, dice);
 }
 
