@@ -1,2 +1,3 @@
 pub mod LineLaws
 pub mod AnswerLaws
+pub mod Whole

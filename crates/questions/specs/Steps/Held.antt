@@ -31,15 +31,16 @@ scanByte Token.Other b = Token.Other
 abbrev pub startQuestion : Question
 startQuestion = record { token = Token.Empty; spaced = false; count = 0 }
 
+unfoldable pub hasByte : Token → Bool
+hasByte Token.Empty = false
+hasByte Token.Letter = true
+hasByte Token.Zero = true
+hasByte (Token.Number n) = true
+hasByte Token.Other = true
+
+-- the line has a byte
 unfoldable pub isOpen : Question → Bool
-isOpen q = cond (q .spaced) true (has-byte (q .token))
-  where
-    has-byte : Token → Bool
-    has-byte Token.Empty = false
-    has-byte Token.Letter = true
-    has-byte Token.Zero = true
-    has-byte (Token.Number n) = true
-    has-byte Token.Other = true
+isOpen q = cond (q .spaced) true (hasByte (q .token))
 
 -- the question and the bytes that are held of its epoch line
 pub record Held : Type 0 where
