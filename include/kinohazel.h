@@ -1,8 +1,10 @@
 /* Kinohazel for C and C++: compile a rule text to an image, check an image, write its text, decide an epoch on it, and say why an
  * action is issued or not.
  *
- * The header is for C99, C++11 and later. The library is for x86-64 with the System V calling convention, as Linux has it; it uses
- * the red zone and the SSE2 registers of that convention. `rt staticlib kinohazel` builds it as target/staticlib/libkinohazel.a.
+ * The header is for C99, C++11 and later. It is for two libraries, which are linked alone or both: libkinohazel.a for a controller and
+ * whatever compiles for it, and libkinohazel_tools.a with kinohazel_explain, for a programming station or a fitter's panel. `rt staticlib
+ * kinohazel` and `rt staticlib kinohazel_tools` build them in target/staticlib. They are for x86-64 with the System V calling convention,
+ * as Linux has it, and use the red zone and the SSE2 registers of that convention.
  *
  * No function keeps state, allocates memory or needs a start-up call, and each ends for every input.
  *
@@ -42,12 +44,12 @@ extern "C" {
 
 /* Bytes of stack that a call takes at most, rounded up. They are measured, not proved: tests/library/stack.c makes some thousand
  * calls through this header, compiled without optimisation, on painted stacks, with the largest inputs and with others. They belong
- * to the library as the kit builds it. */
+ * to the libraries as the kit builds them. */
 #define KINOHAZEL_COMPILE_STACK 1792
 #define KINOHAZEL_COMPILE_TEXTS_STACK 1792
 #define KINOHAZEL_CHECK_STACK 640
 #define KINOHAZEL_TEXT_STACK 1024
-#define KINOHAZEL_DECIDE_STACK 1152
+#define KINOHAZEL_DECIDE_STACK 896
 #define KINOHAZEL_EXPLAIN_STACK 15360 /* it has an image */
 
 /* Why something is refused. The words for each stand in kinohazel_fault_words. */
@@ -147,8 +149,8 @@ struct kinohazel_explanation {
     uint64_t part_length; /* bytes */
 };
 
-/* The functions as the library exports them, for callers from other languages. Here no pointer is null, even where its length
- * is 0. */
+/* The functions as the libraries export them, for callers from other languages. Here no pointer is null, even where its length
+ * is 0. The last is in libkinohazel_tools.a. */
 struct kinohazel_compilation kinohazel_compile_nonnull(
     const uint8_t *text, size_t text_length, uint8_t *out, size_t out_length);
 struct kinohazel_texts_compilation kinohazel_compile_texts_nonnull(
@@ -239,8 +241,8 @@ static inline struct kinohazel_decision kinohazel_decide(
         kinohazel_lent(line, line_length, &none), line_length);
 }
 
-/* Says why an action, 0 to 63, is issued or not by two texts in the epoch of a line: the maker's text and the site's, which are read
- * as kinohazel_compile_texts reads them, and a line as for kinohazel_decide.
+/* In libkinohazel_tools.a: says why an action, 0 to 63, is issued or not by two texts in the epoch of a line: the maker's text and the
+ * site's, which are read as kinohazel_compile_texts reads them, and a line as for kinohazel_decide.
  *
  *   - KINOHAZEL_NOT_PROPOSED: no rule proposes the action. There is no line to show.
  *   - KINOHAZEL_ACCEPTED: it is issued. The line to show is the first rule that proposes it.

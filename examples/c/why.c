@@ -1,8 +1,9 @@
 /* Asks the Kinohazel library why an action was issued or not, as a fitter's panel would: by the text of a pump's maker and the lines
  * that a site has added.
  *
- *   rt staticlib kinohazel
- *   gcc -std=c99 -Wall -Wextra -Werror -Iinclude examples/c/why.c target/staticlib/libkinohazel.a -o target/why
+ *   rt staticlib kinohazel && rt staticlib kinohazel_tools
+ *   gcc -std=c99 -Wall -Wextra -Werror -Iinclude examples/c/why.c target/staticlib/libkinohazel.a \
+ *       target/staticlib/libkinohazel_tools.a -o target/why
  *   target/why
  */
 #include <inttypes.h>

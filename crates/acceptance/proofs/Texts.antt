@@ -18,9 +18,9 @@ use Rattle.policy.specs.declared.fault.Source.{Source}
 use Rattle.lexer.specs.Lines.{pieces, linesOf}
 use Rattle.syntax.specs.Judge.{LineAnswer, skipped, refused, accepted, lineAnswer}
 use Rattle.rule_text.specs.Answer.{textReadOf, textRead, textsRead}
-use Rattle.rule_text.specs.Text.{Progress, reading, stopped, withRule, withConstraint, advance, readLine, emptyPolicy, textLimit, readBehind, inText, readText, readSite, readTexts, policyRead, policyOf, policyOfTexts, joint}
+use Rattle.rule_text.specs.Text.{Progress, reading, stopped, withRule, withConstraint, advance, readLine, emptyPolicy, textLimit, readBehind, inText, readText, readSite, readTexts, policyRead, policyOf, policyOfTexts}
 use Rattle.acceptance.proofs.Accepted.{texts-acceptable}
-use Rattle.acceptance.specs.Texts.{Joint}
+use Rattle.acceptance.specs.Texts.{joint, Joint}
 
 stays : (r : Refusal) (ls : List (List ℕ)) → foldl readLine (stopped r) ls ≡ stopped r
 unfolding readLine

@@ -1,12 +1,16 @@
 -- Document 02, L6: what two accepted texts have as one.
 use Prim.Native.Nat.{ℕ, _≤_}
-use mathlib.Core.List.{List}
+use mathlib.Core.List.{List, _++_}
 use mathlib.Core.Option.{some}
 use mathlib.Core.Path.{_≡_}
 use lib.ListN.{length}
 use Rattle.policy.specs.Limits.{ruleLimit, constraintLimit}
 use Rattle.policy.specs.Policy.{Policy}
-use Rattle.rule_text.specs.Text.{policyOf, joint}
+use Rattle.rule_text.specs.Text.{policyOf}
+
+-- the rules of both, and the constraints of both, the first policy's before the second's
+abbrev pub joint : Policy → Policy → Policy
+joint p q = record { rules = p .rules ++ q .rules; constraints = p .constraints ++ q .constraints }
 
 -- each text is accepted alone, both together have no more lines than a text may have, and the policy has the maker's rules before the
 -- site's and the maker's constraints before the site's

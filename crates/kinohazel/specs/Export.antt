@@ -1,14 +1,10 @@
 -- The answers of the functions for C, as numbers: the fault's number and location (document 01: ground and place), 0 where
 -- nothing is refused.
-use Prim.Native.Nat.{ℕ}
 use Rattle.policy.specs.Fault.{faultNumber, sourceNumber}
 use Rattle.codegen.specs.declared.Compiled.{Compiled}
 use Rattle.decompile.specs.declared.Decompiled.{Decompiled}
 use Rattle.image.specs.declared.load.Loaded.{Loaded}
 use Rattle.monitor.specs.declared.decision.Decision.{Decision}
-use Rattle.explanation.specs.declared.why.Explained.{Explained}
-use Rattle.explanation.specs.declared.why.Outcome.{Outcome}
-use Rattle.kinohazel.specs.declared.ActionExplanation.{ActionExplanation}
 use Rattle.kinohazel.specs.declared.Compilation.{Compilation}
 use Rattle.kinohazel.specs.declared.TextsCompilation.{TextsCompilation}
 use Rattle.kinohazel.specs.declared.TextWritten.{TextWritten}
@@ -35,23 +31,3 @@ checkOf (Loaded.Image contents) = record { fault = 0; word = 0; rules = contents
 unfoldable pub decisionOf : Decision → EpochDecision
 decisionOf (Decision.Refused r) = record { fault = faultNumber (r .fault); word = r .location; accepted = 0; cancelled = 0; visited = 0 }
 decisionOf (Decision.Issued actions) = record { fault = 0; word = 0; accepted = actions .accepted .0; cancelled = actions .cancelled .0; visited = actions .visited }
-
--- 0 is no outcome, which a refusal has
-abbrev pub outcomeNumber : Outcome → ℕ
-outcomeNumber Outcome.NotProposed = 1
-outcomeNumber Outcome.Accepted = 2
-outcomeNumber Outcome.Cancelled = 3
-
-unfoldable pub explanationOf : Explained → ActionExplanation
-explanationOf (Explained.Refused r) =
-    record { fault = faultNumber (r .fault); text = sourceNumber (r .source); line = r .location; outcome = 0; «part_text» = 0; «part_start» = 0; «part_length» = 0 }
-explanationOf (Explained.Because why) =
-    record {
-      fault = 0;
-      text = 0;
-      line = 0;
-      outcome = outcomeNumber (why .outcome);
-      «part_text» = sourceNumber (why .shown .source);
-      «part_start» = why .shown .start;
-      «part_length» = why .shown .length;
-    }

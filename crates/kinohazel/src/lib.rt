@@ -1,19 +1,15 @@
-// The functions for C: compile a text or two, write the text of an image, check an image, decide an epoch, explain an action. Each
-// answers a struct of numbers. Start with specs/Export.antt; include/kinohazel.h is the C side. A slice is never null, not even an empty one: the
-// functions of the header take null pointers and call these.
+// The functions for C: compile a text or two, write the text of an image, check an image, decide an epoch. Each answers a struct of
+// numbers. Start with specs/Export.antt; include/kinohazel.h is the C side. A slice is never null, not even an empty one: the functions of
+// the header take null pointers and call these. What a controller has no use for stands in kinohazel_tools.
 ghost use mathlib.Core.Path.{_≡_};
 ghost use Rattle.policy.specs.Fault.{faultNumber, sourceNumber};
-ghost use Rattle.policy.specs.Number.{checkAction};
 ghost use Rattle.codegen.specs.Compile.{compiled, compiledTexts};
 ghost use Rattle.decompile.specs.Decompile.{decompiled};
 ghost use Rattle.image.specs.Load.{load};
 ghost use Rattle.monitor.specs.Decision.{decision};
-ghost use Rattle.explanation.specs.Why.{explained};
-ghost use Rattle.kinohazel.specs.Export.{compilationOf, textsCompilationOf, textWrittenOf, checkOf, decisionOf, outcomeNumber, explanationOf};
+ghost use Rattle.kinohazel.specs.Export.{compilationOf, textsCompilationOf, textWrittenOf, checkOf, decisionOf};
 use codegen::Compiled;
 use decompile::Decompiled;
-use explanation::Explained;
-use explanation::Outcome;
 use image::Loaded;
 use monitor::Decision;
 use policy::Refusal;
@@ -34,19 +30,6 @@ pub struct TextsCompilation {
     pub text: u64,
     pub line: u64,
     pub size: u64,
-}
-
-// The fault's number, or 0; its text and its line; what became of the action: 1 not proposed, 2 accepted, 3 cancelled, 0 on a refusal;
-// and where the part stands that says why: in which text, from which byte on, and how many bytes it has.
-#[repr(C)]
-pub struct ActionExplanation {
-    pub fault: u64,
-    pub text: u64,
-    pub line: u64,
-    pub outcome: u64,
-    pub part_text: u64,
-    pub part_start: u64,
-    pub part_length: u64,
 }
 
 // The fault's number, or 0; the word at fault; how many rules and never lines the image has.
@@ -200,63 +183,5 @@ pub extern "C" fn kinohazel_decide_nonnull(image: &[u8], line: &[u8]) -> EpochDe
             cancelled: actions.cancelled.0,
             visited: actions.visited as u64,
         },
-    }
-}
-
-fn outcome_number(outcome: Outcome) -> u64
-    ensures { λ r. ⌜ r ≡ outcomeNumber outcome ⌝ }
-{
-    match outcome {
-        Outcome::NotProposed => 1,
-        Outcome::Accepted => 2,
-        Outcome::Cancelled => 3,
-    }
-}
-
-// A number that no action has is one over the last.
-fn action_number(action: u64) -> u32
-    ensures { λ r. ⌜ checkAction r ≡ checkAction action ⌝ }
-{
-    if action < 64 { action as u32 } else { 64 }
-}
-
-#[no_mangle]
-pub extern "C" fn kinohazel_explain_nonnull(
-    maker: &[u8],
-    site: &[u8],
-    line: &[u8],
-    action: u64,
-) -> ActionExplanation
-    ensures { λ r. ⌜ r ≡ explanationOf (explained (now (maker .entry)) (now (site .entry)) (now (line .entry)) action) ⌝ }
-{
-    let number = action_number(action);
-    let answer = explanation::explain(maker, site, line, number);
-    match answer {
-        Explained::Refused(refusal) => {
-            let source = refusal.source;
-            ActionExplanation {
-                fault: fault_number(refusal),
-                text: source_number(source),
-                line: refusal.location as u64,
-                outcome: 0,
-                part_text: 0,
-                part_start: 0,
-                part_length: 0,
-            }
-        }
-        Explained::Because(why) => {
-            let outcome = why.outcome;
-            let shown = why.shown;
-            let source = shown.source;
-            ActionExplanation {
-                fault: 0,
-                text: 0,
-                line: 0,
-                outcome: outcome_number(outcome),
-                part_text: source_number(source),
-                part_start: shown.start as u64,
-                part_length: shown.length as u64,
-            }
-        }
     }
 }

@@ -1,3 +1,4 @@
 pub mod LineLaws
 pub mod AnswerLaws
 pub mod Whole
+pub mod Examples

@@ -2,11 +2,12 @@
 use Prim.Native.Nat.{ℕ}
 use Prim.Native.String.{String}
 use mathlib.Core.List.{List, [], _∷_}
-use Rattle.policy.specs.Fault.{refusal}
+use Rattle.policy.specs.Fault.{refusal, within}
 use Rattle.policy.specs.Set.{actionsFrom}
 use Rattle.policy.specs.declared.fault.Fault.{Fault}
+use Rattle.policy.specs.declared.fault.Source.{Source}
 use Rattle.lexer.specs.Byte.{bytes}
-use Rattle.report.specs.Report.{wordLine, refusalLine, imageRefusalLine, notWordLine, acceptLine, refusedLine}
+use Rattle.report.specs.Report.{wordLine, refusalLine, textsRefusalLine, imageRefusalLine, notWordLine, acceptLine, refusedLine, notProposedLine, shownLine, notExplainedLine}
 
 pub record Example : Type 0 where
   pub line : List ℕ
@@ -31,6 +32,9 @@ examples =
     ∷ row (wordLine 3120500681) "B9FF0FC9\n"
     ∷ row (refusalLine (refusal Fault.Syntax 3)) "refused 2 line 3\n"
     ∷ row (refusalLine (refusal Fault.BufferTooSmall 0)) "refused 15 line 0\n"
+    ∷ row (textsRefusalLine (within Source.Maker (refusal Fault.Syntax 3))) "refused 2 text 1 line 3\n"
+    ∷ row (textsRefusalLine (within Source.Site (refusal Fault.TooLong 0))) "refused 1 text 2 line 0\n"
+    ∷ row (textsRefusalLine (refusal Fault.BufferTooSmall 0)) "refused 15 text 0 line 0\n"
     ∷ row (imageRefusalLine (refusal Fault.ImageBody 6)) "refused 11 word 6\n"
     ∷ row (notWordLine 3267) "line 3267 is not a word\n"
     ∷ row (acceptLine 1 (actionsFrom (3 ∷ [])) (actionsFrom (4 ∷ [])) 12) "1 accept A3 cancel A4 words 12\n"
@@ -39,6 +43,10 @@ examples =
     ∷ row (acceptLine 4 (actionsFrom []) (actionsFrom []) 2) "4 accept - cancel - words 2\n"
     ∷ row (refusedLine 5 Fault.EpochRange) "5 refused 13 words 0\n"
     ∷ row (acceptLine 100 (actionsFrom (63 ∷ 0 ∷ 10 ∷ [])) (actionsFrom (2 ∷ 1 ∷ [])) 71808) "100 accept A0,A10,A63 cancel A1,A2 words 71808\n"
+    ∷ row (shownLine 1 (bytes " accepted ") Source.Maker (bytes "E1 causes A4")) "1 accepted 1 E1 causes A4\n"
+    ∷ row (shownLine 20 (bytes " cancelled ") Source.Site (bytes "never A4 & A5")) "20 cancelled 2 never A4 & A5\n"
+    ∷ row (notProposedLine 3) "3 not proposed\n"
+    ∷ row (notExplainedLine 4 Fault.EpochRange) "4 refused 13\n"
     ∷ []
 
 unfoldable pub printedLine : Example → List ℕ

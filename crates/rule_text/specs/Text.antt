@@ -80,7 +80,3 @@ policyOf text = policyRead (readText text)
 -- of two accepted texts
 unfoldable pub policyOfTexts : List ℕ → List ℕ → Option Policy
 policyOfTexts maker site = policyRead (readTexts maker site)
-
--- the rules of both, and the constraints of both, the first policy's before the second's
-abbrev pub joint : Policy → Policy → Policy
-joint p q = record { rules = p .rules ++ q .rules; constraints = p .constraints ++ q .constraints }

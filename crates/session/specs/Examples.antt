@@ -1,9 +1,10 @@
--- Document 01's examples of the two programs, with the words of document 02's L4, and some more, one row each.
+-- Document 01's examples of the two programs, with the words of document 02's L4 and the two texts of its L6, and some more, one row
+-- each.
 use Prim.Native.Nat.{ℕ}
 use Prim.Native.String.{String}
 use mathlib.Core.List.{List, [], _∷_, map}
 use Rattle.lexer.specs.Byte.{bytes}
-use Rattle.session.specs.Listed.{listed}
+use Rattle.session.specs.Listed.{listed, listedTexts}
 use Rattle.session.specs.Printed.{printed}
 
 pub record Example : Type 0 where
@@ -43,6 +44,25 @@ listings =
     ∷ row "# none\nE64 causes A1" "refused 3 line 2\n"
     ∷ []
 
+pub record TextsExample : Type 0 where
+  pub maker : String
+  pub site : String
+  pub output : String
+
+abbrev texts : String → String → String → TextsExample
+texts m s o = record { maker = m; site = s; output = o }
+
+unfoldable pub textsListings : List TextsExample
+textsListings =
+    -- the worked text, a rule of it from the site; the maker's last line lacks its end
+    texts "E1 & !E2 causes A3 if R0 > 40\nnever A3 & A4" "E3 causes A4\n"
+    "01007003\n10400004\n20800003\n30008001\n00000028\n50C00000\n10C00001\n51000000\n60C00002\n61000001\n70000000\nB9FF0FC9\n"
+    ∷ texts "" "" "01000000\nFF000000\n"
+    -- the maker's faults come first; lines are counted from 1 in each text
+    ∷ texts "# none\nE64 causes A1" "E1" "refused 3 text 1 line 2\n"
+    ∷ texts "E1 causes A1\n" "\n\nE1" "refused 2 text 2 line 3\n"
+    ∷ []
+
 unfoldable pub expected : Example → List ℕ
 expected x = bytes (x .output)
 
@@ -51,3 +71,6 @@ sessionPrinted x = printed (bytes (x .input))
 
 unfoldable pub textListed : Example → List ℕ
 textListed x = listed (bytes (x .input))
+
+unfoldable pub textsListed : TextsExample → List ℕ
+textsListed x = listedTexts (bytes (x .maker)) (bytes (x .site))

@@ -1,7 +1,7 @@
-use Rattle.kinohazel.proofs.ExportLaws.{over-last}
+use Rattle.kinohazel_tools.proofs.ExportLaws.{over-last}
 use borrow.Author.Needs.{needs}
-use Rattle.kinohazel.proofs.action_number.Statement.{statement}
-use Rattle.kinohazel.proofs.action_number.Tie as tie
+use Rattle.kinohazel_tools.proofs.action_number.Statement.{statement}
+use Rattle.kinohazel_tools.proofs.action_number.Tie as tie
 
 cast-result : tie.Need-cast-result
 cast-result c = search needs
