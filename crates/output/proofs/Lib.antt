@@ -3,3 +3,4 @@ pub mod DecimalLaws
 pub mod Examples
 pub mod FillLaws
 pub mod HexLaws
+pub mod RoomLaws

@@ -8,6 +8,7 @@ use lib.ListN.{length, take}
 use Rattle.questions.specs.Answered.{next}
 use Rattle.questions.specs.Steps.Answer.{questionLine}
 use Rattle.questions.specs.Steps.Held.{startQuestion, isOpen, Held, heldBy, bytesTaken, lineTaken}
+use Rattle.questions.specs.declared.line.Question.{Question}
 
 module _ (maker site image : List ℕ) where
   -- what is printed for the open line
@@ -29,3 +30,9 @@ module _ (maker site image : List ℕ) where
   -- what is printed where the input has ended: the open line is a question too
   abbrev pub lastAnswer : ℕ → Held → List ℕ
   lastAnswer n h = cond (isOpen (h .question)) (answerHeld n h) []
+
+  -- some such calls led to this state
+  pub record Reached (n : ℕ) (question : Question) (held : List ℕ) : Type 0 where
+    pub consumed : List ℕ
+    pub printed : List ℕ
+    pub calls : Asked consumed printed n (heldBy question held)

@@ -1,3 +1,4 @@
 pub mod ActionLaws
 pub mod Examples
+pub mod LengthLaws
 pub mod SourceLaws

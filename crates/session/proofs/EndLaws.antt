@@ -20,9 +20,10 @@ use Rattle.session.specs.Owed.{current, leftIn, owed, Fitting, Room, Tra
 use Rattle.session.specs.Steps.Ended.{TextEnded, LineEnded}
 use Rattle.session.specs.declared.state.Phase.{Phase}
 use Rattle.session.specs.declared.state.State.{State}
-use Rattle.session.proofs.BufferLaws.{put-end, put-take}
+use Rattle.output.proofs.RoomLaws.{put-end, put-take}
 use Rattle.codegen.proofs.RoomLaws.{Read, compiled-stopped, compiled-read}
-use Rattle.session.proofs.LengthLaws.{refusal-short, decision-short}
+use Rattle.report.proofs.LengthLaws.{refusal-short}
+use Rattle.session.proofs.LengthLaws.{decision-short}
 
 -- ---- a part of a slice
 
@@ -56,7 +57,7 @@ module _ (text : List ℕ) (s : State) (image out : List ℕ) (answer : Compiled
       → TextEnded text s out (record { phase = Phase.Over; start = 0; count = 0; epochs = 0; size = 0; used = end }) image' out'
   unfolding owed leftIn Fitting TracksIn any
   text-refused x out' end e small p =
-      let short : length (refusalLine x) ≤ 512 = refusal-short x small in
+      let short : length (refusalLine x) ≤ 64 = refusal-short x small in
       let fits : s .used + length (refusalLine x) ≤ length out = omega arith in
       let at : end ≡ s .used + length (refusalLine x) = put-end out (s .used) (refusalLine x) out' end fits p in
       let same : length out' ≡ length out = put-length out (s .used) (refusalLine x) out' end p in

@@ -6,11 +6,8 @@ use mathlib.Core.Path.{_≡_, refl}
 use native.Mathlib.Omega.{arith}
 use lib.ListN.{length, length-append}
 use Rattle.policy.specs.Epoch.{Epoch}
-use Rattle.policy.specs.Fault.{faultNumber, sourceNumber}
+use Rattle.policy.specs.Fault.{faultNumber}
 use Rattle.policy.specs.Set.{has, difference}
-use Rattle.policy.specs.declared.fault.Fault.{Fault}
-use Rattle.policy.specs.declared.fault.Refusal.{Refusal}
-use Rattle.policy.specs.declared.fault.Source.{Source}
 use Rattle.policy.proofs.SetLaws.{has-difference, has-empty}
 use Rattle.lexer.specs.Byte.{bytes}
 use Rattle.epoch_line.specs.Epoch.{EpochAnswer, refused, accepted, readEpoch}
@@ -22,7 +19,8 @@ use Rattle.monitor.specs.Decision.{decision, onImage, onLine, issuedBy, yielded
 use Rattle.monitor.specs.declared.decision.Decision.{Decision}
 use Rattle.output.specs.Number.{decimal}
 use Rattle.output.proofs.DecimalLaws.{decimal-few, decimal-short}
-use Rattle.report.specs.Report.{membersFrom, actionName, furtherNames, actionNames, actionList, refusalLine, textsRefusalLine, wordsField, acceptLine, refusedLine}
+use Rattle.report.proofs.LengthLaws.{fault-digits}
+use Rattle.report.specs.Report.{membersFrom, actionName, furtherNames, actionNames, actionList, wordsField, acceptLine, refusedLine}
 use Rattle.session.specs.Printed.{decisionLine}
 
 -- ---- actions: no number is in both lists
@@ -76,43 +74,11 @@ decision-apart image line = go (load image) (readEpoch line)
 
 -- ---- lines
 
-fault-small : (f : Fault) → faultNumber f < 18446744073709551616
-fault-small Fault.TooLong = omega arith
-fault-small Fault.Syntax = omega arith
-fault-small Fault.OutOfRange = omega arith
-fault-small Fault.TooManyParts = omega arith
-fault-small Fault.TooManyLines = omega arith
-fault-small Fault.Duplicate = omega arith
-fault-small Fault.ImageSize = omega arith
-fault-small Fault.ImageForm = omega arith
-fault-small Fault.ImageCount = omega arith
-fault-small Fault.ImageSum = omega arith
-fault-small Fault.ImageBody = omega arith
-fault-small Fault.EpochSyntax = omega arith
-fault-small Fault.EpochRange = omega arith
-fault-small Fault.DuplicateReading = omega arith
-fault-small Fault.BufferTooSmall = omega arith
-
-pub refusal-short : (x : Refusal) → x .location < 18446744073709551616 → length (refusalLine x) ≤ 512
-unfolding refusalLine bytes
-refusal-short x h = simp length-append (omega (arith, decimal-short (faultNumber (x .fault)) (fault-small (x .fault)), decimal-short (x .location) h))
-
-source-small : (s : Source) → sourceNumber s < 18446744073709551616
-source-small Source.Neither = omega arith
-source-small Source.Maker = omega arith
-source-small Source.Site = omega arith
-
-pub texts-refusal-short : (x : Refusal) → x .location < 18446744073709551616 → length (textsRefusalLine x) ≤ 512
-unfolding textsRefusalLine bytes
-texts-refusal-short x h =
-    simp length-append
-    (omega (arith, decimal-short (faultNumber (x .fault)) (fault-small (x .fault)), decimal-short (sourceNumber (x .source)) (source-small (x .source)), decimal-short (x .location) h))
-
 line-short : (n : ℕ) (d : Decision) → n < 18446744073709551616 → Apart (answerOf d .accepted .0) (answerOf d .cancelled .0) → visitedIn d < 18446744073709551616
     → length (decisionLine n d) ≤ 512
 unfolding decisionLine acceptLine refusedLine wordsField actionList bytes
 line-short n (Decision.Refused x) h a v =
-    simp length-append (omega (arith, decimal-short n h, decimal-short (faultNumber (x .fault)) (fault-small (x .fault)), decimal-short 0 v))
+    simp length-append (omega (arith, decimal-short n h, fault-digits (x .fault), decimal-short 0 v))
 line-short n (Decision.Issued actions) h a v =
     simp length-append
     (omega (

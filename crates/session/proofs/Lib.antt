@@ -3,7 +3,6 @@ pub mod SeenLaws
 pub mod LineLaws
 pub mod SplitLaws
 pub mod EpochLaws
-pub mod BufferLaws
 pub mod LengthLaws
 pub mod EndLaws
 pub mod HeldLaws
@@ -11,7 +10,6 @@ pub mod TextByteLaws
 pub mod EpochByteLaws
 pub mod TookLaws
 pub mod FinishLaws
-pub mod LocationLaws
 pub mod ListingLaws
 pub mod Whole
 pub mod Examples

@@ -4,19 +4,16 @@ use mathlib.Core.List.{List, [], _∷_}
 use mathlib.Core.Path.{_≡_, refl, sym, ap, _∙_}
 use native.Mathlib.Numerals.{add-one}
 use native.Mathlib.Omega.{arith}
-use borrow.Author.Tests.{lt-ltb}
 use lib.ListN.{length, take, drop, length-append, drop-of-length-le}
 use lib.Seq.{drop-cons}
-use Rattle.policy.specs.Fault.{refusal}
 use Rattle.policy.specs.Limits.{Acceptable}
 use Rattle.policy.specs.Policy.{Policy}
-use Rattle.policy.specs.declared.fault.Fault.{Fault}
 use Rattle.policy.specs.declared.fault.Refusal.{Refusal}
 use Rattle.word.specs.Word.{wordsOf, wordAt}
 use Rattle.layout.specs.Layout.{imageOf}
 use Rattle.word.proofs.WordLaws.{words-length}
 use Rattle.acceptance.proofs.Accepted.{accepted-acceptable, texts-acceptable}
-use Rattle.rule_text.specs.Text.{Progress, reading, stopped, readBehind, inText, readText, readTexts}
+use Rattle.rule_text.specs.Text.{Progress, reading, stopped, readText, readTexts}
 use Rattle.codegen.specs.Compile.{newestForm, outputOf, compiled, compiledTexts}
 use Rattle.codegen.specs.declared.Compiled.{Compiled}
 use Rattle.output.specs.Number.{hexDigits}
@@ -24,8 +21,8 @@ use Rattle.report.specs.Report.{wordLine, refusalLine, textsRefusalLine}
 use Rattle.output.proofs.AppendLaws.{Put, Left, left-turn, left-none}
 use Rattle.session.specs.Listed.{wordLines, listingOf, listed, listedTexts}
 use Rattle.codegen.proofs.RoomLaws.{Read, image-small, output-stopped, output-read}
-use Rattle.session.proofs.LocationLaws.{location-small, locations-small}
-use Rattle.session.proofs.LengthLaws.{refusal-short, texts-refusal-short}
+use Rattle.acceptance.proofs.Locations.{location-small, locations-small}
+use Rattle.report.proofs.LengthLaws.{refusal-short, texts-refusal-short}
 
 -- ---- the loop over the words of an image
 
@@ -105,15 +102,11 @@ module _ (maker site image : List ℕ) (answer : Compiled) (image' : List ℕ) (
 
 -- ---- how long a listing is
 
-pub listed-long : (text : List ℕ) → 32768 < length text → listed text ≡ refusalLine (refusal Fault.TooLong 0)
-unfolding listed listingOf readText readBehind inText refusalLine
-listed-long text h = rw (lt-ltb 32768 (length text) h)
-
 image-lines : (image : List ℕ) → length image ≤ 13064 → length (wordLines (wordsOf image)) ≤ 29394
 image-lines image h = omega (arith, lines-length (wordsOf image), words-length image)
 
 module _ (refused : Refusal → List ℕ) (s : Progress) (keeps : (n : ℕ) (p : Policy) → s ≡ reading n p → Acceptable p) where
-  listing-short : ((x : Refusal) → s ≡ stopped x → length (refused x) ≤ 512) → length (listingOf refused s) ≤ 29394
+  listing-short : ((x : Refusal) → s ≡ stopped x → length (refused x) ≤ 64) → length (listingOf refused s) ≤ 29394
   unfolding listingOf
   listing-short short = go s refl
     where

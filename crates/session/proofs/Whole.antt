@@ -1,23 +1,22 @@
 -- However the input is cut into chunks and whenever the output is handed out, what all calls of a session hand out together is
 -- what the definition prints for the input. And what the compiler lists is what its definition says.
 use Prim.Native.Nat.{ℕ, _+_, _≤_}
-use mathlib.Core.Bool.{Bool, true, false}
+use mathlib.Core.Bool.{true}
 use mathlib.Core.List.{List, [], _++_, append-nil}
 use mathlib.Core.Path.{_≡_, refl, sym, ap, _∙_}
 use native.Mathlib.Omega.{arith}
-use borrow.Author.Tests.{leb-true, leb-false}
-use lib.Dec.{leb}
-use lib.ListN.{length, take, length-take}
-use lib.Seq.{take-all}
+use lib.ListN.{length, take}
+use Rattle.acceptance.proofs.Cut.{text-cut, texts-cut}
 use Rattle.output.specs.Buffer.{appended, behind}
-use Rattle.session.specs.Listed.{listed, listedTexts}
+use Rattle.report.specs.Report.{refusalLine, textsRefusalLine}
+use Rattle.session.specs.Listed.{listingOf, listed, listedTexts}
 use Rattle.lexer.specs.Lines.{pieces, linesOf}
 use Rattle.session.specs.Printed.{epochLines, printed}
 use Rattle.session.specs.Owed.{leftIn, owed, Good, Seen, see, nothingSeen, TracksIn, Fed, Finished, Called, begun, fed, handedOut, Reached, startState, emptied}
 use Rattle.session.specs.declared.state.Phase.{Phase}
 use Rattle.session.specs.declared.state.State.{State}
-use Rattle.session.proofs.BufferLaws.{put-take}
-use Rattle.session.proofs.ListingLaws.{listed-short, listed-long, texts-listed-short}
+use Rattle.output.proofs.RoomLaws.{put-take}
+use Rattle.session.proofs.ListingLaws.{listed-short, texts-listed-short}
 use Rattle.session.proofs.TookLaws.{Represents, represents-start, represents-took, represents-emptied, represents-all}
 
 -- ---- the engine
@@ -79,17 +78,16 @@ listing-whole text out after end room p = put-take out 0 (listed text) after end
 
 -- of an input over the length of a text 32,769 bytes are enough
 pub listing-cut : (input : List ℕ) → listed (take 32769 input) ≡ listed input
-listing-cut input = go (leb (length input) 32769) refl
-  where
-    go : (b : Bool) → leb (length input) 32769 ≡ b → listed (take 32769 input) ≡ listed input
-    go true e = ap listed (take-all 32769 input (leb-true (length input) 32769 e))
-    go false e =
-        let h : 32769 ≤ length input = let k = leb-false (length input) 32769 e in omega arith in
-        let l : length (take 32769 input) ≡ 32769 = length-take 32769 input ∙ omega arith in
-        listed-long (take 32769 input) (omega arith) ∙ sym (listed-long input (omega arith))
+unfolding listed
+listing-cut input = ap (listingOf refusalLine) (text-cut input)
 
 -- ---- the compiler on two texts
 
 pub texts-listing-whole : (maker site out after : List ℕ) (end : ℕ) → 29394 ≤ length out
     → (end ≡ behind out 0 (listedTexts maker site)) × (after ≡ appended out 0 (listedTexts maker site)) → take end after ≡ listedTexts maker site
 texts-listing-whole maker site out after end room p = put-take out 0 (listedTexts maker site) after end (omega (arith, texts-listed-short maker site)) p
+
+-- and so they are of each
+pub texts-listing-cut : (maker site : List ℕ) → listedTexts (take 32769 maker) (take 32769 site) ≡ listedTexts maker site
+unfolding listedTexts
+texts-listing-cut maker site = ap (listingOf textsRefusalLine) (texts-cut maker site)

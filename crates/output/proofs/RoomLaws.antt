@@ -1,12 +1,12 @@
--- Laws of the output that waits.
+-- Where there is room, what was appended stands behind what was there.
 use Prim.Native.Nat.{ℕ, suc, _+_, _≤_}
 use mathlib.Core.List.{List, [], _∷_, _++_, append-nil}
 use mathlib.Core.Path.{_≡_, sym, ap, ap₂, _∙_}
 use native.Mathlib.Omega.{arith}
 use lib.ListN.{length, take, set, length-set}
 use lib.Seq.{take-suc-set, append-snoc}
 use Rattle.output.specs.Buffer.{appended, behind}
 use Rattle.output.proofs.AppendLaws.{Put}
 
 append-take : (buffer : List ℕ) (at : ℕ) (bytes : List ℕ) → at + length bytes ≤ length buffer
     → take (at + length bytes) (appended buffer at bytes) ≡ take at buffer ++ bytes
