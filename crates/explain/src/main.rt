@@ -2,7 +2,7 @@
 // of its action and why. What is printed for which question is `questions`': this program reads and writes, and ends where either
 // fails.
 ghost use mathlib.Core.Path.{_≡_};
-ghost use lib.ListN.{length};
+ghost use Rattle.questions.specs.Asked.{Reached};
 use codegen::Compiled;
 use files::TEXT_SIZE;
 use image::IMAGE_SIZE;
@@ -53,7 +53,10 @@ fn take_chunk<'t>(
     maker: &'t [u8],
     site: &'t [u8],
     out: &mut [u8],
-) -> Asked {
+) -> Asked
+    requires { ⌜ Reached (now maker) (now site) (now image) (start .number) (start .question) (now held) ⌝ }
+    ensures { λ r. ⌜ Reached (now (maker .entry)) (now (site .entry)) (now (image .entry)) (r .number) (r .question) (now (held .exit)) ⌝ }
+{
     let mut number = start.number;
     let mut question = start.question;
     let mut at = 0;
@@ -63,14 +66,15 @@ fn take_chunk<'t>(
         at += taken.taken;
         if taken.ended {
             number = std::num::wrapping_add_u64(number, 1);
-            if !answer(number, question, held, image, maker, site, out) {
+            let written = answer(number, question, held, image, maker, site, out);
+            question = questions::begun();
+            if !written {
                 return Asked {
                     number,
                     question,
                     failed: true,
                 };
             }
-            question = questions::begun();
         }
     }
     Asked {

@@ -1,12 +1,15 @@
-use mathlib.Core.Path.{_≡_}
+use mathlib.Core.Path.{_≡_, refl}
 use lib.ListN.{length}
+use Rattle.questions.proofs.CallLaws.{reached-start}
+use Rattle.questions.specs.Asked.{Reached}
 use borrow.Author.Needs.{needs}
 use native.Mathlib.Omega.{arith}
 use Rattle.explain.proofs.answer_all.Statement.{statement}
 use Rattle.explain.proofs.answer_all.Tie as tie
 
 abbrev Inv-loop : tie.InvT-loop
-Inv-loop image maker site held₀ out₀ chunk₀ asked₀ turns₀ held out chunk asked turns = (length held ≡ 1025) × (length out ≡ 32802) × (length chunk ≡ 65536)
+Inv-loop image maker site held₀ out₀ chunk₀ asked₀ turns₀ held out chunk asked turns =
+    (length held ≡ 1025) × (length out ≡ 32802) × (length chunk ≡ 65536) × Reached maker site image (asked .number) (asked .question) held
 
 abbrev μ-loop : tie.MeasureT-loop
 μ-loop image maker site held₀ out₀ chunk₀ asked₀ turns₀ held out chunk asked turns = turns
@@ -18,7 +21,7 @@ begun-requires : tie.Need-begun-requires Inv-loop μ-loop
 begun-requires c κs = search needs
 
 loop-holds : tie.Need-loop-holds Inv-loop μ-loop
-loop-holds c = search needs
+loop-holds c = (search needs, search needs, search needs, reached-start _ _ _ _ _ _ refl (c .begun .ensures) refl)
 
 slice-aggregate-read : tie.Need-slice-aggregate-read Inv-loop μ-loop
 slice-aggregate-read c = search needs
@@ -66,7 +69,7 @@ slice-aggregate-take-chunk-3 : tie.Need-slice-aggregate-take-chunk-3 Inv-loop μ
 slice-aggregate-take-chunk-3 c = search needs
 
 take-chunk-requires : tie.Need-take-chunk-requires Inv-loop μ-loop
-take-chunk-requires c κs = search needs
+take-chunk-requires c κs = c .before .before .before .before .before .before .before .before .before .loop .inv .3
 
 returns-4 : tie.Need-returns-4 Inv-loop μ-loop
 returns-4 c = search needs
@@ -78,7 +81,7 @@ loop-less : tie.Need-loop-less Inv-loop μ-loop
 loop-less c = search needs
 
 loop-again : tie.Need-loop-again Inv-loop μ-loop
-loop-again c = search needs
+loop-again c = (search needs, search needs, search needs, c .before .before .before .take-chunk .ensures)
 
 returns-5 : tie.Need-returns-5 Inv-loop μ-loop
 returns-5 c = search needs
