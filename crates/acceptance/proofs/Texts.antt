@@ -2,13 +2,13 @@
 use Prim.Native.Nat.{ℕ, suc, _+_, _≤_, _<_}
 use mathlib.Core.Bool.{Bool, true, false, cond}
 use mathlib.Core.List.{List, [], _∷_, _++_, foldl, append-assoc, append-nil}
-use mathlib.Core.Option.{Option, none, some}
+use mathlib.Core.Option.{some}
 use mathlib.Core.Path.{_≡_, refl, sym, ap, ap₂, _∙_}
 use native.Mathlib.Omega.{arith}
 use borrow.Author.Tests.{lt-ltb, ltb-true}
 use lib.Dec.{ltb}
 use lib.ListN.{length, length-append}
-use Rattle.policy.specs.Fault.{refusal, within}
+use Rattle.policy.specs.Fault.{refusal}
 use Rattle.policy.specs.Limits.{ruleLimit, constraintLimit}
 use Rattle.policy.specs.Line.{rule, constraint}
 use Rattle.policy.specs.Policy.{Policy, Rule, Constraint}

@@ -1,15 +1,13 @@
 -- What a compilation has done: the statements about `compiled` and `compiledTexts`.
 use Prim.Native.Nat.{ℕ, _≤_, _<_}
-use mathlib.Core.Bool.{Bool, true, false, cond}
-use mathlib.Core.List.{List, _++_}
+use mathlib.Core.List.{List}
 use mathlib.Core.Logic.{_↔_}
 use mathlib.Core.Option.{some}
 use mathlib.Core.Path.{_≡_, refl, sym, ap, _∙_}
 use native.Mathlib.Omega.{arith}
 use borrow.Author.Tests.{le-leb, lt-leb, leb-true}
 use lib.Dec.{leb}
-use lib.ListN.{length, take, drop}
-use lib.Seq.{take-append-seam, drop-append-seam}
+use lib.ListN.{length}
 use Rattle.policy.proofs.ListLaws.{and-out}
 use Rattle.policy.proofs.FillLaws.{Delivered, fill-delivered, fill-unchanged}
 use Rattle.policy.specs.Fill.{Filled, deliver}

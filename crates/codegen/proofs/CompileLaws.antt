@@ -23,7 +23,7 @@ use Rattle.image.specs.Held.{rulesIn, constraintsIn}
 use Rattle.layout.specs.Layout.{lineWords, linesWords, ruleWords, constraintWords, headerWord, contentWords, checkWords, imageWords, imageOf}
 use Rattle.rule_text.specs.Answer.{textReadOf, textsRead}
 use Rattle.acceptance.proofs.Texts.{restarted, site-empty}
-use Rattle.rule_text.specs.Text.{Progress, reading, stopped, readText, readSite, readTexts}
+use Rattle.rule_text.specs.Text.{Progress, reading, stopped, readText, readTexts}
 use Rattle.rule_text.specs.declared.TextCounts.{TextCounts}
 use Rattle.rule_text.specs.declared.TextRead.{TextRead}
 use Rattle.codegen.proofs.AcceptedLaws.{newest-known, AcceptedTexts}

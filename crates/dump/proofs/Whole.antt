@@ -29,7 +29,6 @@ use Rattle.exactness.proofs.Exact.{held-acceptable, refusals}
 use Rattle.printer.specs.Printed.{textOf}
 use Rattle.printer.proofs.Printing.{text-length}
 use Rattle.output.specs.Buffer.{appended, behind}
-use Rattle.output.specs.Number.{decimal}
 use Rattle.output.proofs.DecimalLaws.{decimal-short}
 use Rattle.output.proofs.AppendLaws.{append-start}
 use Rattle.report.specs.Report.{imageRefusalLine, notWordLine}

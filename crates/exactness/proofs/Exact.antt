@@ -11,10 +11,9 @@ use borrow.Author.Tests.{le-leb, eq-eqb, eqb-true}
 use lib.Dec.{leb, eqb}
 use lib.ListN.{length, length-set, getD, set, length-append, length-map}
 use Rattle.policy.proofs.ListLaws.{and-in, and-out}
-use Rattle.policy.specs.Fault.{faultNumber, refusal, numberOf, locationOf}
-use Rattle.policy.specs.Limits.{valid, Acceptable}
+use Rattle.policy.specs.Fault.{refusal, numberOf, locationOf}
+use Rattle.policy.specs.Limits.{Acceptable}
 use Rattle.policy.specs.Line.{PolicyLine, rule, constraint}
-use Rattle.policy.specs.List.{all}
 use Rattle.policy.specs.Policy.{Policy}
 use Rattle.policy.specs.declared.fault.Fault.{Fault}
 use Rattle.policy.specs.declared.fault.Refusal.{Refusal}

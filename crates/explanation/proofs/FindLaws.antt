@@ -1,15 +1,14 @@
 -- The first line of a text that is sought: what one turn of the search does, and what is shown of a line.
-use Prim.Native.Nat.{ℕ, suc, _+_, _-_, _≤_, _<_}
-use mathlib.Core.Bool.{Bool, true, false, not, cond}
+use Prim.Native.Nat.{ℕ, _+_, _-_, _≤_, _<_}
+use mathlib.Core.Bool.{Bool, true, false, cond}
 use mathlib.Core.List.{List, [], _∷_}
 use mathlib.Core.Option.{Option, none, some}
 use mathlib.Core.Path.{_≡_, refl, sym, ap, ap₂, _∙_}
 use native.Mathlib.Omega.{arith}
 use borrow.Author.Tests.{ltb-false, eqb-true}
-use lib.Dec.{eqb, ltb}
+use lib.Dec.{ltb}
 use lib.IntN.{ℤ}
 use lib.ListN.{length, take, drop, drop-of-length-le}
-use lib.Seq.{drop-drop}
 use Rattle.policy.proofs.ValidLaws.{valid-out}
 use Rattle.policy.specs.Limits.{valid}
 use Rattle.policy.specs.Line.{PolicyLine, endingOf}
@@ -23,7 +22,7 @@ use Rattle.layout.specs.Layout.{lineWords}
 use Rattle.layout.specs.Steps.Value.{valueWords}
 use Rattle.exactness.proofs.PartLines.{line-limit}
 use Rattle.acceptance.proofs.Accepted.{accepted-valid}
-use Rattle.lexer.proofs.WhileLaws.{skip-ge, skip-inside, skip-on, drop-skip}
+use Rattle.lexer.proofs.WhileLaws.{skip-ge, skip-inside, drop-skip}
 use Rattle.lexer.specs.Byte.{isSpace}
 use Rattle.lexer.specs.Lines.{pieces, linesOf, takeWhile, skipWhile, inLine, restOfLine, lineEnd}
 use Rattle.rule_text.proofs.TextLaws.{lines-here, next-later, next-inside}

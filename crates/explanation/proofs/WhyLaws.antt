@@ -5,9 +5,8 @@ use mathlib.Core.List.{List, [], _∷_}
 use mathlib.Core.Option.{Option, none, some}
 use mathlib.Core.Path.{_≡_, refl, sym, ap, ap₂, _∙_}
 use native.Mathlib.Omega.{arith}
-use lib.IntN.{ℤ}
 use lib.ListN.{length, take}
-use Rattle.policy.specs.Epoch.{Epoch, Readings}
+use Rattle.policy.specs.Epoch.{Epoch}
 use Rattle.policy.specs.Fault.{refusal}
 use Rattle.policy.specs.Limits.{valid, Acceptable}
 use Rattle.policy.specs.Line.{PolicyLine}
@@ -21,8 +20,6 @@ use Rattle.policy.specs.declared.line.Part.{Part}
 use Rattle.policy.specs.declared.number.Action.{Action}
 use Rattle.policy.specs.declared.number.ActionCheck.{ActionCheck}
 use Rattle.policy.specs.declared.set.ActionSet.{ActionSet}
-use Rattle.policy.specs.declared.set.EventSet.{EventSet}
-use Rattle.policy.specs.declared.set.ReadingSet.{ReadingSet}
 use Rattle.lexer.specs.Lines.{linesOf}
 use Rattle.syntax.specs.Judge.{LineAnswer, skipped, refused, accepted, lineAnswer}
 use Rattle.acceptance.proofs.Accepted.{accepted-valid, texts-acceptable}
@@ -47,7 +44,6 @@ use Rattle.explanation.specs.Why.{proposedBy, cancelledBy, because, reas
 use Rattle.explanation.specs.Steps.On.{epochOf, onDecision, explainedOn}
 use Rattle.explanation.specs.Steps.Sought.{soughtBy, searchOf}
 use Rattle.explanation.specs.declared.find.Search.{Search}
-use Rattle.explanation.specs.declared.find.Sought.{Sought}
 use Rattle.explanation.specs.declared.part.Shown.{Shown}
 use Rattle.explanation.specs.declared.why.Explained.{Explained}
 use Rattle.explanation.specs.declared.why.Outcome.{Outcome}

@@ -1,6 +1,6 @@
 -- What holds of every decision: when it is refused and what it then carries, that it is what the image's policy yields, and
 -- that an image in which one word was changed is refused.
-use Prim.Native.Nat.{ℕ, _+_, _<_}
+use Prim.Native.Nat.{ℕ, _<_}
 use mathlib.Core.Bool.{true}
 use mathlib.Core.List.{List, [], _∷_, map, List·Memᴰ·head, List·Memᴰ·tail, List·Memᴰ·not-nil}
 use mathlib.Core.Logic.{_↔_}
@@ -10,40 +10,36 @@ use native.Mathlib.Omega.{arith}
 use lib.ListN.{length}
 use Rattle.policy.proofs.ListLaws.{and-out}
 use Rattle.policy.proofs.ValidLaws.{valid-out}
-use Rattle.policy.specs.Epoch.{Epoch, Readings}
+use Rattle.policy.specs.Epoch.{Epoch}
 use Rattle.policy.specs.Fault.{refusal}
 use Rattle.policy.specs.Limits.{valid, Acceptable}
 use Rattle.policy.specs.Line.{constraint, headsOf}
 use Rattle.policy.specs.List.{all}
 use Rattle.policy.specs.Policy.{Policy, Constraint}
-use Rattle.policy.specs.Set.{allEvents, noActions}
+use Rattle.policy.specs.Set.{noActions}
 use Rattle.policy.specs.declared.fault.Fault.{Fault}
 use Rattle.policy.specs.declared.fault.Refusal.{Refusal}
 use Rattle.policy.specs.declared.line.Test.{Test}
 use Rattle.policy.specs.declared.number.Action.{Action}
-use Rattle.policy.specs.declared.set.ActionSet.{ActionSet}
 use Rattle.pdl.proofs.Monitor.{accepted-with-cancelled, cancelled-apart, cancelled-trial, giving-back-violates, maximal-cancellation, nothing-cancelled}
-use Rattle.pdl.specs.Answer.{Answer, refuses}
-use Rattle.pdl.specs.Greedy.{greedy}
+use Rattle.pdl.specs.Answer.{refuses}
 use Rattle.pdl.specs.Pdl.{NameActions}
 use Rattle.pdl.specs.Yield as Yield
-use Rattle.pdl.specs.Yield.{proposed, resolve, cancelled}
+use Rattle.pdl.specs.Yield.{cancelled}
 use Rattle.acceptance.proofs.Refusals.{epoch-faults}
 use Rattle.epoch_line.specs.Answer.{answerRead, epochRead, refusalInEpoch}
 use Rattle.epoch_line.specs.Epoch.{EpochAnswer, refused, accepted, readEpoch}
-use Rattle.word.proofs.WordLaws.{bytes-below}
-use Rattle.word.specs.Word.{Bytes, wordLimit, wordsOf, wordAt, between}
+use Rattle.word.specs.Word.{Bytes, wordLimit, wordsOf, wordAt}
 use Rattle.image.specs.Held.{policyIn}
-use Rattle.layout.specs.Layout.{knownForm, imageWords, imageOf}
+use Rattle.layout.specs.Layout.{knownForm, imageOf}
 use Rattle.image.specs.Load.{refusalIn, load}
 use Rattle.image.specs.declared.load.Contents.{Contents}
 use Rattle.image.specs.declared.load.Loaded.{Loaded}
 use Rattle.exactness.proofs.Exact.{refusals, took, image-taken, image-holds, held-acceptable, one-word-changed}
 use Rattle.exactness.specs.Exact.{contentsOf, changed, Checked, RefusedEarly}
 use Rattle.meaning.proofs.Decided.{decided-is, image-bounded, image-refuses, image-decides}
-use Rattle.monitor.proofs.DecideLaws.{image-refused, line-refused, line-accepted}
-use Rattle.monitor.specs.Decision.{keptBy, actionsOf, yieldedBy, issuedBy, onLine, onImage, decision, answerOf}
-use Rattle.monitor.specs.declared.decision.Actions.{Actions}
+use Rattle.monitor.proofs.DecideLaws.{image-refused, line-refused}
+use Rattle.monitor.specs.Decision.{onLine, onImage, decision, answerOf}
 use Rattle.monitor.specs.declared.decision.Decision.{Decision}
 use Rattle.guarantees.specs.Decisions.{RefusedFor, theImage, theLine, OfDecision, ofImage, ofLine, CheckFailed, yieldOf, Obeys}
 

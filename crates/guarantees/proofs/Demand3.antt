@@ -1,7 +1,7 @@
 -- Demand 3: on the image of a text, or of two as one, the decisions are those of the reference machine on the text, and an image with
 -- one word changed is refused.
 use Prim.Native.Nat.{ℕ, _%_, _<_}
-use mathlib.Core.List.{List, [], _∷_, map}
+use mathlib.Core.List.{List, [], _∷_}
 use mathlib.Core.Logic.{_↔_}
 use mathlib.Core.Option.{Option, some, Option·map}
 use mathlib.Core.Path.{_≡_, refl, sym, ap, ap₂, _∙_, subst⁻¹}

@@ -2,11 +2,10 @@
 use Prim.Native.Nat.{ℕ, _≤_}
 use mathlib.Core.List.{List}
 use mathlib.Core.Option.{Option, none, some, Option·map}
-use mathlib.Core.Path.{_≡_, refl, sym, ap, _∙_}
+use mathlib.Core.Path.{_≡_, sym, ap, _∙_}
 use lib.ListN.{length, take}
 use Rattle.policy.specs.Policy.{Policy}
 use Rattle.policy.specs.declared.fault.Refusal.{Refusal}
-use Rattle.pdl.specs.Answer.{Answer}
 use Rattle.rule_text.specs.Text.{policyRead, policyOfTexts}
 use Rattle.codegen.specs.Compile.{compiledTexts}
 use Rattle.codegen.specs.declared.Compiled.{Compiled}

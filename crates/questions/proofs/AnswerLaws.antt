@@ -1,25 +1,13 @@
 -- The answer to a question: each way through the functions, and that what is held of a line answers as the line does.
-use Prim.Native.Nat.{ℕ, suc, _+_, _*_, _-_, min, _≤_, _<_}
-use mathlib.Core.Bool.{Bool, true, false, not, cond, _&&_, _||_}
-use mathlib.Core.List.{List, [], _∷_, _++_, foldl}
-use mathlib.Core.Logic.{_⊎_, inl, inr}
-use mathlib.Core.Option.{Option, none, some}
-use mathlib.Core.Path.{_≡_, refl, sym, ap, ap₂, _∙_}
-use native.Mathlib.Omega.{arith}
-use borrow.Author.Tests.{lt-ltb, le-ltb, ltb-true, ltb-false, eqb-true, leb-true}
-use lib.Dec.{eqb, leb, ltb}
-use lib.ListN.{length, take, drop, set}
-use Rattle.policy.proofs.ListLaws.{and-out}
+use Prim.Native.Nat.{ℕ, _-_, min, _≤_, _<_}
+use mathlib.Core.List.{List}
+use mathlib.Core.Path.{_≡_, sym, ap, _∙_}
+use borrow.Author.Tests.{lt-ltb, le-ltb}
+use lib.ListN.{length, take}
 use Rattle.policy.specs.Fault.{refusal}
-use Rattle.policy.specs.Limits.{Acceptable}
-use Rattle.policy.specs.List.{all}
-use Rattle.policy.specs.Number.{checkAction}
-use Rattle.policy.specs.Policy.{Policy}
 use Rattle.policy.specs.declared.fault.Fault.{Fault}
 use Rattle.policy.specs.declared.fault.Refusal.{Refusal}
-use Rattle.lexer.specs.Byte.{bytes, isSpace, isDigit}
-use Rattle.lexer.specs.Number.{decimalFrom, isEmpty, numberOf}
-use Rattle.lexer.specs.Token.{named}
+use Rattle.lexer.specs.Byte.{bytes}
 use Rattle.explanation.specs.Part.{shownPart}
 use Rattle.explanation.specs.Steps.On.{explainedOn}
 use Rattle.explanation.specs.declared.part.Shown.{Shown}
@@ -29,7 +17,6 @@ use Rattle.explanation.specs.declared.why.Reason.{Reason}
 use Rattle.report.specs.Report.{notProposedLine, shownLine, notExplainedLine}
 use Rattle.questions.specs.Answered.{noAction, outcomeLine, explainedLine}
 use Rattle.questions.specs.Steps.Answer.{answerOn, questionLine}
-use Rattle.questions.specs.Steps.Held.{moreDigits, firstDigit, nextDigit, scanByte}
 use Rattle.questions.specs.declared.line.Question.{Question}
 use Rattle.questions.specs.declared.line.Token.{Token}
 

@@ -1,12 +1,12 @@
 -- A loop over chunks that takes lines and answers each that has ended makes such calls (`Reached`).
-use Prim.Native.Nat.{ℕ, _+_, _%_, _^_}
+use Prim.Native.Nat.{ℕ, _+_}
 use mathlib.Core.Bool.{true, false}
 use mathlib.Core.List.{List, [], _++_}
-use mathlib.Core.Path.{_≡_, sym, ap, ap₂, _∙_, subst⁻¹}
+use mathlib.Core.Path.{_≡_, sym, ap, _∙_, subst⁻¹}
 use lib.ListN.{length, take}
 use Rattle.questions.specs.Answered.{next}
-use Rattle.questions.specs.Asked.{answerHeld, begun, took, answers, Asked, Reached}
-use Rattle.questions.specs.Steps.Held.{startQuestion, Held, heldBy, bytesTaken, lineTaken}
+use Rattle.questions.specs.Asked.{answerHeld, begun, took, answers, Reached}
+use Rattle.questions.specs.Steps.Held.{startQuestion, bytesTaken, lineTaken}
 use Rattle.questions.specs.declared.line.Question.{Question}
 use Rattle.questions.specs.declared.line.Taken.{Taken}
 

@@ -5,13 +5,13 @@ use mathlib.Core.List.{List, [], _∷_, foldl}
 use mathlib.Core.Path.{_≡_, refl, sym, ap, ap₂, _∙_}
 use native.Mathlib.Omega.{arith}
 use borrow.Author.Tests.{eq-eqb, ne-eqb, lt-ltb, le-ltb, leb-true, ltb-true, ltb-false}
-use lib.Dec.{eqb, leb, ltb}
+use lib.Dec.{leb, ltb}
 use lib.ListN.{length, getD, set, drop, length-set}
 use Rattle.policy.proofs.ListLaws.{and-out}
 use Rattle.lexer.proofs.WhileLaws.{while-end, while-here, while-past, skip-inside}
 use Rattle.lexer.specs.Byte.{isSpace, isDigit}
 use Rattle.lexer.specs.Lines.{takeWhile, skipWhile, inLine}
-use Rattle.questions.specs.Steps.Held.{firstDigit, moreDigits, nextDigit, scanByte, isOpen, Held, heldBy, kept, pushed, bytesTaken, lineTaken}
+use Rattle.questions.specs.Steps.Held.{firstDigit, moreDigits, nextDigit, scanByte, Held, heldBy, kept, pushed, bytesTaken, lineTaken}
 use Rattle.questions.specs.declared.line.Question.{Question}
 use Rattle.questions.specs.declared.line.Taken.{Taken}
 use Rattle.questions.specs.declared.line.Token.{Token}

@@ -1,7 +1,7 @@
 -- Document 02, L6, and what the explaining program prints. A question is an action, one space and an epoch line, as `A4 E1 E3 R0=41`;
 -- `A4` alone asks of the empty epoch.
 use Prim.Native.Char.{code}
-use Prim.Native.Nat.{ℕ, suc, _+_, _%_, _^_}
+use Prim.Native.Nat.{ℕ, _+_, _%_, _^_}
 use mathlib.Core.Bool.{Bool, not, cond}
 use mathlib.Core.List.{List, [], _∷_, _++_}
 use mathlib.Core.Option.{Option, none, some}

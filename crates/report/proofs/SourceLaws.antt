@@ -1,7 +1,5 @@
 -- The texts of a refusal, by their numbers.
-use Prim.Native.String.{String}
-use mathlib.Core.List.{List}
-use mathlib.Core.Path.{_≡_, refl, sym, ap, _∙_}
+use mathlib.Core.Path.{_≡_, sym, ap}
 use Rattle.lexer.specs.Byte.{bytes}
 use Rattle.output.specs.Number.{digits, decimal}
 use Rattle.policy.specs.declared.fault.Refusal.{Refusal}

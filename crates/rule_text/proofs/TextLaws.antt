@@ -1,5 +1,5 @@
 -- Laws of reading a text line by line.
-use Prim.Native.Nat.{ℕ, suc, _+_, _*_, _<_, _≤_, min}
+use Prim.Native.Nat.{ℕ, suc, _+_, _<_, _≤_}
 use mathlib.Core.Bool.{Bool, true, false, not, cond}
 use mathlib.Core.List.{List, [], _∷_, _++_, map, foldl, map-append}
 use mathlib.Core.Path.{_≡_, refl, sym, ap, ap₂, _∙_}
@@ -14,7 +14,7 @@ use Rattle.policy.specs.Fault.{refusal}
 use Rattle.policy.specs.Limits.{crowded, ruleLimit, constraintLimit, headLimit, comparisonLimit}
 use Rattle.policy.specs.Line.{PolicyLine, rule, constraint, headsOf, comparisonsOf, endingOf, operandConstants, constantCount}
 use Rattle.line_value.specs.Value.{lineOf, lineValue, counted, head, noComparison}
-use Rattle.policy.specs.Policy.{Policy, Rule, Constraint}
+use Rattle.policy.specs.Policy.{Policy}
 use Rattle.policy.specs.declared.comparison.Comparison.{Comparison}
 use Rattle.policy.specs.declared.comparison.Operand.{Operand}
 use Rattle.policy.specs.declared.fault.Fault.{Fault}
@@ -26,7 +26,7 @@ use Rattle.lexer.proofs.WhileLaws.{at-byte, skip-ge, skip-inside}
 use Rattle.rule_text.specs.Answer.{total, countsIn, countsOf, textReadOf, textRead, textsRead, noLines, noCounts}
 use Rattle.rule_text.specs.Steps.Counting.{Counting, going, halted, countedStep, plus, stepped, countLine, countFrom, countBehind, countRead, sourcedIn}
 use Rattle.syntax.specs.Answer.{lineReadOf, lineRead, behindLine}
-use Rattle.rule_text.specs.Steps.Tally.{Within, Small, Counted, oneMore, withLine, tallyAs, talliedBy, stepOf}
+use Rattle.rule_text.specs.Steps.Tally.{Within, Small, Counted, withLine, tallyAs, talliedBy, stepOf}
 use Rattle.lexer.specs.Lines.{prepend, pieces, linesOf, takeWhile, skipWhile, inLine, restOfLine, lineEnd}
 use Rattle.syntax.specs.Judge.{LineAnswer, skipped, refused, accepted, lineAnswer}
 use Rattle.rule_text.specs.Text.{Progress, reading, stopped, withRule, withConstraint, advance, readLine, emptyPolicy, textLimit, readBehind, inText, readText, readSite, readTexts}

@@ -6,7 +6,6 @@ use mathlib.Core.Path.{_≡_, refl}
 use native.Mathlib.Omega.{arith}
 use lib.ListN.{length, length-append}
 use Rattle.policy.specs.Epoch.{Epoch}
-use Rattle.policy.specs.Fault.{faultNumber}
 use Rattle.policy.specs.Set.{has, difference}
 use Rattle.policy.proofs.SetLaws.{has-difference, has-empty}
 use Rattle.lexer.specs.Byte.{bytes}

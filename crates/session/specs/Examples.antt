@@ -2,7 +2,7 @@
 -- each.
 use Prim.Native.Nat.{ℕ}
 use Prim.Native.String.{String}
-use mathlib.Core.List.{List, [], _∷_, map}
+use mathlib.Core.List.{List, [], _∷_}
 use Rattle.lexer.specs.Byte.{bytes}
 use Rattle.session.specs.Listed.{listed, listedTexts}
 use Rattle.session.specs.Printed.{printed}

@@ -1,5 +1,4 @@
 use Rattle.codegen.proofs.PutLaws.{image-put}
-use native.Mathlib.Omega.{arith}
 use borrow.Author.Needs.{needs}
 use Rattle.codegen.proofs.put_image.Statement.{statement}
 use Rattle.codegen.proofs.put_image.Tie as tie

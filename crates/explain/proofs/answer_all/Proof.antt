@@ -3,7 +3,6 @@ use lib.ListN.{length}
 use Rattle.questions.proofs.CallLaws.{reached-start}
 use Rattle.questions.specs.Asked.{Reached}
 use borrow.Author.Needs.{needs}
-use native.Mathlib.Omega.{arith}
 use Rattle.explain.proofs.answer_all.Statement.{statement}
 use Rattle.explain.proofs.answer_all.Tie as tie
 

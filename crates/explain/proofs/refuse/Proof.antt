@@ -1,7 +1,6 @@
 use mathlib.Core.Path.{sym}
 use lib.Seq.{length-take-le}
 use Rattle.output.proofs.AppendLaws.{put-within}
-use native.Mathlib.Omega.{arith}
 use borrow.Author.Needs.{needs}
 use Rattle.explain.proofs.refuse.Statement.{statement}
 use Rattle.explain.proofs.refuse.Tie as tie

@@ -1,7 +1,6 @@
 use mathlib.Core.Path.{sym}
 use lib.Seq.{length-take-le}
 use Rattle.output.proofs.AppendLaws.{put-within}
-use native.Mathlib.Omega.{arith}
 use borrow.Author.Needs.{needs}
 use Rattle.files.proofs.say_failed.Statement.{statement}
 use Rattle.files.proofs.say_failed.Tie as tie

@@ -2,7 +2,6 @@ use mathlib.Core.Path.{ap, _∙_}
 use Rattle.rule_text.specs.Steps.Counting.{sourcedIn}
 use Rattle.rule_text.proofs.TextLaws.{none-small, text-read}
 use borrow.Author.Needs.{needs}
-use native.Mathlib.Omega.{arith}
 use Rattle.rule_text.proofs.read_text.Statement.{statement}
 use Rattle.rule_text.proofs.read_text.Tie as tie
 

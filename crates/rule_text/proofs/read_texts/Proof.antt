@@ -2,7 +2,6 @@ use mathlib.Core.Path.{ap, sym, _∙_}
 use Rattle.rule_text.specs.Steps.Counting.{sourcedIn}
 use Rattle.rule_text.proofs.TextLaws.{read-small, maker-refused, site-read}
 use borrow.Author.Needs.{needs}
-use native.Mathlib.Omega.{arith}
 use Rattle.rule_text.proofs.read_texts.Statement.{statement}
 use Rattle.rule_text.proofs.read_texts.Tie as tie
 

@@ -1,7 +1,6 @@
 use mathlib.Core.Path.{ap, sym, _∙_}
 use Rattle.rule_text.specs.declared.TextRead.{TextRead}
 use Rattle.rule_text.specs.Steps.Counting.{sourcedIn}
-use native.Mathlib.Omega.{arith}
 use borrow.Author.Needs.{needs}
 use Rattle.rule_text.proofs.sourced.Statement.{statement}
 use Rattle.rule_text.proofs.sourced.Tie as tie

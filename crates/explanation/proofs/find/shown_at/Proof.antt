@@ -1,5 +1,4 @@
 use Rattle.explanation.proofs.FindLaws.{start-fits, shown-is}
-use native.Mathlib.Omega.{arith}
 use borrow.Author.Needs.{needs}
 use Rattle.explanation.proofs.find.shown_at.Statement.{statement}
 use Rattle.explanation.proofs.find.shown_at.Tie as tie

@@ -1,6 +1,5 @@
 use mathlib.Core.Path.{refl}
 use Rattle.explanation.proofs.TellLaws.{words-back, told-rule, told-constraint, told-other-rule, told-other-constraint}
-use native.Mathlib.Omega.{arith}
 use borrow.Author.Needs.{needs}
 use Rattle.explanation.proofs.find.told.Statement.{statement}
 use Rattle.explanation.proofs.find.told.Tie as tie

@@ -1,5 +1,4 @@
 use Rattle.explanation.proofs.TrimLaws.{Trimming, trimming-all, trimming-on, trimming-here, trimming-none}
-use borrow.Author.Needs.{needs}
 use native.Mathlib.Omega.{arith}
 use Rattle.explanation.proofs.find.trimmed_end.Statement.{statement}
 use Rattle.explanation.proofs.find.trimmed_end.Tie as tie

@@ -1,7 +1,6 @@
 use Rattle.explanation.proofs.TrimLaws.{part-inside}
 use borrow.Author.Tests.{lt-ltb, le-ltb}
 use Rattle.explanation.specs.Part.{partAt}
-use native.Mathlib.Omega.{arith}
 use borrow.Author.Needs.{needs}
 use Rattle.explanation.proofs.part.part_at.Statement.{statement}
 use Rattle.explanation.proofs.part.part_at.Tie as tie

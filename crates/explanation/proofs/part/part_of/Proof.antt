@@ -1,5 +1,4 @@
 use Rattle.explanation.specs.Part.{partIn}
-use native.Mathlib.Omega.{arith}
 use borrow.Author.Needs.{needs}
 use Rattle.explanation.proofs.part.part_of.Statement.{statement}
 use Rattle.explanation.proofs.part.part_of.Tie as tie

@@ -1,5 +1,5 @@
-use Prim.Native.Nat.{ℕ, _%_, _<_}
-use mathlib.Core.Path.{ap, sym}
+use Prim.Native.Nat.{ℕ, _%_}
+use mathlib.Core.Path.{ap}
 use borrow.Author.Needs.{needs}
 use lib.Pow.{pow-pos}
 use Rattle.policy.specs.Set.{below}

@@ -2,7 +2,6 @@ use Prim.Native.Nat.{_-_}
 use lib.ListN.{length}
 use Rattle.questions.proofs.LineLaws.{Taking, taking-none, taking-on, taking-end, taking-all}
 use borrow.Author.Needs.{needs}
-use native.Mathlib.Omega.{arith}
 use Rattle.questions.proofs.line.take_line.Statement.{statement}
 use Rattle.questions.proofs.line.take_line.Tie as tie
 
