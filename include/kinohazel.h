@@ -2,9 +2,9 @@
  * action is issued or not.
  *
  * The header is for C99, C++11 and later. It is for two libraries, which are linked alone or both: libkinohazel.a for a controller and
- * whatever compiles for it, and libkinohazel_tools.a with kinohazel_explain, for a programming station or a fitter's panel. `rt staticlib
- * kinohazel` and `rt staticlib kinohazel_tools` build them in target/staticlib. They are for x86-64 with the System V calling convention,
- * as Linux has it, and use the red zone and the SSE2 registers of that convention.
+ * whatever compiles for it, and libkinohazel_tools.a with kinohazel_explain, for a programming station or a fitter's panel.
+ * `rt staticlib kinohazel` and `rt staticlib kinohazel_tools` build them in target/staticlib. They are for x86-64 with the System V
+ * calling convention, as Linux has it, and use the red zone and the SSE2 registers of that convention.
  *
  * No function keeps state, allocates memory or needs a start-up call, and each ends for every input.
  *
