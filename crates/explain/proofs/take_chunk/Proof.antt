@@ -80,8 +80,7 @@ loop-again c =
     let s = c .before .before .before .before .before .before .before .before .before .before .before .before .before .before .before .before .before .before .before .before .before .before .before .before .before in
     let long = part-length (s .args .chunk .now) (l .at) in
     let took = c .before .before .before .before .before .before .before .before .before .before .before .before .before .take-line .ensures in
-    let within = taken-within _ _ _ _ (took .0) in
-    (
+    let within = taken-within _ _ _ _ (took .0) in (
       search needs,
       search needs,
       omega (arith, within, long, l .inv .2),
@@ -104,8 +103,7 @@ loop-again-2 c =
     let s = c .before .before .before .before .before .before .before .before .before .before .before .before .before .before .before .before .before in
     let long = part-length (s .args .chunk .now) (l .at) in
     let took = c .before .before .before .before .before .take-line .ensures in
-    let within = taken-within _ _ _ _ (took .0) in
-    (
+    let within = taken-within _ _ _ _ (took .0) in (
       search needs,
       search needs,
       omega (arith, within, long, l .inv .2),
