@@ -76,9 +76,13 @@ unfoldable pub acceptLine : ℕ → ActionSet → ActionSet → ℕ → List ℕ
 acceptLine n accepted cancelled words =
     decimal n ++ bytes " accept " ++ actionList accepted ++ bytes " cancel " ++ actionList cancelled ++ wordsField words
 
--- the epoch of that number, refused: "A refused decision reports 0."
+-- the epoch or the question of that number, refused
+abbrev pub refusedField : ℕ → Fault → List ℕ
+refusedField n fault = decimal n ++ bytes " refused " ++ decimal (faultNumber fault)
+
+-- an epoch: "A refused decision reports 0."
 unfoldable pub refusedLine : ℕ → Fault → List ℕ
-refusedLine n fault = decimal n ++ bytes " refused " ++ decimal (faultNumber fault) ++ wordsField 0
+refusedLine n fault = refusedField n fault ++ wordsField 0
 
 -- ---- document 02, L6: the answers to questions, each with its number
 
@@ -90,4 +94,4 @@ unfoldable pub shownLine : ℕ → List ℕ → Source → List ℕ → List ℕ
 shownLine n became source part = decimal n ++ became ++ decimal (sourceNumber source) ++ bytes " " ++ part ++ newline
 
 unfoldable pub notExplainedLine : ℕ → Fault → List ℕ
-notExplainedLine n fault = decimal n ++ bytes " refused " ++ decimal (faultNumber fault) ++ newline
+notExplainedLine n fault = refusedField n fault ++ newline

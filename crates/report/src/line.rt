@@ -1,7 +1,7 @@
 // The lines that the programs print.
 ghost use mathlib.Core.Path.{_≡_};
 ghost use Rattle.output.specs.Buffer.{appended, behind};
-ghost use Rattle.report.specs.Report.{wordLine, locatedLine, refusalLine, textsRefusalLine, imageRefusalLine, notWordLine, wordsField, acceptLine, refusedLine};
+ghost use Rattle.report.specs.Report.{wordLine, locatedLine, refusalLine, textsRefusalLine, imageRefusalLine, notWordLine, wordsField, acceptLine, refusedField, refusedLine};
 use crate::action::put_actions;
 use output::put_byte;
 use output::put_bytes;
@@ -105,13 +105,21 @@ pub fn put_accept(
     put_words(out, end, words)
 }
 
+// That the epoch or the question of the number is refused, and why.
+pub(crate) fn put_fault(out: &mut [u8], at: usize, number: u64, fault: Fault) -> usize
+    ensures answer { λ r. ⌜ r ≡ behind (now (out .entry)) at (refusedField number fault) ⌝ }
+    ensures buffer { λ _. ⌜ now (out .exit) ≡ appended (now (out .entry)) at (refusedField number fault) ⌝ }
+{
+    let start = put_decimal(out, at, number);
+    let middle = put_bytes(out, start, b" refused ");
+    put_decimal(out, middle, fault.number() as u64)
+}
+
 // A refused epoch, which fetched no word.
 pub fn put_refused(out: &mut [u8], at: usize, number: u64, fault: Fault) -> usize
     ensures answer { λ r. ⌜ r ≡ behind (now (out .entry)) at (refusedLine number fault) ⌝ }
     ensures buffer { λ _. ⌜ now (out .exit) ≡ appended (now (out .entry)) at (refusedLine number fault) ⌝ }
 {
-    let start = put_decimal(out, at, number);
-    let middle = put_bytes(out, start, b" refused ");
-    let end = put_decimal(out, middle, fault.number() as u64);
+    let end = put_fault(out, at, number, fault);
     put_words(out, end, 0)
 }

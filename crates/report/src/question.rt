@@ -2,6 +2,7 @@
 ghost use mathlib.Core.Path.{_≡_};
 ghost use Rattle.output.specs.Buffer.{appended, behind};
 ghost use Rattle.report.specs.Report.{notProposedLine, shownLine, notExplainedLine};
+use crate::line::put_fault;
 use output::put_byte;
 use output::put_bytes;
 use output::put_decimal;
@@ -43,8 +44,6 @@ pub fn put_not_explained(out: &mut [u8], at: usize, number: u64, fault: Fault) -
     ensures answer { λ r. ⌜ r ≡ behind (now (out .entry)) at (notExplainedLine number fault) ⌝ }
     ensures buffer { λ _. ⌜ now (out .exit) ≡ appended (now (out .entry)) at (notExplainedLine number fault) ⌝ }
 {
-    let start = put_decimal(out, at, number);
-    let middle = put_bytes(out, start, b" refused ");
-    let end = put_decimal(out, middle, fault.number() as u64);
+    let end = put_fault(out, at, number, fault);
     put_byte(out, end, b'\n')
 }
