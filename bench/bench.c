@@ -186,11 +186,13 @@ static void add_hexadecimal_line(struct epochs *e, const char *decimal)
 
 /* Both sides. */
 
+typedef struct kinohazel_decision decide_function(const uint8_t *, size_t, const uint8_t *, size_t);
+
 struct side {
     const char *name;
     fill_function *compile, *text;
     struct kinohazel_image_check (*check)(const uint8_t *, size_t);
-    struct kinohazel_decision (*decide)(const uint8_t *, size_t, const uint8_t *, size_t);
+    decide_function *decide[MODES];
 };
 
 static struct filled reference_compile(const uint8_t *text, size_t length, uint8_t *out, size_t room)
@@ -208,8 +210,10 @@ static struct filled reference_text(const uint8_t *image, size_t length, uint8_t
 }
 
 static const struct side sides[2] = {
-    {"Rattle", fill_with_image, fill_with_text, kinohazel_check_nonnull, kinohazel_decide_nonnull},
-    {"C", reference_compile, reference_text, plain_check, plain_decide},
+    {"Rattle", fill_with_image, fill_with_text, kinohazel_check_nonnull,
+        {[CANCEL_ACTIONS] = kinohazel_decide_nonnull, [CANCEL_EVENTS] = kinohazel_decide_events_nonnull}},
+    {"C", reference_compile, reference_text, plain_check,
+        {[CANCEL_ACTIONS] = plain_decide, [CANCEL_EVENTS] = plain_decide_events}},
 };
 
 enum task { DECIDE, CHECK, COMPILE, TEXT };
@@ -219,6 +223,7 @@ struct row {
     const char *table;
     char label[64];
     enum task task;
+    enum mode mode;
     struct sample *sample;
     struct epochs *epochs;
 };
@@ -252,17 +257,29 @@ static struct sample *new_sample(void)
     return s;
 }
 
-/* Decisions, and the same lines on the image of the empty text: what reading them takes. */
-static void add_decide(struct sample *s, struct epochs *e, const char *name, const char *kind)
+/* Lines on the image of the empty text: what reading them takes. */
+static void add_reading(struct epochs *e, const char *name, const char *kind)
 {
     static struct sample *empty;
-    add_row("main", DECIDE, s, e, "decide, ", name, kind);
     if (empty == NULL) {
         empty = new_sample();
         make_image(empty);
         add_row("lines", CHECK, empty, NULL, "load", "", "");
     }
     add_row("lines", DECIDE, empty, e, "decide, ", name, kind);
+}
+
+static void add_decide(struct sample *s, struct epochs *e, const char *name, const char *kind)
+{
+    add_row("main", DECIDE, s, e, "decide, ", name, kind);
+    add_reading(e, name, kind);
+}
+
+/* By event cancellation. Reading the lines is not measured again. */
+static void add_decide_events(struct sample *s, struct epochs *e, const char *name, const char *kind)
+{
+    rows[row_count].mode = CANCEL_EVENTS;
+    add_row("events", DECIDE, s, e, "decide events, ", name, kind);
 }
 
 /* The row of the busy epochs is returned. */
@@ -277,6 +294,8 @@ static const struct row *add_sample(const char *name, void (*make)(struct buffer
     add_decide(s, quiet, name, ", quiet");
     busy_row = &rows[row_count];
     add_decide(s, busy, name, ", busy");
+    add_decide_events(s, quiet, name, ", quiet");
+    add_decide_events(s, busy, name, ", busy");
     add_row("main", CHECK, s, NULL, "load, ", name, "");
     add_row("reference", COMPILE, s, NULL, "compile, ", name, "");
     add_row("reference", TEXT, s, NULL, "text, ", name, "");
@@ -302,6 +321,23 @@ static void add_heaviest(void)
     add_row("main", CHECK, s, NULL, "load, ", "heaviest", "");
 }
 
+/* All events, and nearly every word is run in nearly every trial. */
+static void add_most_trials(void)
+{
+    struct sample *s = new_sample();
+    struct epochs *e = new_zeros(sizeof *e);
+    struct buffer line = new_buffer();
+    add_most_tried(&s->text);
+    make_image(s);
+    add_epoch_of_most_tried(&line);
+    add_byte(&line, 0);
+    add_line(e, (const char *)line.bytes);
+    free(line.bytes);
+    add_decide_events(s, e, "64 events", "");
+    add_reading(e, "64 events", "");
+    add_row("events", CHECK, s, NULL, "load, ", "64 events", "");
+}
+
 static void add_growth(const char *table, int label, int rules, int constraints, int proposed)
 {
     struct sample *s = new_sample();
@@ -319,6 +355,7 @@ static void add_rows(void)
     const struct row *typical_busy = add_sample("typical", typical);
     add_sample("largest", largest);
     add_heaviest();
+    add_most_trials();
     for (int n = 8; n <= 128; n *= 2)
         add_growth("rules", n, n, 16, 8);
     for (int n = 0; n <= 64; n = n == 0 ? 8 : n * 2)
@@ -348,7 +385,7 @@ static void turn(const struct row *r, const struct side *side)
         sink += side->check(s->image, s->image_length).rules;
     } else {
         for (int i = 0; i < r->epochs->count; i++)
-            sink += side->decide(s->image, s->image_length, (const uint8_t *)r->epochs->line[i], r->epochs->length[i])
+            sink += side->decide[r->mode](s->image, s->image_length, (const uint8_t *)r->epochs->line[i], r->epochs->length[i])
                         .accepted;
     }
 }
@@ -366,12 +403,23 @@ static void same(bool equal, const char *what)
     }
 }
 
-static struct kinohazel_decision same_decision(const uint8_t *image, size_t size, const uint8_t *line, size_t length)
+static struct kinohazel_decision same_in_mode(
+    const uint8_t *image, size_t size, const uint8_t *line, size_t length, enum mode mode)
 {
-    struct kinohazel_decision a = kinohazel_decide(image, size, line, length);
-    struct kinohazel_decision b = plain_decide(image, size, line, length);
+    struct kinohazel_decision a = sides[0].decide[mode](image, size, line, length);
+    struct kinohazel_decision b = sides[1].decide[mode](image, size, line, length);
     same(memcmp(&a, &b, sizeof a) == 0, "a decision");
     return a;
+}
+
+/* The faults that were met: bit n is fault n. */
+static unsigned long met;
+
+/* In both modes; the decision of the first is returned. */
+static struct kinohazel_decision same_decision(const uint8_t *image, size_t size, const uint8_t *line, size_t length)
+{
+    met |= 1ul << same_in_mode(image, size, line, length, CANCEL_EVENTS).fault;
+    return same_in_mode(image, size, line, length, CANCEL_ACTIONS);
 }
 
 static struct kinohazel_image_check same_check(const uint8_t *image, size_t size)
@@ -405,9 +453,6 @@ static struct filled same_text(const uint8_t *image, size_t size, size_t room)
 {
     return same_filling(sides[0].text, sides[1].text, image, size, room, "the text of an image");
 }
-
-/* The faults that were met: bit n is fault n. */
-static unsigned long met;
 
 /* An image with some words changed and its sum mended, so that the lines are looked at. */
 static void check_damaged_images(const struct sample *s, struct dice *dice)
@@ -464,9 +509,10 @@ static void check_made(struct buffer *work, struct dice *dice)
     for (unsigned i = 0; i < 4000; i++) {
         const uint8_t *line;
         size_t text_length, at, length, size;
+        enum mode mode;
         work->length = 0;
         add_engine_input(work, dice, i % 16);
-        find_run(work->bytes, work->length, &text_length, &at);
+        find_run(work->bytes, work->length, &text_length, &at, &mode);
         met |= 1ul << same_compilation(work->bytes, text_length, IMAGE_BYTES).fault;
         compile(work->bytes, text_length, image, sizeof image, &size);
         same_check(image, size);
@@ -505,7 +551,7 @@ static void check_all(void)
     }
     check_made(&work, &dice);
     check_limits(rows[0].sample, &work);
-    same(met == (1ul << FAULTS) - 1, "the faults: one was never met");
+    same(met == (1ul << FAULTS) - 1 - (1ul << FAULT_UNUSED), "the faults: one was never met");
     printf("same answers in %ld comparisons, in which every fault is met\n", compared);
     free(work.bytes);
 }
@@ -575,7 +621,7 @@ static void print_proposed(const struct row *r)
 {
     int least = ACTIONS, most = 0;
     for (int i = 0; i < r->epochs->count; i++) {
-        struct kinohazel_decision d = kinohazel_decide(r->sample->image, r->sample->image_length,
+        struct kinohazel_decision d = sides[0].decide[r->mode](r->sample->image, r->sample->image_length,
             (const uint8_t *)r->epochs->line[i], r->epochs->length[i]);
         int n = (int)size_of_set(d.accepted | d.cancelled);
         least = n < least ? n : least;
@@ -591,9 +637,15 @@ static void print_words(const struct row *r)
 {
     uint64_t words = 0;
     for (int i = 0; i < r->epochs->count; i++)
-        words += kinohazel_decide(r->sample->image, r->sample->image_length, (const uint8_t *)r->epochs->line[i],
+        words += sides[0].decide[r->mode](r->sample->image, r->sample->image_length, (const uint8_t *)r->epochs->line[i],
             r->epochs->length[i]).visited;
-    printf("%s\t%.1f\t%zu\n", r->label, (double)words / r->epochs->count, visit_limit(r->sample->image));
+    printf("%s\t%.1f\t%zu\n", r->label, (double)words / r->epochs->count, visit_limit(r->sample->image, r->mode));
+}
+
+/* Of a table of calls, not of lines or of growth. */
+static bool is_call(const struct row *r)
+{
+    return strcmp(r->table, "main") == 0 || strcmp(r->table, "reference") == 0 || strcmp(r->table, "events") == 0;
 }
 
 int main(int argc, char **argv)
@@ -606,7 +658,7 @@ int main(int argc, char **argv)
         count();
     } else if (strcmp(mode, "time") == 0) {
         for (int i = 0; i < row_count; i++)
-            if (strcmp(rows[i].table, "main") == 0 || strcmp(rows[i].table, "reference") == 0)
+            if (is_call(&rows[i]))
                 measure(&rows[i]);
     } else if (strcmp(mode, "proposed") == 0) {
         for (int i = 0; i < row_count; i++)
@@ -614,7 +666,7 @@ int main(int argc, char **argv)
                 print_proposed(&rows[i]);
     } else if (strcmp(mode, "words") == 0) {
         for (int i = 0; i < row_count; i++)
-            if (rows[i].task == DECIDE && strcmp(rows[i].table, "main") == 0)
+            if (rows[i].task == DECIDE && is_call(&rows[i]))
                 print_words(&rows[i]);
     } else {
         fprintf(stderr, "usage: bench check | count | time | proposed | words\n");

@@ -1,10 +1,11 @@
-/* Kinohazel for C and C++: compile a rule text to an image, check an image, write its text, decide an epoch on it, and say why an
- * action is issued or not.
+/* Kinohazel for C and C++: compile a rule text to an image, check an image, write its text, decide an epoch on it in either mode, and
+ * say why an action is issued or not.
  *
- * The header is for C99, C++11 and later. It is for two libraries, which are linked alone or both: libkinohazel.a for a controller and
- * whatever compiles for it, and libkinohazel_tools.a with kinohazel_explain, for a programming station or a fitter's panel.
- * `rt staticlib kinohazel` and `rt staticlib kinohazel_tools` build them in target/staticlib. They are for x86-64 with the System V
- * calling convention, as Linux has it, and use the red zone and the SSE2 registers of that convention.
+ * The header is for C99, C++11 and later. It is for three libraries, of which each is linked alone or with the others: libkinohazel.a
+ * for a controller and whatever compiles for it, libkinohazel_events.a with kinohazel_decide_events, for a controller that cancels
+ * events, and libkinohazel_tools.a with kinohazel_explain, for a programming station or a fitter's panel. `rt staticlib kinohazel`,
+ * `rt staticlib kinohazel_events` and `rt staticlib kinohazel_tools` build them in target/staticlib. They are for x86-64 with the
+ * System V calling convention, as Linux has it, and use the red zone and the SSE2 registers of that convention.
  *
  * No function keeps state, allocates memory or needs a start-up call, and each ends for every input.
  *
@@ -29,9 +30,9 @@ extern "C" {
 #endif
 
 #define KINOHAZEL_VERSION_MAJOR 3
-#define KINOHAZEL_VERSION_MINOR 2
+#define KINOHAZEL_VERSION_MINOR 3
 #define KINOHAZEL_VERSION_PATCH 0
-#define KINOHAZEL_VERSION "3.2.0"
+#define KINOHAZEL_VERSION "3.3.0"
 
 /* Limits. A buffer of KINOHAZEL_IMAGE_LIMIT bytes has room for every image, one of KINOHAZEL_WRITTEN_TEXT_LIMIT bytes for the text
  * of every image. */
@@ -50,6 +51,7 @@ extern "C" {
 #define KINOHAZEL_CHECK_STACK 640
 #define KINOHAZEL_TEXT_STACK 1024
 #define KINOHAZEL_DECIDE_STACK 896
+#define KINOHAZEL_DECIDE_EVENTS_STACK 768
 #define KINOHAZEL_EXPLAIN_STACK 15360 /* it has an image */
 
 /* Why something is refused. The words for each stand in kinohazel_fault_words. */
@@ -69,7 +71,8 @@ enum kinohazel_fault {
     KINOHAZEL_EPOCH_SYNTAX = 12,
     KINOHAZEL_EPOCH_RANGE = 13,
     KINOHAZEL_DUPLICATE_READING = 14,
-    KINOHAZEL_BUFFER_TOO_SMALL = 15
+    KINOHAZEL_BUFFER_TOO_SMALL = 15,
+    KINOHAZEL_UNAVOIDABLE = 17 /* 16 is no fault */
 };
 
 /* The words for a fault, or "unknown fault" for a number that no fault has. */
@@ -92,6 +95,7 @@ static inline const char *kinohazel_fault_words(uint64_t fault)
     case KINOHAZEL_EPOCH_RANGE: return "number in an epoch line, or of the action asked about, out of range";
     case KINOHAZEL_DUPLICATE_READING: return "a reading given twice";
     case KINOHAZEL_BUFFER_TOO_SMALL: return "buffer lent for an image or a text has too few bytes";
+    case KINOHAZEL_UNAVOIDABLE: return "a never line holds even with every event dropped";
     default: return "unknown fault";
     }
 }
@@ -150,7 +154,7 @@ struct kinohazel_explanation {
 };
 
 /* The functions as the libraries export them, for callers from other languages. Here no pointer is null, even where its length
- * is 0. The last is in libkinohazel_tools.a. */
+ * is 0. The last but one is in libkinohazel_events.a, the last in libkinohazel_tools.a. */
 struct kinohazel_compilation kinohazel_compile_nonnull(
     const uint8_t *text, size_t text_length, uint8_t *out, size_t out_length);
 struct kinohazel_texts_compilation kinohazel_compile_texts_nonnull(
@@ -159,6 +163,8 @@ struct kinohazel_image_check kinohazel_check_nonnull(const uint8_t *image, size_
 struct kinohazel_text_written kinohazel_text_nonnull(
     const uint8_t *image, size_t image_length, uint8_t *out, size_t out_length);
 struct kinohazel_decision kinohazel_decide_nonnull(
+    const uint8_t *image, size_t image_length, const uint8_t *line, size_t line_length);
+struct kinohazel_decision kinohazel_decide_events_nonnull(
     const uint8_t *image, size_t image_length, const uint8_t *line, size_t line_length);
 struct kinohazel_explanation kinohazel_explain_nonnull(const uint8_t *maker, size_t maker_length, const uint8_t *site,
     size_t site_length, const uint8_t *line, size_t line_length, uint64_t action);
@@ -241,8 +247,35 @@ static inline struct kinohazel_decision kinohazel_decide(
         kinohazel_lent(line, line_length, &none), line_length);
 }
 
+/* In libkinohazel_events.a: decides an epoch line on an image by event cancellation. Image, line and readings are as for
+ * kinohazel_decide; the two differ in how a clash is resolved. There an action is cancelled, and what else its event causes is still
+ * issued. Here the event is dropped with all that it causes: an order that cannot be mailed is not charged either.
+ *
+ * The events of the line are tried by rising number. Each is kept unless a never line holds on the actions that the rules then propose
+ * by the events kept so far together with it; otherwise it is dropped. A dropped event is neither present nor absent: no rule holds
+ * that asks for it, nor one that asks for its absence, so that to drop an event causes nothing new.
+ *
+ *   - `accepted` has the actions that are proposed by the kept events.
+ *   - `cancelled` has the actions that are proposed by all events of the line, but not by the kept ones.
+ *
+ * No never line holds on the accepted actions, and giving back one dropped event or more would make one hold. If a never line holds
+ * even with no event kept, on what rules cause that ask for the absence of events alone, the line is refused as unavoidable (17);
+ * the other faults of the image and the line come before that.
+ *
+ * `visited` is the number of words fetched in a trial with no event and in one for each event of the line, whether it is kept or not:
+ * the rule words, then the never words up to the end of the first never line that holds, also where nothing is proposed. Finding what
+ * is cancelled does not count. It is at most 65 * (P + N), so at most 212,160. */
+static inline struct kinohazel_decision kinohazel_decide_events(
+    const uint8_t *image, size_t image_length, const uint8_t *line, size_t line_length)
+{
+    uint8_t none = 0;
+    return kinohazel_decide_events_nonnull(kinohazel_lent(image, image_length, &none), image_length,
+        kinohazel_lent(line, line_length, &none), line_length);
+}
+
 /* In libkinohazel_tools.a: says why an action, 0 to 63, is issued or not by two texts in the epoch of a line: the maker's text and the
- * site's, which are read as kinohazel_compile_texts reads them, and a line as for kinohazel_decide.
+ * site's, which are read as kinohazel_compile_texts reads them, and a line as for kinohazel_decide. It is for decisions of
+ * kinohazel_decide, not for those of kinohazel_decide_events.
  *
  *   - KINOHAZEL_NOT_PROPOSED: no rule proposes the action. There is no line to show.
  *   - KINOHAZEL_ACCEPTED: it is issued. The line to show is the first rule that proposes it.

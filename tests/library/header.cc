@@ -31,9 +31,9 @@ static void print(const kinohazel_image_check &answer)
 
 static void print(const kinohazel_text_written &answer) { print("text", {answer.fault, answer.word, answer.size}); }
 
-static void print(const kinohazel_decision &answer)
+static void print(const char *name, const kinohazel_decision &answer)
 {
-    print("decide", {answer.fault, answer.word, answer.accepted, answer.cancelled, answer.visited});
+    print(name, {answer.fault, answer.word, answer.accepted, answer.cancelled, answer.visited});
 }
 
 static void print(const kinohazel_explanation &answer)
@@ -54,7 +54,8 @@ int main()
     std::cout << "limits " << KINOHAZEL_TEXT_LIMIT << ' ' << KINOHAZEL_EPOCH_LIMIT << ' ' << KINOHAZEL_IMAGE_LIMIT << ' '
               << KINOHAZEL_WRITTEN_TEXT_LIMIT << ' ' << KINOHAZEL_RULE_LIMIT << ' ' << KINOHAZEL_CONSTRAINT_LIMIT << '\n';
     std::cout << "stack " << KINOHAZEL_COMPILE_STACK << ' ' << KINOHAZEL_COMPILE_TEXTS_STACK << ' ' << KINOHAZEL_CHECK_STACK
-              << ' ' << KINOHAZEL_TEXT_STACK << ' ' << KINOHAZEL_DECIDE_STACK << ' ' << KINOHAZEL_EXPLAIN_STACK << '\n';
+              << ' ' << KINOHAZEL_TEXT_STACK << ' ' << KINOHAZEL_DECIDE_STACK << ' ' << KINOHAZEL_DECIDE_EVENTS_STACK << ' '
+              << KINOHAZEL_EXPLAIN_STACK << '\n';
 
     const kinohazel_compilation compilation = kinohazel_compile(bytes_of(text), text_length, &image[0], image.size());
     const size_t size = static_cast<size_t>(compilation.size);
@@ -73,10 +74,20 @@ int main()
     print(kinohazel_text(&image[0], size, no_room.data(), no_room.size()));
     print(kinohazel_text(nothing.data(), nothing.size(), no_room.data(), no_room.size()));
     const kinohazel_decision decision = kinohazel_decide(&image[0], size, bytes_of(line), line_length);
-    print(decision);
-    print(kinohazel_decide_nonnull(&image[0], size, bytes_of("R0=1 R0=1"), 9));
-    print(kinohazel_decide(&image[0], size, nothing.data(), nothing.size()));
-    print(kinohazel_decide(nothing.data(), nothing.size(), nothing.data(), nothing.size()));
+    print("decide", decision);
+    print("decide", kinohazel_decide_nonnull(&image[0], size, bytes_of("R0=1 R0=1"), 9));
+    print("decide", kinohazel_decide(&image[0], size, nothing.data(), nothing.size()));
+    print("decide", kinohazel_decide(nothing.data(), nothing.size(), nothing.data(), nothing.size()));
+    const kinohazel_decision by_events = kinohazel_decide_events(&image[0], size, bytes_of(line), line_length);
+    print("decide events", by_events);
+    print("decide events", kinohazel_decide_events_nonnull(&image[0], size, bytes_of("R0=1 R0=1"), 9));
+    print("decide events", kinohazel_decide_events(&image[0], size, nothing.data(), nothing.size()));
+    print("decide events", kinohazel_decide_events(nothing.data(), nothing.size(), nothing.data(), nothing.size()));
+    static const char absence[] = "!E1 causes A3\nnever A3\n";
+    const kinohazel_compilation unavoidable =
+        kinohazel_compile(bytes_of(absence), std::strlen(absence), &image[0], image.size());
+    print("decide events",
+        kinohazel_decide_events(&image[0], static_cast<size_t>(unavoidable.size), nothing.data(), nothing.size()));
 
     static const char site[] = "  E1 causes A5  \nnever A3 & A5";
     const size_t site_length = std::strlen(site);
@@ -102,7 +113,7 @@ int main()
     for (const kinohazel_outcome outcome : outcomes)
         std::cout << outcome << (outcome == KINOHAZEL_CANCELLED ? "\n" : " ");
 
-    const kinohazel_fault last = KINOHAZEL_BUFFER_TOO_SMALL;
+    const kinohazel_fault last = KINOHAZEL_UNAVOIDABLE;
     for (uint64_t fault = KINOHAZEL_OK; fault <= last + 1u; fault++)
         std::cout << fault << ' ' << kinohazel_fault_words(fault) << '\n';
     return 0;

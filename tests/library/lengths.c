@@ -102,12 +102,21 @@ static void try_rooms(uint8_t *area, uint8_t *out, fill_function *fill, const vo
     }
 }
 
+/* The function of each mode. */
+static struct kinohazel_decision (*const deciders[2])(
+    const uint8_t *, size_t, const uint8_t *, size_t) = {kinohazel_decide, kinohazel_decide_events};
+
+static bool is_refused(struct kinohazel_decision answer, enum kinohazel_fault fault)
+{
+    return answer.fault == (uint64_t)fault && (answer.word | answer.accepted | answer.cancelled | answer.visited) == 0;
+}
+
 /* Images too long by any power of 2 are refused under 7, whatever the line. */
 static void try_images(uint8_t *area, const uint8_t *image, size_t size)
 {
     static const char *const lines[] = {"", "E1", "E64"};
     size_t length, i;
-    unsigned bit;
+    unsigned bit, mode;
     put(area, image, size);
     for (bit = 14; bit <= LAST_BIT; bit++) {
         struct kinohazel_image_check check;
@@ -116,14 +125,13 @@ static void try_images(uint8_t *area, const uint8_t *image, size_t size)
         if (check.fault != KINOHAZEL_IMAGE_SIZE || check.word != 0 || check.rules != 0 || check.constraints != 0)
             fail("an image too long is not refused under 7", length);
         calls++;
-        for (i = 0; i < sizeof lines / sizeof *lines; i++) {
-            struct kinohazel_decision decision =
-                kinohazel_decide(area, length, (const uint8_t *)lines[i], strlen(lines[i]));
-            if (decision.fault != KINOHAZEL_IMAGE_SIZE || decision.word != 0
-                || (decision.accepted | decision.cancelled | decision.visited) != 0)
-                fail("a decision on an image too long is not refused under 7", length);
-            calls++;
-        }
+        for (i = 0; i < sizeof lines / sizeof *lines; i++)
+            for (mode = 0; mode < 2; mode++) {
+                struct kinohazel_decision answer = deciders[mode](area, length, (const uint8_t *)lines[i], strlen(lines[i]));
+                if (!is_refused(answer, KINOHAZEL_IMAGE_SIZE))
+                    fail("a decision on an image too long is not refused under 7", length);
+                calls++;
+            }
     }
 }
 
@@ -138,13 +146,12 @@ static void try_lines(uint8_t *area, const uint8_t *image, size_t size)
     changed[size - 1] ^= 1;
     for (i = 0; i < sizeof lines / sizeof *lines; i++)
         for (bit = 10; bit <= LAST_BIT; bit++)
-            for (k = 0; k < 2; k++) {
-                struct kinohazel_decision answer;
+            for (k = 0; k < 4; k++) {
+                bool right = k % 2 == 0;
                 length = ((size_t)1 << bit) + strlen(lines[i]);
                 put(area, lines[i], strlen(lines[i]));
-                answer = kinohazel_decide(k == 0 ? image : changed, size, area, length);
-                if (answer.fault != (k == 0 ? KINOHAZEL_TOO_LONG : KINOHAZEL_IMAGE_SUM) || answer.word != 0
-                    || (answer.accepted | answer.cancelled | answer.visited) != 0)
+                if (!is_refused(deciders[k / 2](right ? image : changed, size, area, length),
+                        right ? KINOHAZEL_TOO_LONG : KINOHAZEL_IMAGE_SUM))
                     fail("a line too long is not refused under 1, or before its image", length);
                 calls++;
             }

@@ -60,6 +60,12 @@ static void call_decide(void)
     answer.decision = kinohazel_decide(call.image, call.image_length, call.line, call.line_length);
 }
 
+static void call_decide_events(void)
+{
+    call.frame = __builtin_frame_address(0);
+    answer.decision = kinohazel_decide_events(call.image, call.image_length, call.line, call.line_length);
+}
+
 static void call_explain(void)
 {
     call.frame = __builtin_frame_address(0);
@@ -77,6 +83,7 @@ static struct function {
   checking = {"check", call_check, KINOHAZEL_CHECK_STACK, 0, 0},
   writing = {"text", call_text, KINOHAZEL_TEXT_STACK, 0, 0},
   deciding = {"decide", call_decide, KINOHAZEL_DECIDE_STACK, 0, 0},
+  deciding_events = {"decide_events", call_decide_events, KINOHAZEL_DECIDE_EVENTS_STACK, 0, 0},
   explaining = {"explain", call_explain, KINOHAZEL_EXPLAIN_STACK, 0, 0};
 
 static void measure(struct function *function)
@@ -108,6 +115,7 @@ static void measure_image(const uint8_t *image, size_t length, const uint8_t *li
     measure(&checking);
     measure(&writing);
     measure(&deciding);
+    measure(&deciding_events);
 }
 
 /* A text split over two, and some of the epoch lines of an input from `at` on. */
@@ -140,8 +148,9 @@ static void measure_input(const struct buffer *input, struct dice *dice)
     const uint8_t *line;
     size_t at, length, size, byte;
     unsigned lines = 0;
+    enum mode mode;
     call.text = input->bytes;
-    find_run(input->bytes, input->length, &call.text_length, &at);
+    find_run(input->bytes, input->length, &call.text_length, &at, &mode);
     measure_texts(input, at, dice);
     call.out = image;
     call.out_length = below(dice, sizeof image);
@@ -161,7 +170,8 @@ static void measure_input(const struct buffer *input, struct dice *dice)
     }
 }
 
-/* The largest text and image, and on them epoch lines of the largest length; then the image with the longest text. */
+/* The largest text and image, and on them epoch lines of the largest length; then the image with the longest text, and the one whose
+   epoch of all events has the most trials. */
 static void measure_largest(struct buffer *input, struct dice *dice)
 {
     unsigned i;
@@ -178,6 +188,11 @@ static void measure_largest(struct buffer *input, struct dice *dice)
     input->length = 0;
     add_widest(input);
     measure_input(input, dice);
+    input->length = 0;
+    add_most_tried(input);
+    add(input, "run\n");
+    add_epoch_of_most_tried(input);
+    measure_input(input, dice);
 }
 
 static bool report(const struct function *function)
@@ -190,7 +205,7 @@ static bool report(const struct function *function)
 int main(void)
 {
     static const struct function *const functions[] = {
-        &compiling, &compiling_texts, &checking, &writing, &deciding, &explaining};
+        &compiling, &compiling_texts, &checking, &writing, &deciding, &deciding_events, &explaining};
     struct buffer input = new_buffer();
     struct dice dice = {UINT64_C(0x57) << 32};
     unsigned i;

@@ -15,7 +15,7 @@ struct answers {
     struct kinohazel_texts_compilation texts_compilation;
     struct kinohazel_image_check check;
     struct kinohazel_text_written written;
-    struct kinohazel_decision decisions[LINES];
+    struct kinohazel_decision decisions[LINES], by_events[LINES];
     struct kinohazel_explanation explanations[LINES];
     uint8_t out[IMAGE_BYTES], joint[IMAGE_BYTES], text[WRITTEN_BYTES];
 };
@@ -44,6 +44,7 @@ static void answer(const struct sample *sample, struct answers *to)
     to->written = kinohazel_text(sample->image, sample->size, to->text, sizeof to->text);
     for (i = 0; i < sample->count; i++) {
         to->decisions[i] = kinohazel_decide(sample->image, sample->size, sample->lines[i], sample->lengths[i]);
+        to->by_events[i] = kinohazel_decide_events(sample->image, sample->size, sample->lines[i], sample->lengths[i]);
         to->explanations[i] = kinohazel_explain(
             maker->bytes, maker->length, site->bytes, site->length, sample->lines[i], sample->lengths[i], i % 6);
     }
@@ -54,6 +55,7 @@ static void make(struct sample *sample, struct dice *dice)
 {
     struct buffer *input = &sample->input;
     size_t at;
+    enum mode mode;
     *input = new_buffer();
     sample->maker = new_buffer();
     sample->site = new_buffer();
@@ -61,7 +63,7 @@ static void make(struct sample *sample, struct dice *dice)
         add_largest_input(input);
     else
         add_engine_input(input, dice, (unsigned)(sample - samples) % 16);
-    find_run(input->bytes, input->length, &sample->text_length, &at);
+    find_run(input->bytes, input->length, &sample->text_length, &at, &mode);
     while (sample->count < LINES
         && next_line(input->bytes, input->length, &at, &sample->lines[sample->count], &sample->lengths[sample->count]))
         sample->count++;

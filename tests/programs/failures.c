@@ -147,14 +147,15 @@ static struct bytes due_of(const struct tool *tool, const uint8_t *input, size_t
 }
 
 /* What is printed when the input breaks off after `length` bytes: by the engine the answers to whole lines behind a line
-   `run`, by `explain` those to whole lines, by others that read it nothing. */
+   `run` or `run events`, by `explain` those to whole lines, by others that read it nothing. */
 static struct bytes due_of_part(const struct tool *tool, const uint8_t *input, size_t length)
 {
     struct bytes none = {NULL, 0};
     size_t text, epochs;
+    enum mode mode;
     while (length > 0 && input[length - 1] != '\n')
         length--;
-    if (!has_files(tool) && (strcmp(tool->program, "engine") != 0 || !find_run(input, length, &text, &epochs)))
+    if (!has_files(tool) && (strcmp(tool->program, "engine") != 0 || !find_run(input, length, &text, &epochs, &mode)))
         return none;
     return due_of(tool, input, length);
 }
@@ -483,7 +484,8 @@ static struct buffer *add_sample(struct tool tool, const char *name, const char 
     return &sample->input;
 }
 
-#define NEAR_RUN "ru\nrunx\nxrun\n run\nrun \nrrun\nrun run\n"
+#define NEAR_RUN \
+    "ru\nrunx\nxrun\n run\nrun \nrrun\nrun run\nrun event\nrun eventsx\nxrun events\n run events\nrun events \nrun  events\n"
 
 static void add_compiler_samples(void)
 {
@@ -538,6 +540,11 @@ static void add_engine_samples(void)
     add_sample(engine, "no run", EXAMPLE);
     add_sample(engine, "a faulty line and no run", "E1 causes\nE1 causes A1\n");
     add_sample(engine, "run without its end", "E1 causes A1\nrun");
+    add_sample(engine, "the example by events", EXAMPLE "run events\nE1 E3 R0=41\n\nrun\nE1 E3");
+    add_sample(engine, "run events without its end", "E1 causes A1\nrun events");
+    input = add_sample(engine, "32,769 bytes and run events", "");
+    add_length(input, TEXT_BYTES + 1, true);
+    add(input, NEAR_RUN "run events\nE1\n");
     add_largest_input(add_sample(engine, "the largest image", ""));
     for (i = 0; i < 3; i++) {
         static const char *const names[] = {"32,768 bytes", "32,769 bytes", "200,000 bytes"};
@@ -1138,7 +1145,7 @@ static void test_arguments(void)
         bool alone, files; /* whether it takes no argument, and two */
     } usages[] = {{"compiler", "usage: compiler", true, true},
         {"decompiler", "usage: decompiler, with the words of an image on standard input", true, false},
-        {"engine", "usage: engine, with a rule text, a line run and epoch lines on standard input", true, false},
+        {"engine", "usage: engine, with a rule text, a line run or run events, and epoch lines on standard input", true, false},
         {"explain", "usage: explain", false, true}};
     static char x[] = "x", none[] = "", help[] = "--help", dash[] = "-", null[] = "/dev/null";
     char *const lists[][3] = {{NULL, NULL, NULL}, {x, NULL, NULL}, {none, NULL, NULL}, {help, NULL, NULL}, {dash, NULL, NULL},
@@ -1231,22 +1238,22 @@ static void leave(struct run *run, int to, const char *due)
     forget(run);
 }
 
-/* A text over its length is refused at its line `run`; what follows is read and not answered. */
-static void refuse_long(size_t length, const char *before)
+/* A text over its length is refused at its line `run` or `run events`; what follows is read and not answered. */
+static void refuse_long(size_t length, const char *before, const char *run_line)
 {
     static const char refusal[] = "refused 1 line 0\n";
     struct buffer text = new_buffer(), more = new_buffer();
     struct run run;
     int to;
-    begin("engine, a client that sends a text of %lu bytes, '%s' and run, and waits", (unsigned long)length,
-        shown(before, strlen(before)));
+    begin("engine, a client that sends a text of %lu bytes, '%s' and '%s', and waits", (unsigned long)length,
+        shown(before, strlen(before)), shown(run_line, strlen(run_line)));
     add_length(&text, length, true);
     add_times(&more, "E1\nrun\nE1 causes A3\n", 5000);
     run = start_client(&to);
     say(&run, to, text.bytes, text.length);
     say(&run, to, before, strlen(before));
     stay_silent(&run, *before == '\0' ? 0 : 200);
-    say(&run, to, "run\n", 4);
+    say(&run, to, run_line, strlen(run_line));
     await(&run, refusal);
     say(&run, to, "E1\n", 3);
     say(&run, to, more.bytes, more.length);
@@ -1255,26 +1262,32 @@ static void refuse_long(size_t length, const char *before)
     free(more.bytes);
 }
 
-/* A text of about the full length before a client that waits. */
-static void answer_after(size_t length)
+/* A text of about the full length before a client that waits, in either mode. */
+static void answer_after(size_t length, enum mode mode)
 {
+    static const char *const rests[] = {[CANCEL_ACTIONS] = "n\n", [CANCEL_EVENTS] = "n events\n"};
+    static const char *const first[] = {
+        [CANCEL_ACTIONS] = "1 accept A3 cancel - words 2\n", [CANCEL_EVENTS] = "1 accept A3 cancel - words 3\n"};
+    static const char *const both[] = {[CANCEL_ACTIONS] = "1 accept A3 cancel - words 2\n2 accept - cancel - words 1\n",
+        [CANCEL_EVENTS] = "1 accept A3 cancel - words 3\n2 accept - cancel - words 2\n"};
     struct buffer text = new_buffer();
     bool fits = length <= TEXT_BYTES;
     struct run run;
     int to;
-    begin("engine, a client that sends a text of %lu bytes and waits", (unsigned long)length);
+    begin("engine, a client that sends a text of %lu bytes, 'ru%s', and waits", (unsigned long)length,
+        shown(rests[mode], strlen(rests[mode])));
     add_length(&text, length, true);
     run = start_client(&to);
     say(&run, to, text.bytes, text.length);
     say(&run, to, "ru", 2);
-    say(&run, to, "n\n", 2);
+    say(&run, to, rests[mode], strlen(rests[mode]));
     if (!fits)
         await(&run, "refused 1 line 0\n");
     say(&run, to, "E1\n", 3);
     if (fits)
-        await(&run, "1 accept A3 cancel - words 2\n");
+        await(&run, first[mode]);
     say(&run, to, "E2", 2);
-    leave(&run, to, fits ? "1 accept A3 cancel - words 2\n2 accept - cancel - words 1\n" : "refused 1 line 0\n");
+    leave(&run, to, fits ? both[mode] : "refused 1 line 0\n");
     free(text.bytes);
 }
 
@@ -1309,12 +1322,16 @@ static void test_clients(void)
 {
     static const size_t lengths[] = {4096, PIPE_BYTES - 1, PIPE_BYTES};
     size_t n;
-    refuse_long(33000, "");
-    refuse_long(200000, "");
-    refuse_long(33000, NEAR_RUN);
-    refuse_long(200000, NEAR_RUN);
+    refuse_long(33000, "", "run\n");
+    refuse_long(200000, "", "run\n");
+    refuse_long(33000, NEAR_RUN, "run\n");
+    refuse_long(200000, NEAR_RUN, "run\n");
+    refuse_long(33000, "", "run events\n");
+    refuse_long(200000, NEAR_RUN, "run events\n");
     for (n = TEXT_BYTES - 6; n <= TEXT_BYTES + 6; n++)
-        answer_after(n);
+        answer_after(n, CANCEL_ACTIONS);
+    for (n = TEXT_BYTES - 12; n <= TEXT_BYTES + 6; n += 3)
+        answer_after(n, CANCEL_EVENTS);
     for (n = 0; n < sizeof lengths / sizeof *lengths; n++) {
         answer_full_read(&engine, "E1 causes A3\nrun\n", "", lengths[n]);
         answer_full_read(&sample_of("explain", "many answers")->tool, "", "A3 ", lengths[n]);
@@ -1366,6 +1383,7 @@ static void test_terminal(void)
     type(&engine, EXAMPLE "\4", EXAMPLE);
     type(&engine, EXAMPLE "run\nE1 E3 R0=41\n\nE64\n\4", EXAMPLE "run\nE1 E3 R0=41\n\nE64\n");
     type(&engine, EXAMPLE "run\nE1 E3 R0=41\n\nE3\4\4", EXAMPLE "run\nE1 E3 R0=41\n\nE3");
+    type(&engine, EXAMPLE "run events\nE1 E3 R0=41\n\nE3\4\4", EXAMPLE "run events\nE1 E3 R0=41\n\nE3");
     type(&engine, "E64 causes A1\nrun\nE1\n\4", "E64 causes A1\nrun\nE1\n");
     type(explaining, "\4", "");
     type(explaining, "A3 E1 E3 R0=41\nA4 E1 E3 R0=41\n\4", "A3 E1 E3 R0=41\nA4 E1 E3 R0=41\n");

@@ -6,7 +6,14 @@
 #include <stdlib.h>
 #include <string.h>
 
-enum { COMPILER_CASES = 3200, DECOMPILER_CASES = 1600, ENGINE_CASES = 3200, TEXTS_CASES = 1600, EXPLAIN_CASES = 2400 };
+enum {
+    COMPILER_CASES = 3200,
+    DECOMPILER_CASES = 1600,
+    ENGINE_CASES = 3200,
+    CLASH_CASES = 400,
+    TEXTS_CASES = 1600,
+    EXPLAIN_CASES = 2640
+};
 
 /* How often each fault has to be met in each of two texts, and each answer to a question. */
 enum { TEXTS_LEAST = 20, ANSWERS_LEAST = 500 };
@@ -20,9 +27,9 @@ static void fail(const char *message, const char *name)
 /* Writing cases, and counting what they meet */
 
 struct tally {
-    unsigned long text[FAULTS], epoch[FAULTS], dump[FAULTS], no_words;
-    unsigned long decisions, cancelling, loaded, bodies;
-    unsigned long most_accepted, most_cancelled, most_visited, most_epochs; /* in one decision, in one input */
+    unsigned long text[FAULTS], epoch[MODES][FAULTS], dump[FAULTS], no_words;
+    unsigned long decisions[MODES], cancelling[MODES], dropping, loaded, bodies;
+    unsigned long most_accepted[MODES], most_cancelled[MODES], most_visited[MODES], most_epochs; /* in one decision, in one input */
     unsigned long texts[FAULTS][OWNERS], refused_texts[FAULTS][OWNERS]; /* of the compiler, of explain */
     unsigned long question[FAULTS], outcomes[OUTCOMES][OWNERS], over; /* refused for the number of the action alone */
     unsigned long both, most_questions; /* accepted texts with lines of both; in one input */
@@ -88,20 +95,38 @@ static void check_writer(const uint8_t *image, size_t length, const char *name)
 
 /* The words and the policy decide alike on an epoch line, and agree on the words that are visited. */
 static struct decision check_decision(const struct policy *policy, const uint8_t *image, size_t size, const uint8_t *line,
-    size_t length, const char *name)
+    size_t length, enum mode mode, const char *name)
 {
-    struct decision one = decide(image, size, line, length), other = decide_by_policy(policy, line, length);
+    struct decision one = decide(image, size, line, length, mode), other = decide_by_policy(policy, line, length, mode);
     struct epoch epoch;
     if (one.verdict.fault != other.verdict.fault || one.verdict.location != other.verdict.location
         || one.accepted != other.accepted || one.cancelled != other.cancelled)
         fail("the words and the policy decide differently", name);
     if (one.verdict.fault == FAULT_NONE) {
         read_epoch(line, length, &epoch);
-        other.visited = visits_by_policy(policy, &epoch).words;
+        other.visited = visits_by_policy(policy, &epoch, mode).words;
     }
-    if (one.visited != other.visited || one.visited > visit_limit(image))
+    if (one.visited != other.visited || one.visited > visit_limit(image, mode))
         fail("the words visited are not those of the policy, or too many", name);
     return one;
+}
+
+static void count_decision(struct decision decision, enum mode mode, struct tally *tally)
+{
+    tally->epoch[mode][decision.verdict.fault]++;
+    tally->decisions[mode] += decision.accepted != 0;
+    tally->cancelling[mode] += decision.cancelled != 0;
+    raise_to(&tally->most_accepted[mode], size_of_set(decision.accepted));
+    raise_to(&tally->most_cancelled[mode], size_of_set(decision.cancelled));
+    raise_to(&tally->most_visited[mode], decision.visited);
+}
+
+/* Of an accepted epoch line: whether the second mode drops an event. */
+static bool drops(const struct policy *policy, const uint8_t *line, size_t length)
+{
+    struct epoch epoch;
+    event_set kept;
+    return read_epoch(line, length, &epoch).fault == FAULT_NONE && kept_events(policy, &epoch, &kept) && kept != epoch.present;
 }
 
 /* The image of a text loads as the policy of the text; running it and the plain machine agree on each epoch line. A
@@ -115,8 +140,9 @@ static void check_reference(const struct buffer *input, const char *name, bool e
     const uint8_t *line;
     size_t text_length = input->length, at = input->length, written, line_length, byte;
     struct verdict verdict;
+    enum mode mode = CANCEL_ACTIONS;
     if (engine)
-        find_run(input->bytes, input->length, &text_length, &at);
+        find_run(input->bytes, input->length, &text_length, &at, &mode);
     verdict = compile(input->bytes, text_length, image, sizeof image, &written);
     tally->text[verdict.fault]++;
     if (verdict.fault != FAULT_NONE)
@@ -138,13 +164,8 @@ static void check_reference(const struct buffer *input, const char *name, bool e
     for (byte = 0; byte < 4; byte++)
         check_loader(image, written, &dice, name, tally);
     while (next_line(input->bytes, input->length, &at, &line, &line_length)) {
-        struct decision decision = check_decision(&policy, image, written, line, line_length, name);
-        tally->epoch[decision.verdict.fault]++;
-        tally->decisions += decision.accepted != 0;
-        tally->cancelling += decision.cancelled != 0;
-        raise_to(&tally->most_accepted, size_of_set(decision.accepted));
-        raise_to(&tally->most_cancelled, size_of_set(decision.cancelled));
-        raise_to(&tally->most_visited, decision.visited);
+        count_decision(check_decision(&policy, image, written, line, line_length, mode, name), mode, tally);
+        tally->dropping += mode == CANCEL_EVENTS && drops(&policy, line, line_length);
         raise_to(&tally->most_epochs, ++epochs);
     }
 }
@@ -306,7 +327,7 @@ static void check_question(const struct asked *asked, const struct policy *polic
     tally->over += why.verdict.fault == FAULT_EPOCH_RANGE && fault == FAULT_NONE;
     if (why.verdict.fault != FAULT_NONE)
         return;
-    decision = decide_by_policy(policy, line.bytes, line.length);
+    decision = decide_by_policy(policy, line.bytes, line.length, CANCEL_ACTIONS);
     if (in_set(decision.accepted | decision.cancelled, action))
         due = in_set(decision.accepted, action) ? IS_ACCEPTED : IS_CANCELLED;
     if (why.outcome != due)
@@ -380,6 +401,18 @@ static void write_limits(const char *folder, struct buffer *input, struct tally 
     add(input, "run\n");
     add_epochs_of_largest(input);
     write_case(folder, true, "most_visited", input, tally);
+    input->length = 0;
+    add_largest(input);
+    add(input, "run events\n");
+    add_epochs_of_largest(input);
+    write_case(folder, true, "largest_events", input, tally);
+    input->length = 0;
+    add_most_tried(input);
+    add(input, "run events\n");
+    add_epoch_of_most_tried(input);
+    add(input, "\n");
+    add_epochs_of_largest(input);
+    write_case(folder, true, "most_tried", input, tally);
     input->length = 0;
     add_widest(input);
     if (read_text(input->bytes, input->length, &policy).fault != FAULT_NONE
@@ -462,14 +495,14 @@ static void write_limits(const char *folder, struct buffer *input, struct tally 
 /* Further cases, by name: `limit_` those about the length of a text, `large_` those of many bytes, `shift_` those that
    differ in where a buffer ends. */
 
-/* Sets of every size. Of the proposed actions those under R0 are cancelled. */
-static void write_sets(const char *folder, struct buffer *input, struct tally *tally)
+/* Sets of every size, in either mode. Of the proposed actions those under R0 are cancelled. */
+static void write_sets(const char *folder, struct buffer *input, const char *run, const char *name, struct tally *tally)
 {
     unsigned i;
     input->length = 0;
     for (i = 0; i < ACTIONS; i++)
         add_format(input, "E%u causes A%u\nnever A%u if R0 > %u\n", i, i, i, i);
-    add(input, "run\n");
+    add(input, run);
     for (i = 0; i <= ACTIONS; i++) {
         add_events(input, 0, EVENTS); /* all proposed, i of them cancelled */
         add_format(input, "R0=%u\n", i);
@@ -483,14 +516,21 @@ static void write_sets(const char *folder, struct buffer *input, struct tally *t
         add_events(input, i + 1, EVENTS - 1 - i);
         add_format(input, "R0=%u\n", i % 3 * 32);
     }
-    write_case(folder, true, "sets", input, tally);
-    input->length = 0; /* all but the first are cancelled because of it */
+    write_case(folder, true, name, input, tally);
+}
+
+/* All but the first are cancelled because of it, or all with their event. */
+static void write_first(const char *folder, struct buffer *input, const char *run, const char *name, struct tally *tally)
+{
+    unsigned i;
+    input->length = 0;
     for (i = 0; i < ACTIONS; i++)
         add_format(input, "E63 causes A%u\n", i);
     for (i = 1; i < ACTIONS; i++)
         add_format(input, "never A0 & A%u\n", i);
-    add(input, "run\nE63\n\nE63");
-    write_case(folder, true, "sets_first", input, tally);
+    add(input, run);
+    add(input, "E63\n\nE63");
+    write_case(folder, true, name, input, tally);
 }
 
 /* All readings in one line, by rising and by falling number; each once another way, once left out. */
@@ -604,7 +644,7 @@ static void write_floods(const char *folder, struct buffer *input, struct tally 
     for (i = 1; i <= 100200; i++)
         add(input, i % 1000 == 0 ? "E1\n" : i % 1000 == 536 ? "E2\n" : "\n");
     write_case(folder, true, "large_epochs", input, tally);
-    for (k = 0; k < 4; k++) { /* answers of all lengths by chance, mostly long ones, only long ones, short ones */
+    for (k = 0; k < 5; k++) { /* answers of all lengths by chance, mostly long ones, only long ones, short ones; in the second mode */
         char name[] = "large_flood_0";
         struct dice dice = {UINT64_C(0xF0) << 32 | k};
         name[sizeof name - 2] = (char)('0' + k);
@@ -614,10 +654,10 @@ static void write_floods(const char *folder, struct buffer *input, struct tally 
         add(input, all);
         for (i = 1; i < CONSTRAINTS; i++)
             add_format(input, "never A%u if R0 = 1\n", i);
-        add(input, "run\n");
+        add(input, k < 4 ? "run\n" : "run events\n");
         for (i = 0; i < 6000; i++) {
             add(input, k == 2 || (k == 1 && chance(&dice, 800)) ? "E0" : k == 3 ? "E64" : CHOOSE(&dice, lines));
-            if (k == 0 && chance(&dice, 5))
+            if (k % 4 == 0 && chance(&dice, 5))
                 add_times(input, " ", 1024);
             add(input, "\n");
         }
@@ -658,7 +698,7 @@ static void write_long_texts(const char *folder, struct buffer *input, struct ta
             if (k == 3)
                 write_case(folder, true, name, input, tally);
             input->bytes[input->length - 1] = '\n';
-            add(input, "run\nE1\n\nE64\n");
+            add(input, (i + k) % 2 == 0 ? "run\nE1\n\nE64\n" : "run events\nE1\n\nE64\n");
             sprintf(name, "large_run_%u_%u", lengths[i], k);
             write_case(folder, true, name, input, tally);
         }
@@ -694,6 +734,59 @@ static void write_runs(const char *folder, struct buffer *input, struct tally *t
             sprintf(name, "limit_past_%u_%u", i, k);
             write_case(folder, true, name, input, tally);
         }
+}
+
+/* The same with `run events`. */
+static void write_event_runs(const char *folder, struct buffer *input, struct tally *tally)
+{
+    static const char *const lines[] = {
+        "", "run event\n", "run eventsx\n", " run events\n", "run events \n", "run  events\n", "rrun events\n", "#run events\n"};
+    static const char *const ends[] = {"run events\nE1\n\nE64\n", "run events\nE1", "run events\n", "run events", "run event",
+        "run eventsx", "run events ", "run events\nrun\nE1\n", "run\nrun events\nE1\n"};
+    unsigned i, k, n;
+    char name[40];
+    for (i = 0; i < sizeof lines / sizeof *lines; i++)
+        for (k = 0; k < sizeof ends / sizeof *ends; k++)
+            for (n = TEXT_BYTES - 12; n <= TEXT_BYTES + 12; n++) {
+                if (i > 0 && (n + i + k) % (k > 0 ? 12 : 2) != 0) /* not all of them */
+                    continue;
+                input->length = 0;
+                add_length(input, n - strlen(lines[i]), true);
+                add(input, lines[i]);
+                add(input, ends[k]);
+                sprintf(name, "limit_events_%u_%u_%u", n, i, k);
+                write_case(folder, true, name, input, tally);
+            }
+    for (i = 1; i < sizeof lines / sizeof *lines; i++) /* past the limit */
+        for (k = 0; k < 2; k++) {
+            input->length = 0;
+            add_length(input, k == 0 ? 40000 : 65520 + 2 * i, true);
+            for (n = 1; n <= i; n++)
+                add(input, lines[n]);
+            add(input, i % 3 == 0 ? "run events" : i % 3 == 1 ? "run events\nE1\nrun\nE1\n" : "run\nE1\nrun events\nE1\n");
+            sprintf(name, "limit_events_past_%u_%u", i, k);
+            write_case(folder, true, name, input, tally);
+        }
+}
+
+/* Texts with many clashes, and their epochs in the second mode. */
+static void write_clashes(const char *folder, struct buffer *input, struct tally *tally)
+{
+    unsigned i, k;
+    char name[32];
+    for (i = 0; i < CLASH_CASES; i++) {
+        struct dice dice = {UINT64_C(0xE7) << 32 | i};
+        unsigned events = i % 8 == 7 ? EVENTS : 2 + i % 8;
+        input->length = 0;
+        add_clashing_text(input, &dice, events);
+        add(input, "run events\n");
+        for (k = 0; k < 16; k++) {
+            add_clashing_epoch(input, &dice, events);
+            add(input, "\n");
+        }
+        sprintf(name, "seed_clash_%03u", i);
+        write_case(folder, true, name, input, tally);
+    }
 }
 
 /* Constants in hexadecimal */
@@ -1204,33 +1297,47 @@ static bool print_questions(const struct tally *tally, const enum fault *faults,
     return all;
 }
 
+/* The same for the epochs in one mode, with the most words that were visited. */
+static bool print_epochs(const struct tally *tally, enum mode mode, const enum fault *faults, size_t size)
+{
+    bool all;
+    printf("; epochs decided by %s %lu (%lu accept an action, %lu cancel one), refused under",
+        mode == CANCEL_ACTIONS ? "action cancellation" : "event cancellation", tally->epoch[mode][FAULT_NONE],
+        tally->decisions[mode], tally->cancelling[mode]);
+    all = print_counts(tally->epoch[mode], faults, size);
+    printf("; at most %lu words visited", tally->most_visited[mode]);
+    return all && tally->decisions[mode] > 0 && tally->cancelling[mode] > 0 && tally->most_accepted[mode] == ACTIONS
+        && tally->most_cancelled[mode] == ACTIONS
+        && tally->most_visited[mode] == (mode == CANCEL_ACTIONS ? (unsigned long)MOST_VISITED : (unsigned long)MOST_TRIED);
+}
+
 /* Prints the counts. False if a fault was never met, or a set of all actions, the most words that can be visited, or an epoch or
    a question over 100,000; or if something was seldom met in the cases with two texts. */
 static bool report(const struct tally *tally)
 {
     static const enum fault text[] = {FAULT_LONG, FAULT_SHAPE, FAULT_RANGE, FAULT_CROWD, FAULT_FULL, FAULT_REPEAT};
     static const enum fault dump[] = {FAULT_SIZE, FAULT_FORM, FAULT_COUNT, FAULT_SUM, FAULT_BODY};
-    static const enum fault epoch[] = {FAULT_LONG, FAULT_EPOCH_SHAPE, FAULT_EPOCH_RANGE, FAULT_TWICE};
+    static const enum fault epoch[] = {
+        FAULT_LONG, FAULT_EPOCH_SHAPE, FAULT_EPOCH_RANGE, FAULT_TWICE, FAULT_UNAVOIDABLE}; /* the last in the second mode alone */
+    const size_t faults = sizeof epoch / sizeof *epoch;
     bool all = true;
     printf("texts accepted %lu, refused under", tally->text[FAULT_NONE]);
     all = print_counts(tally->text, text, sizeof text / sizeof *text) && all;
     printf("; dumps written as texts %lu, with a line that is no word %lu, refused under", tally->dump[FAULT_NONE],
         tally->no_words);
     all = print_counts(tally->dump, dump, sizeof dump / sizeof *dump) && all;
-    printf("; epochs decided %lu (%lu accept an action, %lu cancel one), refused under", tally->epoch[FAULT_NONE],
-        tally->decisions, tally->cancelling);
-    all = print_counts(tally->epoch, epoch, sizeof epoch / sizeof *epoch) && all;
-    printf("; at most %lu words visited; two texts", tally->most_visited);
+    all = print_epochs(tally, CANCEL_ACTIONS, epoch, faults - 1) && all;
+    all = print_epochs(tally, CANCEL_EVENTS, epoch, faults) && all;
+    printf("; %lu drop an event; two texts", tally->dropping);
     all = print_texts(tally->texts) && all;
     printf("; before questions");
     all = print_texts(tally->refused_texts) && all;
     printf("; %lu accepted with lines of both; questions", tally->both);
-    all = print_questions(tally, epoch, sizeof epoch / sizeof *epoch) && all;
+    all = print_questions(tally, epoch, faults - 1) && all;
     printf("\n");
-    return all && tally->text[FAULT_NONE] > 0 && tally->dump[FAULT_NONE] > 0 && tally->no_words > 0
-        && tally->decisions > 0 && tally->cancelling > 0 && tally->loaded > 0 && tally->bodies > 0
-        && tally->most_accepted == ACTIONS && tally->most_cancelled == ACTIONS && tally->most_visited == MOST_VISITED
-        && tally->most_epochs > 100000 && tally->most_questions > 100000 && tally->both >= TEXTS_LEAST;
+    return all && tally->text[FAULT_NONE] > 0 && tally->dump[FAULT_NONE] > 0 && tally->no_words > 0 && tally->loaded > 0
+        && tally->bodies > 0 && tally->dropping > 0 && tally->most_epochs > 100000 && tally->most_questions > 100000
+        && tally->both >= TEXTS_LEAST;
 }
 
 int main(int argc, char **argv)
@@ -1243,12 +1350,17 @@ int main(int argc, char **argv)
         fail("generate DIR", "usage");
     memset(&tally, 0, sizeof tally);
     write_limits(argv[1], &input, &tally);
-    write_sets(argv[1], &input, &tally);
+    write_sets(argv[1], &input, "run\n", "sets", &tally);
+    write_sets(argv[1], &input, "run events\n", "sets_events", &tally);
+    write_first(argv[1], &input, "run\n", "sets_first", &tally);
+    write_first(argv[1], &input, "run events\n", "sets_first_events", &tally);
     write_readings(argv[1], &input, &tally);
     write_lines(argv[1], &input, &tally);
     write_floods(argv[1], &input, &tally);
     write_long_texts(argv[1], &input, &tally);
     write_runs(argv[1], &input, &tally);
+    write_event_runs(argv[1], &input, &tally);
+    write_clashes(argv[1], &input, &tally);
     write_digits(argv[1], &input, &tally);
     write_pattern_bytes(argv[1], &input, &tally);
     write_bits(argv[1], &input, &tally);
@@ -1279,8 +1391,8 @@ int main(int argc, char **argv)
     write_two_texts(argv[1], &tally);
     if (!report(&tally)) {
         fprintf(stderr,
-            "generate: a fault, a set of all actions, 62,784 words or an epoch over 100,000 was never met, or something with two "
-            "texts seldom\n");
+            "generate: a fault, a set of all actions, 62,784 or 187,520 words or an epoch over 100,000 was never met, or more words, "
+            "or something with two texts seldom\n");
         return 1;
     }
     return 0;

@@ -727,21 +727,82 @@ void add_epoch(struct buffer *to, struct dice *dice, const struct taste *taste)
     }
 }
 
+/* One to `most` distinct numbers under `limit`, joined by `&`; `negated` of 1000 have `!` before them. */
+static void add_distinct(struct buffer *to, struct dice *dice, const char *letter, unsigned limit, unsigned most, unsigned negated)
+{
+    unsigned count = 1 + below(dice, most < limit ? most : limit), i, number;
+    uint64_t seen = 0;
+    for (i = 0; i < count; i++) {
+        do
+            number = below(dice, limit);
+        while (in_set(seen, number));
+        seen |= UINT64_C(1) << number;
+        add_format(to, "%s%s%s%u", i == 0 ? "" : " & ", chance(dice, negated) ? "!" : "", letter, number);
+    }
+}
+
+static void add_brief_option(struct buffer *to, struct dice *dice)
+{
+    if (chance(dice, 250))
+        add_format(to, " if R%u %s %d", below(dice, 2), CHOOSE(dice, relation_names), (int)below(dice, 5) - 2);
+    add(to, "\n");
+}
+
+void add_clashing_text(struct buffer *to, struct dice *dice, unsigned events)
+{
+    static const unsigned shares[] = {0, 200, 200, 500, 1000};
+    unsigned negated = CHOOSE(dice, shares), actions = events < 16 ? 2 + below(dice, 7) : ACTIONS;
+    unsigned rules = events + below(dice, events + 1), constraints = 1 + below(dice, events), i;
+    for (i = 0; i < rules; i++) {
+        add_distinct(to, dice, "E", events, chance(dice, 700) ? 2 : 4, negated);
+        add_format(to, " causes A%u", below(dice, actions));
+        add_brief_option(to, dice);
+    }
+    for (i = 0; i < constraints; i++) {
+        add(to, "never ");
+        add_distinct(to, dice, "A", actions, 3, 0);
+        add_brief_option(to, dice);
+    }
+}
+
+void add_clashing_epoch(struct buffer *to, struct dice *dice, unsigned events)
+{
+    unsigned share = 500 + 250 * below(dice, 3), first = below(dice, events), i;
+    for (i = 0; i < events; i++)
+        if (chance(dice, share))
+            add_format(to, "E%u ", (first + i) % events);
+    for (i = 0; i < 2; i++)
+        if (chance(dice, 700))
+            add_format(to, "R%u=%d ", i, (int)below(dice, 5) - 2);
+}
+
+/* A text with clashes, or with lines of any kind, that is accepted. The events that its epochs are about are returned, 0 if any. */
+static unsigned add_good_text(struct buffer *to, struct dice *dice, const struct taste *taste, bool large)
+{
+    unsigned events = large ? EVENTS : 2 + below(dice, 9);
+    if (chance(dice, 300)) {
+        add_clashing_text(to, dice, events);
+        return events;
+    }
+    if (large)
+        add_lines(to, dice, taste, 60, RULES - 60, 0, CONSTRAINTS, true);
+    else
+        add_lines(to, dice, taste, 2, 14, 0, 8, true);
+    return 0;
+}
+
 void add_engine_input(struct buffer *to, struct dice *dice, unsigned kind)
 {
-    static const char *const near[] = {"run ", " run", "run\r", "RUN", "runs", "run run", "r", "ru", "\nrun", "#run", "# run"};
-    struct taste taste;
-    unsigned count;
+    static const char *const near[] = {"run ", " run", "run\r", "RUN", "runs", "run run", "r", "ru", "\nrun", "#run", "# run",
+        "run events ", " run events", "run  events", "run events\r", "Run events", "RUN EVENTS", "run Events", "run event",
+        "run eventss", "run\tevents", "run,events", "run events run", "runevents", "events", "# run events"};
+    struct taste taste = make_taste(dice);
+    unsigned count, clashing = 0;
     if (kind < 10) { /* a text that is accepted, and any epochs */
-        taste = make_taste(dice);
         taste.shape = taste.range = taste.crowd = taste.repeat = 0;
         taste.limits = chance(dice, 300) ? 500 : 20;
-        if (kind < 8)
-            add_lines(to, dice, &taste, 2, 14, 0, 8, true);
-        else
-            add_lines(to, dice, &taste, 60, RULES - 60, 0, CONSTRAINTS, true);
+        clashing = add_good_text(to, dice, &taste, kind >= 8);
     } else { /* any text */
-        taste = make_taste(dice);
         add_text(to, dice, below(dice, 10), true);
     }
     if (chance(dice, 30)) {
@@ -750,10 +811,10 @@ void add_engine_input(struct buffer *to, struct dice *dice, unsigned kind)
     }
     if (chance(dice, 40)) {
         if (chance(dice, 500))
-            add(to, "run");
+            add(to, chance(dice, 500) ? "run" : "run events");
         return;
     }
-    add(to, "run\n");
+    add(to, chance(dice, 500) ? "run\n" : "run events\n");
     if (chance(dice, 400)) {
         taste.range = chance(dice, 500) ? 40 : 0;
         taste.repeat = chance(dice, 500) ? 150 : 0;
@@ -762,7 +823,9 @@ void add_engine_input(struct buffer *to, struct dice *dice, unsigned kind)
     count = chance(dice, 20) ? 300 + below(dice, 900) : below(dice, 20);
     while (count-- > 0) {
         if (chance(dice, 8))
-            add(to, "run");
+            add(to, chance(dice, 500) ? "run" : "run events");
+        else if (clashing > 0 && chance(dice, 800))
+            add_clashing_epoch(to, dice, clashing);
         else
             add_epoch(to, dice, &taste);
         if (count > 0 || chance(dice, 600))
@@ -873,8 +936,9 @@ void add_explain_input(
 {
     struct buffer input = new_buffer();
     size_t text_length, at;
+    enum mode mode;
     add_engine_input(&input, dice, kind);
-    find_run(input.bytes, input.length, &text_length, &at);
+    find_run(input.bytes, input.length, &text_length, &at, &mode);
     if (kind < 10)
         split_text(input.bytes, text_length, dice, maker, site);
     else
@@ -885,7 +949,8 @@ void add_explain_input(
 
 /* Texts at the limits */
 
-static const char largest_condition[] = "if R0 = 7 , R1 != -2147483648 , R2 < 2147483647 , R3 >= -1\n";
+static const char largest_condition[] = "if R0 = 7 , R1 != -2147483648 , R2 < 2147483647 , R3 >= -1\n",
+                  largest_readings[] = "R0=7 R1=0 R2=0 R3=0";
 
 /* Rule `i` of the largest texts, with 17 words. */
 static void add_largest_rule(struct buffer *to, unsigned i)
@@ -910,20 +975,40 @@ void add_largest(struct buffer *to)
     }
 }
 
-void add_most_visited(struct buffer *to)
+/* Constraints that fail at their last comparison. */
+static void add_late_constraints(struct buffer *to)
 {
-    unsigned i;
-    for (i = 0; i < RULES; i++)
-        add_largest_rule(to, i);
     add_times(to,
         "never A0 & A1 & A2 & A3 & A4 & A5 & A6 & A7 if R0 = 7 , R1 != -2147483648 , R2 < 2147483647 , R3 < -1\n",
         CONSTRAINTS);
 }
 
+void add_most_visited(struct buffer *to)
+{
+    unsigned i;
+    for (i = 0; i < RULES; i++)
+        add_largest_rule(to, i);
+    add_late_constraints(to);
+}
+
+void add_most_tried(struct buffer *to)
+{
+    unsigned i;
+    for (i = 0; i < RULES; i++)
+        add_format(to, "E0 & E1 & E2 & E3 & E4 & E5 & E6 & E7 causes A%u %s", i % ACTIONS, largest_condition);
+    add_late_constraints(to);
+}
+
+void add_epoch_of_most_tried(struct buffer *to)
+{
+    add_events(to, 0, EVENTS);
+    add(to, largest_readings);
+}
+
 void add_epoch_of_largest(struct buffer *to)
 {
     add_events(to, 0, 32);
-    add(to, "R0=7 R1=0 R2=0 R3=0");
+    add(to, largest_readings);
 }
 
 void add_epochs_of_largest(struct buffer *to)

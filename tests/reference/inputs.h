@@ -83,7 +83,12 @@ void add_dump(struct buffer *to, const uint8_t *image, size_t length);
 /* One epoch line, without its line end. */
 void add_epoch(struct buffer *to, struct dice *dice, const struct taste *taste);
 
-/* A whole input of the engine, of a kind from 0 to 15. */
+/* A text with many clashes and an epoch line for it, without its line end: rules that share events under `events`, present or absent,
+   and never lines on the actions they propose. */
+void add_clashing_text(struct buffer *to, struct dice *dice, unsigned events);
+void add_clashing_epoch(struct buffer *to, struct dice *dice, unsigned events);
+
+/* A whole input of the engine in either mode, of a kind from 0 to 15. */
 void add_engine_input(struct buffer *to, struct dice *dice, unsigned kind);
 
 /* The lines of a text, each in the maker's text or in the site's, in their order. The last of each may lack its line end. */
@@ -117,6 +122,15 @@ void add_largest_input(struct buffer *to);
    on its made inputs does. */
 enum { MOST_VISITED = RULE_WORDS + CONSTRAINTS * (2 + 3 + 4 + 5 + 6 + 7 + 8 + 57 * (LINE_WORDS - 1)) };
 void add_most_visited(struct buffer *to);
+
+/* The same constraints, and rules of 17 words that ask for E0 to E7. With the epoch of all events a decision in the second mode visits
+   of each rule 1 to 8 words in the first eight trials and all words in the other 57; of each constraint one word and all but the
+   ending. No decision on the inputs that are made here visits more. */
+enum {
+    MOST_TRIED = RULES * (1 + 2 + 3 + 4 + 5 + 6 + 7 + 8 + 57 * LINE_WORDS) + CONSTRAINTS * (8 + 57 * (LINE_WORDS - 1))
+};
+void add_most_tried(struct buffer *to);
+void add_epoch_of_most_tried(struct buffer *to); /* without its line end */
 
 /* 128 rules and 64 constraints of 17 words each, every token as long as it can be. */
 void add_widest(struct buffer *to);

@@ -727,7 +727,7 @@ struct verdict read_epoch(const uint8_t *line, size_t length, struct epoch *epoc
     while (take(&tokens, &token)) {
         size_t sign = 0;
         if (read_name(token, 'E', &number)) {
-            result.events |= UINT64_C(1) << ranged(number, EVENTS, &defects);
+            result.present |= UINT64_C(1) << ranged(number, EVENTS, &defects);
             continue;
         }
         while (sign < token.length && token.bytes[sign] != '=')
@@ -746,6 +746,7 @@ struct verdict read_epoch(const uint8_t *line, size_t length, struct epoch *epoc
         return refuse(FAULT_EPOCH_RANGE, 0);
     if (defects.repeat)
         return refuse(FAULT_TWICE, 0);
+    result.absent = ~result.present;
     *epoch = result;
     return ACCEPTED;
 }
@@ -782,11 +783,16 @@ static bool condition_holds(const struct condition *condition, enum line_kind ki
     return true;
 }
 
+static bool literal_holds(struct literal literal, const struct epoch *epoch)
+{
+    return in_set(literal.negated ? epoch->absent : epoch->present, literal.event);
+}
+
 static bool rule_holds(const struct rule *rule, const struct epoch *epoch)
 {
     size_t i;
     for (i = 0; i < rule->count; i++)
-        if (in_set(epoch->events, rule->literals[i].event) == rule->literals[i].negated)
+        if (!literal_holds(rule->literals[i], epoch))
             return false;
     return condition_holds(&rule->condition, IN_RULE, epoch);
 }
@@ -830,16 +836,55 @@ action_set accepted(const struct policy *policy, const struct epoch *epoch, acti
     return kept;
 }
 
-struct decision decide_by_policy(const struct policy *policy, const uint8_t *line, size_t length)
+/* Event cancellation: the epoch is reduced until no never line holds on what it proposes. */
+
+struct epoch reduction(const struct epoch *epoch, event_set kept)
+{
+    struct epoch result = *epoch;
+    result.present = kept;
+    return result;
+}
+
+bool is_consistent(const struct policy *policy, const struct epoch *epoch)
+{
+    return violated(policy, epoch, proposed(policy, epoch)) == NULL;
+}
+
+bool kept_events(const struct policy *policy, const struct epoch *epoch, event_set *kept)
+{
+    struct epoch tried = reduction(epoch, 0);
+    unsigned event;
+    *kept = 0;
+    if (!is_consistent(policy, &tried))
+        return false;
+    for (event = 0; event < EVENTS; event++) {
+        if (!in_set(epoch->present, event))
+            continue;
+        tried.present = *kept | UINT64_C(1) << event;
+        if (is_consistent(policy, &tried))
+            *kept = tried.present;
+    }
+    return true;
+}
+
+struct decision decide_by_policy(const struct policy *policy, const uint8_t *line, size_t length, enum mode mode)
 {
     struct decision decision = {ACCEPTED, 0, 0, 0};
-    struct epoch epoch;
+    struct epoch epoch, reduced;
     action_set candidates;
+    event_set kept;
     decision.verdict = read_epoch(line, length, &epoch);
+    if (decision.verdict.fault == FAULT_NONE && mode == CANCEL_EVENTS && !kept_events(policy, &epoch, &kept))
+        decision.verdict = refuse(FAULT_UNAVOIDABLE, 0);
     if (decision.verdict.fault != FAULT_NONE)
         return decision;
     candidates = proposed(policy, &epoch);
-    decision.accepted = accepted(policy, &epoch, candidates);
+    if (mode == CANCEL_ACTIONS) {
+        decision.accepted = accepted(policy, &epoch, candidates);
+    } else {
+        reduced = reduction(&epoch, kept);
+        decision.accepted = proposed(policy, &reduced);
+    }
     decision.cancelled = candidates & ~decision.accepted;
     return decision;
 }
@@ -936,7 +981,7 @@ static void visit_rule(const struct rule *rule, const struct epoch *epoch, struc
     size_t i;
     for (i = 0; i < rule->count; i++) {
         visits->words++;
-        if (in_set(epoch->events, rule->literals[i].event) == rule->literals[i].negated)
+        if (!literal_holds(rule->literals[i], epoch))
             return;
     }
     visit_condition(&rule->condition, IN_RULE, epoch, visits);
@@ -954,8 +999,15 @@ static bool visit_constraint(
     return visit_condition(&constraint->condition, IN_CONSTRAINT, epoch, visits);
 }
 
-/* The trial of one action: up to and with the first never line that holds. */
-static void visit_trial(const struct policy *policy, const struct epoch *epoch, action_set set, struct visits *visits)
+static void visit_rules(const struct policy *policy, const struct epoch *epoch, struct visits *visits)
+{
+    size_t i;
+    for (i = 0; i < policy->rule_count; i++)
+        visit_rule(&policy->rules[i], epoch, visits);
+}
+
+/* Up to and with the first never line that holds. */
+static void visit_constraints(const struct policy *policy, const struct epoch *epoch, action_set set, struct visits *visits)
 {
     size_t i;
     for (i = 0; i < policy->constraint_count; i++)
@@ -965,19 +1017,51 @@ static void visit_trial(const struct policy *policy, const struct epoch *epoch, 
         }
 }
 
-struct visits visits_by_policy(const struct policy *policy, const struct epoch *epoch)
+/* The rules once, and the never lines in the trial of each proposed action. */
+static void visit_by_actions(const struct policy *policy, const struct epoch *epoch, struct visits *visits)
 {
-    struct visits visits = {0};
     action_set candidates = proposed(policy, epoch), kept = accepted(policy, epoch, candidates);
     unsigned action;
-    size_t i;
-    for (i = 0; i < policy->rule_count; i++)
-        visit_rule(&policy->rules[i], epoch, &visits);
+    visit_rules(policy, epoch, visits);
     for (action = 0; action < ACTIONS; action++) {
         action_set one = UINT64_C(1) << action, kept_before = kept & (one - 1);
         if (in_set(candidates, action))
-            visit_trial(policy, epoch, kept_before | one, &visits);
+            visit_constraints(policy, epoch, kept_before | one, visits);
     }
+}
+
+/* The trial of some events: the rules and the never lines, even if nothing is proposed. */
+static void visit_trial(const struct policy *policy, const struct epoch *epoch, event_set tried, struct visits *visits)
+{
+    struct epoch reduced = reduction(epoch, tried);
+    action_set set = proposed(policy, &reduced);
+    visit_rules(policy, &reduced, visits);
+    visit_constraints(policy, &reduced, set, visits);
+    visits->idle += set == 0;
+}
+
+/* The trial with no event, and one for each event of the epoch. */
+static void visit_by_events(const struct policy *policy, const struct epoch *epoch, struct visits *visits)
+{
+    event_set kept;
+    unsigned event;
+    visit_trial(policy, epoch, 0, visits);
+    if (!kept_events(policy, epoch, &kept))
+        return;
+    for (event = 0; event < EVENTS; event++) {
+        event_set one = UINT64_C(1) << event, kept_before = kept & (one - 1);
+        if (in_set(epoch->present, event))
+            visit_trial(policy, epoch, kept_before | one, visits);
+    }
+}
+
+struct visits visits_by_policy(const struct policy *policy, const struct epoch *epoch, enum mode mode)
+{
+    struct visits visits = {0};
+    if (mode == CANCEL_ACTIONS)
+        visit_by_actions(policy, epoch, &visits);
+    else
+        visit_by_events(policy, epoch, &visits);
     return visits;
 }
 
@@ -986,8 +1070,16 @@ struct visits visits_by_policy(const struct policy *policy, const struct epoch *
 /* The words of an image as they are fetched. */
 struct fetcher {
     const uint8_t *image;
-    size_t at, count; /* the next word, and how many were fetched */
+    size_t rules_end, end; /* behind the last word of the rules, and of the constraints */
+    size_t at, count;      /* the next word, and how many were fetched */
 };
+
+static struct fetcher words_of(const uint8_t *image)
+{
+    struct header header = unpack_header(word_at(image, 0));
+    struct fetcher words = {image, 1 + header.rule_words, 1 + header.rule_words + header.constraint_words, 1, 0};
+    return words;
+}
 
 static uint32_t fetch(struct fetcher *words)
 {
@@ -1005,8 +1097,8 @@ static bool run_words(struct fetcher *words, size_t end, enum line_kind kind, co
         struct comparison comparison;
         bool holds = true;
         switch (fields.operation) {
-        case PRESENT: holds = in_set(epoch->events, fields.first); break;
-        case ABSENT: holds = !in_set(epoch->events, fields.first); break;
+        case PRESENT: holds = in_set(epoch->present, fields.first); break;
+        case ABSENT: holds = in_set(epoch->absent, fields.first); break;
         case AGAINST_CONSTANT:
             comparison = against_constant(fields, fetch(words));
             holds = comparison_holds(&comparison, kind, epoch);
@@ -1025,53 +1117,107 @@ static bool run_words(struct fetcher *words, size_t end, enum line_kind kind, co
     return false;
 }
 
-struct decision decide(const uint8_t *image, size_t image_length, const uint8_t *line, size_t length)
+static action_set run_rules(struct fetcher *words, const struct epoch *epoch)
+{
+    action_set proposals = 0;
+    words->at = 1;
+    run_words(words, words->rules_end, IN_RULE, epoch, 0, &proposals);
+    return proposals;
+}
+
+/* True if a constraint holds on the set. */
+static bool run_constraints(struct fetcher *words, const struct epoch *epoch, action_set set)
+{
+    action_set none = 0;
+    words->at = words->rules_end;
+    return run_words(words, words->end, IN_CONSTRAINT, epoch, set, &none);
+}
+
+static void run_by_actions(const uint8_t *image, const struct epoch *epoch, struct decision *decision)
+{
+    struct fetcher words = words_of(image);
+    action_set candidates = run_rules(&words, epoch);
+    unsigned action;
+    for (action = 0; action < ACTIONS; action++) {
+        action_set tried = decision->accepted | UINT64_C(1) << action;
+        if (in_set(candidates, action) && !run_constraints(&words, epoch, tried))
+            decision->accepted = tried;
+    }
+    decision->cancelled = candidates & ~decision->accepted;
+    decision->visited = words.count;
+}
+
+/* The trial of some events of an epoch. True if what they propose makes no constraint hold. */
+static bool run_trial(struct fetcher *words, const struct epoch *epoch, event_set tried, action_set *proposals)
+{
+    struct epoch reduced = reduction(epoch, tried);
+    *proposals = run_rules(words, &reduced);
+    return !run_constraints(words, &reduced, *proposals);
+}
+
+/* The words of the full epoch, which say what is cancelled, do not count. */
+static void run_by_events(const uint8_t *image, const struct epoch *epoch, struct decision *decision)
+{
+    struct fetcher words = words_of(image), full = words;
+    action_set proposals;
+    event_set kept = 0;
+    unsigned event;
+    if (!run_trial(&words, epoch, kept, &proposals)) {
+        decision->verdict = refuse(FAULT_UNAVOIDABLE, 0);
+        return;
+    }
+    decision->accepted = proposals;
+    for (event = 0; event < EVENTS; event++) {
+        event_set tried = kept | UINT64_C(1) << event;
+        if (in_set(epoch->present, event) && run_trial(&words, epoch, tried, &proposals)) {
+            kept = tried;
+            decision->accepted = proposals;
+        }
+    }
+    decision->cancelled = run_rules(&full, epoch) & ~decision->accepted;
+    decision->visited = words.count;
+}
+
+struct decision decide(const uint8_t *image, size_t image_length, const uint8_t *line, size_t length, enum mode mode)
 {
     struct decision decision = {ACCEPTED, 0, 0, 0};
     struct policy policy;
     struct epoch epoch;
-    struct header header;
-    struct fetcher words = {image, 1, 0};
-    size_t rules_end, end;
-    action_set candidates = 0, none = 0;
-    unsigned action;
     decision.verdict = load_image(image, image_length, &policy);
+    if (decision.verdict.fault == FAULT_NONE)
+        decision.verdict = read_epoch(line, length, &epoch);
     if (decision.verdict.fault != FAULT_NONE)
         return decision;
-    decision.verdict = read_epoch(line, length, &epoch);
-    if (decision.verdict.fault != FAULT_NONE)
-        return decision;
-    header = unpack_header(word_at(image, 0));
-    rules_end = 1 + header.rule_words;
-    end = rules_end + header.constraint_words;
-    run_words(&words, rules_end, IN_RULE, &epoch, 0, &candidates);
-    for (action = 0; action < ACTIONS; action++) {
-        action_set tried = decision.accepted | UINT64_C(1) << action;
-        if (!in_set(candidates, action))
-            continue;
-        words.at = rules_end;
-        if (!run_words(&words, end, IN_CONSTRAINT, &epoch, tried, &none))
-            decision.accepted = tried;
-    }
-    decision.cancelled = candidates & ~decision.accepted;
-    decision.visited = words.count;
+    if (mode == CANCEL_ACTIONS)
+        run_by_actions(image, &epoch, &decision);
+    else
+        run_by_events(image, &epoch, &decision);
     return decision;
 }
 
-size_t visit_limit(const uint8_t *image)
+size_t visit_limit(const uint8_t *image, enum mode mode)
 {
     struct header header = unpack_header(word_at(image, 0));
-    return header.rule_words + (size_t)ACTIONS * header.constraint_words;
+    if (mode == CANCEL_ACTIONS)
+        return header.rule_words + (size_t)ACTIONS * header.constraint_words;
+    return (size_t)(1 + EVENTS) * (header.rule_words + header.constraint_words);
 }
 
 /* The programs */
 
-bool find_run(const uint8_t *input, size_t length, size_t *text_length, size_t *epochs)
+/* Whether a line ends the text, and the mode that it picks. */
+static bool is_run(struct slice line, enum mode *mode)
+{
+    *mode = is(line, "run events") ? CANCEL_EVENTS : CANCEL_ACTIONS;
+    return *mode == CANCEL_EVENTS || is(line, "run");
+}
+
+bool find_run(const uint8_t *input, size_t length, size_t *text_length, size_t *epochs, enum mode *mode)
 {
     struct slice line;
     size_t at = 0, start = 0;
     while (next_line(input, length, &at, &line.bytes, &line.length)) {
-        if (is(line, "run")) {
+        if (is_run(line, mode)) {
             *text_length = start;
             *epochs = at;
             return true;
@@ -1080,6 +1226,7 @@ bool find_run(const uint8_t *input, size_t length, size_t *text_length, size_t *
     }
     *text_length = length;
     *epochs = length;
+    *mode = CANCEL_ACTIONS;
     return false;
 }
 
@@ -1174,14 +1321,15 @@ static void print_engine(const uint8_t *input, size_t length, FILE *out)
     const uint8_t *line;
     unsigned long number = 0;
     struct verdict verdict;
-    find_run(input, length, &text_length, &at);
+    enum mode mode;
+    find_run(input, length, &text_length, &at, &mode);
     verdict = compile(input, text_length, image, sizeof image, &written);
     if (verdict.fault != FAULT_NONE) {
         print_refusal(verdict, "line", out);
         return;
     }
     while (next_line(input, length, &at, &line, &line_length))
-        print_decision(++number, decide(image, written, line, line_length), out);
+        print_decision(++number, decide(image, written, line, line_length, mode), out);
 }
 
 bool print_program(const char *program, const uint8_t *input, size_t length, FILE *out)

@@ -1,7 +1,7 @@
 /* Rule texts, images and epochs as document 01 defines them, with the text of an image (request L1 of document 02),
    readings that are not given (request L2), the words that a decision visits (request L4), constants in hexadecimal
-   (request L5) and two texts as one with the reason for an action (request L6), in plain C, written from the documents. The
-   programs and the library are compared with it. */
+   (request L5), two texts as one with the reason for an action (request L6) and event cancellation (request L7), in plain C,
+   written from the documents. The programs and the library are compared with it. */
 #ifndef REFERENCE_H
 #define REFERENCE_H
 
@@ -36,7 +36,9 @@ enum fault {
     FAULT_EPOCH_RANGE = 13,
     FAULT_TWICE = 14,
     FAULT_ROOM = 15,
-    FAULTS = 16
+    FAULT_UNUSED = 16, /* no ground has this number */
+    FAULT_UNAVOIDABLE = 17,
+    FAULTS = 18
 };
 
 /* Lent bytes. */
@@ -117,11 +119,16 @@ typedef uint64_t event_set;
 typedef uint64_t action_set;
 typedef uint64_t reading_set;
 
+/* Events that are in neither set are undefined, as section 3.5 of source document 000 has it: no literal of them holds. A line that
+   is read leaves none undefined. */
 struct epoch {
-    event_set events;
+    event_set present, absent;
     reading_set given;
     int32_t readings[READINGS]; /* of those that are given */
 };
+
+/* How a clash is resolved: by action cancellation, the first mode, or by event cancellation, the second. */
+enum mode { CANCEL_ACTIONS, CANCEL_EVENTS, MODES };
 
 struct decision {
     struct verdict verdict;
@@ -167,15 +174,24 @@ size_t read_dump(const uint8_t *input, size_t length, uint8_t image[DUMP_BYTES],
 /* Reads an epoch line. A refused one leaves the epoch as it was. */
 struct verdict read_epoch(const uint8_t *line, size_t length, struct epoch *epoch);
 
-/* What the rules of a policy propose, and which of it is accepted; the rest is cancelled. */
+/* What the rules of a policy propose, and in the first mode which of it is accepted; the rest is cancelled. */
 action_set proposed(const struct policy *policy, const struct epoch *epoch);
 action_set accepted(const struct policy *policy, const struct epoch *epoch, action_set candidates);
 
+/* The reduction of an epoch to some of its events: the others are undefined. */
+struct epoch reduction(const struct epoch *epoch, event_set kept);
+
+/* Whether no never line holds on what the rules propose (definition 10 of source document 000). */
+bool is_consistent(const struct policy *policy, const struct epoch *epoch);
+
+/* The events that the second mode keeps. False if the epoch is unavoidable. */
+bool kept_events(const struct policy *policy, const struct epoch *epoch, event_set *kept);
+
 /* What the plain machine answers, which sees no image and visits no words. */
-struct decision decide_by_policy(const struct policy *policy, const uint8_t *line, size_t length);
+struct decision decide_by_policy(const struct policy *policy, const uint8_t *line, size_t length, enum mode mode);
 
 /* What the engine answers: the image is loaded and its words are run. */
-struct decision decide(const uint8_t *image, size_t image_length, const uint8_t *line, size_t length);
+struct decision decide(const uint8_t *image, size_t image_length, const uint8_t *line, size_t length, enum mode mode);
 
 /* Why an action is accepted or not in an epoch, by two texts or by their policy. */
 struct explanation explain(struct texts texts, const uint8_t *line, size_t length, uint64_t action);
@@ -184,19 +200,21 @@ struct explanation explain_by_policy(const struct policy *policy, const uint8_t 
 /* The same for a question, such as `A4 E1 E3 R0=41`: an action, a space and an epoch line. */
 struct explanation answer_question(const struct policy *policy, const uint8_t *question, size_t length);
 
-/* The most words that a decision on an image may visit: P + 64 * N. */
-size_t visit_limit(const uint8_t *image);
+/* The most words that a decision on an image may visit: P + 64 * N, or 65 * (P + N) in the second mode. */
+size_t visit_limit(const uint8_t *image, enum mode mode);
 
 /* The words that a decision visits, by the lines of a policy; the constants among them whose comparison fails, and those whose
-   reading is not given; and the trials that end before the last never line. */
+   reading is not given; the trials that end before the last never line; and those of the second mode in which nothing is
+   proposed. An unavoidable epoch has the words of its one trial here, which the decision does not report. */
 struct visits {
-    size_t words, failing[LINE_KINDS], missing[LINE_KINDS], stops;
+    size_t words, failing[LINE_KINDS], missing[LINE_KINDS], stops, idle;
 };
 
-struct visits visits_by_policy(const struct policy *policy, const struct epoch *epoch);
+struct visits visits_by_policy(const struct policy *policy, const struct epoch *epoch, enum mode mode);
 
-/* How many bytes of the engine's input are text, and where the epoch lines begin. False if there is no `run` line. */
-bool find_run(const uint8_t *input, size_t length, size_t *text_length, size_t *epochs);
+/* How many bytes of the engine's input are text, where the epoch lines begin, and the mode that the line between them picks: `run`
+   or `run events`. False if there is no such line. */
+bool find_run(const uint8_t *input, size_t length, size_t *text_length, size_t *epochs, enum mode *mode);
 
 /* The next line of `input` from `*at` on, without its line end; `*at` moves behind it. False at the end. */
 bool next_line(const uint8_t *input, size_t length, size_t *at, const uint8_t **line, size_t *line_length);

@@ -1,4 +1,5 @@
 pub mod Accepted
+pub mod Alphabet
 pub mod Cut
 pub mod Examples
 pub mod Given

@@ -1,5 +1,5 @@
-// Reads a rule text, a line `run` and epoch lines from standard input, and prints what is decided on each epoch. What is
-// printed for which input is `session`'s: this program reads and writes, and ends where either fails.
+// Reads a rule text, a line `run` or `run events` and epoch lines from standard input, and prints what is decided on each epoch.
+// What is printed for which input is `session`'s: this program reads and writes, and ends where either fails.
 ghost use mathlib.Core.Path.{_≡_};
 ghost use Prim.Native.Nat.{_≤_};
 ghost use lib.ListN.{length};
@@ -65,7 +65,7 @@ fn input_failed() {
 
 // Reads to the end of the input. What was not read whole is not answered.
 fn read_all(held: &mut [u8; HELD_SIZE], image: &mut [u8; IMAGE_SIZE], out: &mut [u8; OUT_SIZE])
-    requires { ⌜ (length (now held) ≡ 32773) × (length (now image) ≡ 13064) × (length (now out) ≡ 65536) ⌝ }
+    requires { ⌜ (length (now held) ≡ 32780) × (length (now image) ≡ 13064) × (length (now out) ≡ 65536) ⌝ }
 {
     let mut chunk = io::large_buffer();
     let mut state = session::begin();
@@ -95,7 +95,7 @@ fn main() {
     if 1 < os::arg_count() {
         io::write_all(
             STDERR_FILENO,
-            b"usage: engine, with a rule text, a line run and epoch lines on standard input\n",
+            b"usage: engine, with a rule text, a line run or run events, and epoch lines on standard input\n",
         );
         return;
     }

@@ -20,6 +20,7 @@ use policy::Action;
 use policy::ActionCheck;
 use policy::ActionSet;
 use policy::Fault;
+use policy::Mode;
 use policy::Part;
 use policy::Refusal;
 use policy::Source;
@@ -120,7 +121,7 @@ fn reason_for(
 pub fn explain_on(image: &[u8], maker: &[u8], site: &[u8], line: &[u8], number: u32) -> Explained
     ensures { λ r. ⌜ r ≡ explainedOn (now (maker .entry)) (now (site .entry)) (now (line .entry)) number (now (image .entry)) ⌝ }
 {
-    let decision = decide(image, line);
+    let decision = decide(image, line, Mode::Actions);
     match decision {
         Decision::Refused(refusal) => Explained::Refused(refusal),
         Decision::Issued(actions) => {

@@ -8,8 +8,11 @@ use mathlib.Core.Path.{_≡_, refl, sym, ap, ap₂, _∙_, subst⁻¹}
 use native.Mathlib.Omega.{arith}
 use lib.ListN.{length, take, set}
 use Rattle.policy.specs.Epoch.{Epoch}
+use Rattle.policy.specs.Fault.{refusal}
 use Rattle.policy.specs.Limits.{Acceptable}
 use Rattle.policy.specs.Policy.{Policy}
+use Rattle.policy.specs.declared.fault.Fault.{Fault}
+use Rattle.policy.specs.declared.mode.Mode.{Mode}
 use Rattle.epoch_line.specs.Epoch.{EpochAnswer, refused, accepted, readEpoch}
 use Rattle.rule_text.specs.Text.{policyOf, policyOfTexts}
 use Rattle.exactness.proofs.Exact.{changed-words, changed-length}
@@ -23,12 +26,16 @@ use Rattle.codegen.proofs.CompileLaws.{compiled-alone}
 use Rattle.codegen.specs.declared.Compiled.{Compiled}
 use Rattle.policy.specs.Fill.{Filled}
 use Rattle.codegen.specs.Compile.{newestForm}
-use Rattle.pdl.specs.Answer.{Answer}
+use Rattle.pdl.specs.Answer.{Answer, yieldIn}
+use Rattle.pdl.specs.Pdl.{Reducible}
+use Rattle.pdl.specs.Reduction.{proposedWith, keptEvents}
 use Rattle.guarantees.proofs.Decisions.{written-refuses, written-yields, written-obeys, written-changed}
-use Rattle.monitor.specs.Decision.{decision, answerOf}
-use Rattle.guarantees.specs.Decisions.{CheckFailed, Obeys}
-use Rattle.guarantees.specs.Claims.{CompilesTo, TextsCompileTo, answers}
-use Rattle.guarantees.specs.Machine.{answer, step, steps, machineOf, machine, machineOfTexts}
+use Rattle.guarantees.proofs.Reductions.{written-reduces, written-conflict, written-obeys-events}
+use Rattle.monitor.specs.Decision.{decisionIn, decision, answerOf}
+use Rattle.monitor.specs.declared.decision.Decision.{Decision}
+use Rattle.guarantees.specs.Decisions.{CheckFailed, Obeys, ObeysEvents}
+use Rattle.guarantees.specs.Claims.{CompilesTo, TextsCompileTo, answers, answersTold}
+use Rattle.guarantees.specs.Machine.{answer, stepIn, steps, ToldLine, stepsTold, machineOf, machineToldOf, machine, machineTold, machineOfTexts, machineOfTextsTold}
 
 -- the image is that of the policy, which there is
 pub record ImageOf (known : Option Policy) (image : List ℕ) : Type 0 where
@@ -62,18 +69,24 @@ alone-writes text image = (there, back)
         record { buffer = c .buffer; size = c .size; accepted = ap (λ (o : Filled Compiled). o .answer) e ∙ c .accepted; written = ap (λ (o : Filled Compiled). take (c .size) (o .buffer)) e ∙ c .written }
 
 module _ (p : Policy) (ok : Acceptable p) where
-  pub same-answer : (line : List ℕ) → answerOf (decision (imageOf newestForm p) line) ≡ step p line
-  unfolding step answer
-  same-answer line = go (readEpoch line) refl
+  pub same-answer : (mode : Mode) (line : List ℕ) → answerOf (decisionIn mode (imageOf newestForm p) line) ≡ stepIn mode p line
+  unfolding stepIn answer yieldIn
+  same-answer mode line = go mode (readEpoch line) refl
     where
-      go : (a : EpochAnswer) → readEpoch line ≡ a → answerOf (decision (imageOf newestForm p) line) ≡ answer p a
-      go (refused f) e = written-refuses newestForm newest-known p ok line f e
-      go (accepted x) e = written-yields newestForm newest-known p ok line x e
+      go : (m : Mode) (a : EpochAnswer) → readEpoch line ≡ a → answerOf (decisionIn m (imageOf newestForm p) line) ≡ answer m p a
+      go m (refused f) q = written-refuses newestForm newest-known p ok m line f q
+      go Mode.Actions (accepted e) q = written-yields newestForm newest-known p ok line e q
+      go Mode.Events (accepted e) q = written-reduces newestForm newest-known p ok line e q
 
   same-answers : (lines : List (List ℕ)) → answers (imageOf newestForm p) lines ≡ steps p lines
   unfolding answers steps
   same-answers [] = refl
-  same-answers (l ∷ ls) = ap₂ (λ (a : Answer) (rest : List Answer). a ∷ rest) (same-answer l) (same-answers ls)
+  same-answers (l ∷ ls) = ap₂ (λ (a : Answer) (rest : List Answer). a ∷ rest) (same-answer Mode.Actions l) (same-answers ls)
+
+  same-answers-told : (lines : List ToldLine) → answersTold (imageOf newestForm p) lines ≡ stepsTold p lines
+  unfolding answersTold stepsTold
+  same-answers-told [] = refl
+  same-answers-told (x ∷ xs) = ap₂ (λ (a : Answer) (rest : List Answer). a ∷ rest) (same-answer (x .mode) (x .line)) (same-answers-told xs)
 
 module _ (known : Option Policy) (image : List ℕ) (t : ImageOf known image) where
   agrees : (lines : List (List ℕ)) → some (answers image lines) ≡ machineOf known lines
@@ -82,9 +95,15 @@ module _ (known : Option Policy) (image : List ℕ) (t : ImageOf known image) wh
       ap some (ap (λ (i : List ℕ). answers i lines) (t .same) ∙ same-answers (t .policy) (t .acceptable) lines)
       ∙ sym (ap (Option·map (λ (p : Policy). steps p lines)) (t .read))
 
-  refuses-change : (i v : ℕ) → i < length (wordsOf image) → v < wordLimit → ¬ (v ≡ wordAt image i) → (line : List ℕ) → CheckFailed (answerOf (decision (changed image i v) line))
+  agrees-told : (lines : List ToldLine) → some (answersTold image lines) ≡ machineToldOf known lines
+  unfolding machineToldOf
+  agrees-told lines =
+      ap some (ap (λ (i : List ℕ). answersTold i lines) (t .same) ∙ same-answers-told (t .policy) (t .acceptable) lines)
+      ∙ sym (ap (Option·map (λ (p : Policy). stepsTold p lines)) (t .read))
+
+  refuses-change : (i v : ℕ) → i < length (wordsOf image) → v < wordLimit → ¬ (v ≡ wordAt image i) → (mode : Mode) (line : List ℕ) → CheckFailed (answerOf (decisionIn mode (changed image i v) line))
   refuses-change =
-      subst⁻¹ (λ (x : List ℕ). (i v : ℕ) → i < length (wordsOf x) → v < wordLimit → ¬ (v ≡ wordAt x i) → (line : List ℕ) → CheckFailed (answerOf (decision (changed x i v) line)))
+      subst⁻¹ (λ (x : List ℕ). (i v : ℕ) → i < length (wordsOf x) → v < wordLimit → ¬ (v ≡ wordAt x i) → (mode : Mode) (line : List ℕ) → CheckFailed (answerOf (decisionIn mode (changed x i v) line)))
       (t .same) (written-changed newestForm newest-known (t .policy) (t .acceptable))
 
   changes-one : (i v : ℕ) → v < wordLimit → (length (changed image i v) ≡ length image) × (wordsOf (changed image i v) ≡ set (wordsOf image) i v)
@@ -101,6 +120,18 @@ module _ (known : Option Policy) (image : List ℕ) (t : ImageOf known image) wh
       subst⁻¹ (λ (x : List ℕ). Obeys p e (answerOf (decision x line))) (t .same)
       (subst⁻¹ (λ (x : Policy). Obeys x e (answerOf (decision (imageOf newestForm (t .policy)) line))) same (written-obeys newestForm newest-known (t .policy) (t .acceptable) line e r))
 
+  module _ (p : Policy) (q : known ≡ some p) (line : List ℕ) (e : Epoch) (r : readEpoch line ≡ accepted e) where
+    same-policy : p ≡ t .policy
+    same-policy = let k : some p ≡ some (t .policy) = sym q ∙ t .read in cc
+
+    conflict-refused : (decisionIn Mode.Events image line ≡ Decision.Refused (refusal Fault.Unavoidable 0)) ↔ ¬ Reducible (p .constraints) (proposedWith (p .rules)) e
+    conflict-refused =
+        rw (t .same, same-policy) (written-conflict newestForm newest-known (t .policy) (t .acceptable) line e r)
+
+    obeys-events : Reducible (p .constraints) (proposedWith (p .rules)) e → ObeysEvents p e (keptEvents p e) (answerOf (decisionIn Mode.Events image line))
+    obeys-events =
+        rw (t .same, same-policy) (written-obeys-events newestForm newest-known (t .policy) (t .acceptable) line e r)
+
 -- ---- the first half
 
 -- on the bytes that the compiler wrote for a text, the answers for every list of epoch lines, refused ones included, are those
@@ -112,17 +143,33 @@ decisions-agree text image c = agrees (policyOf text) image (image-of-text text 
 pub texts-decisions-agree : (maker site image : List ℕ) → TextsCompileTo maker site image → (lines : List (List ℕ)) → some (answers image lines) ≡ machineOfTexts maker site lines
 texts-decisions-agree maker site image c = agrees (policyOfTexts maker site) image (image-of-texts maker site image c)
 
+-- document 02, L7: the same for every list of epoch lines with the mode of each, mixed freely
+pub told-decisions-agree : (text image : List ℕ) → CompilesTo text image → (lines : List ToldLine) → some (answersTold image lines) ≡ machineTold text lines
+told-decisions-agree text image c = agrees-told (policyOf text) image (image-of-text text image c)
+
+pub texts-told-decisions-agree : (maker site image : List ℕ) → TextsCompileTo maker site image → (lines : List ToldLine) → some (answersTold image lines) ≡ machineOfTextsTold maker site lines
+texts-told-decisions-agree maker site image c = agrees-told (policyOfTexts maker site) image (image-of-texts maker site image c)
+
 -- ---- the second half
 
 -- with any other value in the place of any one word, the decision on every line is refused under one of 7 to 10, at the
 -- location 0 and with empty sets
 pub change-refused : (text image : List ℕ) → CompilesTo text image → (i v : ℕ) → i < length (wordsOf image) → v < wordLimit → ¬ (v ≡ wordAt image i)
     → (line : List ℕ) → CheckFailed (answerOf (decision (changed image i v) line))
-change-refused text image c = refuses-change (policyOf text) image (image-of-text text image c)
+change-refused text image c i v l small other = refuses-change (policyOf text) image (image-of-text text image c) i v l small other Mode.Actions
 
 pub texts-change-refused : (maker site image : List ℕ) → TextsCompileTo maker site image → (i v : ℕ) → i < length (wordsOf image) → v < wordLimit → ¬ (v ≡ wordAt image i)
     → (line : List ℕ) → CheckFailed (answerOf (decision (changed image i v) line))
-texts-change-refused maker site image c = refuses-change (policyOfTexts maker site) image (image-of-texts maker site image c)
+texts-change-refused maker site image c i v l small other = refuses-change (policyOfTexts maker site) image (image-of-texts maker site image c) i v l small other Mode.Actions
+
+-- in either mode (document 02, L7)
+pub change-refused-in : (text image : List ℕ) → CompilesTo text image → (i v : ℕ) → i < length (wordsOf image) → v < wordLimit → ¬ (v ≡ wordAt image i)
+    → (mode : Mode) (line : List ℕ) → CheckFailed (answerOf (decisionIn mode (changed image i v) line))
+change-refused-in text image c = refuses-change (policyOf text) image (image-of-text text image c)
+
+pub texts-change-refused-in : (maker site image : List ℕ) → TextsCompileTo maker site image → (i v : ℕ) → i < length (wordsOf image) → v < wordLimit → ¬ (v ≡ wordAt image i)
+    → (mode : Mode) (line : List ℕ) → CheckFailed (answerOf (decisionIn mode (changed image i v) line))
+texts-change-refused-in maker site image c = refuses-change (policyOfTexts maker site) image (image-of-texts maker site image c)
 
 -- the changed bytes are as many, and their words are those of the image but for that one
 pub change-only : (text image : List ℕ) → CompilesTo text image → (i v : ℕ) → v < wordLimit → (length (changed image i v) ≡ length image) × (wordsOf (changed image i v) ≡ set (wordsOf image) i v)
@@ -139,3 +186,23 @@ decision-obeys text image c = obeys (policyOf text) image (image-of-text text im
 
 pub texts-decision-obeys : (maker site image : List ℕ) → TextsCompileTo maker site image → (p : Policy) → policyOfTexts maker site ≡ some p → (line : List ℕ) (e : Epoch) → readEpoch line ≡ accepted e → Obeys p e (answerOf (decision image line))
 texts-decision-obeys maker site image c = obeys (policyOfTexts maker site) image (image-of-texts maker site image c)
+
+-- ---- document 02, L7: the second mode on the image of a text
+
+-- a decision is refused under 17 exactly if no reduction of the epoch is free of conflict
+pub events-conflict-refused : (text image : List ℕ) → CompilesTo text image → (p : Policy) → policyOf text ≡ some p → (line : List ℕ) (e : Epoch) → readEpoch line ≡ accepted e
+    → (decisionIn Mode.Events image line ≡ Decision.Refused (refusal Fault.Unavoidable 0)) ↔ ¬ Reducible (p .constraints) (proposedWith (p .rules)) e
+events-conflict-refused text image c = conflict-refused (policyOf text) image (image-of-text text image c)
+
+pub texts-events-conflict-refused : (maker site image : List ℕ) → TextsCompileTo maker site image → (p : Policy) → policyOfTexts maker site ≡ some p → (line : List ℕ) (e : Epoch) → readEpoch line ≡ accepted e
+    → (decisionIn Mode.Events image line ≡ Decision.Refused (refusal Fault.Unavoidable 0)) ↔ ¬ Reducible (p .constraints) (proposedWith (p .rules)) e
+texts-events-conflict-refused maker site image c = conflict-refused (policyOfTexts maker site) image (image-of-texts maker site image c)
+
+-- otherwise the kept events are a maximal such reduction, and what they propose is issued
+pub events-decision-obeys : (text image : List ℕ) → CompilesTo text image → (p : Policy) → policyOf text ≡ some p → (line : List ℕ) (e : Epoch) → readEpoch line ≡ accepted e
+    → Reducible (p .constraints) (proposedWith (p .rules)) e → ObeysEvents p e (keptEvents p e) (answerOf (decisionIn Mode.Events image line))
+events-decision-obeys text image c = obeys-events (policyOf text) image (image-of-text text image c)
+
+pub texts-events-decision-obeys : (maker site image : List ℕ) → TextsCompileTo maker site image → (p : Policy) → policyOfTexts maker site ≡ some p → (line : List ℕ) (e : Epoch) → readEpoch line ≡ accepted e
+    → Reducible (p .constraints) (proposedWith (p .rules)) e → ObeysEvents p e (keptEvents p e) (answerOf (decisionIn Mode.Events image line))
+texts-events-decision-obeys maker site image c = obeys-events (policyOfTexts maker site) image (image-of-texts maker site image c)

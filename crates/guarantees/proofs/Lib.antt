@@ -5,6 +5,7 @@ pub mod Words
 pub mod Output
 pub mod Patterns
 pub mod Pipe
+pub mod Reductions
 pub mod RoundTrip
 pub mod ShownLaws
 pub mod FirstLaws

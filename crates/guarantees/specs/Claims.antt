@@ -9,9 +9,10 @@ use Rattle.codegen.specs.Compile.{compiled, compiledTexts}
 use Rattle.codegen.specs.declared.Compiled.{Compiled}
 use Rattle.decompile.specs.Decompile.{decompiled}
 use Rattle.decompile.specs.declared.Decompiled.{Decompiled}
-use Rattle.monitor.specs.Decision.{decision, answerOf}
+use Rattle.monitor.specs.Decision.{decisionIn, decision, answerOf}
 use Rattle.pdl.specs.Answer.{Answer}
 use Rattle.word.specs.Word.{Bytes}
+use Rattle.guarantees.specs.Machine.{ToldLine}
 
 -- a call of the compiler was accepted, and the image is the bytes that it wrote, no more and no fewer
 pub record Writes (call : List ℕ → Filled Compiled) (image : List ℕ) : Type 0 where
@@ -38,6 +39,10 @@ pub record DecompilesTo (image text : List ℕ) : Type 0 where
 -- the decisions on an image, line after line, in document 01's terms
 unfoldable pub answers : List ℕ → List (List ℕ) → List Answer
 answers image lines = map (λ (line : List ℕ). answerOf (decision image line)) lines
+
+-- each in its own mode (document 02, L7)
+unfoldable pub answersTold : List ℕ → List ToldLine → List Answer
+answersTold image lines = map (λ (x : ToldLine). answerOf (decisionIn (x .mode) image (x .line))) lines
 
 -- some accepted text compiles to the image
 pub record SomeText (image : List ℕ) : Type 0 where

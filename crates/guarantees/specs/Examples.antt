@@ -1,21 +1,34 @@
 -- Document 01, "Bench examples", those with a star, and examples of document 02's requests, as rows of one table: a text and epoch
--- lines with the answers, or a text with the words of its image.
+-- lines, with their modes, and the answers, or a text with the words of its image.
 use Prim.Native.Nat.{ℕ}
 use Prim.Native.String.{String}
 use mathlib.Core.Bool.{true}
 use mathlib.Core.List.{List, [], _∷_, map}
 use mathlib.Core.Option.{Option, some, Option·map}
 use Rattle.policy.specs.Set.{noActions, actionsFrom}
+use Rattle.policy.specs.declared.mode.Mode.{Mode}
 use Rattle.pdl.specs.Answer.{Answer, issues}
 use Rattle.lexer.specs.Byte.{bytes}
 use Rattle.rule_text.specs.Text.{policyOf}
 use Rattle.layout.specs.Layout.{imageWords}
 use Rattle.codegen.specs.Compile.{newestForm}
-use Rattle.guarantees.specs.Machine.{machine}
+use Rattle.guarantees.specs.Machine.{machine, machineTold}
+
+pub record Told : Type 0 where
+  pub mode : Mode
+  pub line : String
+
+abbrev byActions : String → Told
+byActions line = record { mode = Mode.Actions; line = line }
+
+abbrev byEvents : String → Told
+byEvents line = record { mode = Mode.Events; line = line }
 
 pub data Example : Type 0 where
   answers : String → List String → Option (List Answer) → Example
   words : String → Option (List ℕ) → Example
+  -- each line in its own mode (document 02, L7)
+  told : String → List Told → Option (List Answer) → Example
 
 abbrev decided : List ℕ → List ℕ → Answer
 decided accepted cancelled = issues (actionsFrom accepted) (actionsFrom cancelled)
@@ -69,9 +82,24 @@ examples =
     ∷ answers "E1 causes A1 if R0 = 0x8040\nE1 causes A2 if R0 = 32832\nE1 causes A3 if R0 < 0xFFFFFFFF\nnever A1 & A2 if R1 != 0x0\n"
     ("E1 R0=0x8040 R1=0" ∷ "E1 R0=32832 R1=0x00000001" ∷ "E1 R0=0x80000000" ∷ "E1 R0=0X8040" ∷ "E1 R0=0x000008040" ∷ "R0=0x000008040 R1=0x" ∷ [])
     (some (decided (1 ∷ 2 ∷ []) [] ∷ decided (1 ∷ []) (2 ∷ []) ∷ decided (3 ∷ []) [] ∷ refusedUnder 12 ∷ refusedUnder 13 ∷ refusedUnder 12 ∷ []))
+    -- L7: the five epochs in the second mode
+    ∷ told worked (byEvents "E1 E3 R0=41" ∷ byEvents "E1 E3 R0=40" ∷ byEvents "E1 E2 E3 R0=41" ∷ byEvents "" ∷ byEvents "E64" ∷ [])
+    (some (decided (3 ∷ []) (4 ∷ []) ∷ decided (4 ∷ []) [] ∷ decided (4 ∷ []) [] ∷ decided [] [] ∷ refusedUnder 13 ∷ []))
+    -- Example 2 of source document 000: E0 a defective product, E1 an order; A0 stop, A1 mail, A2 charge. By events the order is dropped whole
+    ∷ told "E0 causes A0\nE1 causes A1\nE1 causes A2\nnever A0 & A1\n" (byActions "E0 E1" ∷ byEvents "E0 E1" ∷ byEvents "E1" ∷ [])
+    (some (decided (0 ∷ 2 ∷ []) (1 ∷ []) ∷ decided (0 ∷ []) (1 ∷ 2 ∷ []) ∷ decided (1 ∷ 2 ∷ []) [] ∷ []))
+    -- E2, a service call, is charged all the same
+    ∷ told "E0 causes A0\nE1 causes A1\nE1 causes A2\nE2 causes A2\nnever A0 & A1\n" (byEvents "E0 E1 E2" ∷ []) (some (decided (0 ∷ 2 ∷ []) (1 ∷ []) ∷ []))
+    -- a dropped event is not absent
+    ∷ told "E0 causes A0\nE1 causes A1\n!E1 causes A2\nnever A0 & A1\n" (byEvents "E0 E1" ∷ byEvents "E0" ∷ [])
+    (some (decided (0 ∷ []) (1 ∷ []) ∷ decided (0 ∷ 2 ∷ []) [] ∷ []))
+    -- a clash of rules with negated literals alone
+    ∷ told "!E0 causes A0\n!E0 causes A1\nnever A0 & A1\n" (byEvents "" ∷ byActions "" ∷ byEvents "E0" ∷ [])
+    (some (refusedUnder 17 ∷ decided (0 ∷ []) (1 ∷ []) ∷ decided [] [] ∷ []))
     ∷ []
 
 -- what the definitions say of a row
 unfoldable pub computed : Example → Example
 computed (answers text lines expected) = answers text lines (machine (bytes text) (map bytes lines))
 computed (words text expected) = words text (Option·map (imageWords newestForm) (policyOf (bytes text)))
+computed (told text lines expected) = told text lines (machineTold (bytes text) (map (λ (x : Told). record { mode = x .mode; line = bytes (x .line) }) lines))

@@ -6,6 +6,7 @@ ghost use Rattle.guarantees.specs.Together.{answerIn, machineAnswer};
 use codegen::Compiled;
 use image::IMAGE_SIZE;
 use monitor::Decision;
+use policy::Mode;
 use policy::Refusal;
 
 pub enum Outcome {
@@ -14,14 +15,14 @@ pub enum Outcome {
 }
 
 // Compiles two texts and decides an epoch line on the bytes that were written: what the reference machine answers, which sees the
-// texts and the line alone. A single text has an empty site's text beside it.
-pub fn compile_and_decide(maker: &[u8], site: &[u8], line: &[u8]) -> Outcome
-    ensures { λ r. ⌜ answerIn r ≡ machineAnswer (now (maker .entry)) (now (site .entry)) (now (line .entry)) ⌝ }
+// texts, the line and its mode alone. A single text has an empty site's text beside it.
+pub fn compile_and_decide(maker: &[u8], site: &[u8], line: &[u8], mode: Mode) -> Outcome
+    ensures { λ r. ⌜ answerIn r ≡ machineAnswer (now (maker .entry)) (now (site .entry)) (now (line .entry)) mode ⌝ }
 {
     let mut image = [0u8; IMAGE_SIZE];
     let compiled = codegen::compile_texts(maker, site, &mut image);
     match compiled {
         Compiled::Refused(refusal) => Outcome::TextRefused(refusal),
-        Compiled::Image(size) => Outcome::Decided(monitor::decide(&image[..size], line)),
+        Compiled::Image(size) => Outcome::Decided(monitor::decide(&image[..size], line, mode)),
     }
 }

@@ -12,6 +12,7 @@ use codegen::Compiled;
 use decompile::Decompiled;
 use image::Loaded;
 use monitor::Decision;
+use policy::Mode;
 use policy::Refusal;
 use policy::Source;
 
@@ -163,11 +164,10 @@ pub extern "C" fn kinohazel_text_nonnull(image: &[u8], out: &mut [u8]) -> TextWr
     }
 }
 
-#[no_mangle]
-pub extern "C" fn kinohazel_decide_nonnull(image: &[u8], line: &[u8]) -> EpochDecision
-    ensures { λ r. ⌜ r ≡ decisionOf (decision (now (image .entry)) (now (line .entry))) ⌝ }
+// What is decided of an epoch, as numbers, in either mode.
+pub fn epoch_decision(answer: Decision) -> EpochDecision
+    ensures { λ r. ⌜ r ≡ decisionOf answer ⌝ }
 {
-    let answer = monitor::decide(image, line);
     match answer {
         Decision::Refused(refusal) => EpochDecision {
             fault: fault_number(refusal),
@@ -184,4 +184,11 @@ pub extern "C" fn kinohazel_decide_nonnull(image: &[u8], line: &[u8]) -> EpochDe
             visited: actions.visited as u64,
         },
     }
+}
+
+#[no_mangle]
+pub extern "C" fn kinohazel_decide_nonnull(image: &[u8], line: &[u8]) -> EpochDecision
+    ensures { λ r. ⌜ r ≡ decisionOf (decision (now (image .entry)) (now (line .entry))) ⌝ }
+{
+    epoch_decision(monitor::decide(image, line, Mode::Actions))
 }

@@ -26,10 +26,10 @@ use Rattle.decode.specs.Decode.{addLiteral, addMember, addComparison, decodeWor
 use Rattle.image.specs.Lines.{addLine, afterLine, linesFrom, partLines}
 use Rattle.image.specs.Load.{bodyAnswer, loadWords, load}
 use Rattle.run.specs.Run.{ran, comparisonTest, ruleTest, constraintTest, proposesAt, runRules, isNever, runConstraints, fetches, upTo, ruleFetches, trialFetches}
-use Rattle.monitor.specs.Decision.{keptBy, triedWords, yieldedBy, issuedBy, onLine, onImage, decision}
+use Rattle.monitor.specs.Decision.{keptBy, triedWords, yieldedBy, keptEventsBy, triedEventWords, reducedBy, reductionBy, issuedBy, decidedBy, onLine, onImage, decisionIn}
 use Rattle.exactness.specs.Examples.{worked, nothing, policies, images, imageFor}
 use Rattle.monitor.specs.Examples.{decisions, decided}
 
 pub decisions-hold : map decided decisions ≡ decisions
-unfolding all any has insert below valueIn readingValue missingHolds valuesRelate eqZ relationHolds operandValue comparisonHolds headsOf comparisonsOf endingOf constantCount isReadingValue testNumber operandInRange comparisonInRange endingInRange inRange crowded repeats repeated valid tryNext keptBelow greedy costBelow trialsCost literalHolds ruleHolds propose proposals constraintHolds conflict resolve accepted cancelled bytes sameBytes is classOf decimalFrom isEmpty numberOf positive negative hexValue decimalOf patternOf hexadecimalOf constantOf prepend pieces linesOf nonEmpty tokensOf takeWhile skipWhile restOfLine lineEnd named literalOf actionOf readingOf relationOf orElse operandOf both comparisonOf toLeft atEquals assignmentOf itemOf itemsOf itemInRange givenBy addItem judgeEpoch readEpoch operationFrom relationFrom wordsOf bytesOf between pack packHeader testOperation testWord operandWord constantWords comparisonWord comparisonWords constantComparison readingComparison endingWord conditionWords partWords lineWords linesWords knownForm checkCount sum checkWord checkWords headerWord ruleWords constraintWords contentWords imageWords imageOf wellSized countsFit sumsToZero addLiteral addMember addComparison decodeWord decode isPrefix inPart standsAt keepIf lineAt lineLength addLine afterLine linesFrom partLines bodyAnswer loadWords load ran comparisonTest ruleTest constraintTest proposesAt runRules isNever runConstraints fetches upTo ruleFetches trialFetches keptBy triedWords yieldedBy issuedBy onLine onImage decision worked nothing policies images imageFor decisions decided
+unfolding all any has insert below valueIn readingValue missingHolds valuesRelate eqZ relationHolds operandValue comparisonHolds headsOf comparisonsOf endingOf constantCount isReadingValue testNumber operandInRange comparisonInRange endingInRange inRange crowded repeats repeated valid tryNext keptBelow greedy costBelow trialsCost literalHolds ruleHolds propose proposals constraintHolds conflict resolve accepted cancelled bytes sameBytes is classOf decimalFrom isEmpty numberOf positive negative hexValue decimalOf patternOf hexadecimalOf constantOf prepend pieces linesOf nonEmpty tokensOf takeWhile skipWhile restOfLine lineEnd named literalOf actionOf readingOf relationOf orElse operandOf both comparisonOf toLeft atEquals assignmentOf itemOf itemsOf itemInRange givenBy addItem judgeEpoch readEpoch operationFrom relationFrom wordsOf bytesOf between pack packHeader testOperation testWord operandWord constantWords comparisonWord comparisonWords constantComparison readingComparison endingWord conditionWords partWords lineWords linesWords knownForm checkCount sum checkWord checkWords headerWord ruleWords constraintWords contentWords imageWords imageOf wellSized countsFit sumsToZero addLiteral addMember addComparison decodeWord decode isPrefix inPart standsAt keepIf lineAt lineLength addLine afterLine linesFrom partLines bodyAnswer loadWords load ran comparisonTest ruleTest constraintTest proposesAt runRules isNever runConstraints fetches upTo ruleFetches trialFetches keptBy triedWords yieldedBy keptEventsBy triedEventWords reducedBy reductionBy issuedBy decidedBy onLine onImage decisionIn worked nothing policies images imageFor decisions decided
 decisions-hold = refl

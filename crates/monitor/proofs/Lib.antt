@@ -1,3 +1,5 @@
 pub mod DecideLaws
+pub mod EventLaws
 pub mod Examples
-pub mod ResolveLaws
+pub mod FewLaws
+pub mod TrialLaws

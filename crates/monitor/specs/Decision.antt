@@ -1,14 +1,17 @@
--- Document 01: what is decided on an image and an epoch line. Past the faults for which it is refused it speaks of what the image's
--- words do when they are run, and not of a policy.
+-- Document 01, and document 02, L7: what is decided on an image and an epoch line, in each mode. Past the faults for which it is
+-- refused it speaks of what the image's words do when they are run, and not of a policy.
 use Prim.Native.Nat.{ℕ, _+_}
-use mathlib.Core.Bool.{Bool}
+use mathlib.Core.Bool.{Bool, cond}
 use mathlib.Core.List.{List}
 use mathlib.Core.Option.{Option, none, some}
 use Rattle.policy.specs.Epoch.{Epoch, Readings}
 use Rattle.policy.specs.Fault.{refusal}
-use Rattle.policy.specs.Set.{allEvents, actionsWithout}
+use Rattle.policy.specs.Set.{allEvents, keeping, actionsWithout}
+use Rattle.policy.specs.declared.fault.Fault.{Fault}
 use Rattle.policy.specs.declared.fault.Refusal.{Refusal}
+use Rattle.policy.specs.declared.mode.Mode.{Mode}
 use Rattle.policy.specs.declared.set.ActionSet.{ActionSet}
+use Rattle.policy.specs.declared.set.EventSet.{EventSet}
 use Rattle.pdl.specs.Answer.{Answer, refuses, issues}
 use Rattle.pdl.specs.Greedy.{greedy, trialsCost}
 use Rattle.epoch_line.specs.Epoch.{EpochAnswer, refused, accepted, readEpoch}
@@ -54,24 +57,72 @@ unfoldable pub yieldedBy : List ℕ → List ℕ → Epoch → Actions
 yieldedBy rules constraints e =
     actionsOf (proposedBy rules e) (keptBy constraints (e .readings) (proposedBy rules e)) (visitedBy rules constraints e)
 
--- the same for the words of an image with these contents
+-- ---- the same in the second mode (document 02, L7)
+
+-- what rule words propose where these of the epoch's events are kept
+abbrev pub proposedWithBy : List ℕ → Epoch → EventSet → ActionSet
+proposedWithBy rules e kept = runRules (keeping (e .events) kept) (e .readings) rules
+
+-- whether constraint words say that a constraint holds on it
+abbrev pub clashBy : List ℕ → List ℕ → Epoch → ℕ → Bool
+clashBy rules constraints e kept = runConstraints (e .readings) (proposedWithBy rules e (record { 0 = kept })) constraints
+
+-- what is kept of the epoch's events: by rising number, each unless a constraint holds on what is then proposed
+unfoldable pub keptEventsBy : List ℕ → List ℕ → Epoch → EventSet
+keptEventsBy rules constraints e = record { 0 = greedy (clashBy rules constraints e) (e .events .0) }
+
+-- how many words the trial of events fetches: those of all rules, and those of the constraints to the first that holds
+abbrev pub clashWords : List ℕ → List ℕ → Epoch → ℕ → ℕ
+clashWords rules constraints e kept =
+    ruleFetches (keeping (e .events) (record { 0 = kept })) (e .readings) rules
+    + trialFetches (e .readings) (proposedWithBy rules e (record { 0 = kept })) constraints
+
+-- "one trial with no event and one for each event"
+unfoldable pub triedEventWords : List ℕ → List ℕ → Epoch → ℕ
+triedEventWords rules constraints e =
+    clashWords rules constraints e 0 + trialsCost (clashBy rules constraints e) (clashWords rules constraints e) (e .events .0)
+
+-- what the kept events propose is issued
+unfoldable pub reducedBy : List ℕ → List ℕ → Epoch → Actions
+reducedBy rules constraints e =
+    actionsOf (proposedBy rules e) (proposedWithBy rules e (keptEventsBy rules constraints e)) (triedEventWords rules constraints e)
+
+-- unless a constraint holds already with no event kept
+unfoldable pub reductionBy : List ℕ → List ℕ → Epoch → Decision
+reductionBy rules constraints e =
+    cond (clashBy rules constraints e 0) (Decision.Refused (refusal Fault.Unavoidable 0)) (Decision.Issued (reducedBy rules constraints e))
+
+-- ---- the words of an image with these contents
+
+abbrev pub rulesIn : Contents → List ℕ → List ℕ
+rulesIn contents words = between 1 (1 + contents .«rule_words») words
+
+abbrev pub constraintsIn : Contents → List ℕ → List ℕ
+constraintsIn contents words = between (1 + contents .«rule_words») (1 + contents .«rule_words» + contents .«constraint_words») words
+
 unfoldable pub issuedBy : Contents → List ℕ → Epoch → Actions
-issuedBy contents words =
-    yieldedBy (between 1 (1 + contents .«rule_words») words)
-    (between (1 + contents .«rule_words») (1 + contents .«rule_words» + contents .«constraint_words») words)
+issuedBy contents words = yieldedBy (rulesIn contents words) (constraintsIn contents words)
+
+unfoldable pub decidedBy : Mode → Contents → List ℕ → Epoch → Decision
+decidedBy Mode.Actions contents words e = Decision.Issued (issuedBy contents words e)
+decidedBy Mode.Events contents words e = reductionBy (rulesIn contents words) (constraintsIn contents words) e
 
 -- ---- "A decision looks at the image first, then the epoch."
 
-unfoldable pub onLine : Contents → List ℕ → EpochAnswer → Decision
-onLine contents words (refused fault) = Decision.Refused (refusal fault 0)
-onLine contents words (accepted e) = Decision.Issued (issuedBy contents words e)
+unfoldable pub onLine : Mode → Contents → List ℕ → EpochAnswer → Decision
+onLine mode contents words (refused fault) = Decision.Refused (refusal fault 0)
+onLine mode contents words (accepted e) = decidedBy mode contents words e
 
-unfoldable pub onImage : Loaded → List ℕ → EpochAnswer → Decision
-onImage (Loaded.Refused r) words answer = Decision.Refused r
-onImage (Loaded.Image contents) words answer = onLine contents words answer
+unfoldable pub onImage : Mode → Loaded → List ℕ → EpochAnswer → Decision
+onImage mode (Loaded.Refused r) words answer = Decision.Refused r
+onImage mode (Loaded.Image contents) words answer = onLine mode contents words answer
 
-unfoldable pub decision : List ℕ → List ℕ → Decision
-decision image line = onImage (load image) (wordsOf image) (readEpoch line)
+unfoldable pub decisionIn : Mode → List ℕ → List ℕ → Decision
+decisionIn mode image line = onImage mode (load image) (wordsOf image) (readEpoch line)
+
+-- in the first mode
+abbrev pub decision : List ℕ → List ℕ → Decision
+decision = decisionIn Mode.Actions
 
 -- ---- what a decision says, in document 01's terms
 

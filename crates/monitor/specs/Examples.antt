@@ -1,5 +1,5 @@
 -- What document 01's worked image decides on its epochs and how many words are fetched for it, which of two faults comes first, and
--- what the images of texts for document 02's L2 and L4 decide, one row each.
+-- what the images of texts for document 02's L2, L4 and L7 decide, one row each.
 use Prim.Native.Nat.{ℕ}
 use Prim.Native.String.{String}
 use mathlib.Core.Bool.{true, false}
@@ -10,31 +10,43 @@ use Rattle.policy.specs.Policy.{Policy, Rule, Constraint}
 use Rattle.policy.specs.Set.{noActions, actionsFrom}
 use Rattle.policy.specs.declared.comparison.Operand.{Operand}
 use Rattle.policy.specs.declared.comparison.Relation.{Relation}
+use Rattle.policy.specs.declared.mode.Mode.{Mode}
 use Rattle.pdl.specs.Answer.{Answer, issues}
 use Rattle.lexer.specs.Byte.{bytes}
 use Rattle.exactness.specs.Examples.{worked}
 use Rattle.layout.specs.Layout.{imageOf}
 use Rattle.word.specs.Word.{bytesOf}
-use Rattle.monitor.specs.Decision.{decision, answerOf, visitedIn}
+use Rattle.monitor.specs.Decision.{decisionIn, answerOf, visitedIn}
 
 pub record Example : Type 0 where
+  pub mode : Mode
   pub image : List ℕ
   pub line : String
   pub answer : Answer
   pub visited : ℕ
 
-abbrev yields : List ℕ → String → List ℕ → List ℕ → ℕ → Example
-yields image line accepted cancelled visited =
-    record { image = image; line = line; answer = issues (actionsFrom accepted) (actionsFrom cancelled); visited = visited }
+abbrev yieldsIn : Mode → List ℕ → String → List ℕ → List ℕ → ℕ → Example
+yieldsIn mode image line accepted cancelled visited =
+    record { mode = mode; image = image; line = line; answer = issues (actionsFrom accepted) (actionsFrom cancelled); visited = visited }
 
-abbrev refusesWith : List ℕ → String → ℕ → ℕ → Example
-refusesWith image line number location =
+abbrev yields : List ℕ → String → List ℕ → List ℕ → ℕ → Example
+yields = yieldsIn Mode.Actions
+
+abbrev reduces : List ℕ → String → List ℕ → List ℕ → ℕ → Example
+reduces = yieldsIn Mode.Events
+
+abbrev refusesIn : Mode → List ℕ → String → ℕ → ℕ → Example
+refusesIn mode image line number location =
     record {
+      mode = mode;
       image = image;
       line = line;
       answer = record { isRefused = true; number = number; text = 0; location = location; accepted = noActions; cancelled = noActions };
       visited = 0;
     }
+
+abbrev refusesWith : List ℕ → String → ℕ → ℕ → Example
+refusesWith = refusesIn Mode.Actions
 
 abbrev workedImage : List ℕ
 workedImage = imageOf 1 worked
@@ -59,6 +71,10 @@ valveImage = imageOf 1 valve
 abbrev causes : ℕ → ℕ → Rule
 causes event action = record { literals = record { event = record { 0 = event }; negated = false } ∷ []; action = record { 0 = action }; comparisons = [] }
 
+-- `!En causes Am`
+abbrev unless : ℕ → ℕ → Rule
+unless event action = record { literals = record { event = record { 0 = event }; negated = true } ∷ []; action = record { 0 = action }; comparisons = [] }
+
 abbrev never : List ℕ → Constraint
 never actions = record { actions = map (λ (n : ℕ). record { 0 = n }) actions; comparisons = [] }
 
@@ -68,6 +84,13 @@ stops = record { rules = causes 1 1 ∷ causes 1 2 ∷ causes 2 3 ∷ []; constr
 
 abbrev stopsImage : List ℕ
 stopsImage = imageOf 1 stops
+
+-- `!E0 causes A0`, `!E0 causes A1`, `never A0 & A1`
+abbrev absent : Policy
+absent = record { rules = unless 0 0 ∷ unless 0 1 ∷ []; constraints = never (0 ∷ 1 ∷ []) ∷ [] }
+
+abbrev absentImage : List ℕ
+absentImage = imageOf 1 absent
 
 -- with another byte at a position
 abbrev damaged : ℕ → ℕ → List ℕ
@@ -101,8 +124,31 @@ decisions =
     ∷ yields stopsImage "E1" [] (1 ∷ 2 ∷ []) 11
     ∷ yields stopsImage "E2" (3 ∷ []) [] 7
     ∷ yields stopsImage "E1 E2" (3 ∷ []) (1 ∷ 2 ∷ []) 15
+    -- the second mode. With no event 2 rule words and 1 never word, with E1 6 and 2, with E1 and E3 7 and 3
+    ∷ reduces workedImage "E1 E3 R0=41" (3 ∷ []) (4 ∷ []) 21
+    ∷ reduces workedImage "E1 E3 R0=40" (4 ∷ []) [] 16
+    ∷ reduces workedImage "E1 E2 E3 R0=41" (4 ∷ []) [] 16
+    -- never words are fetched where nothing is proposed
+    ∷ reduces workedImage "" [] [] 3
+    ∷ refusesIn Mode.Events workedImage "E64" 13 0
+    ∷ refusesIn Mode.Events [] "E64" 7 0
+    -- a dropped event has its trial too
+    ∷ reduces stopsImage "E1" [] (1 ∷ 2 ∷ []) 13
+    ∷ reduces stopsImage "E1 E2" (3 ∷ []) (1 ∷ 2 ∷ []) 20
+    -- rules with negated literals alone
+    ∷ refusesIn Mode.Events absentImage "" 17 0
+    ∷ refusesIn Mode.Events absentImage "E1" 17 0
+    ∷ reduces absentImage "E0" [] [] 6
+    ∷ yields absentImage "" (0 ∷ []) (1 ∷ []) 9
     ∷ []
 
 -- what the definitions say of a row
 unfoldable pub decided : Example → Example
-decided x = record { image = x .image; line = x .line; answer = answerOf (decision (x .image) (bytes (x .line))); visited = visitedIn (decision (x .image) (bytes (x .line))) }
+decided x =
+    record {
+      mode = x .mode;
+      image = x .image;
+      line = x .line;
+      answer = answerOf (decisionIn (x .mode) (x .image) (bytes (x .line)));
+      visited = visitedIn (decisionIn (x .mode) (x .image) (bytes (x .line)));
+    }

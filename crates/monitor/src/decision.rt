@@ -1,20 +1,20 @@
 // The decision on an epoch. The image is refused or run where it stands: nothing of it is copied.
 ghost use mathlib.Core.Path.{_≡_};
 ghost use Prim.Native.Nat.{_<_};
-ghost use Rattle.word.specs.Word.{wordsOf, between};
-ghost use Rattle.monitor.specs.Decision.{keptBy, triedWords, issuedBy, decision};
+ghost use Rattle.word.specs.Word.{wordsOf};
+ghost use Rattle.monitor.specs.Decision.{decidedBy, decisionIn};
+use crate::actions::issue;
+use crate::events::issue_events;
 use epoch_line::EpochStatus;
 use epoch_line::read_epoch;
 use image::Contents;
 use image::Loaded;
 use image::load_image;
-use policy::Action;
 use policy::ActionSet;
 use policy::EventSet;
+use policy::Mode;
 use policy::ReadingSet;
 use policy::Refusal;
-use run::run_constraints;
-use run::run_rules;
 
 // What was decided: of the proposed actions, those to be executed and all others; and how many words of the image were fetched to
 // decide it.
@@ -29,82 +29,27 @@ pub enum Decision {
     Issued(Actions),
 }
 
-// What is kept of the proposed actions, and how many words all trials fetched.
-pub struct Kept {
-    pub actions: ActionSet,
-    pub words: usize,
-}
-
-// What is kept of the proposed actions: by rising number, each unless a constraint of the words from index `start` up to
-// `end` holds on those kept so far together with it. The end is within an image, so that the words of all trials can be added up.
-fn resolve(
-    image: &[u8],
-    start: usize,
-    end: usize,
-    proposed: ActionSet,
-    given: ReadingSet,
-    values: &[i32],
-) -> Kept
-    requires { ⌜ end < 8192 ⌝ }
-    ensures actions { λ r. ⌜ r .actions ≡ keptBy (between start end (wordsOf (now (image .entry)))) (record { given = given; values = now (values .entry) }) proposed ⌝ }
-    ensures words { λ r. ⌜ r .words ≡ triedWords (between start end (wordsOf (now (image .entry)))) (record { given = given; values = now (values .entry) }) proposed ⌝ }
-{
-    let mut kept = ActionSet::EMPTY;
-    let mut words = 0;
-    // The proposed actions from n on: bit 0 is n.
-    let mut left = proposed.0;
-    let mut n = 0;
-    while left != 0 {
-        if left % 2 == 1 {
-            let more = kept.insert(Action(n));
-            let trial = run_constraints(image, start, end, more, given, values);
-            words += trial.words;
-            if !trial.conflict {
-                kept = more;
-            }
-        }
-        left /= 2;
-        n += 1;
-    }
-    Kept {
-        actions: kept,
-        words,
-    }
-}
-
 // The words of an image that the loader took, run on an epoch.
-fn issue(
+fn decide_epoch(
     image: &[u8],
     contents: Contents,
     events: EventSet,
     given: ReadingSet,
     values: &[i32],
-) -> Actions
+    mode: Mode,
+) -> Decision
     requires { ⌜ contents .«rule_words» < 4096 ⌝ ∗ ⌜ contents .«constraint_words» < 4096 ⌝ }
-    ensures { λ r. ⌜ r ≡ issuedBy contents (wordsOf (now (image .entry))) (record { events = events; readings = record { given = given; values = now (values .entry) } }) ⌝ }
+    ensures { λ r. ⌜ r ≡ decidedBy mode contents (wordsOf (now (image .entry))) (record { events = events; readings = record { given = given; values = now (values .entry) } }) ⌝ }
 {
-    let middle = 1 + contents.rule_words;
-    let rules = run_rules(image, 1, middle, events.all(), given, values);
-    let proposed = rules.actions;
-    let kept = resolve(
-        image,
-        middle,
-        middle + contents.constraint_words,
-        proposed,
-        given,
-        values,
-    );
-    let accepted = kept.actions;
-    Actions {
-        accepted,
-        cancelled: proposed.without(accepted),
-        visited: rules.words + kept.words,
+    match mode {
+        Mode::Actions => Decision::Issued(issue(image, contents, events, given, values)),
+        Mode::Events => issue_events(image, contents, events, given, values),
     }
 }
 
 // The decision of an image on an epoch line, without its line end.
-pub fn decide(image: &[u8], line: &[u8]) -> Decision
-    ensures { λ r. ⌜ r ≡ decision (now (image .entry)) (now (line .entry)) ⌝ }
+pub fn decide(image: &[u8], line: &[u8], mode: Mode) -> Decision
+    ensures { λ r. ⌜ r ≡ decisionIn mode (now (image .entry)) (now (line .entry)) ⌝ }
 {
     let loaded = load_image(image);
     match loaded {
@@ -116,7 +61,7 @@ pub fn decide(image: &[u8], line: &[u8]) -> Decision
                 EpochStatus::Refused(fault) => Decision::Refused(fault.at(0)),
                 EpochStatus::Accepted => {
                     let values = epoch.values;
-                    Decision::Issued(issue(image, contents, epoch.events, epoch.given, &values))
+                    decide_epoch(image, contents, epoch.events, epoch.given, &values, mode)
                 }
             }
         }

@@ -1,12 +1,13 @@
 -- The accepted and the cancelled actions of an epoch: a maximal action cancellation of what the rules propose (source
 -- document 000, Definition 11), lower numbers kept first.
-use mathlib.Core.Bool.{Bool, true, false, not, _&&_, _||_}
+use mathlib.Core.Bool.{true, false, not, _&&_}
 use mathlib.Core.List.{List, [], List·Memᴰ, List·Memᴰ·eq-of-singleton, List·Memᴰ·not-nil}
-use mathlib.Core.Path.{_≡_, refl, sym, ap, _∙_}
+use mathlib.Core.Path.{_≡_, sym, ap, _∙_}
 use Rattle.policy.proofs.ListLaws.{not-true-is, not-false-is, and-out}
+use Rattle.pdl.proofs.Others.{has-others, others-apart, with-others, no-others}
 use Rattle.pdl.proofs.Proposals.{proposals-limit}
-use Rattle.pdl.proofs.Resolution.{actions-ext, satisfied, conflict-out, resolve-within, resolve-satisfies, resolve-maximal, resolve-dropped, resolve-kept, resolve-limit}
-use Rattle.policy.proofs.SetLaws.{has-empty, has-insert-same, has-union, has-difference}
+use Rattle.pdl.proofs.Resolution.{satisfied, conflict-out, resolve-within, resolve-satisfies, resolve-maximal, resolve-dropped, resolve-kept, resolve-limit}
+use Rattle.policy.proofs.SetLaws.{has-insert-same}
 use Rattle.policy.proofs.MissingLaws.{missing-in-constraint}
 use Rattle.policy.specs.Comparison.{NamesMissing}
 use Rattle.policy.specs.Epoch.{Epoch}
@@ -28,25 +29,15 @@ module _ (p : Policy) where
 
   has-cancelled : (e : Epoch) (a : Action) → hasAction (cancelled p e) a ≡ hasAction (proposed (p .rules) e) a && not (hasAction (accepted p e) a)
   unfolding cancelled
-  has-cancelled e a = has-difference (proposed (p .rules) e .0) (accepted p e .0) (a .0)
+  has-cancelled e a = has-others (proposed (p .rules) e) (accepted p e) a
 
   pub accepted-with-cancelled : (e : Epoch) → unionActions (accepted p e) (cancelled p e) ≡ proposed (p .rules) e
-  accepted-with-cancelled e =
-      actions-ext (unionActions (accepted p e) (cancelled p e)) (proposed (p .rules) e)
-      (λ a. has-union (accepted p e .0) (cancelled p e .0) (a .0) ∙ ap (λ (b : Bool). hasAction (accepted p e) a || b) (has-cancelled e a)
-      ∙ joined (hasAction (accepted p e) a) (hasAction (proposed (p .rules) e) a) (accepted-within e a))
-    where
-      joined : (a b : Bool) → (a ≡ true → b ≡ true) → a || b && not a ≡ b
-      joined true b h = sym (h refl)
-      joined false true h = refl
-      joined false false h = refl
+  unfolding cancelled
+  accepted-with-cancelled e = with-others (proposed (p .rules) e) (accepted p e) (accepted-within e)
 
   pub cancelled-apart : (e : Epoch) (a : Action) → hasAction (cancelled p e) a ≡ true → hasAction (accepted p e) a ≡ false
-  cancelled-apart e a h = not-one (hasAction (accepted p e) a) (and-out (hasAction (proposed (p .rules) e) a) (not (hasAction (accepted p e) a)) (sym (has-cancelled e a) ∙ h) .1)
-    where
-      not-one : (b : Bool) → not b ≡ true → b ≡ false
-      not-one true q = sym q
-      not-one false q = refl
+  unfolding cancelled
+  cancelled-apart e a h = others-apart (proposed (p .rules) e) (accepted p e) a h
 
   -- ---- no constraint holds on the accepted set
 
@@ -74,14 +65,8 @@ module _ (p : Policy) where
   conservative e h = sym (maximal e (proposed (p .rules) e) (accepted-within e) (λ a k. k) h)
 
   pub nothing-cancelled : (e : Epoch) → Satisfies (p .constraints) (e .readings) (proposed (p .rules) e) → cancelled p e ≡ noActions
-  nothing-cancelled e h =
-      actions-ext (cancelled p e) noActions
-      (λ a. has-cancelled e a ∙ ap (λ (s : ActionSet). hasAction (proposed (p .rules) e) a && not (hasAction s a)) (conservative e h)
-      ∙ none (hasAction (proposed (p .rules) e) a) ∙ sym (has-empty (a .0)))
-    where
-      none : (b : Bool) → b && not b ≡ false
-      none true = refl
-      none false = refl
+  unfolding cancelled
+  nothing-cancelled e h = no-others (proposed (p .rules) e) (accepted p e) (conservative e h)
 
   -- ---- trials
 

@@ -12,15 +12,17 @@ use Rattle.policy.specs.Comparison.{NamesMissing, comparisonHolds}
 use Rattle.policy.specs.Epoch.{Readings, SomeOf}
 use Rattle.policy.specs.List.{all}
 use Rattle.policy.specs.Number.{setLimit}
-use Rattle.pdl.specs.Pdl.{Occurs, OccursAs, Condition, Derives, Interpretation, Model, Entails, DefinedBy, _⊆_}
+use Rattle.pdl.specs.Pdl.{Occurs, OccursAs, Condition, Derives, Interpretation, Model, Entails, DefinedBy, DefinedOnKept, _⊆_, _⊑_}
 use Rattle.policy.specs.Policy.{Rule}
-use Rattle.policy.specs.Set.{has, hasEvent, allEvents, hasAction, noActions, insertAction}
+use Rattle.policy.specs.Set.{has, hasEvent, allEvents, keeping, hasAction, noActions, insertAction}
+use Rattle.pdl.specs.Reduction.{proposedWith}
 use Rattle.pdl.specs.Yield.{literalHolds, ruleHolds, propose, proposals, proposed}
 use Rattle.policy.specs.declared.comparison.Comparison.{Comparison}
 use Rattle.policy.specs.declared.comparison.Literal.{Literal}
 use Rattle.policy.specs.declared.line.Part.{Part}
 use Rattle.policy.specs.declared.number.Action.{Action}
 use Rattle.policy.specs.declared.set.ActionSet.{ActionSet}
+use Rattle.policy.specs.declared.set.EventSet.{EventSet}
 use Rattle.policy.specs.declared.set.Events.{Events}
 
 -- a literal holds exactly if it occurs
@@ -158,3 +160,24 @@ fewer-proposed rules ev fewer all some-of a h =
     let d = proposals-derived rules ev fewer a l .0 h in
     proposals-derived rules ev all a l .1
     (record { rule = d .rule; listed = d .listed; causes = d .causes; event = d .event; condition = λ c m. fewer-in-rule fewer all some-of c (d .condition c m) })
+
+-- with more events present, and the same that occurred, no less is proposed
+pub more-proposed : (rules : List Rule) (fewer more occurred : EventSet) (rs : Readings) → fewer ⊑ more
+    → proposals rules (keeping occurred fewer) rs ⊆ proposals rules (keeping occurred more) rs
+more-proposed rules fewer more occurred rs some-of a h =
+    let l : a .0 < setLimit = has-limit (proposals rules (keeping occurred fewer) rs .0) (proposals-limit rules (keeping occurred fewer) rs) (a .0) h in
+    let d = proposals-derived rules (keeping occurred fewer) rs a l .0 h in
+    proposals-derived rules (keeping occurred more) rs a l .1
+    (record { rule = d .rule; listed = d .listed; causes = d .causes; event = λ k m. stays k (d .event k m); condition = d .condition })
+  where
+    by : (negated : Bool) (k : Literal) → OccursAs negated (hasEvent fewer (k .event) ≡ true) (hasEvent occurred (k .event) ≡ true)
+        → OccursAs negated (hasEvent more (k .event) ≡ true) (hasEvent occurred (k .event) ≡ true)
+    by true k o = o
+    by false k o = some-of (k .event) o
+
+    stays : (k : Literal) → Occurs (keeping occurred fewer) k → Occurs (keeping occurred more) k
+    stays k o = by (k .negated) k o
+
+-- Definition 6, where only some events of an epoch are kept
+pub kept-defined : (rules : List Rule) → DefinedOnKept rules (proposedWith rules)
+kept-defined rules e kept a l = proposals-entailed rules (keeping (e .events) kept) (e .readings) a l

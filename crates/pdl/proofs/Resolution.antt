@@ -55,14 +55,18 @@ module _ (constraints : List Constraint) (rs : Readings) where
   abbrev bad : ℕ → Bool
   bad kept = conflict constraints rs (record { 0 = kept })
 
-  bad-monotone : Monotone bad
-  bad-monotone s t h e =
-      let v = conflict-out (record { 0 = s }) e in
-      conflict-in (record { 0 = t }) (record {
+  -- what holds on a set holds on a larger one
+  pub conflict-more : (s t : ActionSet) → s ⊆ t → conflict constraints rs s ≡ true → conflict constraints rs t ≡ true
+  conflict-more s t h e =
+      let v = conflict-out s e in
+      conflict-in t (record {
         constraint = v .constraint;
         listed = v .listed;
-        holds = record { members = λ a m. h (a .0) (v .holds .members a m); condition = v .holds .condition };
+        holds = record { members = λ a m. h a (v .holds .members a m); condition = v .holds .condition };
       })
+
+  bad-monotone : Monotone bad
+  bad-monotone s t h = conflict-more (record { 0 = s }) (record { 0 = t }) (λ a. h (a .0))
 
   bad-empty : NameActions constraints → bad 0 ≡ false
   bad-empty named = no-conflict noActions (λ c m h. none (c .actions) (named c m) (h .members))

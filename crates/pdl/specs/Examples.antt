@@ -1,17 +1,19 @@
--- The examples of document 01 that it marks to be proved and that need no text, one row each.
+-- The examples of document 01 that it marks to be proved and that need no text, and examples of document 02's L7, one row each.
 use Prim.Native.Nat.{ℕ}
-use mathlib.Core.Bool.{false}
-use mathlib.Core.List.{List, [], _∷_, map}
+use mathlib.Core.Bool.{true, false}
+use mathlib.Core.List.{List, [], _∷_, map, foldl}
 use lib.IntN.{ℤ, pos}
 use Rattle.policy.specs.Epoch.{Epoch}
 use Rattle.policy.specs.Policy.{Policy, Rule, Constraint}
-use Rattle.policy.specs.Set.{actionsFrom}
+use Rattle.policy.specs.Set.{noEvents, insertEvent, actionsFrom, noReadings}
+use Rattle.pdl.specs.Reduction.{keptEvents, issued, withheld}
 use Rattle.pdl.specs.Yield.{accepted, cancelled}
 use Rattle.policy.specs.declared.comparison.Comparison.{Comparison}
 use Rattle.policy.specs.declared.comparison.Operand.{Operand}
 use Rattle.policy.specs.declared.comparison.Relation.{Relation}
 use Rattle.policy.specs.declared.number.Action.{Action}
 use Rattle.policy.specs.declared.set.ActionSet.{ActionSet}
+use Rattle.policy.specs.declared.set.EventSet.{EventSet}
 
 abbrev action : ℕ → Action
 action n = record { 0 = n }
@@ -58,3 +60,57 @@ yielded x =
 
 unfoldable pub expected : Example → Resolved
 expected x = record { accepts = actionsFrom (x .acceptedActions); cancels = actionsFrom (x .cancelledActions) }
+
+-- ---- document 02, L7: event cancellation
+
+abbrev whenever : ℕ → ℕ → Rule
+whenever event n = record { literals = record { event = record { 0 = event }; negated = false } ∷ []; action = action n; comparisons = [] }
+
+abbrev unless : ℕ → ℕ → Rule
+unless event n = record { literals = record { event = record { 0 = event }; negated = true } ∷ []; action = action n; comparisons = [] }
+
+pub record Reduction : Type 0 where
+  pub rules : List Rule
+  pub constraints : List Constraint
+  pub events : List ℕ
+  pub keptNumbers : List ℕ
+  pub issuedActions : List ℕ
+  pub withheldActions : List ℕ
+
+-- E0 a defective product, E1 an order, E2 a service call; A0 stop, A1 mail the product, A2 charge the card
+abbrev orders : List Rule
+orders = whenever 0 0 ∷ whenever 1 1 ∷ whenever 1 2 ∷ []
+
+unfoldable pub reductions : List Reduction
+reductions =
+    -- Example 2 of source document 000: the order is dropped whole
+    record { rules = orders; constraints = never (0 ∷ 1 ∷ []) [] ∷ []; events = 0 ∷ 1 ∷ []; keptNumbers = 0 ∷ []; issuedActions = 0 ∷ []; withheldActions = 1 ∷ 2 ∷ [] }
+    -- an order alone
+    ∷ record { rules = orders; constraints = never (0 ∷ 1 ∷ []) [] ∷ []; events = 1 ∷ []; keptNumbers = 1 ∷ []; issuedActions = 1 ∷ 2 ∷ []; withheldActions = [] }
+    -- the service call is charged, though the order is dropped
+    ∷ record { rules = whenever 2 2 ∷ orders; constraints = never (0 ∷ 1 ∷ []) [] ∷ []; events = 0 ∷ 1 ∷ 2 ∷ []; keptNumbers = 0 ∷ 2 ∷ []; issuedActions = 0 ∷ 2 ∷ []; withheldActions = 1 ∷ [] }
+    -- a dropped event is not absent: A3 is not issued
+    ∷ record { rules = unless 1 3 ∷ orders; constraints = never (0 ∷ 1 ∷ []) [] ∷ []; events = 0 ∷ 1 ∷ []; keptNumbers = 0 ∷ []; issuedActions = 0 ∷ []; withheldActions = 1 ∷ 2 ∷ [] }
+    ∷ []
+
+pub record Reduced : Type 0 where
+  pub keeps : EventSet
+  pub issues : ActionSet
+  pub withholds : ActionSet
+
+abbrev eventsFrom : List ℕ → EventSet
+eventsFrom ns = foldl insertEvent noEvents (map (λ (n : ℕ). record { 0 = n }) ns)
+
+unfoldable pub reducedOf : Reduction → Reduced
+reducedOf x =
+    let policy : Policy = record { rules = x .rules; constraints = x .constraints } in
+    let e : Epoch = record { events = eventsFrom (x .events); readings = record { given = noReadings; values = [] } } in
+    record { keeps = keptEvents policy e; issues = issued policy e; withholds = withheld policy e }
+
+unfoldable pub expectedReduced : Reduction → Reduced
+expectedReduced x =
+    record {
+      keeps = eventsFrom (x .keptNumbers);
+      issues = actionsFrom (x .issuedActions);
+      withholds = actionsFrom (x .withheldActions);
+    }

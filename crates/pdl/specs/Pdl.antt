@@ -1,20 +1,21 @@
--- Definitions 5 to 9, of 10 consistency and of 11 its first three parts, of source document 000, in its own terms, for ground rules
--- and an epoch that carries readings. Reductions of an epoch (10) and event cancellation (11.4, 11.5) are not part of it.
+-- Definitions 5 to 11 of source document 000, in its own terms, for ground rules and an epoch that carries readings.
 use mathlib.Core.Bool.{Bool, true, false}
 use mathlib.Core.List.{List, [], _∷_, List·Memᴰ}
 use mathlib.Core.Logic.{_↔_}
 use mathlib.Core.Path.{_≡_}
 use Prim.Native.Nat.{_<_}
 use Rattle.policy.specs.Comparison.{comparisonHolds}
-use Rattle.policy.specs.Epoch.{Epoch, Readings}
+use Rattle.policy.specs.Epoch.{Epoch, Readings, InAlphabet}
 use Rattle.policy.specs.Number.{setLimit}
 use Rattle.policy.specs.Policy.{Rule, Constraint}
-use Rattle.policy.specs.Set.{hasEvent, allEvents, hasAction}
+use Rattle.policy.specs.Set.{hasEvent, allEvents, keeping, hasAction}
 use Rattle.policy.specs.declared.comparison.Comparison.{Comparison}
 use Rattle.policy.specs.declared.comparison.Literal.{Literal}
 use Rattle.policy.specs.declared.line.Part.{Part}
 use Rattle.policy.specs.declared.number.Action.{Action}
+use Rattle.policy.specs.declared.number.Event.{Event}
 use Rattle.policy.specs.declared.set.ActionSet.{ActionSet}
+use Rattle.policy.specs.declared.set.EventSet.{EventSet}
 use Rattle.policy.specs.declared.set.Events.{Events}
 
 -- the condition of a rule or of a constraint: the conjunction of its comparisons (Definition 4)
@@ -111,3 +112,44 @@ pub record MaximalIn (constraints : List Constraint) (rs : Readings) (t s : Acti
 -- Definition 11.3
 abbrev pub MaximalActionCancellation : List Constraint → (Epoch → ActionSet) → (Epoch → ActionSet) → Type 0
 MaximalActionCancellation constraints π ω = (e : Epoch) → MaximalIn constraints (e .readings) (π e) (ω e)
+
+-- ---- reductions of an epoch: some of its events. The others are undefined, "neither the event nor its negation is known to have
+-- occurred" (section 3.5).
+
+infix 4 _⊑_
+abbrev pub _⊑_ : EventSet → EventSet → Type 0
+s ⊑ t = (x : Event) → hasEvent s x ≡ true → hasEvent t x ≡ true
+
+-- Definition 6 where only some of the epoch's events are kept
+abbrev pub DefinedOnKept : List Rule → (Epoch → EventSet → ActionSet) → Type 1
+DefinedOnKept rules π = (e : Epoch) (kept : EventSet) (a : Action) → a .0 < setLimit → (hasAction (π e kept) a ≡ true) ↔ Entails rules (keeping (e .events) kept) (e .readings) a
+
+module _ (constraints : List Constraint) (π : Epoch → EventSet → ActionSet) where
+  -- Definition 10: a consistent reduction
+  pub record Reduction (e : Epoch) (kept : EventSet) : Type 0 where
+    pub within : kept ⊑ e .events
+    pub consistent : Satisfies constraints (e .readings) (π e kept)
+
+  -- a maximal one: no other consistent reduction has all its events
+  pub record MaximalReduction (e : Epoch) (kept : EventSet) : Type 0 where
+    pub reduction : Reduction e kept
+    pub maximal : (u : EventSet) → kept ⊑ u → Reduction e u → u ≡ kept
+
+  -- "policies may not have *any* event-cancellation monitors" (section 3.5): an epoch may have no consistent reduction
+  pub record Reducible (e : Epoch) : Type 0 where
+    pub kept : EventSet
+    pub reduction : Reduction e kept
+
+  -- a set is what the rules define on some reduction of that sort
+  pub record OnSome (Sort : EventSet → Type 0) (e : Epoch) (s : ActionSet) : Type 0 where
+    pub kept : EventSet
+    pub reduction : Sort kept
+    pub same : s ≡ π e kept
+
+  -- Definition 11.4, of the epochs that have a consistent reduction
+  abbrev pub EventCancellation : (Epoch → ActionSet) → Type 0
+  EventCancellation ω = (e : Epoch) → InAlphabet e → Reducible e → OnSome (Reduction e) e (ω e)
+
+  -- Definition 11.5, of the same
+  abbrev pub MaximalEventCancellation : (Epoch → ActionSet) → Type 0
+  MaximalEventCancellation ω = (e : Epoch) → InAlphabet e → Reducible e → OnSome (MaximalReduction e) e (ω e)

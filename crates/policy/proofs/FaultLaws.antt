@@ -5,13 +5,13 @@ use mathlib.Core.Path.{_≡_, refl, sym, ap, _∙_}
 use lib.ListN.{getD}
 use Rattle.policy.specs.Fault.{faultNumber}
 use Rattle.policy.specs.declared.fault.Fault.{Fault}
-use Rattle.policy.specs.declared.fault.Fault.the-variants.{TooLong, Syntax, OutOfRange, TooManyParts, TooManyLines, Duplicate, ImageSize, ImageForm, ImageCount, ImageSum, ImageBody, EpochSyntax, EpochRange, DuplicateReading, BufferTooSmall}
+use Rattle.policy.specs.declared.fault.Fault.the-variants.{TooLong, Syntax, OutOfRange, TooManyParts, TooManyLines, Duplicate, ImageSize, ImageForm, ImageCount, ImageSum, ImageBody, EpochSyntax, EpochRange, DuplicateReading, BufferTooSmall, Unavoidable}
 
--- the faults by their numbers, from 1
+-- the faults by their numbers; no fault has number 0 or 16
 abbrev byNumber : List Fault
 byNumber =
     TooLong ∷ TooLong ∷ Syntax ∷ OutOfRange ∷ TooManyParts ∷ TooManyLines ∷ Duplicate ∷ ImageSize ∷ ImageForm ∷ ImageCount ∷ ImageSum ∷ ImageBody
-    ∷ EpochSyntax ∷ EpochRange ∷ DuplicateReading ∷ BufferTooSmall ∷ []
+    ∷ EpochSyntax ∷ EpochRange ∷ DuplicateReading ∷ BufferTooSmall ∷ TooLong ∷ Unavoidable ∷ []
 
 found : (f : Fault) → getD byNumber (faultNumber f) TooLong ≡ f
 found TooLong = refl
@@ -29,6 +29,7 @@ found EpochSyntax = refl
 found EpochRange = refl
 found DuplicateReading = refl
 found BufferTooSmall = refl
+found Unavoidable = refl
 
 pub fault-number-distinct : (f g : Fault) → faultNumber f ≡ faultNumber g → f ≡ g
 fault-number-distinct f g e = sym (found f) ∙ ap (λ (n : ℕ). getD byNumber n TooLong) e ∙ found g

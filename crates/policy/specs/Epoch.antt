@@ -1,10 +1,11 @@
 -- An epoch: the events that occur in it, and the readings that it gives.
-use Prim.Native.Nat.{ℕ, zero, suc}
+use Prim.Native.Nat.{ℕ, zero, suc, _^_, _<_}
 use mathlib.Core.Bool.{cond}
 use mathlib.Core.List.{List, [], _∷_}
 use mathlib.Core.Logic.{_⊎_}
 use mathlib.Core.Path.{_≡_}
 use lib.IntN.{ℤ}
+use Rattle.policy.specs.Number.{setLimit}
 use Rattle.policy.specs.Set.{hasReading}
 use Rattle.policy.specs.declared.comparison.Value.{Value}
 use Rattle.policy.specs.declared.number.Reading.{Reading}
@@ -20,6 +21,10 @@ pub record Readings : Type 0 where
 pub record Epoch : Type 0 where
   pub events : EventSet
   pub readings : Readings
+
+-- its events are E0 to E63
+abbrev pub InAlphabet : Epoch → Type 0
+InAlphabet e = e .events .0 < 2 ^ setLimit
 
 -- the value in a place
 unfoldable pub valueIn : List ℤ → ℕ → Value

@@ -1,10 +1,10 @@
 -- Document 01, "Grounds for refusing": the number of each fault, and the number and the place of an answer. Document 02, L6: a place
--- also says which text.
+-- also says which text; L7: ground 17.
 use Prim.Native.Nat.{ℕ}
 use mathlib.Core.Bool.{Bool, true, false}
 use mathlib.Core.Option.{Option, none, some}
 use Rattle.policy.specs.declared.fault.Fault.{Fault}
-use Rattle.policy.specs.declared.fault.Fault.the-variants.{TooLong, Syntax, OutOfRange, TooManyParts, TooManyLines, Duplicate, ImageSize, ImageForm, ImageCount, ImageSum, ImageBody, EpochSyntax, EpochRange, DuplicateReading, BufferTooSmall}
+use Rattle.policy.specs.declared.fault.Fault.the-variants.{TooLong, Syntax, OutOfRange, TooManyParts, TooManyLines, Duplicate, ImageSize, ImageForm, ImageCount, ImageSum, ImageBody, EpochSyntax, EpochRange, DuplicateReading, BufferTooSmall, Unavoidable}
 use Rattle.policy.specs.declared.fault.Refusal.{Refusal}
 use Rattle.policy.specs.declared.fault.Source.{Source}
 
@@ -24,6 +24,7 @@ faultNumber EpochSyntax = 12
 faultNumber EpochRange = 13
 faultNumber DuplicateReading = 14
 faultNumber BufferTooSmall = 15
+faultNumber Unavoidable = 17
 
 -- "maker's 1, site's 2, 0 where neither alone"
 abbrev pub sourceNumber : Source → ℕ

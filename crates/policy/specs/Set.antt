@@ -51,9 +51,16 @@ hasEvent s e = has (s .0) (e .0)
 abbrev pub insertEvent : EventSet → Event → EventSet
 insertEvent s e = record { 0 = insert (s .0) (e .0) }
 
+abbrev pub eventsBelow : EventSet → Event → EventSet
+eventsBelow s e = record { 0 = below (s .0) (e .0) }
+
 -- which events the literals of a rule look at, where none of an epoch's events is left out
 abbrev pub allEvents : EventSet → Events
 allEvents s = record { present = s; occurred = s }
+
+-- where only some of them are kept: a dropped event is neither present nor absent (document 02, L7)
+abbrev pub keeping : EventSet → EventSet → Events
+keeping occurred kept = record { present = kept; occurred = occurred }
 
 abbrev pub noActions : ActionSet
 noActions = record { 0 = 0 }

@@ -33,6 +33,8 @@ pub enum Fault {
     DuplicateReading,
     // The buffer lent for an image, or for the text of one, has too few bytes (room).
     BufferTooSmall,
+    // No reduction of the epoch is free of conflict, where events are cancelled (unavoidable).
+    Unavoidable,
 }
 
 impl Fault {
@@ -55,6 +57,7 @@ impl Fault {
             Fault::EpochRange => 13,
             Fault::DuplicateReading => 14,
             Fault::BufferTooSmall => 15,
+            Fault::Unavoidable => 17,
         }
     }
 

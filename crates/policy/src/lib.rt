@@ -5,6 +5,7 @@ mod constant;
 mod fault;
 mod limit;
 mod line;
+mod mode;
 mod number;
 mod set;
 
@@ -27,6 +28,7 @@ pub use line::Ending;
 pub use line::Head;
 pub use line::Part;
 pub use line::Test;
+pub use mode::Mode;
 pub use number::Action;
 pub use number::ActionCheck;
 pub use number::Event;

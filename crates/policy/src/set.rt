@@ -1,6 +1,6 @@
 // Sets of events, of actions and of readings, one bit a member. Each kind is a type of its own over the same bits.
 ghost use mathlib.Core.Path.{_≡_};
-ghost use Rattle.policy.specs.Set.{has, insert, below, hasEvent, insertEvent, hasAction, insertAction, actionsWithout, actionsBelow, hasReading, insertReading, allEvents};
+ghost use Rattle.policy.specs.Set.{has, insert, below, hasEvent, insertEvent, hasAction, insertAction, actionsWithout, actionsBelow, hasReading, insertReading, allEvents, keeping};
 use crate::number::Action;
 use crate::number::Event;
 use crate::number::Reading;
@@ -92,6 +92,16 @@ impl EventSet {
     {
         Events {
             present: self,
+            occurred: self,
+        }
+    }
+
+    // Those of an epoch's events that are kept; the others are dropped.
+    pub fn keeping(self, kept: EventSet) -> Events
+        ensures { λ r. ⌜ r ≡ keeping self kept ⌝ }
+    {
+        Events {
+            present: kept,
             occurred: self,
         }
     }

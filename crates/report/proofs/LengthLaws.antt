@@ -32,6 +32,7 @@ fault-digits f = decimal-few (faultNumber f) 1 (small f)
     small Fault.EpochRange = omega arith
     small Fault.DuplicateReading = omega arith
     small Fault.BufferTooSmall = omega arith
+    small Fault.Unavoidable = omega arith
 
 source-digits : (s : Source) → length (decimal (sourceNumber s)) ≤ 1
 source-digits s = decimal-few (sourceNumber s) 0 (small s)

@@ -6,12 +6,11 @@ use mathlib.Core.Path.{_≡_, refl}
 use denote.Enum.Declared.{tagOf}
 use types.Run.{OneOf, miss}
 use Rattle.policy.specs.Epoch.{Readings}
-use Rattle.policy.specs.declared.line.Part.{Part}
 use Rattle.policy.specs.declared.set.ActionSet.{ActionSet}
 use Rattle.policy.specs.declared.set.Events.{Events}
 use Rattle.operation.proofs.operation.Operation.{the-type}
 use Rattle.operation.specs.declared.operation.Operation.{Operation}
-use Rattle.run.specs.Run.{constantCount, comparisonTest, ruleTest, constraintTest, proposesAt, isNever}
+use Rattle.run.specs.Run.{constantCount, ruleTest, constraintTest, proposesAt, isNever}
 use Rattle.run.specs.Steps.Test.{isMember}
 
 -- the operation is one of those with these numbers in the declaration
@@ -50,17 +49,6 @@ proposes-rest w s Operation.Member h = refl
 proposes-rest w s Operation.Never h = refl
 proposes-rest w s Operation.Unknown h = refl
 
-pub comparison-rest : (part : Part) (rs : Readings) (w k : ℕ) → (op : Operation) → Among (0 ∷ 1 ∷ 4 ∷ 5 ∷ 6 ∷ 7 ∷ []) op → true ≡ comparisonTest part rs op w k
-unfolding comparisonTest
-comparison-rest part rs w k Operation.Present h = refl
-comparison-rest part rs w k Operation.Absent h = refl
-comparison-rest part rs w k Operation.AgainstConstant h = absurd (miss (0 ∷ 1 ∷ 4 ∷ 5 ∷ 6 ∷ 7 ∷ []) 2 tt h)
-comparison-rest part rs w k Operation.AgainstReading h = absurd (miss (0 ∷ 1 ∷ 4 ∷ 5 ∷ 6 ∷ 7 ∷ []) 3 tt h)
-comparison-rest part rs w k Operation.Proposes h = refl
-comparison-rest part rs w k Operation.Member h = refl
-comparison-rest part rs w k Operation.Never h = refl
-comparison-rest part rs w k Operation.Unknown h = refl
-
 -- where AgainstConstant, which has the number 2, is not among them
 pub constants-rest : (tags : List ℕ) → ¬ OneOf tags 2 → (op : Operation) → Among tags op → 0 ≡ constantCount op
 constants-rest tags not-two Operation.Present h = refl
@@ -72,24 +60,24 @@ constants-rest tags not-two Operation.Member h = refl
 constants-rest tags not-two Operation.Never h = refl
 constants-rest tags not-two Operation.Unknown h = refl
 
-pub rule-rest : (ev : Events) (rs : Readings) (w k : ℕ) → (op : Operation) → Among (2 ∷ 3 ∷ 4 ∷ 5 ∷ 6 ∷ 7 ∷ []) op → comparisonTest Part.Rules rs op w k ≡ ruleTest ev rs op w k
-unfolding comparisonTest ruleTest
-rule-rest ev rs w k Operation.Present h = absurd (miss (2 ∷ 3 ∷ 4 ∷ 5 ∷ 6 ∷ 7 ∷ []) 0 tt h)
-rule-rest ev rs w k Operation.Absent h = absurd (miss (2 ∷ 3 ∷ 4 ∷ 5 ∷ 6 ∷ 7 ∷ []) 1 tt h)
-rule-rest ev rs w k Operation.AgainstConstant h = refl
-rule-rest ev rs w k Operation.AgainstReading h = refl
+pub rule-rest : (ev : Events) (rs : Readings) (w k : ℕ) → (op : Operation) → Among (4 ∷ 5 ∷ 6 ∷ 7 ∷ []) op → true ≡ ruleTest ev rs op w k
+unfolding ruleTest
+rule-rest ev rs w k Operation.Present h = absurd (miss (4 ∷ 5 ∷ 6 ∷ 7 ∷ []) 0 tt h)
+rule-rest ev rs w k Operation.Absent h = absurd (miss (4 ∷ 5 ∷ 6 ∷ 7 ∷ []) 1 tt h)
+rule-rest ev rs w k Operation.AgainstConstant h = absurd (miss (4 ∷ 5 ∷ 6 ∷ 7 ∷ []) 2 tt h)
+rule-rest ev rs w k Operation.AgainstReading h = absurd (miss (4 ∷ 5 ∷ 6 ∷ 7 ∷ []) 3 tt h)
 rule-rest ev rs w k Operation.Proposes h = refl
 rule-rest ev rs w k Operation.Member h = refl
 rule-rest ev rs w k Operation.Never h = refl
 rule-rest ev rs w k Operation.Unknown h = refl
 
-pub constraint-rest : (rs : Readings) (s : ActionSet) (w k : ℕ) → (op : Operation) → Among (0 ∷ 1 ∷ 2 ∷ 3 ∷ 4 ∷ 6 ∷ 7 ∷ []) op → comparisonTest Part.Constraints rs op w k ≡ constraintTest rs s op w k
-unfolding comparisonTest constraintTest
+pub constraint-rest : (rs : Readings) (s : ActionSet) (w k : ℕ) → (op : Operation) → Among (0 ∷ 1 ∷ 4 ∷ 6 ∷ 7 ∷ []) op → true ≡ constraintTest rs s op w k
+unfolding constraintTest
 constraint-rest rs s w k Operation.Present h = refl
 constraint-rest rs s w k Operation.Absent h = refl
-constraint-rest rs s w k Operation.AgainstConstant h = refl
-constraint-rest rs s w k Operation.AgainstReading h = refl
+constraint-rest rs s w k Operation.AgainstConstant h = absurd (miss (0 ∷ 1 ∷ 4 ∷ 6 ∷ 7 ∷ []) 2 tt h)
+constraint-rest rs s w k Operation.AgainstReading h = absurd (miss (0 ∷ 1 ∷ 4 ∷ 6 ∷ 7 ∷ []) 3 tt h)
 constraint-rest rs s w k Operation.Proposes h = refl
-constraint-rest rs s w k Operation.Member h = absurd (miss (0 ∷ 1 ∷ 2 ∷ 3 ∷ 4 ∷ 6 ∷ 7 ∷ []) 5 tt h)
+constraint-rest rs s w k Operation.Member h = absurd (miss (0 ∷ 1 ∷ 4 ∷ 6 ∷ 7 ∷ []) 5 tt h)
 constraint-rest rs s w k Operation.Never h = refl
 constraint-rest rs s w k Operation.Unknown h = refl

@@ -6,7 +6,8 @@ ghost use Rattle.word.specs.Word.{wordsOf, wordAt, between};
 ghost use Rattle.run.specs.Run.{constraintTest, isNever, runConstraints, trialFetches};
 ghost use Rattle.run.specs.Steps.Test.{tested, isMember, leftAt};
 use crate::test::Tested;
-use crate::test::compare;
+use crate::test::against_constant;
+use crate::test::against_reading;
 use crate::test::fetches;
 use crate::test::last_of;
 use crate::test::passed;
@@ -37,15 +38,16 @@ fn test_constraint(
             holds: set.has(Action(first(word) as u8)),
             next: behind,
         },
-        _ => compare(
-            Part::Constraints,
-            image,
-            behind,
-            operation,
-            word,
-            given,
-            values,
-        ),
+        Operation::AgainstConstant => {
+            against_constant(Part::Constraints, image, behind, word, given, values)
+        }
+        Operation::AgainstReading => {
+            against_reading(Part::Constraints, behind, word, given, values)
+        }
+        _ => Tested {
+            holds: true,
+            next: behind,
+        },
     }
 }
 

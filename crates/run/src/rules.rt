@@ -6,7 +6,8 @@ ghost use Rattle.word.specs.Word.{wordsOf, wordAt, between};
 ghost use Rattle.run.specs.Run.{ruleTest, proposesAt, runRules, ruleFetches};
 ghost use Rattle.run.specs.Steps.Test.{tested};
 use crate::test::Tested;
-use crate::test::compare;
+use crate::test::against_constant;
+use crate::test::against_reading;
 use crate::test::fetches;
 use crate::test::last_of;
 use crate::test::passed;
@@ -42,7 +43,14 @@ fn test_rule(
             holds: !events.occurred.has(Event(first(word) as u8)),
             next: behind,
         },
-        _ => compare(Part::Rules, image, behind, operation, word, given, values),
+        Operation::AgainstConstant => {
+            against_constant(Part::Rules, image, behind, word, given, values)
+        }
+        Operation::AgainstReading => against_reading(Part::Rules, behind, word, given, values),
+        _ => Tested {
+            holds: true,
+            next: behind,
+        },
     }
 }
 

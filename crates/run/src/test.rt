@@ -4,8 +4,11 @@ ghost use mathlib.Core.Path.{_≡_};
 ghost use Prim.Native.Nat.{_+_, _-_, _/_, _≤_, _<_};
 ghost use lib.ListN.{length};
 ghost use Rattle.operation.specs.Fields.{skipOf};
+ghost use Rattle.operation.specs.Parts.{constantComparison, readingComparison};
+ghost use Rattle.operation.specs.declared.operation.Operation.{Operation};
+ghost use Rattle.policy.specs.Comparison.{comparisonHolds};
 ghost use Rattle.word.specs.Word.{wordAt};
-ghost use Rattle.run.specs.Run.{comparisonTest, fetchesOf};
+ghost use Rattle.run.specs.Run.{fetchesOf};
 ghost use Rattle.run.specs.Steps.Test.{tested};
 use operation::Operation;
 use operation::constant_holds;
@@ -29,32 +32,37 @@ pub(crate) fn last_of(count: usize) -> usize
     if 0 < count { count - 1 } else { 0 }
 }
 
-// The comparison that a word stands for in a line of the part, with the word behind it. Any other word asks for none.
-pub(crate) fn compare(
+// A comparison with a constant, which is the word behind.
+pub(crate) fn against_constant(
     part: Part,
     image: &[u8],
     behind: usize,
-    operation: Operation,
     word: u32,
     given: ReadingSet,
     values: &[i32],
 ) -> Tested
     requires { ⌜ behind < length (now image) / 4 ⌝ }
-    ensures { λ r. ⌜ r ≡ tested (comparisonTest part (record { given = given; values = now (values .entry) }) operation word (wordAt (now (image .entry)) behind)) operation behind ⌝ }
+    ensures { λ r. ⌜ r ≡ tested (comparisonHolds part (record { given = given; values = now (values .entry) }) (constantComparison word (wordAt (now (image .entry)) behind))) Operation.AgainstConstant behind ⌝ }
 {
-    match operation {
-        Operation::AgainstConstant => Tested {
-            holds: constant_holds(part, word, word_in(image, behind), given, values),
-            next: behind + 1,
-        },
-        Operation::AgainstReading => Tested {
-            holds: reading_holds(part, word, given, values),
-            next: behind,
-        },
-        _ => Tested {
-            holds: true,
-            next: behind,
-        },
+    Tested {
+        holds: constant_holds(part, word, word_in(image, behind), given, values),
+        next: behind + 1,
+    }
+}
+
+// A comparison with a reading.
+pub(crate) fn against_reading(
+    part: Part,
+    behind: usize,
+    word: u32,
+    given: ReadingSet,
+    values: &[i32],
+) -> Tested
+    ensures { λ r. ⌜ r ≡ tested (comparisonHolds part (record { given = given; values = now (values .entry) }) (readingComparison word)) Operation.AgainstReading behind ⌝ }
+{
+    Tested {
+        holds: reading_holds(part, word, given, values),
+        next: behind,
     }
 }
 

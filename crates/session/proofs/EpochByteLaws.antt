@@ -1,12 +1,12 @@
 -- Laws of a byte of an epoch line.
 use Prim.Native.Nat.{ℕ, _+_, _≤_, _<_}
 use mathlib.Core.List.{List, [], _∷_, _++_, append-assoc}
-use mathlib.Core.Bool.{true}
+use mathlib.Core.Option.{some}
 use mathlib.Core.Path.{_≡_, refl, sym, ap, subst, _∙_}
 use native.Mathlib.Omega.{arith}
 use lib.ListN.{length, take, set, length-take, length-drop, length-set}
 use Rattle.lexer.specs.Lines.{linesOf}
-use Rattle.monitor.specs.Decision.{decision}
+use Rattle.monitor.specs.Decision.{decisionIn}
 use Rattle.session.specs.Printed.{next, decisionLine, epochLines}
 use Rattle.session.specs.Owed.{current, Good, Seen, seeByte, TracksIn, Took}
 use Rattle.session.specs.Steps.Held.{oneMoreHeld, Pushed, room, full}
@@ -27,12 +27,12 @@ module _ (s : State) (held image out : List ℕ) (g : Good s held image out) (t 
 
   pub line-length : length (current s held) ≡ s .count
   line-length =
-      let l : length held ≡ 32773 = g .heldLong in
+      let l : length held ≡ 32780 = g .heldLong in
       simp (length-drop, length-take) (omega (arith, limits .0, limits .1))
 
   -- a byte that is held, and one for which there is no room
   grown-tracks : (b : ℕ) → s .count < 1025 → (b ≡ 10 → ⊥) → {line : List ℕ} → line ≡ current s held ++ b ∷ [] → (x : Seen) → TracksIn Phase.Epochs x s held
-      → (seeByte x b .ran ≡ true) × (line ≡ take 1025 (seeByte x b .tail))
+      → (seeByte x b .ran ≡ some (s .mode)) × (line ≡ take 1025 (seeByte x b .tail))
   unfolding TracksIn
   grown-tracks b c n e x (ran, line) = (
     ran-stays x b ran,
@@ -40,7 +40,7 @@ module _ (s : State) (held image out : List ℕ) (g : Good s held image out) (t 
   )
 
   full-tracks : (b : ℕ) → 1025 ≤ s .count → (b ≡ 10 → ⊥) → (x : Seen) → TracksIn Phase.Epochs x s held
-      → (seeByte x b .ran ≡ true) × (current s held ≡ take 1025 (seeByte x b .tail))
+      → (seeByte x b .ran ≡ some (s .mode)) × (current s held ≡ take 1025 (seeByte x b .tail))
   unfolding TracksIn
   full-tracks b c n x (ran, line) = (
     ran-stays x b ran,
@@ -55,7 +55,7 @@ module _ (s : State) (held image out : List ℕ) (g : Good s held image out) (t 
       record {
         owes = λ rest.
             owed-epochs (oneMoreHeld s) (set held (s .count) b) image out rest t
-            ∙ ap (λ (x : List ℕ). take (s .used) out ++ epochLines (take (s .size) image) (s .epochs) (linesOf x))
+            ∙ ap (λ (x : List ℕ). take (s .used) out ++ epochLines (s .mode) (take (s .size) image) (s .epochs) (linesOf x))
             (ap (λ (x : List ℕ). x ++ rest) more ∙ snoc (current s held) rest b)
             ∙ sym (owed-epochs s held image out (b ∷ rest) t);
         tracks = λ x h'. at-tracks Phase.Epochs (seeByte x b) (oneMoreHeld s) (set held (s .count) b) t (grown-tracks b h n more x (tracks-at Phase.Epochs x s held t h'));
@@ -79,7 +79,7 @@ module _ (s : State) (held image out : List ℕ) (g : Good s held image out) (t 
         owes = λ rest.
             owed-epochs s held image out rest t
             ∙ ap (λ (x : List ℕ). take (s .used) out ++ x)
-            (sym (full-line (take (s .size) image) (s .epochs) (current s held) b rest (g .oneLine) (line-length ∙ omega (arith, limits .1)) n))
+            (sym (full-line (s .mode) (take (s .size) image) (s .epochs) (current s held) b rest (g .oneLine) (line-length ∙ omega (arith, limits .1)) n))
             ∙ sym (owed-epochs s held image out (b ∷ rest) t);
         tracks = λ x h'. at-tracks Phase.Epochs (seeByte x b) s held t (full-tracks b h n x (tracks-at Phase.Epochs x s held t h'));
         good = g;
@@ -109,9 +109,9 @@ module _ (s : State) (held image out : List ℕ) (g : Good s held image out) (t 
       (record {
         owes = λ rest.
             owed-epochs (decidedBy s (r .used)) held image out' rest t
-            ∙ ap (λ (x : List ℕ). x ++ epochLines (take (s .size) image) (next (s .epochs)) (linesOf rest)) (d .prints)
-            ∙ append-assoc (take (s .used) out) (decisionLine (next (s .epochs)) (decision (take (s .size) image) (current s held))) (epochLines (take (s .size) image) (next (s .epochs)) (linesOf rest))
-            ∙ ap (λ (x : List ℕ). take (s .used) out ++ x) (sym (epoch-ends (take (s .size) image) (s .epochs) (current s held) rest (g .oneLine)))
+            ∙ ap (λ (x : List ℕ). x ++ epochLines (s .mode) (take (s .size) image) (next (s .epochs)) (linesOf rest)) (d .prints)
+            ∙ append-assoc (take (s .used) out) (decisionLine (next (s .epochs)) (decisionIn (s .mode) (take (s .size) image) (current s held))) (epochLines (s .mode) (take (s .size) image) (next (s .epochs)) (linesOf rest))
+            ∙ ap (λ (x : List ℕ). take (s .used) out ++ x) (sym (epoch-ends (s .mode) (take (s .size) image) (s .epochs) (current s held) rest (g .oneLine)))
             ∙ sym (owed-epochs s held image out (10 ∷ rest) t);
         tracks = λ x h.
             at-tracks Phase.Epochs (seeByte x 10) (decidedBy s (r .used)) held t

@@ -22,7 +22,7 @@ module _ (s : State) (held image out rest : List ℕ) where
   owed-text e = ap (λ (p : Phase). take (s .used) out ++ leftIn p s held image rest) e
 
   pub owed-epochs : s .phase ≡ Phase.Epochs
-      → owed s held image out rest ≡ take (s .used) out ++ epochLines (take (s .size) image) (s .epochs) (linesOf (current s held ++ rest))
+      → owed s held image out rest ≡ take (s .used) out ++ epochLines (s .mode) (take (s .size) image) (s .epochs) (linesOf (current s held ++ rest))
   unfolding owed leftIn
   owed-epochs e = ap (λ (p : Phase). take (s .used) out ++ leftIn p s held image rest) e
 
@@ -30,7 +30,7 @@ module _ (s : State) (held image out rest : List ℕ) where
   unfolding owed leftIn
   owed-over e = ap (λ (p : Phase). take (s .used) out ++ leftIn p s held image rest) e ∙ append-nil (take (s .used) out)
 
-pub fitting-text : (p : Phase) (s : State) → p ≡ Phase.Text → Fitting p s → s .count ≤ 32773
+pub fitting-text : (p : Phase) (s : State) → p ≡ Phase.Text → Fitting p s → s .count ≤ 32780
 unfolding Fitting
 fitting-text p s e f = subst (λ (q : Phase). Fitting q s) e f
 
@@ -38,7 +38,7 @@ pub fitting-epochs : (p : Phase) (s : State) → p ≡ Phase.Epochs → Fitting 
 unfolding Fitting
 fitting-epochs p s e f = subst (λ (q : Phase). Fitting q s) e f
 
-pub as-text : (p : Phase) (s : State) → p ≡ Phase.Text → s .count ≤ 32773 → Fitting p s
+pub as-text : (p : Phase) (s : State) → p ≡ Phase.Text → s .count ≤ 32780 → Fitting p s
 unfolding Fitting
 as-text p s e f = subst (λ (q : Phase). Fitting q s) (sym e) f
 

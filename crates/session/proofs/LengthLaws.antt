@@ -6,15 +6,19 @@ use mathlib.Core.Path.{_≡_, refl}
 use native.Mathlib.Omega.{arith}
 use lib.ListN.{length, length-append}
 use Rattle.policy.specs.Epoch.{Epoch}
+use Rattle.policy.specs.Fault.{refusal}
 use Rattle.policy.specs.Set.{has, difference}
+use Rattle.policy.specs.declared.fault.Fault.{Fault}
+use Rattle.policy.specs.declared.mode.Mode.{Mode}
 use Rattle.policy.proofs.SetLaws.{has-difference, has-empty}
 use Rattle.lexer.specs.Byte.{bytes}
 use Rattle.epoch_line.specs.Epoch.{EpochAnswer, refused, accepted, readEpoch}
-use Rattle.word.specs.Word.{wordsOf, between}
+use Rattle.word.specs.Word.{wordsOf}
 use Rattle.image.specs.Load.{load}
+use Rattle.image.specs.declared.load.Contents.{Contents}
 use Rattle.image.specs.declared.load.Loaded.{Loaded}
-use Rattle.monitor.proofs.DecideLaws.{visited-few}
-use Rattle.monitor.specs.Decision.{decision, onImage, onLine, issuedBy, yieldedBy, proposedBy, keptBy, answerOf, visitedIn}
+use Rattle.monitor.proofs.FewLaws.{visited-few}
+use Rattle.monitor.specs.Decision.{proposedBy, proposedWithBy, keptBy, yieldedBy, clashBy, keptEventsBy, reducedBy, reductionBy, rulesIn, constraintsIn, issuedBy, decidedBy, onLine, onImage, decisionIn, answerOf, visitedIn}
 use Rattle.monitor.specs.declared.decision.Decision.{Decision}
 use Rattle.output.specs.Number.{decimal}
 use Rattle.output.proofs.DecimalLaws.{decimal-few, decimal-short}
@@ -54,26 +58,39 @@ difference-apart s t n = rw (has-difference s t n) (go (has t n) (has s n))
     go true false = refl
     go false c = refl
 
-yielded-apart : (rules constraints : List ℕ) (e : Epoch)
-    → Apart (yieldedBy rules constraints e .accepted .0) (yieldedBy rules constraints e .cancelled .0)
-unfolding yieldedBy
-yielded-apart rules constraints e = difference-apart (proposedBy rules e .0) (keptBy constraints (e .readings) (proposedBy rules e) .0)
+abbrev ApartIn : Decision → Type 0
+ApartIn d = Apart (answerOf d .accepted .0) (answerOf d .cancelled .0)
 
 none-apart : Apart 0 0
 none-apart n = rw (has-empty n)
 
-decision-apart : (image line : List ℕ) → Apart (answerOf (decision image line) .accepted .0) (answerOf (decision image line) .cancelled .0)
-unfolding decision onImage onLine issuedBy
-decision-apart image line = go (load image) (readEpoch line)
+reduction-apart : (rules constraints : List ℕ) (e : Epoch) → ApartIn (reductionBy rules constraints e)
+unfolding reductionBy reducedBy
+reduction-apart rules constraints e = go (clashBy rules constraints e 0)
   where
-    go : (l : Loaded) (a : EpochAnswer) → Apart (answerOf (onImage l (wordsOf image) a) .accepted .0) (answerOf (onImage l (wordsOf image) a) .cancelled .0)
+    go : (b : Bool) → ApartIn (cond b (Decision.Refused (refusal Fault.Unavoidable 0)) (Decision.Issued (reducedBy rules constraints e)))
+    go true = none-apart
+    go false = difference-apart (proposedBy rules e .0) (proposedWithBy rules e (keptEventsBy rules constraints e) .0)
+
+decided-apart : (mode : Mode) (contents : Contents) (words : List ℕ) (e : Epoch) → ApartIn (decidedBy mode contents words e)
+unfolding decidedBy issuedBy yieldedBy
+decided-apart Mode.Actions contents words e =
+    let all = proposedBy (rulesIn contents words) e in
+    difference-apart (all .0) (keptBy (constraintsIn contents words) (e .readings) all .0)
+decided-apart Mode.Events contents words e = reduction-apart (rulesIn contents words) (constraintsIn contents words) e
+
+decision-apart : (mode : Mode) (image line : List ℕ) → ApartIn (decisionIn mode image line)
+unfolding decisionIn onImage onLine
+decision-apart mode image line = go (load image) (readEpoch line)
+  where
+    go : (l : Loaded) (a : EpochAnswer) → ApartIn (onImage mode l (wordsOf image) a)
     go (Loaded.Refused x) a = none-apart
-    go (Loaded.Image parts) (refused f) = none-apart
-    go (Loaded.Image parts) (accepted e) = yielded-apart (between 1 (1 + parts .«rule_words») (wordsOf image)) (between (1 + parts .«rule_words») (1 + parts .«rule_words» + parts .«constraint_words») (wordsOf image)) e
+    go (Loaded.Image contents) (refused f) = none-apart
+    go (Loaded.Image contents) (accepted e) = decided-apart mode contents (wordsOf image) e
 
 -- ---- lines
 
-line-short : (n : ℕ) (d : Decision) → n < 18446744073709551616 → Apart (answerOf d .accepted .0) (answerOf d .cancelled .0) → visitedIn d < 18446744073709551616
+line-short : (n : ℕ) (d : Decision) → n < 18446744073709551616 → ApartIn d → visitedIn d < 18446744073709551616
     → length (decisionLine n d) ≤ 512
 unfolding decisionLine acceptLine refusedLine wordsField actionList bytes
 line-short n (Decision.Refused x) h a v =
@@ -89,5 +106,5 @@ line-short n (Decision.Issued actions) h a v =
       members-short 64 0 (actions .accepted .0) (actions .cancelled .0) (omega arith) a,
     ))
 
-pub decision-short : (n : ℕ) (image line : List ℕ) → n < 18446744073709551616 → length (decisionLine n (decision image line)) ≤ 512
-decision-short n image line h = line-short n (decision image line) h (decision-apart image line) (omega (arith, visited-few image line))
+pub decision-short : (n : ℕ) (mode : Mode) (image line : List ℕ) → n < 18446744073709551616 → length (decisionLine n (decisionIn mode image line)) ≤ 512
+decision-short n mode image line h = line-short n (decisionIn mode image line) h (decision-apart mode image line) (omega (arith, visited-few mode image line))

@@ -1,25 +1,22 @@
 -- Laws of what was seen of the input: the held part of a line tells what the line tells.
 use Prim.Native.Nat.{ℕ, _+_, _-_, min, _≤_, _<_}
-use mathlib.Core.Bool.{Bool, true, false, _||_, cond}
+use Prim.Native.String.{String}
+use mathlib.Core.Bool.{Bool, true, false, cond}
 use mathlib.Core.List.{List, [], _∷_, _++_}
-use mathlib.Core.Path.{_≡_, refl, sym, ap, ap₂, subst, _∙_}
+use mathlib.Core.Option.{some, orElse}
+use mathlib.Core.Path.{_≡_, refl, sym, ap, subst, _∙_}
 use native.Mathlib.Omega.{arith}
 use borrow.Author.Tests.{ne-eqb, ltb-true, ltb-false}
 use lib.Dec.{eqb, ltb}
 use lib.ListN.{length, take, length-take, length-append}
 use lib.Seq.{take-all, take-append-le}
-use Rattle.lexer.specs.Byte.{is}
+use Rattle.policy.specs.declared.mode.Mode.{Mode}
+use Rattle.lexer.specs.Byte.{bytes, is}
+use Rattle.session.specs.Printed.{modeOf}
 use Rattle.session.specs.Owed.{emptied, Seen, seeByte, TracksIn, Tracks}
 use Rattle.session.specs.declared.state.Phase.{Phase}
 use Rattle.session.specs.declared.state.State.{State}
-use Rattle.session.proofs.RunLaws.{run-long}
-
-pub or-second : (a b : Bool) → b ≡ true → (a || b) ≡ true
-or-second true b e = refl
-or-second false b e = e
-
-pub or-none : (a b : Bool) → a ≡ false → b ≡ false → (a || b) ≡ false
-or-none a b p q = rw p q
+use Rattle.session.proofs.RunLaws.{word-long}
 
 -- ---- a line of which so many bytes are held
 
@@ -39,20 +36,24 @@ module _ (k : ℕ) (tail line : List ℕ) (e : line ≡ take k tail) where
   pub held-stays : (b : ℕ) → k ≤ length line → line ≡ take k (tail ++ b ∷ [])
   held-stays b h = e ∙ sym (take-append-le k tail (b ∷ []) (omega (arith, held-length)))
 
-  -- four bytes tell whether it is `run`
-  pub held-run : 4 ≤ k → is "run" line ≡ is "run" tail
-  held-run h = go (ltb (length line) k) refl
+  -- one byte more than a word has tells whether it is the word
+  held-word : (word : String) → length (bytes word) < k → is word line ≡ is word tail
+  held-word word h = go (ltb (length line) k) refl
     where
-      go : (b : Bool) → ltb (length line) k ≡ b → is "run" line ≡ is "run" tail
-      go true q = ap (is "run") (held-all (ltb-true (length line) k q))
+      go : (b : Bool) → ltb (length line) k ≡ b → is word line ≡ is word tail
+      go true q = ap (is word) (held-all (ltb-true (length line) k q))
       go false q =
           let n : k ≤ length line = ltb-false (length line) k q in
-          sym (run-long line (λ (three : length line ≡ 3). omega arith))
-          ∙ run-long tail (λ (three : length tail ≡ 3). omega (arith, held-length))
+          word-long word line (omega arith) ∙ sym (word-long word tail (omega (arith, held-length)))
+
+  -- so eleven bytes tell which mode it picks
+  pub held-mode : 10 < k → modeOf line ≡ modeOf tail
+  unfolding modeOf bytes
+  held-mode h = rw (held-word "run" (omega arith), held-word "run events" h)
 
 -- ---- a byte
 
-pub see-end : (x : Seen) → seeByte x 10 ≡ record { ran = x .ran || is "run" (x .tail); tail = [] }
+pub see-end : (x : Seen) → seeByte x 10 ≡ record { ran = orElse (x .ran) (modeOf (x .tail)); tail = [] }
 unfolding seeByte
 see-end x = refl
 
@@ -60,12 +61,12 @@ pub see-other : (x : Seen) (b : ℕ) → (b ≡ 10 → ⊥) → seeByte x b ≡ 
 unfolding seeByte
 see-other x b n = rw (ne-eqb b 10 n)
 
--- a line `run` that was seen stays seen
-pub ran-stays : (x : Seen) (b : ℕ) → x .ran ≡ true → seeByte x b .ran ≡ true
-unfolding seeByte
-ran-stays x b e = go (eqb b 10)
+-- the mode that was picked stays
+pub ran-stays : {mode : Mode} (x : Seen) (b : ℕ) → x .ran ≡ some mode → seeByte x b .ran ≡ some mode
+unfolding seeByte orElse
+ran-stays {mode} x b e = go (eqb b 10)
   where
-    go : (t : Bool) → cond {A = Seen} t (record { ran = x .ran || is "run" (x .tail); tail = [] }) (record { ran = x .ran; tail = x .tail ++ b ∷ [] }) .ran ≡ true
+    go : (t : Bool) → cond {A = Seen} t (record { ran = orElse (x .ran) (modeOf (x .tail)); tail = [] }) (record { ran = x .ran; tail = x .tail ++ b ∷ [] }) .ran ≡ some mode
     go true = rw e
     go false = e
 

@@ -1,15 +1,16 @@
 -- Laws of a byte of the text.
 use Prim.Native.Nat.{ℕ, _+_, _-_, min, _≤_, _<_}
-use mathlib.Core.Bool.{true, false}
 use mathlib.Core.List.{List, [], _∷_, _++_}
+use mathlib.Core.Option.{Option, none, some, orElse}
 use mathlib.Core.Path.{_≡_, refl, sym, ap, ap₂, _∙_}
 use native.Mathlib.Omega.{arith}
 use lib.ListN.{length, take, set, length-take, length-drop, length-set, length-append}
 use lib.Seq.{length-take-le, take-nil}
 use Rattle.policy.specs.Fault.{refusal}
 use Rattle.policy.specs.declared.fault.Fault.{Fault}
-use Rattle.lexer.specs.Byte.{is}
+use Rattle.policy.specs.declared.mode.Mode.{Mode}
 use Rattle.report.specs.Report.{refusalLine}
+use Rattle.session.specs.Printed.{modeOf}
 use Rattle.session.specs.Owed.{printedBehind, current, Good, Seen, seeByte, TracksIn, Tracks, Took}
 use Rattle.session.specs.Steps.Held.{startingAt, lineBehind, oneMoreHeld, Pushed, room, full}
 use Rattle.session.specs.Steps.Ended.{TextEnded}
@@ -17,14 +18,14 @@ use Rattle.session.specs.declared.state.Phase.{Phase}
 use Rattle.session.specs.declared.state.State.{State}
 use Rattle.session.proofs.HeldLaws.{owed-text, fitting-text, as-text, held-more, done-same, done-line, none-left, snoc}
 use Rattle.session.proofs.LineLaws.{empty-line, line-more}
-use Rattle.session.proofs.SeenLaws.{or-second, or-none, held-grows, held-stays, held-run, see-end, see-other, tracks-at, at-tracks}
+use Rattle.session.proofs.SeenLaws.{held-grows, held-stays, held-mode, see-end, see-other, tracks-at, at-tracks}
 use Rattle.session.proofs.SplitLaws.{behind-run, behind-line, over-text, full-text}
 
 line-long : (done line : List ℕ) → 32768 < length done + length line → 32768 < length (done ++ line ++ 10 ∷ [])
 line-long done line h = simp length-append (omega arith)
 
 module _ (s : State) (held image out : List ℕ) (g : Good s held image out) (t : s .phase ≡ Phase.Text) where
-  at-most : s .count ≤ 32773
+  at-most : s .count ≤ 32780
   at-most = fitting-text (s .phase) s t (g .fitting)
 
   pub text-count : s .count ≤ length held
@@ -32,68 +33,62 @@ module _ (s : State) (held image out : List ℕ) (g : Good s held image out) (t 
 
   held-length : length (take (s .start) held) + length (current s held) ≡ s .count
   held-length =
-      let c : s .count ≤ 32773 = at-most in
-      let l : length held ≡ 32773 = g .heldLong in
+      let c : s .count ≤ 32780 = at-most in
+      let l : length held ≡ 32780 = g .heldLong in
       let o : s .start ≤ s .count = g .ordered in
       simp (length-drop, length-take) (omega arith)
 
   -- what the held part of the line tells
 
-  run-same : (x : Seen) → TracksIn Phase.Text x s held → is "run" (current s held) ≡ is "run" (x .tail)
-  unfolding TracksIn
-  run-same x (ran, line, first) = held-run (32773 - s .start) (x .tail) (current s held) line (omega (arith, first))
-
-  run-seen : (x : Seen) → TracksIn Phase.Text x s held → is "run" (current s held) ≡ true → seeByte x 10 .ran ≡ true
-  run-seen x h e = ap (λ (y : Seen). y .ran) (see-end x) ∙ or-second (x .ran) (is "run" (x .tail)) (sym (run-same x h) ∙ e)
-
-  line-seen : (x : Seen) → TracksIn Phase.Text x s held → is "run" (current s held) ≡ false → seeByte x 10 .ran ≡ false
-  unfolding TracksIn
-  line-seen x h e = ap (λ (y : Seen). y .ran) (see-end x) ∙ or-none (x .ran) (is "run" (x .tail)) (h .0) (sym (run-same x h) ∙ e)
+  line-seen : (x : Seen) → TracksIn Phase.Text x s held → seeByte x 10 .ran ≡ modeOf (current s held)
+  unfolding TracksIn orElse
+  line-seen x (ran, line, first) =
+      ap (λ (y : Seen). y .ran) (see-end x) ∙ ap (λ (o : Option Mode). orElse o (modeOf (x .tail))) ran
+      ∙ sym (held-mode (32780 - s .start) (x .tail) (current s held) line (omega (arith, first)))
 
   -- the next line starts, and nothing of it is held
-  line-tracks : (n : ℕ) (held' : List ℕ) → n ≤ 32769 → is "run" (current s held) ≡ false → (x : Seen) → Tracks x s held → Tracks (seeByte x 10) (startingAt n s) held'
+  line-tracks : (n : ℕ) (held' : List ℕ) → n ≤ 32769 → modeOf (current s held) ≡ none → (x : Seen) → Tracks x s held → Tracks (seeByte x 10) (startingAt n s) held'
   unfolding TracksIn
   line-tracks n held' k e x h =
       at-tracks Phase.Text (seeByte x 10) (startingAt n s) held' t (
-        line-seen x (tracks-at Phase.Text x s held t h) e,
-        none-left held' n ∙ sym (ap (λ (y : Seen). take (32773 - n) (y .tail)) (see-end x) ∙ take-nil (32773 - n)),
+        line-seen x (tracks-at Phase.Text x s held t h) ∙ e,
+        none-left held' n ∙ sym (ap (λ (y : Seen). take (32780 - n) (y .tail)) (see-end x) ∙ take-nil (32780 - n)),
         k,
       )
 
   line-held : length (current s held) ≡ s .count - s .start
   line-held =
-      let c : s .count ≤ 32773 = at-most in
-      let l : length held ≡ 32773 = g .heldLong in
+      let c : s .count ≤ 32780 = at-most in
+      let l : length held ≡ 32780 = g .heldLong in
       simp (length-drop, length-take) (omega arith)
 
-  -- ---- the line `run`
+  -- ---- the line that picks a mode
 
-  pub text-run : (r : State) (image' out' : List ℕ) → is "run" (current s held) ≡ true → TextEnded (take (s .start) held) s out r image' out'
+  pub text-run : (mode : Mode) (r : State) (image' out' : List ℕ) → modeOf (current s held) ≡ some mode → TextEnded (take (s .start) held) mode s out r image' out'
       → Took s held image out (10 ∷ []) r held image' out'
-  text-run r image' out' e ended' =
+  text-run mode r image' out' e ended' =
       record {
         owes = λ rest.
             ended' .owes held rest
             ∙ sym (owed-text s held image out (10 ∷ rest) t
-            ∙ ap (λ (x : List ℕ). take (s .used) out ++ x) (behind-run (take (s .start) held) (current s held) (g .oneLine) rest e));
+            ∙ ap (λ (x : List ℕ). take (s .used) out ++ x) (behind-run (take (s .start) held) (current s held) (g .oneLine) rest mode e));
         tracks = λ x h.
-            let h' : TracksIn Phase.Text x s held = tracks-at Phase.Text x s held t h in
-            ended' .tracks held (seeByte x 10) (run-seen x h' e) (ap (λ (y : Seen). y .tail) (see-end x));
+            ended' .tracks held (seeByte x 10) (line-seen x (tracks-at Phase.Text x s held t h) ∙ e) (ap (λ (y : Seen). y .tail) (see-end x));
         good = ended' .good held (g .heldLong);
       }
 
   -- ---- a byte that is held
 
-  byte-tracks : (b : ℕ) → s .count < 32773 → (b ≡ 10 → ⊥) → {line : List ℕ} → line ≡ current s held ++ b ∷ [] → (x : Seen) → TracksIn Phase.Text x s held
-      → (seeByte x b .ran ≡ false) × (line ≡ take (32773 - s .start) (seeByte x b .tail)) × (s .start ≤ 32769)
+  byte-tracks : (b : ℕ) → s .count < 32780 → (b ≡ 10 → ⊥) → {line : List ℕ} → line ≡ current s held ++ b ∷ [] → (x : Seen) → TracksIn Phase.Text x s held
+      → (seeByte x b .ran ≡ none) × (line ≡ take (32780 - s .start) (seeByte x b .tail)) × (s .start ≤ 32769)
   unfolding TracksIn
   byte-tracks b c n e x (ran, line, first) = (
     ap (λ (y : Seen). y .ran) (see-other x b n) ∙ ran,
-    e ∙ held-grows (32773 - s .start) (x .tail) (current s held) line b (omega (arith, line-held, g .ordered)) ∙ ap (λ (y : Seen). take (32773 - s .start) (y .tail)) (sym (see-other x b n)),
+    e ∙ held-grows (32780 - s .start) (x .tail) (current s held) line b (omega (arith, line-held, g .ordered)) ∙ ap (λ (y : Seen). take (32780 - s .start) (y .tail)) (sym (see-other x b n)),
     first,
   )
 
-  text-counted : (b : ℕ) → s .count < 32773 → (b ≡ 10 → ⊥) → Took s held image out (b ∷ []) (oneMoreHeld s) (set held (s .count) b) image out
+  text-counted : (b : ℕ) → s .count < 32780 → (b ≡ 10 → ⊥) → Took s held image out (b ∷ []) (oneMoreHeld s) (set held (s .count) b) image out
   unfolding TracksIn
   text-counted b h' n =
       let k : s .count < length held = rw (g .heldLong) h' in
@@ -119,7 +114,7 @@ module _ (s : State) (held image out : List ℕ) (g : Good s held image out) (t 
             };
       }
 
-  line-good : (n : ℕ) (held' : List ℕ) → length held' ≡ 32773 → n ≤ 32773 → Good (startingAt n s) held' image out
+  line-good : (n : ℕ) (held' : List ℕ) → length held' ≡ 32780 → n ≤ 32780 → Good (startingAt n s) held' image out
   line-good n held' l k =
       record {
         heldLong = l;
@@ -132,7 +127,7 @@ module _ (s : State) (held image out : List ℕ) (g : Good s held image out) (t 
         used = g .used;
       }
 
-  line-counted : is "run" (current s held) ≡ false → s .count < 32769
+  line-counted : modeOf (current s held) ≡ none → s .count < 32769
       → Took s held image out (10 ∷ []) (startingAt (s .count + 1) s) (set held (s .count) 10) image out
   line-counted e h =
       let k : s .count < length held = rw (g .heldLong) (omega arith) in
@@ -164,12 +159,12 @@ module _ (s : State) (held image out : List ℕ) (g : Good s held image out) (t 
         good = g';
       }
 
-  all-full : 32773 ≤ s .count → (rest : List ℕ) → printedBehind (take (s .start) held) (current s held ++ rest) ≡ refusalLine (refusal Fault.TooLong 0)
+  all-full : 32780 ≤ s .count → (rest : List ℕ) → printedBehind (take (s .start) held) (current s held ++ rest) ≡ refusalLine (refusal Fault.TooLong 0)
   all-full h rest =
-      let c : s .count ≤ 32773 = at-most in
+      let c : s .count ≤ 32780 = at-most in
       full-text (take (s .start) held) (current s held) rest (g .oneLine) (held-length ∙ omega arith)
 
-  line-over : is "run" (current s held) ≡ false → 32769 ≤ s .count
+  line-over : modeOf (current s held) ≡ none → 32769 ≤ s .count
       → (rest : List ℕ) → printedBehind (take (s .start) held) (current s held ++ 10 ∷ rest) ≡ refusalLine (refusal Fault.TooLong 0)
   line-over e h rest =
       behind-line (take (s .start) held) (current s held) (g .oneLine) rest e
@@ -180,26 +175,26 @@ module _ (s : State) (held image out : List ℕ) (g : Good s held image out) (t 
       let l : length (take 32769 held) ≡ 32769 = length-take-le 32769 held (rw (g .heldLong) (omega arith)) in
       over-text (take 32769 held) (current (startingAt 32769 s) held ++ rest) (omega arith)
 
-  full-tracks : (b : ℕ) → 32773 ≤ s .count → (b ≡ 10 → ⊥) → (x : Seen) → Tracks x s held → Tracks (seeByte x b) s held
+  full-tracks : (b : ℕ) → 32780 ≤ s .count → (b ≡ 10 → ⊥) → (x : Seen) → Tracks x s held → Tracks (seeByte x b) s held
   unfolding TracksIn
   full-tracks b c n x h = at-tracks Phase.Text (seeByte x b) s held t (go (tracks-at Phase.Text x s held t h))
     where
-      go : (x .ran ≡ false) × (current s held ≡ take (32773 - s .start) (x .tail)) × (s .start ≤ 32769)
-          → (seeByte x b .ran ≡ false) × (current s held ≡ take (32773 - s .start) (seeByte x b .tail)) × (s .start ≤ 32769)
+      go : (x .ran ≡ none) × (current s held ≡ take (32780 - s .start) (x .tail)) × (s .start ≤ 32769)
+          → (seeByte x b .ran ≡ none) × (current s held ≡ take (32780 - s .start) (seeByte x b .tail)) × (s .start ≤ 32769)
       go (ran, line, first) = (
         ap (λ (y : Seen). y .ran) (see-other x b n) ∙ ran,
-        held-stays (32773 - s .start) (x .tail) (current s held) line b (omega (arith, line-held, g .ordered)) ∙ ap (λ (y : Seen). take (32773 - s .start) (y .tail)) (sym (see-other x b n)),
+        held-stays (32780 - s .start) (x .tail) (current s held) line b (omega (arith, line-held, g .ordered)) ∙ ap (λ (y : Seen). take (32780 - s .start) (y .tail)) (sym (see-other x b n)),
         first,
       )
 
   -- ---- what the functions do
 
-  pub text-pushed : (b : ℕ) (r : State) (held' : List ℕ) → (b ≡ 10 → ⊥) → Pushed 32773 s b held r held' → Took s held image out (b ∷ []) r held' image out
+  pub text-pushed : (b : ℕ) (r : State) (held' : List ℕ) → (b ≡ 10 → ⊥) → Pushed 32780 s b held r held' → Took s held image out (b ∷ []) r held' image out
   text-pushed b r held' n (room h e k) = rw (e, k) (text-counted b h n)
   text-pushed b r held' n (full h e k) = rw (e, k) (text-over b s t refl (λ rest. all-full h (b ∷ rest)) (all-full h) (full-tracks b h n) g)
 
-  -- the end of a line that is not `run`
-  pub text-line : (r : State) (held' : List ℕ) → is "run" (current s held) ≡ false → Pushed 32769 s 10 held r held'
+  -- the end of a line that picks none
+  pub text-line : (r : State) (held' : List ℕ) → modeOf (current s held) ≡ none → Pushed 32769 s 10 held r held'
       → Took s held image out (10 ∷ []) (lineBehind r) held' image out
   text-line r held' e (room h q k) =
       let m : min (s .count + 1) 32769 ≡ s .count + 1 = omega arith in

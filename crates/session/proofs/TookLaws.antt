@@ -94,7 +94,7 @@ module _ (consumed handed : List ℕ) (s : State) (held image out : List ℕ) (w
   pub represents-all : (last : List ℕ) → last ≡ owed s held image out [] → handed ++ last ≡ printed consumed
   represents-all last e = ap (λ (x : List ℕ). handed ++ x) e ∙ sym (w .whole []) ∙ ap printed (append-nil consumed)
 
-pub represents-start : (held image out : List ℕ) → length held ≡ 32773 → length image ≡ 13064 → length out ≡ 65536
+pub represents-start : (held image out : List ℕ) → length held ≡ 32780 → length image ≡ 13064 → length out ≡ 65536
     → Represents [] [] startState held image out
 unfolding owed leftIn printedBehind printed Fitting TracksIn
 represents-start held image out h i o =

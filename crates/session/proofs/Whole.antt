@@ -1,11 +1,12 @@
 -- However the input is cut into chunks and whenever the output is handed out, what all calls of a session hand out together is
 -- what the definition prints for the input. And what the compiler lists is what its definition says.
 use Prim.Native.Nat.{ℕ, _+_, _≤_}
-use mathlib.Core.Bool.{true}
 use mathlib.Core.List.{List, [], _++_, append-nil}
+use mathlib.Core.Option.{some}
 use mathlib.Core.Path.{_≡_, refl, sym, ap, _∙_}
 use native.Mathlib.Omega.{arith}
 use lib.ListN.{length, take}
+use Rattle.policy.specs.declared.mode.Mode.{Mode}
 use Rattle.acceptance.proofs.Cut.{text-cut, texts-cut}
 use Rattle.output.specs.Buffer.{appended, behind}
 use Rattle.report.specs.Report.{refusalLine, textsRefusalLine}
@@ -32,18 +33,18 @@ pub all-printed : {consumed handed held image out : List ℕ} {s : State} → Ca
 all-printed c r out' f = represents-all _ _ _ _ _ _ (represented c) (take (r .used) out') (f .all)
 
 -- nothing is left to be printed for lines that have ended
-none-left : (p : Phase) (x : Seen) (s : State) (held image : List ℕ) → TracksIn p x s held → x .ran ≡ true → x .tail ≡ []
+none-left : {mode : Mode} (p : Phase) (x : Seen) (s : State) (held image : List ℕ) → TracksIn p x s held → x .ran ≡ some mode → x .tail ≡ []
     → leftIn p s held image [] ≡ []
 unfolding TracksIn leftIn epochLines linesOf pieces
 none-left Phase.Text x s held image (ran, line, first) r e = let z : _≡_ {A = ℕ} 0 1 = cc in absurd (omega arith)
 none-left Phase.Epochs x s held image (ran, line) r e =
-    ap (λ (l : List ℕ). epochLines (take (s .size) image) (s .epochs) (linesOf (l ++ []))) (line ∙ ap (take 1025) e)
+    ap (λ (l : List ℕ). epochLines (s .mode) (take (s .size) image) (s .epochs) (linesOf (l ++ []))) (line ∙ ap (take 1025) e)
 none-left Phase.Over x s held image ran r e = refl
 
--- the answers are there as soon as they can be: once the line `run` has ended and no line has begun behind the last line end, all
--- that is printed for the input so far was handed out or waits
-pub answers-wait : {consumed handed held image out : List ℕ} {s : State} → Called consumed handed s held image out
-    → see nothingSeen consumed .ran ≡ true → see nothingSeen consumed .tail ≡ [] → handed ++ take (s .used) out ≡ printed consumed
+-- the answers are there as soon as they can be: once the line that picks the mode has ended and no line has begun behind the last
+-- line end, all that is printed for the input so far was handed out or waits
+pub answers-wait : {consumed handed held image out : List ℕ} {s : State} {mode : Mode} → Called consumed handed s held image out
+    → see nothingSeen consumed .ran ≡ some mode → see nothingSeen consumed .tail ≡ [] → handed ++ take (s .used) out ≡ printed consumed
 unfolding owed
 answers-wait {consumed} {handed} {held} {image} {out} {s} c r e =
     let w = represented c in
@@ -57,7 +58,7 @@ callable s held image out c = represented (c .calls) .good
 
 -- ---- the calls of a loop that feeds chunks and hands out what waits
 
-pub reached-start : (held image out : List ℕ) → length held ≡ 32773 → length image ≡ 13064 → length out ≡ 65536 → Reached startState held image out
+pub reached-start : (held image out : List ℕ) → length held ≡ 32780 → length image ≡ 13064 → length out ≡ 65536 → Reached startState held image out
 reached-start held image out h i o = record { consumed = []; handed = []; calls = begun h i o }
 
 pub reached-fed : (s : State) (held image out chunk : List ℕ) (taken : ℕ) (r : State) (held' image' out' : List ℕ)

@@ -23,13 +23,14 @@ pub(crate) fn end_line(state: State, held: &[u8], image: &[u8], out: &mut [u8; O
     requires room { ⌜ Room state ⌝ }
     ensures { λ r. ⌜ LineEnded state (now (held .entry)) (now (image .entry)) (now (out .entry)) r (now (out .exit)) ⌝ }
 {
+    let mode = state.mode;
     let size = state.size;
     let count = state.count;
     let mut next = state;
     next.start = 0;
     next.count = 0;
     next.epochs = std::num::wrapping_add_u64(state.epochs, 1);
-    let decision = monitor::decide(&image[..size], &held[..count]);
+    let decision = monitor::decide(&image[..size], &held[..count], mode);
     match decision {
         Decision::Refused(refusal) => {
             let fault = refusal.fault;

@@ -3,6 +3,7 @@
 // is specs/Listed.antt.
 mod epoch;
 mod listing;
+mod mode;
 mod state;
 mod text;
 
@@ -15,6 +16,8 @@ pub use image::IMAGE_SIZE;
 pub use listing::LISTING_SIZE;
 pub use listing::put_listing;
 pub use listing::put_texts_listing;
+use mode::Picked;
+use policy::Mode;
 pub use state::HELD_SIZE;
 pub use state::OUT_SIZE;
 pub use state::Phase;
@@ -31,6 +34,7 @@ pub fn begin() -> State
 {
     State {
         phase: Phase::Text,
+        mode: Mode::Actions,
         start: 0,
         count: 0,
         epochs: 0,
@@ -110,10 +114,11 @@ pub fn finish(
     let phase = state.phase;
     match phase {
         Phase::Text => {
-            if at_run(state, held) {
-                end_text(state, state.start, held, image, out)
-            } else {
-                end_text(state, state.count, held, image, out)
+            let picked = at_run(state, held);
+            match picked {
+                Picked::Mode(mode) => end_text(state, mode, state.start, held, image, out),
+                // No epoch follows: the mode does not matter.
+                Picked::Nothing => end_text(state, Mode::Actions, state.count, held, image, out),
             }
         }
         Phase::Epochs => {

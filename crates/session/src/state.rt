@@ -3,12 +3,13 @@ ghost use mathlib.Core.Path.{_≡_};
 ghost use Prim.Native.Nat.{_≤_};
 ghost use lib.ListN.{length};
 ghost use Rattle.session.specs.Steps.Held.{Pushed};
+use policy::Mode;
 
 // Bytes of a text that are held: one over its limit, which tells that it is too long.
 pub const TEXT_HELD: usize = 32769;
 
-// The same and, behind it, four bytes of a line, which tell whether it is `run`.
-pub const HELD_SIZE: usize = 32773;
+// The same and, behind it, eleven bytes of a line, which tell whether it is `run` or `run events`.
+pub const HELD_SIZE: usize = 32780;
 
 // Bytes of an epoch line that are held: one over its limit, which tells that it is too long.
 pub(crate) const LINE_HELD: usize = 1025;
@@ -26,10 +27,11 @@ pub enum Phase {
     Over,
 }
 
-// `count` bytes are held, of the text or of the epoch line; the current line starts at `start`. `epochs` were decided on an
-// image of `size` bytes. `used` bytes of output wait.
+// `count` bytes are held, of the text or of the epoch line; the current line starts at `start`. `epochs` were decided in `mode`,
+// which does not matter before the text has ended, on an image of `size` bytes. `used` bytes of output wait.
 pub struct State {
     pub phase: Phase,
+    pub mode: Mode,
     pub start: usize,
     pub count: usize,
     pub epochs: u64,
@@ -39,8 +41,8 @@ pub struct State {
 
 // One byte more is held, up to a limit.
 pub(crate) fn push(state: State, byte: u8, limit: usize, held: &mut [u8; HELD_SIZE]) -> State
-    requires few { ⌜ limit ≤ 32773 ⌝ }
-    requires sized { ⌜ length (now held) ≡ 32773 ⌝ }
+    requires few { ⌜ limit ≤ 32780 ⌝ }
+    requires sized { ⌜ length (now held) ≡ 32780 ⌝ }
     ensures { λ r. ⌜ Pushed limit state byte (now (held .entry)) r (now (held .exit)) ⌝ }
 {
     let count = state.count;

@@ -1,13 +1,16 @@
-// The rule text of a session, up to its line `run`.
+// The rule text of a session, up to the line that picks a mode.
 ghost use mathlib.Core.List.{[], _∷_};
 ghost use mathlib.Core.Path.{_≡_};
 ghost use Prim.Native.Nat.{_≤_};
 ghost use lib.ListN.{length, take};
-ghost use Rattle.lexer.specs.Byte.{is};
+ghost use Rattle.session.specs.Printed.{modeOf};
 ghost use Rattle.session.specs.Owed.{current, Good, Room, Took};
 ghost use Rattle.session.specs.Steps.Held.{lineBehind};
+ghost use Rattle.session.specs.Steps.Picked.{modeIn};
 ghost use Rattle.session.specs.Steps.Ended.{TextEnded};
 ghost use Rattle.session.specs.declared.state.Phase.{Phase};
+use crate::mode::Picked;
+use crate::mode::pick_mode;
 use crate::state::HELD_SIZE;
 use crate::state::OUT_SIZE;
 use crate::state::Phase;
@@ -16,36 +19,23 @@ use crate::state::TEXT_HELD;
 use crate::state::push;
 use codegen::Compiled;
 use image::IMAGE_SIZE;
+use policy::Mode;
 
-fn is_run(line: &[u8]) -> bool
-    ensures { λ r. ⌜ r ≡ is "run" (now (line .entry)) ⌝ }
-{
-    if line.len() != 3 {
-        return false;
-    }
-    if line[0] != b'r' {
-        return false;
-    }
-    if line[1] != b'u' {
-        return false;
-    }
-    line[2] == b'n'
-}
-
-// Whether the current line of the text is `run`.
-pub(crate) fn at_run(state: State, held: &[u8]) -> bool
+// What the current line of the text picks.
+pub(crate) fn at_run(state: State, held: &[u8]) -> Picked
     requires ordered { ⌜ state .start ≤ state .count ⌝ }
     requires inside { ⌜ state .count ≤ length (now held) ⌝ }
-    ensures { λ r. ⌜ r ≡ is "run" (current state (now (held .entry))) ⌝ }
+    ensures { λ r. ⌜ modeIn r ≡ modeOf (current state (now (held .entry))) ⌝ }
 {
     let start = state.start;
     let count = state.count;
-    is_run(&held[start..count])
+    pick_mode(&held[start..count])
 }
 
-// The text is complete: the first `end` bytes that are held.
+// The text is complete: the first `end` bytes that are held. Epochs will be decided in `mode`.
 pub(crate) fn end_text(
     state: State,
+    mode: Mode,
     end: usize,
     held: &[u8],
     image: &mut [u8; IMAGE_SIZE],
@@ -55,12 +45,13 @@ pub(crate) fn end_text(
     requires image_sized { ⌜ length (now image) ≡ 13064 ⌝ }
     requires out_sized { ⌜ length (now out) ≡ 65536 ⌝ }
     requires room { ⌜ Room state ⌝ }
-    ensures { λ r. ⌜ TextEnded (take end (now (held .entry))) state (now (out .entry)) r (now (image .exit)) (now (out .exit)) ⌝ }
+    ensures { λ r. ⌜ TextEnded (take end (now (held .entry))) mode state (now (out .entry)) r (now (image .exit)) (now (out .exit)) ⌝ }
 {
     let compiled = codegen::compile(&held[..end], image);
     match compiled {
         Compiled::Refused(refusal) => State {
             phase: Phase::Over,
+            mode,
             start: 0,
             count: 0,
             epochs: 0,
@@ -69,6 +60,7 @@ pub(crate) fn end_text(
         },
         Compiled::Image(size) => State {
             phase: Phase::Epochs,
+            mode,
             start: 0,
             count: 0,
             epochs: 0,
@@ -91,8 +83,8 @@ fn line_behind(state: State) -> State
     next
 }
 
-// A byte of the text. Of a line that starts behind a text of the full length or later, at least four bytes are held: they tell
-// whether it is `run`.
+// A byte of the text. Of a line that starts behind a text of the full length or later, at least eleven bytes are held: they tell
+// whether it picks a mode.
 pub(crate) fn text_byte(
     state: State,
     byte: u8,
@@ -105,11 +97,12 @@ pub(crate) fn text_byte(
     requires phase { ⌜ state .phase ≡ Phase.Text ⌝ }
     ensures { λ r. ⌜ Took state (now (held .entry)) (now (image .entry)) (now (out .entry)) (byte ∷ []) r (now (held .exit)) (now (image .exit)) (now (out .exit)) ⌝ }
 {
-    if byte == b'\n' {
-        if at_run(state, held) {
-            return end_text(state, state.start, held, image, out);
-        }
-        return line_behind(push(state, byte, TEXT_HELD, held));
+    if byte != b'\n' {
+        return push(state, byte, HELD_SIZE, held);
     }
-    push(state, byte, HELD_SIZE, held)
+    let picked = at_run(state, held);
+    match picked {
+        Picked::Mode(mode) => end_text(state, mode, state.start, held, image, out),
+        Picked::Nothing => line_behind(push(state, byte, TEXT_HELD, held)),
+    }
 }

@@ -211,7 +211,7 @@ static void count_extremes(struct decision decision, const uint8_t *line, size_t
     tally.extremes[ALL_ACCEPTED] += decision.accepted == UINT64_MAX;
     tally.extremes[ALL_CANCELLED] += decision.cancelled == UINT64_MAX;
     tally.extremes[OVER_30_CANCELLED] += size_of_set(decision.cancelled) > 30;
-    tally.extremes[ALL_EVENTS] += epoch.events == UINT64_MAX;
+    tally.extremes[ALL_EVENTS] += epoch.present == UINT64_MAX;
     tally.extremes[ALL_READINGS] += all_readings(&epoch);
     tally.extremes[FAR_EVENT] += far(line, length, "E63");
     tally.extremes[FAR_READING] += far(line, length, "R15=");
@@ -233,7 +233,7 @@ static void count_missing(const struct policy *policy, struct decision decision,
 static void count_words(struct visits visits, struct decision decision, const uint8_t *image)
 {
     struct header header = unpack_header(word_at(image, 0));
-    size_t limit = visit_limit(image);
+    size_t limit = visit_limit(image, CANCEL_ACTIONS);
     bool nevers = header.constraint_words > 0, rules = header.rule_words > 0;
     tally.extremes[ALL_WORDS] += rules && !nevers && decision.visited == limit;
     tally.extremes[NEARLY_ALL] += rules && nevers && decision.visited == limit - (ACTIONS - 1);
@@ -248,64 +248,95 @@ static void count_words(struct visits visits, struct decision decision, const ui
 
 /* The words of a decision that is not refused are those of the policy. */
 static void compare_words(const struct policy *policy, struct decision decision, const uint8_t *image, const uint8_t *line,
-    size_t length)
+    size_t length, enum mode mode)
 {
     struct epoch epoch;
     struct visits visits;
     read_epoch(line, length, &epoch);
-    visits = visits_by_policy(policy, &epoch);
+    visits = visits_by_policy(policy, &epoch, mode);
     if (decision.visited != visits.words)
         fail_on("reference", "the words visited are not those of the policy", line, length);
-    count_words(visits, decision, image);
+    if (mode == CANCEL_ACTIONS)
+        count_words(visits, decision, image);
+    else
+        count_droppings(policy, &epoch, decision, visits);
 }
 
-struct decision compare_decide(const uint8_t *image, size_t length, const uint8_t *line, size_t line_length,
-    const struct policy *policy)
+const struct decider deciders[MODES] = {
+    [CANCEL_ACTIONS] = {"kinohazel_decide", kinohazel_decide}, [CANCEL_EVENTS] = {"kinohazel_decide_events", kinohazel_decide_events}};
+
+static void fail_on_decision(const char *name, struct kinohazel_decision answer, struct decision wanted, const uint8_t *image,
+    size_t length, const uint8_t *line, size_t line_length)
 {
-    static const char name[] = "kinohazel_decide";
     char what[300];
-    struct decision wanted = decide(image, length, line, line_length), plain = wanted;
+    sprintf(what,
+        "fault %" PRIu64 " word %" PRIu64 " sets %" PRIX64 " %" PRIX64 " visited %" PRIu64 ", expected %d, %lu, %" PRIX64 " %" PRIX64
+        ", %lu",
+        answer.fault, answer.word, answer.accepted, answer.cancelled, answer.visited, (int)wanted.verdict.fault,
+        (unsigned long)wanted.verdict.location, wanted.accepted, wanted.cancelled, (unsigned long)wanted.visited);
+    describe(name, what);
+    print_bytes("image", image, length);
+    print_bytes("line", line, line_length);
+    printf("\n");
+    exit(1);
+}
+
+/* What is known of an answer without the reference's words. */
+static void check_answer(struct kinohazel_decision answer, const uint8_t *image, const uint8_t *line, size_t length,
+    const struct policy *policy, enum mode mode)
+{
+    const char *name = deciders[mode].name;
+    struct decision plain;
+    struct epoch epoch;
+    if (answer.fault != KINOHAZEL_OK && (answer.accepted | answer.cancelled | answer.visited) != 0)
+        fail_on(name, "sets or words on a refusal", line, length);
+    if (answer.fault == KINOHAZEL_OK && answer.visited > visit_limit(image, mode))
+        fail_on(name, "over P + 64 * N words, or 65 * (P + N)", line, length);
+    if (policy == NULL)
+        return;
+    plain = decide_by_policy(policy, line, length, mode);
+    plain.visited = (size_t)answer.visited; /* the plain machine counts none */
+    if (!agree(answer, plain))
+        fail_on(name, "the plain machine answers differently", line, length);
+    if (mode == CANCEL_EVENTS && read_epoch(line, length, &epoch).fault == FAULT_NONE)
+        check_reductions(policy, &epoch, answer);
+}
+
+struct decision compare_mode(const uint8_t *image, size_t length, const uint8_t *line, size_t line_length,
+    const struct policy *policy, enum mode mode)
+{
+    const char *name = deciders[mode].name;
+    struct decision wanted = decide(image, length, line, line_length, mode);
     struct kinohazel_decision answer;
     const uint8_t *lent = lend(text_pen, image, length), *lent_line = lend(line_pen, line, line_length);
-    if (policy != NULL) {
-        plain = decide_by_policy(policy, line, line_length);
-        plain.visited = wanted.visited; /* the plain machine counts none */
-    }
     start_call(false);
-    answer = kinohazel_decide(lent, length, lent_line, line_length);
+    answer = deciders[mode].library(lent, length, lent_line, line_length);
     end_call();
-    if (!agree(answer, wanted)) {
-        sprintf(what,
-            "fault %" PRIu64 " word %" PRIu64 " sets %" PRIX64 " %" PRIX64 " visited %" PRIu64
-            ", expected %d, %lu, %" PRIX64 " %" PRIX64 ", %lu",
-            answer.fault, answer.word, answer.accepted, answer.cancelled, answer.visited, (int)wanted.verdict.fault,
-            (unsigned long)wanted.verdict.location, wanted.accepted, wanted.cancelled, (unsigned long)wanted.visited);
-        describe(name, what);
-        print_bytes("image", image, length);
-        print_bytes("line", line, line_length);
-        printf("\n");
-        exit(1);
-    }
-    if (!agree(answer, plain))
-        fail_on(name, "the plain machine answers differently", line, line_length);
-    if (answer.fault != KINOHAZEL_OK && (answer.accepted | answer.cancelled | answer.visited) != 0)
-        fail_on(name, "sets or words on a refusal", line, line_length);
-    if (answer.fault == KINOHAZEL_OK && answer.visited > visit_limit(image))
-        fail_on(name, "over P + 64 * N words", line, line_length);
+    if (!agree(answer, wanted))
+        fail_on_decision(name, answer, wanted, image, length, line, line_length);
+    check_answer(answer, image, line, line_length, policy, mode);
     if (!same(lent, image, length) || !same(lent_line, line, line_length))
         fail_on(name, "the image or the line was changed", line, line_length);
-    if (wanted.verdict.fault == FAULT_NONE)
+    if (wanted.verdict.fault == FAULT_NONE && mode == CANCEL_ACTIONS)
         count_extremes(wanted, line, line_length);
     if (wanted.verdict.fault == FAULT_NONE && policy != NULL) {
-        count_missing(policy, wanted, line, line_length);
-        compare_words(policy, wanted, image, line, line_length);
+        if (mode == CANCEL_ACTIONS)
+            count_missing(policy, wanted, line, line_length);
+        compare_words(policy, wanted, image, line, line_length, mode);
     }
-    tally.decide[wanted.verdict.fault]++;
-    tally.decide_nulls[nulls(lent, lent_line)]++;
-    tally.accepting += wanted.accepted != 0;
-    tally.cancelling += wanted.cancelled != 0;
+    tally.decide[mode][wanted.verdict.fault]++;
+    tally.decide_nulls[mode][nulls(lent, lent_line)]++;
+    tally.accepting[mode] += wanted.accepted != 0;
+    tally.cancelling[mode] += wanted.cancelled != 0;
     tally.comparisons++;
     return wanted;
+}
+
+struct decision compare_decide(
+    const uint8_t *image, size_t length, const uint8_t *line, size_t line_length, const struct policy *policy)
+{
+    compare_mode(image, length, line, line_length, policy, CANCEL_EVENTS);
+    return compare_mode(image, length, line, line_length, policy, CANCEL_ACTIONS);
 }
 
 bool agree_why(struct kinohazel_explanation answer, struct explanation wanted)

@@ -51,6 +51,22 @@ enum extreme {
     EXTREMES
 };
 
+/* Decisions by event cancellation that show how events are kept and dropped. */
+enum dropping {
+    ONE_DROPPED,    /* an event is dropped */
+    KEPT_BEHIND,    /* one is kept behind it */
+    ALL_KEPT,       /* of 64 events */
+    ALL_DROPPED,
+    NOT_ABSENT,     /* the answer would be another if a dropped event were absent */
+    NOT_FALLING,    /* the answer would be another if the events were tried by falling number */
+    NOT_ACTIONS,    /* another set is accepted than by action cancellation */
+    STILL_ISSUED,   /* a dropped event proposes an action that is issued because of kept ones */
+    IDLE,           /* nothing is proposed in a trial: its never words count */
+    ALL_REDUCTIONS, /* compared with every reduction of the epoch */
+    MOST_TRIALS,    /* MOST_TRIED words visited */
+    DROPPINGS
+};
+
 /* Decisions whose number of words shows how they are counted. */
 enum counted {
     REMAINDER,             /* a trial ends before the last never line: the words behind do not count */
@@ -65,9 +81,10 @@ enum counted {
 /* What was met. Locations of fault 11: the first line of the rules, a later one, and the same of the constraints. Nulls: 1 if the
    first area of a call is null, 2 more if the second one is, and 4 more if the third one is. */
 struct tally {
-    unsigned long comparisons, compile[FAULTS], check[FAULTS], text[FAULTS], decide[FAULTS];
-    unsigned long check_locations[4], text_locations[4], flaws[2][FLAWS], accepting, cancelling, extremes[EXTREMES];
-    unsigned long compile_nulls[4], check_nulls[4], text_nulls[4], decide_nulls[4], lines_in_images;
+    unsigned long comparisons, compile[FAULTS], check[FAULTS], text[FAULTS], decide[MODES][FAULTS];
+    unsigned long check_locations[4], text_locations[4], flaws[2][FLAWS], accepting[MODES], cancelling[MODES];
+    unsigned long extremes[EXTREMES], droppings[DROPPINGS];
+    unsigned long compile_nulls[4], check_nulls[4], text_nulls[4], decide_nulls[MODES][4], lines_in_images[MODES];
     unsigned long missing[2]; /* proposals, and cancellations, that would be others if missing readings were 0 */
     unsigned long counted[COUNTED];
     unsigned long patterns[2]; /* accepted texts, and epoch lines, that have 0x behind a space or an equals sign */
@@ -144,10 +161,21 @@ struct verdict compare_compile(const uint8_t *text, size_t length, size_t room);
 struct verdict compare_text(const uint8_t *image, size_t length, size_t room);
 struct verdict compare_check(const uint8_t *image, size_t length);
 
-/* The policy, if there is one, is that of the text the image was compiled from. */
+/* A decision in one mode, and in both; the answer of the first mode is returned then. The policy, if there is one, is that of the text
+   the image was compiled from. */
+struct decision compare_mode(const uint8_t *image, size_t length, const uint8_t *line, size_t line_length,
+    const struct policy *policy, enum mode mode);
 struct decision compare_decide(const uint8_t *image, size_t length, const uint8_t *line, size_t line_length,
     const struct policy *policy);
 bool agree(struct kinohazel_decision answer, struct decision wanted);
+
+/* The function of each mode. */
+struct decider {
+    const char *name;
+    struct kinohazel_decision (*library)(const uint8_t *, size_t, const uint8_t *, size_t);
+};
+
+extern const struct decider deciders[MODES];
 
 /* Two texts, and why an action is issued or not by them. The policy, if there is one, is theirs. */
 struct verdict compare_texts(struct texts texts, size_t room);
@@ -220,7 +248,7 @@ struct subject {
 
 void make_subject(struct subject *subject, const void *text, size_t length);
 
-/* A line on a subject. */
+/* A line on a subject, in both modes; the answer of the first is returned. */
 struct decision compare_line(const struct subject *subject, const void *line, size_t length);
 
 /* A subject whose text is compared too, and a line on it that has these sets. */
@@ -235,6 +263,21 @@ void compare_lines_in_image(void);
 
 /* Decisions that take all there can be. */
 void compare_extremes(struct buffer *text, struct buffer *line);
+
+/* events.c: event cancellation. */
+
+/* An answer that is not refused for the image or the line: the kept events are those that come first of all reductions on which no
+   never line holds, and they are maximal. Nothing is done where there are too many reductions. */
+void check_reductions(const struct policy *policy, const struct epoch *epoch, struct kinohazel_decision answer);
+
+/* What the decision shows of the events. */
+void count_droppings(const struct policy *policy, const struct epoch *epoch, struct decision decision, struct visits visits);
+
+/* Texts with many clashes by chance. */
+void compare_clashing(struct buffer *text, struct buffer *line, struct dice *dice);
+
+/* Epochs with known answers, and decisions that take all there can be. */
+void compare_events(struct buffer *text, struct buffer *line);
 
 /* each.c */
 

@@ -127,17 +127,19 @@ void compare_lines_in_image(void)
     uint8_t image[IMAGE_BYTES];
     const uint8_t *lent;
     size_t size, at, length;
+    int mode;
     step = "lines in the image";
     compile((const uint8_t *)text, strlen(text), image, sizeof image, &size);
     lent = lend(text_pen, image, size);
     for (at = 0; at <= size; at++)
-        for (length = 0; length <= size - at; length++) {
-            struct decision wanted = decide(image, size, image + at, length);
-            if (!agree(kinohazel_decide(lent, size, lent + at, length), wanted) || !same(lent, image, size))
-                fail_on("kinohazel_decide", "a line in the image is decided otherwise", image + at, length);
-            tally.lines_in_images += wanted.accepted == UINT64_C(1) << 3 && wanted.cancelled == UINT64_C(1) << 4;
-            tally.comparisons++;
-        }
+        for (length = 0; length <= size - at; length++)
+            for (mode = CANCEL_ACTIONS; mode <= CANCEL_EVENTS; mode++) {
+                struct decision wanted = decide(image, size, image + at, length, (enum mode)mode);
+                if (!agree(deciders[mode].library(lent, size, lent + at, length), wanted) || !same(lent, image, size))
+                    fail_on(deciders[mode].name, "a line in the image is decided otherwise", image + at, length);
+                tally.lines_in_images[mode] += wanted.cancelled != 0;
+                tally.comparisons++;
+            }
 }
 
 /* Decisions that take all there can be */
@@ -291,12 +293,12 @@ static void compare_all_words(struct subject *subject, struct buffer *text, stru
             add_format(text, "E0 causes A%u if R0 = 0\n", action);
         add(text, cases[i].constraints);
         begin(subject, text);
-        expect_words(subject, line, visit_limit(subject->image) - cases[i].left_out);
+        expect_words(subject, line, visit_limit(subject->image, CANCEL_ACTIONS) - cases[i].left_out);
     }
     text->length = 0;
     add_most_visited(text);
     begin(subject, text);
-    if (visit_limit(subject->image) != 71808 || MOST_VISITED != 62784)
+    if (visit_limit(subject->image, CANCEL_ACTIONS) != 71808 || MOST_VISITED != 62784)
         fail("reference", "not 71,808 words as the limit, or 62,784 as the most");
     line->length = 0;
     add_epoch_of_largest(line);

@@ -118,6 +118,7 @@ void compare_why(const struct buffer *input, size_t text_length, size_t at, stru
     for (lines = 0; lines < 20 && next_line(input->bytes, input->length, &at, &line, &length); lines++) {
         if (lines == 0)
             compare_every_action(&pair, line, length);
+        compare_decide(pair.image, pair.size, line, length, &pair.policy);
         for (i = 0; i < 4; i++)
             compare_action(&pair, line, length, chance(dice, 950) ? below(dice, i < 3 ? 6 : ACTIONS) : CHOOSE(dice, no_actions));
     }

@@ -103,6 +103,7 @@ struct kinohazel_texts_compilation __real_kinohazel_compile_texts_nonnull(
 struct kinohazel_image_check __real_kinohazel_check_nonnull(const uint8_t *, size_t);
 struct kinohazel_text_written __real_kinohazel_text_nonnull(const uint8_t *, size_t, uint8_t *, size_t);
 struct kinohazel_decision __real_kinohazel_decide_nonnull(const uint8_t *, size_t, const uint8_t *, size_t);
+struct kinohazel_decision __real_kinohazel_decide_events_nonnull(const uint8_t *, size_t, const uint8_t *, size_t);
 struct kinohazel_explanation __real_kinohazel_explain_nonnull(
     const uint8_t *, size_t, const uint8_t *, size_t, const uint8_t *, size_t, uint64_t);
 struct kinohazel_compilation __wrap_kinohazel_compile_nonnull(const uint8_t *, size_t, uint8_t *, size_t);
@@ -111,6 +112,7 @@ struct kinohazel_texts_compilation __wrap_kinohazel_compile_texts_nonnull(
 struct kinohazel_image_check __wrap_kinohazel_check_nonnull(const uint8_t *, size_t);
 struct kinohazel_text_written __wrap_kinohazel_text_nonnull(const uint8_t *, size_t, uint8_t *, size_t);
 struct kinohazel_decision __wrap_kinohazel_decide_nonnull(const uint8_t *, size_t, const uint8_t *, size_t);
+struct kinohazel_decision __wrap_kinohazel_decide_events_nonnull(const uint8_t *, size_t, const uint8_t *, size_t);
 struct kinohazel_explanation __wrap_kinohazel_explain_nonnull(
     const uint8_t *, size_t, const uint8_t *, size_t, const uint8_t *, size_t, uint64_t);
 
@@ -157,6 +159,14 @@ struct kinohazel_decision __wrap_kinohazel_decide_nonnull(
     refuse_null(image);
     refuse_null(line);
     return __real_kinohazel_decide_nonnull(image, image_length, line, line_length);
+}
+
+struct kinohazel_decision __wrap_kinohazel_decide_events_nonnull(
+    const uint8_t *image, size_t image_length, const uint8_t *line, size_t line_length)
+{
+    refuse_null(image);
+    refuse_null(line);
+    return __real_kinohazel_decide_events_nonnull(image, image_length, line, line_length);
 }
 
 struct kinohazel_explanation __wrap_kinohazel_explain_nonnull(const uint8_t *maker, size_t maker_length, const uint8_t *site,

@@ -13,8 +13,9 @@ static void compare_input(
 {
     static struct subject subject;
     size_t text_length, at;
+    enum mode mode;
     step = "input";
-    find_run(input->bytes, input->length, &text_length, &at);
+    find_run(input->bytes, input->length, &text_length, &at, &mode);
     if (compare_rooms(input->bytes, text_length, dice).fault != FAULT_NONE)
         return;
     make_subject(&subject, input->bytes, text_length);
@@ -45,6 +46,7 @@ static void run_round(struct buffer *input, struct buffer *work, struct buffer *
         compare_input(input, work, other, &dice, i == 0 ? 1000 : 100);
     }
     compare_any_texts(input, work, &dice);
+    compare_clashing(input, work, &dice);
     compare_flaws(&dice, work);
     step = "lines with any parts";
     for (i = 0; i < 60; i++)
@@ -68,6 +70,7 @@ static void run_limits(struct buffer *input, struct buffer *work, struct buffer 
     compare_nulls();
     compare_lines_in_image();
     compare_extremes(input, work);
+    compare_events(input, work);
     compare_each_byte(input);
     compare_each_number(input, work, &dice);
     compare_patterns(input, work, &dice);

@@ -80,6 +80,34 @@ static bool print_outcomes(void)
     return all;
 }
 
+/* Both modes, and how the second one keeps and drops events. */
+static bool print_modes(void)
+{
+    static const char *const droppings[DROPPINGS] = {[ONE_DROPPED] = "an event dropped",
+        [KEPT_BEHIND] = "one kept behind it",
+        [ALL_KEPT] = "64 events kept",
+        [ALL_DROPPED] = "64 dropped",
+        [NOT_ABSENT] = "another answer than if a dropped event were absent",
+        [NOT_FALLING] = "than by falling number",
+        [NOT_ACTIONS] = "than by action cancellation",
+        [STILL_ISSUED] = "an action issued that a dropped event proposes too",
+        [IDLE] = "never words counted where nothing is proposed",
+        [ALL_REDUCTIONS] = "all reductions compared",
+        [MOST_TRIALS] = "187,520 words"};
+    bool all = true;
+    int i;
+    for (i = CANCEL_ACTIONS; i <= CANCEL_EVENTS; i++) {
+        printf("; by %s %lu accept an action, %lu cancel one", i == CANCEL_ACTIONS ? "action cancellation" : "event cancellation",
+            tally.accepting[i], tally.cancelling[i]);
+        all = all && tally.accepting[i] > 0 && tally.cancelling[i] > 0;
+    }
+    for (i = 0; i < DROPPINGS; i++) {
+        printf(", %s %lu", droppings[i], tally.droppings[i]);
+        all = all && tally.droppings[i] > 0;
+    }
+    return all;
+}
+
 bool report(void)
 {
     static const enum fault compile_faults[] = {FAULT_NONE, FAULT_LONG, FAULT_SHAPE, FAULT_RANGE, FAULT_CROWD,
@@ -90,7 +118,7 @@ bool report(void)
     static const enum fault texts_others[] = {FAULT_ROOM};
     static const enum fault explain_others[] = {FAULT_LONG, FAULT_EPOCH_SHAPE, FAULT_EPOCH_RANGE, FAULT_TWICE};
     static const enum fault decide_faults[] = {FAULT_NONE, FAULT_LONG, FAULT_SIZE, FAULT_FORM, FAULT_COUNT, FAULT_SUM,
-        FAULT_BODY, FAULT_EPOCH_SHAPE, FAULT_EPOCH_RANGE, FAULT_TWICE};
+        FAULT_BODY, FAULT_EPOCH_SHAPE, FAULT_EPOCH_RANGE, FAULT_TWICE, FAULT_UNAVOIDABLE}; /* the last in the second mode alone */
     static const struct {
         const char *name;
         const unsigned long *counts;
@@ -100,7 +128,8 @@ bool report(void)
         {"compile", tally.compile, compile_faults, COUNT(compile_faults)},
         {"check", tally.check, check_faults, COUNT(check_faults)},
         {"text", tally.text, text_faults, COUNT(text_faults)},
-        {"decide", tally.decide, decide_faults, COUNT(decide_faults)}};
+        {"decide", tally.decide[CANCEL_ACTIONS], decide_faults, COUNT(decide_faults) - 1},
+        {"decide_events", tally.decide[CANCEL_EVENTS], decide_faults, COUNT(decide_faults)}};
     static const char *const extremes[EXTREMES] = {[ALL_ACCEPTED] = "all actions accepted",
         [ALL_CANCELLED] = "all cancelled",
         [OVER_30_CANCELLED] = "over 30 cancelled",
@@ -117,7 +146,7 @@ bool report(void)
         [MISSING_IN_RULE] = "its reading is missing in a rule",
         [MISSING_IN_CONSTRAINT] = "in a never line",
         [NO_TRIAL] = "nothing is tried"};
-    bool all = tally.accepting > 0 && tally.cancelling > 0 && tally.lines_in_images > 0 && tally.empty > 0
+    bool all = tally.lines_in_images[CANCEL_ACTIONS] > 0 && tally.lines_in_images[CANCEL_EVENTS] > 0 && tally.empty > 0
         && tally.longest > 0 && tally.missing[0] > 0 && tally.missing[1] > 0 && tally.patterns[0] > 0 && tally.patterns[1] > 0;
     size_t i, k;
     printf("library: %lu comparisons agree", tally.comparisons);
@@ -134,9 +163,10 @@ bool report(void)
     all = print_outcomes() && all;
     print_locations("check", tally.check_locations);
     print_locations("text", tally.text_locations);
-    printf("; %lu written texts compile again, %lu of them of 0 bytes, %lu of %d; %lu accept an action, %lu cancel one; "
-           "decided with",
-        tally.written, tally.empty, tally.longest, (int)WRITTEN_BYTES, tally.accepting, tally.cancelling);
+    printf("; %lu written texts compile again, %lu of them of 0 bytes, %lu of %d", tally.written, tally.empty, tally.longest,
+        (int)WRITTEN_BYTES);
+    all = print_modes() && all;
+    printf("; decided with");
     for (i = 0; i < EXTREMES; i++) {
         printf("%s %s %lu", i == 0 ? "" : ",", extremes[i], tally.extremes[i]);
         all = all && tally.extremes[i] > 0;
@@ -151,7 +181,8 @@ bool report(void)
     printf("\n");
     for (i = 0; i < 4; i++)
         all = all && tally.check_locations[i] > 0 && tally.text_locations[i] > 0 && tally.compile_nulls[i] > 0
-            && tally.text_nulls[i] > 0 && tally.decide_nulls[i] > 0 && (tally.check_nulls[i] > 0 || i > 1);
+            && tally.text_nulls[i] > 0 && tally.decide_nulls[CANCEL_ACTIONS][i] > 0
+            && tally.decide_nulls[CANCEL_EVENTS][i] > 0 && (tally.check_nulls[i] > 0 || i > 1);
     for (i = 0; i < FLAWS; i++)
         all = all && tally.flaws[0][i] > 0 && (tally.flaws[1][i] > 0 || i == FIRST_UNUSED);
     return all;

@@ -1,4 +1,5 @@
-use Rattle.kinohazel.proofs.ExportLaws.{decide-refused, decide-issued}
+use mathlib.Core.Path.{ap, _∙_}
+use Rattle.kinohazel.specs.Export.{decisionOf}
 use borrow.Author.Needs.{needs}
 use Rattle.kinohazel.proofs.kinohazel_decide_nonnull.Statement.{statement}
 use Rattle.kinohazel.proofs.kinohazel_decide_nonnull.Tie as tie
@@ -6,28 +7,11 @@ use Rattle.kinohazel.proofs.kinohazel_decide_nonnull.Tie as tie
 decide-requires : tie.Need-decide-requires
 decide-requires c κs = search needs
 
-enum-known-answer : tie.Need-enum-known-answer
-enum-known-answer c = search needs
-
-fault-number-requires : tie.Need-fault-number-requires
-fault-number-requires c κs = search needs
-
-enum-known-answer-2 : tie.Need-enum-known-answer-2
-enum-known-answer-2 c = search needs
+epoch-decision-requires : tie.Need-epoch-decision-requires
+epoch-decision-requires c κs = search needs
 
 returns : tie.Need-returns
-returns c = decide-refused _ _ (c .before .before .before .before .decide .ensures) _ _ (c .before .before .answer .given .1) (c .fault-number .ensures)
-
-returns-2 : tie.Need-returns-2
-returns-2 c = decide-issued _ _ (c .before .before .before .decide .ensures) _ (c .before .answer2 .given .1)
+returns c = c .epoch-decision .ensures ∙ ap decisionOf (c .before .decide .ensures)
 
 pub kinohazel-decide-nonnull-spec : {M : Type 1} → statement M
-kinohazel-decide-nonnull-spec =
-    tie.close
-    (tie.spec
-    decide-requires
-    enum-known-answer
-    fault-number-requires
-    enum-known-answer-2
-    returns
-    returns-2)
+kinohazel-decide-nonnull-spec = tie.close (tie.spec decide-requires epoch-decision-requires returns)

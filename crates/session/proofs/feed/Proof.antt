@@ -1,7 +1,7 @@
 use Prim.Native.Nat.{_≤_, _-_}
 use mathlib.Core.Path.{_≡_, refl}
 use lib.ListN.{length, take}
-use Rattle.session.specs.Owed.{Took, Fed}
+use Rattle.session.specs.Owed.{Took}
 use Rattle.session.proofs.TookLaws.{took-none, took-next, has-moved}
 use borrow.Author.Needs.{needs}
 use native.Mathlib.Omega.{arith}

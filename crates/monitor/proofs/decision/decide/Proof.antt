@@ -27,27 +27,27 @@ at-requires c κs = search needs
 enum-told : tie.Need-enum-told
 enum-told c = search needs
 
-slice-aggregate-issue : tie.Need-slice-aggregate-issue
-slice-aggregate-issue c = search needs
+slice-aggregate-decide-epoch : tie.Need-slice-aggregate-decide-epoch
+slice-aggregate-decide-epoch c = search needs
 
-issue-requires : tie.Need-issue-requires
-issue-requires c κs = taken-small (now (c .before .before .before .before .before .before .before .before .before .before .before .args .image)) _ (sym (c .before .before .before .before .before .before .before .before .load-image .ensures) ∙ c .before .before .before .before .before .before .loaded2 .given .1)
+decide-epoch-requires : tie.Need-decide-epoch-requires
+decide-epoch-requires c κs = taken-small (now (c .before .before .before .before .before .before .before .before .before .before .before .args .image)) _ (sym (c .before .before .before .before .before .before .before .before .load-image .ensures) ∙ c .before .before .before .before .before .before .loaded2 .given .1)
 
 returns : tie.Need-returns
-returns c = image-refused (now (c .before .before .before .before .before .before .args .image)) (now (c .before .before .before .before .before .before .args .line)) _ (sym (c .before .before .before .load-image .ensures) ∙ c .before .loaded .given .1)
+returns c = image-refused (c .before .before .before .before .before .before .args .mode) (now (c .before .before .before .before .before .before .args .image)) (now (c .before .before .before .before .before .before .args .line)) _ (sym (c .before .before .before .load-image .ensures) ∙ c .before .loaded .given .1)
 
 returns-2 : tie.Need-returns-2
 returns-2 c =
     let a = c .before .before .before .before .before .before .before .before .before .before .before .args in
     ap Decision.Refused (c .at .ensures)
-    ∙ line-refused (now (a .image)) (now (a .line)) _ (sym (c .before .before .before .before .before .before .before .before .load-image .ensures) ∙ c .before .before .before .before .before .before .loaded2 .given .1) _
+    ∙ line-refused (a .mode) (now (a .image)) (now (a .line)) _ (sym (c .before .before .before .before .before .before .before .before .load-image .ensures) ∙ c .before .before .before .before .before .before .loaded2 .given .1) _
     (refused-read (now (a .line)) _ (c .before .before .before .before .read-epoch .ensures) _ (c .before .before .status .given .1))
 
 returns-3 : tie.Need-returns-3
 returns-3 c =
     let a = c .before .before .before .before .before .before .before .before .before .before .before .before .args in
-    ap Decision.Issued (c .issue .ensures)
-    ∙ line-accepted (now (a .image)) (now (a .line)) _ (sym (c .before .before .before .before .before .before .before .before .before .load-image .ensures) ∙ c .before .before .before .before .before .before .before .loaded2 .given .1) _
+    c .decide-epoch .ensures
+    ∙ line-accepted (a .mode) (now (a .image)) (now (a .line)) _ (sym (c .before .before .before .before .before .before .before .before .before .load-image .ensures) ∙ c .before .before .before .before .before .before .before .loaded2 .given .1) _
     (accepted-read (now (a .line)) _ (c .before .before .before .before .before .read-epoch .ensures) (c .before .before .before .enum-told .given .1))
 
 pub decide-spec : {M : Type 1} → statement M
@@ -61,8 +61,8 @@ decide-spec =
     enum-known-status
     at-requires
     enum-told
-    slice-aggregate-issue
-    issue-requires
+    slice-aggregate-decide-epoch
+    decide-epoch-requires
     returns
     returns-2
     returns-3)

@@ -1,4 +1,4 @@
-use mathlib.Core.Path.{sym, _∙_}
+use mathlib.Core.Path.{sym}
 use lib.Seq.{length-take-le}
 use Rattle.session.proofs.EndLaws.{text-refused, text-accepted}
 use native.Mathlib.Omega.{arith}
@@ -25,14 +25,14 @@ returns : tie.Need-returns
 returns c =
     let made = c .before .before .before .before .before .compile in
     let s = c .before .before .before .before .before .before .before .before .before in
-    text-refused _ (s .args .state) _ _ (made .result) _ (made .ensures .0) (made .ensures .1) (made .kept .1 .0) (s .pre .1 .0) (s .pre .1 .1 .0) (s .pre .1 .1 .1)
+    text-refused _ _ (s .args .state) _ _ (made .result) _ (made .ensures .0) (made .ensures .1) (made .kept .1 .0) (s .pre .1 .0) (s .pre .1 .1 .0) (s .pre .1 .1 .1)
     _ _ _ (c .before .before .before .compiled .given .1) (omega (arith, c .before .before .known-told .given)) (c .put-refusal .ensures)
 
 returns-2 : tie.Need-returns-2
 returns-2 c =
     let made = c .before .before .before .compile in
     let s = c .before .before .before .before .before .before .before in
-    text-accepted _ (s .args .state) _ _ (made .result) _ (made .ensures .0) (made .ensures .1) (made .kept .1 .0) (s .pre .1 .0) (s .pre .1 .1 .0) (s .pre .1 .1 .1)
+    text-accepted _ _ (s .args .state) _ _ (made .result) _ (made .ensures .0) (made .ensures .1) (made .kept .1 .0) (s .pre .1 .0) (s .pre .1 .1 .0) (s .pre .1 .1 .1)
     _ (c .before .compiled2 .given .1)
 
 pub end-text-spec : {M : Type 1} → statement M

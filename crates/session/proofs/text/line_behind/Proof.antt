@@ -1,5 +1,4 @@
 use Rattle.session.proofs.TextByteLaws.{starts-full, starts-behind}
-use borrow.Author.Needs.{needs}
 use Rattle.session.proofs.text.line_behind.Statement.{statement}
 use Rattle.session.proofs.text.line_behind.Tie as tie
 
