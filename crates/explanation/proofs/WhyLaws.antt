@@ -17,7 +17,6 @@ use Rattle.policy.specs.declared.fault.Fault.{Fault}
 use Rattle.policy.specs.declared.fault.Refusal.{Refusal}
 use Rattle.policy.specs.declared.fault.Source.{Source}
 use Rattle.policy.specs.declared.line.Part.{Part}
-use Rattle.policy.specs.declared.mode.Mode.{Mode}
 use Rattle.policy.specs.declared.number.Action.{Action}
 use Rattle.policy.specs.declared.number.ActionCheck.{ActionCheck}
 use Rattle.policy.specs.declared.set.ActionSet.{ActionSet}
@@ -154,7 +153,7 @@ unfolding explainedOn onDecision onEpoch Yield.cancelled
 on-image maker site line n p ok = go (readEpoch line) refl
   where
     go : (a : EpochAnswer) → readEpoch line ≡ a → onDecision maker site line n (decision (imageOf newestForm p) line) ≡ onEpoch maker site p n a
-    go (Epoch.refused f) q = ap (onDecision maker site line n) (image-refuses newestForm newest-known p ok Mode.Actions line f q)
+    go (Epoch.refused f) q = ap (onDecision maker site line n) (image-refuses newestForm newest-known p ok line f q)
     go (Epoch.accepted e) q =
         ap (onDecision maker site line n) (image-decides newestForm newest-known p ok line e q)
         ∙ ap (λ (x : Epoch). onAction maker site (Yield.accepted p e) (Yield.cancelled p e) x (checkAction n)) (epoch-accepted line e q)

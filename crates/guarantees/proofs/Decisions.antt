@@ -38,7 +38,7 @@ use Rattle.image.specs.declared.load.Contents.{Contents}
 use Rattle.image.specs.declared.load.Loaded.{Loaded}
 use Rattle.exactness.proofs.Exact.{refusals, took, image-taken, image-holds, held-acceptable, one-word-changed}
 use Rattle.exactness.specs.Exact.{contentsOf, changed, Checked, RefusedEarly}
-use Rattle.meaning.proofs.Decided.{decided-is, image-bounded, image-refuses, image-decides}
+use Rattle.meaning.proofs.Decided.{decided-is, image-bounded, image-refuses-in, image-decides}
 use Rattle.monitor.proofs.DecideLaws.{image-refused, line-refused}
 use Rattle.monitor.specs.Decision.{decidedBy, onLine, onImage, decisionIn, decision, answerOf}
 use Rattle.monitor.specs.declared.decision.Actions.{Actions}
@@ -141,10 +141,10 @@ module _ (image : List ℕ) (bounded : Bytes image) (contents : Contents) (taken
 -- ---- one word changed
 
 -- bytes that pass the checks 7 to 10, with any other value in the place of one word, are refused whatever the line and its mode
-pub image-changed : (image : List ℕ) → Bytes image → Checked image
+pub image-changed-in : (image : List ℕ) → Bytes image → Checked image
     → (i v : ℕ) → i < length (wordsOf image) → v < wordLimit → ¬ (v ≡ wordAt image i)
     → (mode : Mode) (line : List ℕ) → CheckFailed (answerOf (decisionIn mode (changed image i v) line))
-image-changed image bounded ok i v l small other mode line = go (one-word-changed image bounded ok i v l small other)
+image-changed-in image bounded ok i v l small other mode line = go (one-word-changed image bounded ok i v l small other)
   where
     refused-load : (x : Loaded) (r : Refusal) → refusalIn x ≡ some r → x ≡ Loaded.Refused r
     refused-load (Loaded.Refused s) r e = let w : s ≡ r = cc in ap Loaded.Refused w
@@ -156,12 +156,17 @@ image-changed image bounded ok i v l small other mode line = go (one-word-change
         (image-refused mode (changed image i v) line (refusal (r .fault) 0) (refused-load (load (changed image i v)) (refusal (r .fault) 0) (r .refused)))
         (record { is-refused = refl; from = r .from; upto = r .upto; text = refl; location = refl; accepts = refl; cancels = refl })
 
+pub image-changed : (image : List ℕ) → Bytes image → Checked image
+    → (i v : ℕ) → i < length (wordsOf image) → v < wordLimit → ¬ (v ≡ wordAt image i)
+    → (line : List ℕ) → CheckFailed (answerOf (decision (changed image i v) line))
+image-changed image bounded ok i v l small other = image-changed-in image bounded ok i v l small other Mode.Actions
+
 -- ---- the image of a policy that an accepted text may have
 
 module _ (form : ℕ) (known : knownForm form ≡ true) (p : Policy) (ok : Acceptable p) where
   -- on a line that is refused, in either mode
   pub written-refuses : (mode : Mode) (line : List ℕ) (f : Fault) → readEpoch line ≡ refused f → answerOf (decisionIn mode (imageOf form p) line) ≡ refuses (refusal f 0)
-  written-refuses mode line f q = ap answerOf (image-refuses form known p ok mode line f q)
+  written-refuses mode line f q = ap answerOf (image-refuses-in form known p ok mode line f q)
 
   -- on a line that is an epoch it decides what the policy yields
   pub written-yields : (line : List ℕ) (e : Epoch) → readEpoch line ≡ accepted e → answerOf (decision (imageOf form p) line) ≡ yieldOf p e
@@ -176,4 +181,4 @@ module _ (form : ℕ) (known : knownForm form ≡ true) (p : Policy) (ok : Accep
   -- with any other value in the place of one word it is refused whatever the line and its mode
   pub written-changed : (i v : ℕ) → i < length (wordsOf (imageOf form p)) → v < wordLimit → ¬ (v ≡ wordAt (imageOf form p) i)
       → (mode : Mode) (line : List ℕ) → CheckFailed (answerOf (decisionIn mode (changed (imageOf form p) i v) line))
-  written-changed = image-changed (imageOf form p) (image-bounded form known p ok) (took (imageOf form p) (contentsOf form p) (image-taken form known p ok) .checked)
+  written-changed = image-changed-in (imageOf form p) (image-bounded form known p ok) (took (imageOf form p) (contentsOf form p) (image-taken form known p ok) .checked)

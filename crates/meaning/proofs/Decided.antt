@@ -95,8 +95,11 @@ module _ (form : ℕ) (known : knownForm form ≡ true) (p : Policy) (ok : Accep
   image-bounded = bytes-below (imageWords form p)
 
   -- on a line that is refused, in either mode
-  pub image-refuses : (mode : Mode) (line : List ℕ) (f : Fault) → readEpoch line ≡ refused f → decisionIn mode (imageOf form p) line ≡ Decision.Refused (refusal f 0)
-  image-refuses mode line f q = sym (line-refused mode (imageOf form p) line (contentsOf form p) taken f q)
+  pub image-refuses-in : (mode : Mode) (line : List ℕ) (f : Fault) → readEpoch line ≡ refused f → decisionIn mode (imageOf form p) line ≡ Decision.Refused (refusal f 0)
+  image-refuses-in mode line f q = sym (line-refused mode (imageOf form p) line (contentsOf form p) taken f q)
+
+  pub image-refuses : (line : List ℕ) (f : Fault) → readEpoch line ≡ refused f → decision (imageOf form p) line ≡ Decision.Refused (refusal f 0)
+  image-refuses = image-refuses-in Mode.Actions
 
   -- on a line that is an epoch it decides what the policy yields
   pub image-decides : (line : List ℕ) (e : Epoch) → readEpoch line ≡ accepted e
