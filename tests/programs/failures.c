@@ -666,7 +666,7 @@ enum { FEW = 400 };
 static size_t find_places(size_t length, size_t places[FEW])
 {
     static const size_t some[] = {0, 1, 2, 28, 29, 30, 4096, 32767, 32768, 32769, 32770, 32771, 32772, 32773, 32774,
-        32780, 40000, 65024, 65025, 65535, 65536, 65537, 70000, 131072, 131073};
+        32779, 32780, 32781, 40000, 65024, 65025, 65535, 65536, 65537, 70000, 131072, 131073};
     size_t count = 0, i;
     if (length < FEW) {
         for (; count <= length; count++)

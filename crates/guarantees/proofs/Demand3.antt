@@ -26,7 +26,7 @@ use Rattle.codegen.proofs.CompileLaws.{compiled-alone}
 use Rattle.codegen.specs.declared.Compiled.{Compiled}
 use Rattle.policy.specs.Fill.{Filled}
 use Rattle.codegen.specs.Compile.{newestForm}
-use Rattle.pdl.specs.Answer.{Answer, yieldIn}
+use Rattle.pdl.specs.Answer.{Answer}
 use Rattle.pdl.specs.Pdl.{Reducible}
 use Rattle.pdl.specs.Reduction.{proposedWith, keptEvents}
 use Rattle.guarantees.proofs.Decisions.{written-refuses, written-yields, written-obeys, written-changed}
@@ -35,7 +35,7 @@ use Rattle.monitor.specs.Decision.{decisionIn, decision, answerOf}
 use Rattle.monitor.specs.declared.decision.Decision.{Decision}
 use Rattle.guarantees.specs.Decisions.{CheckFailed, Obeys, ObeysEvents}
 use Rattle.guarantees.specs.Claims.{CompilesTo, TextsCompileTo, answers, answersTold}
-use Rattle.guarantees.specs.Machine.{answer, stepIn, steps, ToldLine, stepsTold, machineOf, machineToldOf, machine, machineTold, machineOfTexts, machineOfTextsTold}
+use Rattle.guarantees.specs.Machine.{yieldIn, answer, stepIn, steps, ToldLine, stepsTold, machineOf, machineToldOf, machine, machineTold, machineOfTexts, machineOfTextsTold}
 
 -- the image is that of the policy, which there is
 pub record ImageOf (known : Option Policy) (image : List ℕ) : Type 0 where

@@ -9,7 +9,6 @@ use Rattle.policy.specs.Comparison.{eqZ, relationHolds, operandValue, compariso
 use Rattle.policy.specs.Line.{headsOf, comparisonsOf, endingOf, constantCount}
 use Rattle.policy.specs.Limits.{isReadingValue, testNumber, operandInRange, comparisonInRange, endingInRange, inRange, crowded, repeats, repeated, valid}
 use Rattle.pdl.specs.Greedy.{tryNext, keptBelow, greedy}
-use Rattle.pdl.specs.Answer.{yieldIn}
 use Rattle.pdl.specs.Reduction.{clashes, keptEvents, issued, withheld, unavoidable}
 use Rattle.pdl.specs.Yield.{literalHolds, ruleHolds, propose, proposals, constraintHolds, conflict, resolve, accepted, cancelled}
 use Rattle.lexer.specs.Byte.{bytes, sameBytes, is, classOf, hexValue}
@@ -27,7 +26,7 @@ use Rattle.layout.specs.Header.{packHeader}
 use Rattle.operation.specs.Parts.{testOperation, testWord, operandWord, constantWords, comparisonWord, comparisonWords, constantComparison, readingComparison, endingWord}
 use Rattle.layout.specs.Layout.{conditionWords, partWords, lineWords, linesWords, knownForm, checkCount, sum, checkWord, checkWords, headerWord, ruleWords, constraintWords, contentWords, imageWords, imageOf}
 use Rattle.codegen.specs.Compile.{outputOf, compiled}
-use Rattle.guarantees.specs.Machine.{answer, stepIn, steps, stepsTold, machineOf, machineToldOf}
+use Rattle.guarantees.specs.Machine.{yieldIn, answer, stepIn, steps, stepsTold, machineOf, machineToldOf}
 use Rattle.guarantees.specs.Examples.{examples, computed}
 
 pub examples-hold : map computed examples ≡ examples

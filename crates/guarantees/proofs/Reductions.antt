@@ -16,7 +16,7 @@ use Rattle.policy.specs.declared.fault.Fault.{Fault}
 use Rattle.policy.specs.declared.fault.Refusal.{Refusal}
 use Rattle.policy.specs.declared.mode.Mode.{Mode}
 use Rattle.pdl.proofs.Reduction.{unavoidable-exactly, reducible-avoids, kept-maximal, issued-within, issued-satisfies, issued-with-withheld, withheld-apart, giving-back-clashes, dropped-trial, all-kept, nothing-withheld}
-use Rattle.pdl.specs.Answer.{refuses, issues, yieldIn}
+use Rattle.pdl.specs.Answer.{refuses, issues}
 use Rattle.pdl.specs.Pdl.{Reducible}
 use Rattle.pdl.specs.Reduction.{proposedWith, keptEvents, issued, withheld, unavoidable}
 use Rattle.pdl.specs.Yield.{proposed}
@@ -34,6 +34,7 @@ use Rattle.meaning.proofs.Decided.{reductionOf, events-decided-are, image-bound
 use Rattle.monitor.specs.Decision.{actionsOf, triedEventWords, rulesIn, constraintsIn, decidedBy, decisionIn, answerOf}
 use Rattle.monitor.specs.declared.decision.Decision.{Decision}
 use Rattle.guarantees.proofs.Decisions.{refused-for, refused-cases, decision-faults}
+use Rattle.guarantees.specs.Machine.{yieldIn}
 use Rattle.guarantees.specs.Decisions.{RefusedIn, asFirst, forConflict, OfDecisionIn, ofEither, ofConflict, ObeysEvents}
 
 -- ---- what a policy decides in this mode

@@ -1,14 +1,24 @@
 -- Document 01, "What demand 3 compares", and document 02, L7: the reference machine (document 01: the plain machine). It sees a rule
 -- text and epoch lines, each with its mode, and no image.
 use Prim.Native.Nat.{ℕ}
+use mathlib.Core.Bool.{cond}
 use mathlib.Core.List.{List, map}
 use mathlib.Core.Option.{Option, Option·map}
+use Rattle.policy.specs.Epoch.{Epoch}
 use Rattle.policy.specs.Fault.{refusal}
 use Rattle.policy.specs.Policy.{Policy}
+use Rattle.policy.specs.declared.fault.Fault.{Fault}
 use Rattle.policy.specs.declared.mode.Mode.{Mode}
-use Rattle.pdl.specs.Answer.{Answer, refuses, yieldIn}
+use Rattle.pdl.specs.Answer.{Answer, refuses, issues}
+use Rattle.pdl.specs.Reduction.{issued, withheld, unavoidable}
+use Rattle.pdl.specs.Yield as Yield
 use Rattle.epoch_line.specs.Epoch.{EpochAnswer, refused, accepted, readEpoch}
 use Rattle.rule_text.specs.Text.{policyOf, policyOfTexts}
+
+-- what a policy yields on an epoch, in each mode; in the second it may be a refusal
+unfoldable pub yieldIn : Mode → Policy → Epoch → Answer
+yieldIn Mode.Actions p e = issues (Yield.accepted p e) (Yield.cancelled p e)
+yieldIn Mode.Events p e = cond (unavoidable p e) (refuses (refusal Fault.Unavoidable 0)) (issues (issued p e) (withheld p e))
 
 unfoldable pub answer : Mode → Policy → EpochAnswer → Answer
 answer mode p (refused f) = refuses (refusal f 0)

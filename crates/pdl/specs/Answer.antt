@@ -1,17 +1,11 @@
 -- What is told of an epoch line, in document 01's terms: whether it is refused, if it is under which number and at which place, which
 -- also says which text (document 02, L6), and both sets.
 use Prim.Native.Nat.{ℕ}
-use mathlib.Core.Bool.{Bool, true, false, cond}
-use Rattle.policy.specs.Epoch.{Epoch}
-use Rattle.policy.specs.Fault.{faultNumber, sourceNumber, refusal}
-use Rattle.policy.specs.Policy.{Policy}
+use mathlib.Core.Bool.{Bool, true, false}
+use Rattle.policy.specs.Fault.{faultNumber, sourceNumber}
 use Rattle.policy.specs.Set.{noActions}
-use Rattle.policy.specs.declared.fault.Fault.{Fault}
 use Rattle.policy.specs.declared.fault.Refusal.{Refusal}
-use Rattle.policy.specs.declared.mode.Mode.{Mode}
 use Rattle.policy.specs.declared.set.ActionSet.{ActionSet}
-use Rattle.pdl.specs.Reduction.{issued, withheld, unavoidable}
-use Rattle.pdl.specs.Yield.{accepted, cancelled}
 
 pub record Answer : Type 0 where
   pub isRefused : Bool
@@ -27,8 +21,3 @@ refuses r = record { isRefused = true; number = faultNumber (r .fault); text = s
 
 abbrev pub issues : ActionSet → ActionSet → Answer
 issues accepted cancelled = record { isRefused = false; number = 0; text = 0; location = 0; accepted = accepted; cancelled = cancelled }
-
--- what a policy yields on an epoch, in each mode; in the second (document 02, L7) it may be a refusal
-unfoldable pub yieldIn : Mode → Policy → Epoch → Answer
-yieldIn Mode.Actions p e = issues (accepted p e) (cancelled p e)
-yieldIn Mode.Events p e = cond (unavoidable p e) (refuses (refusal Fault.Unavoidable 0)) (issues (issued p e) (withheld p e))

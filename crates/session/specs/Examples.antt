@@ -42,7 +42,7 @@ sessions =
     -- the first of the two lines picks the mode, the other is an epoch
     ∷ row "never A1\nrun\nrun events\n\n" "1 refused 12 words 0\n2 accept - cancel - words 0\n"
     ∷ row "never A1\nrun events\nrun\n\n" "1 refused 12 words 0\n2 accept - cancel - words 1\n"
-    -- no other line does
+    -- the line has exactly these bytes; at the end of the input it may lack its end
     ∷ row "run events \n" "refused 2 line 1\n"
     ∷ row "run events" ""
     ∷ []
