@@ -17,13 +17,13 @@ use Rattle.pdl.proofs.GreedyLaws.{Monotone, greedy-dropped, greedy-with
 use Rattle.pdl.proofs.Others.{others-apart, with-others, no-others}
 use Rattle.pdl.proofs.Proposals.{more-proposed}
 use Rattle.pdl.proofs.Resolution.{satisfied, no-conflict, conflict-out, conflict-more}
-use Rattle.pdl.specs.Pdl.{Violated, Satisfies, Reduction, MaximalReduction, Reducible, MaximalEventCancellation, _⊆_, _⊑_}
+use Rattle.pdl.specs.Pdl.{Violated, Satisfies, ConsistentReduction, MaximalReduction, Reducible, EventCancellation, MaximalEventCancellation, _⊆_, _⊑_}
 use Rattle.pdl.specs.Reduction.{proposedWith, clashes, keptEvents, issued, withheld, unavoidable}
 use Rattle.pdl.specs.Yield.{proposed}
 
 module _ (p : Policy) (e : Epoch) where
   abbrev Reduces : EventSet → Type 0
-  Reduces = Reduction (p .constraints) (proposedWith (p .rules)) e
+  Reduces = ConsistentReduction (p .constraints) (proposedWith (p .rules)) e
 
   abbrev bad : ℕ → Bool
   bad kept = clashes p e (record { 0 = kept })
@@ -132,6 +132,11 @@ module _ (p : Policy) (e : Epoch) where
 
       pub clean-reducible : Reducible (p .constraints) (proposedWith (p .rules)) e
       clean-reducible = record { kept = e .events; reduction = record { within = λ x h. h; consistent = clean } }
+
+-- Definition 11.4
+pub event-cancellation : (p : Policy) → EventCancellation (p .constraints) (proposedWith (p .rules)) (issued p)
+unfolding issued
+event-cancellation p e inside r = record { kept = keptEvents p e; reduction = kept-reduces p e (reducible-avoids p e r); same = refl }
 
 -- Definition 11.5
 pub maximal-event-cancellation : (p : Policy) → MaximalEventCancellation (p .constraints) (proposedWith (p .rules)) (issued p)

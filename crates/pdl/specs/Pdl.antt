@@ -126,19 +126,19 @@ DefinedOnKept rules π = (e : Epoch) (kept : EventSet) (a : Action) → a .0 < s
 
 module _ (constraints : List Constraint) (π : Epoch → EventSet → ActionSet) where
   -- Definition 10: a consistent reduction
-  pub record Reduction (e : Epoch) (kept : EventSet) : Type 0 where
+  pub record ConsistentReduction (e : Epoch) (kept : EventSet) : Type 0 where
     pub within : kept ⊑ e .events
     pub consistent : Satisfies constraints (e .readings) (π e kept)
 
   -- a maximal one: no other consistent reduction has all its events
   pub record MaximalReduction (e : Epoch) (kept : EventSet) : Type 0 where
-    pub reduction : Reduction e kept
-    pub maximal : (u : EventSet) → kept ⊑ u → Reduction e u → u ≡ kept
+    pub reduction : ConsistentReduction e kept
+    pub maximal : (u : EventSet) → kept ⊑ u → ConsistentReduction e u → u ≡ kept
 
   -- "policies may not have *any* event-cancellation monitors" (section 3.5): an epoch may have no consistent reduction
   pub record Reducible (e : Epoch) : Type 0 where
     pub kept : EventSet
-    pub reduction : Reduction e kept
+    pub reduction : ConsistentReduction e kept
 
   -- a set is what the rules define on some reduction of that sort
   pub record OnSome (Sort : EventSet → Type 0) (e : Epoch) (s : ActionSet) : Type 0 where
@@ -148,7 +148,7 @@ module _ (constraints : List Constraint) (π : Epoch → EventSet → ActionSet)
 
   -- Definition 11.4, of the epochs that have a consistent reduction
   abbrev pub EventCancellation : (Epoch → ActionSet) → Type 0
-  EventCancellation ω = (e : Epoch) → InAlphabet e → Reducible e → OnSome (Reduction e) e (ω e)
+  EventCancellation ω = (e : Epoch) → InAlphabet e → Reducible e → OnSome (ConsistentReduction e) e (ω e)
 
   -- Definition 11.5, of the same
   abbrev pub MaximalEventCancellation : (Epoch → ActionSet) → Type 0
