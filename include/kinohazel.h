@@ -3,9 +3,11 @@
  *
  * The header is for C99, C++11 and later. It is for three libraries, of which each is linked alone or with the others: libkinohazel.a
  * for a controller and whatever compiles for it, libkinohazel_events.a with kinohazel_decide_events, for a controller that cancels
- * events, and libkinohazel_tools.a with kinohazel_explain, for a programming station or a fitter's panel. `rt staticlib kinohazel`,
- * `rt staticlib kinohazel_events` and `rt staticlib kinohazel_tools` build them in target/staticlib. They are for x86-64 with the
- * System V calling convention, as Linux has it, and use the red zone and the SSE2 registers of that convention.
+ * events, and libkinohazel_tools.a with kinohazel_explain, for a programming station or a fitter's panel. `rt lib` in the folders
+ * crates/kinohazel, crates/kinohazel_events and crates/kinohazel_tools builds each as out/libNAME.a there. They are for the level v2 of
+ * x86-64 (SSE4.2 and POPCNT: processors since about 2009) with the System V calling convention, as Linux has it, and use the red zone
+ * and the SSE registers of that convention. On an older processor a call may end by an illegal instruction. They need nothing of the
+ * C library, but for memset in libkinohazel_tools.a.
  *
  * No function keeps state, allocates memory or needs a start-up call, and each ends for every input.
  *

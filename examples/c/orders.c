@@ -1,10 +1,10 @@
 /* Decides the epochs of a bottling line's orders with the Kinohazel library in both modes: by action cancellation a case that is not
  * sent is still charged, by event cancellation the whole order is dropped.
  *
- *   rt staticlib kinohazel && rt staticlib kinohazel_events
- *   gcc -std=c99 -Wall -Wextra -Werror -Iinclude examples/c/orders.c target/staticlib/libkinohazel.a \
- *       target/staticlib/libkinohazel_events.a -o target/orders
- *   target/orders
+ *   (cd crates/kinohazel && rt lib) && (cd crates/kinohazel_events && rt lib)
+ *   gcc -std=c99 -Wall -Wextra -Werror -Iinclude examples/c/orders.c crates/kinohazel/out/libkinohazel.a \
+ *       crates/kinohazel_events/out/libkinohazel_events.a -o /tmp/orders
+ *   /tmp/orders
  */
 #include <inttypes.h>
 #include <stdio.h>

@@ -1,8 +1,8 @@
 /* Compiles a rule text and decides some epochs with the Kinohazel library, as a controller's scan would.
  *
- *   rt staticlib kinohazel
- *   gcc -std=c99 -Wall -Wextra -Werror -Iinclude examples/c/station.c target/staticlib/libkinohazel.a -o target/station
- *   target/station
+ *   (cd crates/kinohazel && rt lib)
+ *   gcc -std=c99 -Wall -Wextra -Werror -Iinclude examples/c/station.c crates/kinohazel/out/libkinohazel.a -o /tmp/station
+ *   /tmp/station
  */
 #include <inttypes.h>
 #include <stdio.h>

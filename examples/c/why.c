@@ -1,10 +1,10 @@
 /* Asks the Kinohazel library why an action was issued or not, as a fitter's panel would: by the text of a pump's maker and the lines
  * that a site has added.
  *
- *   rt staticlib kinohazel && rt staticlib kinohazel_tools
- *   gcc -std=c99 -Wall -Wextra -Werror -Iinclude examples/c/why.c target/staticlib/libkinohazel.a \
- *       target/staticlib/libkinohazel_tools.a -o target/why
- *   target/why
+ *   (cd crates/kinohazel && rt lib) && (cd crates/kinohazel_tools && rt lib)
+ *   gcc -std=c99 -Wall -Wextra -Werror -Iinclude examples/c/why.c crates/kinohazel/out/libkinohazel.a \
+ *       crates/kinohazel_tools/out/libkinohazel_tools.a -o /tmp/why
+ *   /tmp/why
  */
 #include <inttypes.h>
 #include <stdio.h>

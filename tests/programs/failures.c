@@ -6,7 +6,8 @@
    A failing read or write is reported by one line on standard error; after it nothing is read and nothing printed. Of
    the input only what was read whole counts: the compiler and the decompiler print nothing for a part of their input, the
    engine and `explain` nothing for a part of a line. A file that cannot be opened or read whole is reported likewise, and nothing
-   is printed. A call that is interrupted is made again. */
+   is printed. A call that is interrupted is made again. Where a reader goes away the write fails and is reported, whether or not
+   the caller has the signal SIGPIPE ignored. */
 #define _XOPEN_SOURCE 700
 #include "../reference/inputs.h"
 #include "shim.h"
@@ -388,12 +389,6 @@ static void check_status(const struct run *run)
     if (!WIFEXITED(run->status) || WEXITSTATUS(run->status) != 0)
         fail("ended by %s %d", WIFSIGNALED(run->status) ? "signal" : "status",
             WIFSIGNALED(run->status) ? WTERMSIG(run->status) : WEXITSTATUS(run->status));
-}
-
-static void check_broken_pipe(const struct run *run)
-{
-    if (!WIFSIGNALED(run->status) || WTERMSIG(run->status) != SIGPIPE)
-        fail("not ended by SIGPIPE");
 }
 
 static void check_printed(const struct run *run, const char *due, size_t length)
@@ -988,13 +983,10 @@ static int open_sink(enum sink sink, int *reader)
 /* What a program did whose output takes nothing. */
 static void check_sink(const struct run *run, const struct sample *sample, enum sink sink)
 {
-    static const int errors[SINKS] = {ENOSPC, EBADF, EBADF, EPIPE, 0, EAGAIN};
+    static const int errors[SINKS] = {ENOSPC, EBADF, EBADF, EPIPE, EPIPE, EAGAIN};
     bool writes = sample->due.length > 0;
-    if (writes && sink == NO_READER_SIGNAL)
-        check_broken_pipe(run);
-    else
-        check_status(run);
-    if (writes && sink != NO_READER_SIGNAL)
+    check_status(run);
+    if (writes)
         check_error(run, "standard output", errors[sink]);
     else
         check_said(run, "");
@@ -1106,13 +1098,8 @@ static void leave_after(const struct buffer *input, struct bytes due, size_t cou
     run.out = CLOSED;
     end(&run);
     check_prefix(&run, due);
-    if (ignores_pipe) {
-        check_status(&run);
-        check_error(&run, "standard output", EPIPE);
-    } else {
-        check_broken_pipe(&run);
-        check_said(&run, "");
-    }
+    check_status(&run);
+    check_error(&run, "standard output", EPIPE);
     if (held(setting.in) != left + (int)sizeof more - 1)
         fail("%d bytes were read after the reader was gone", left + (int)sizeof more - 1 - held(setting.in));
     close(setting.in);

@@ -4,7 +4,7 @@
 
 #include "reference.h"
 
-/* The rule text of document 01's example. */
+/* The rule text of the README's example. */
 #define EXAMPLE "E1 & !E2 causes A3 if R0 > 40\nE3 causes A4\nnever A3 & A4\n"
 
 enum { ROOM = 1 << 20 };

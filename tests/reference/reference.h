@@ -1,7 +1,6 @@
-/* Rule texts, images and epochs as document 01 defines them, with the text of an image (request L1 of document 02),
-   readings that are not given (request L2), the words that a decision visits (request L4), constants in hexadecimal
-   (request L5), two texts as one with the reason for an action (request L6) and event cancellation (request L7), in plain C,
-   written from the documents. The programs and the library are compared with it. */
+/* Rule texts, images and epochs as docs/REFERENCE.md defines them, with the text of an image, readings that are not given, the words
+   that a decision visits, constants in hexadecimal, two texts as one with the reason for an action, and event cancellation, in plain C,
+   written from what is asked for and not from the Rattle code. The programs and the library are compared with it. */
 #ifndef REFERENCE_H
 #define REFERENCE_H
 
@@ -18,7 +17,7 @@ enum {
     DUMP_BYTES = IMAGE_BYTES + WORD_BYTES /* what is kept of the words of a dump: if they are too many, one too many */
 };
 
-/* Why something is refused: the grounds of document 01, by their numbers. */
+/* Why something is refused: the faults of docs/REFERENCE.md, by their numbers. */
 enum fault {
     FAULT_NONE = 0,
     FAULT_LONG = 1,
@@ -36,7 +35,7 @@ enum fault {
     FAULT_EPOCH_RANGE = 13,
     FAULT_TWICE = 14,
     FAULT_ROOM = 15,
-    FAULT_UNUSED = 16, /* no ground has this number */
+    FAULT_UNUSED = 16, /* no fault has this number */
     FAULT_UNAVOIDABLE = 17,
     FAULTS = 18
 };
@@ -119,8 +118,8 @@ typedef uint64_t event_set;
 typedef uint64_t action_set;
 typedef uint64_t reading_set;
 
-/* Events that are in neither set are undefined, as section 3.5 of source document 000 has it: no literal of them holds. A line that
-   is read leaves none undefined. */
+/* Events that are in neither set are undefined, as in section 3.5 of Chomicki, Lobo and Naqvi, "Conflict Resolution Using Logic
+   Programming" (2003): no literal of them holds. A line that is read leaves none undefined. */
 struct epoch {
     event_set present, absent;
     reading_set given;
@@ -181,7 +180,7 @@ action_set accepted(const struct policy *policy, const struct epoch *epoch, acti
 /* The reduction of an epoch to some of its events: the others are undefined. */
 struct epoch reduction(const struct epoch *epoch, event_set kept);
 
-/* Whether no never line holds on what the rules propose (definition 10 of source document 000). */
+/* Whether no never line holds on what the rules propose (Definition 10 of that paper). */
 bool is_consistent(const struct policy *policy, const struct epoch *epoch);
 
 /* The events that the second mode keeps. False if the epoch is unavoidable. */

@@ -1,4 +1,4 @@
-/* The words of an image as document 01 defines them: operations, relations, fields and bytes, with the limits of an image.
+/* The words of an image as docs/REFERENCE.md defines them: operations, relations, fields and bytes, with the limits of an image.
    All C code of tests/ and bench/ has them from here. */
 #ifndef WORDS_H
 #define WORDS_H

@@ -1,18 +1,14 @@
 -- What an accepted text has: lines within the limits, and not too many of them.
-use Prim.Native.Nat.{ℕ, suc, ◌+◌, ◌≤◌, ◌<◌}
-use mathlib.Core.Bool.{Bool, true, false, not, ◌&&◌, cond}
-use mathlib.Core.List.{List, [], ◌∷◌, ◌++◌, map, foldl, map-append}
+use Rattle.std.proofs.Common.{ℕ, suc, ◌+◌, ◌≤◌, ◌<◌, Bool, true, false, not, ◌&&◌, cond, List, [], ◌∷◌, ◌++◌, map, ◌≡◌, refl, sym, ap, ◌∙◌, arith, ltb-true, lt-ltb, le-ltb, length, length-append}
+use Rattle.std.proofs.Math.Option.{Option, none, some}
+use Rattle.std.proofs.Math.Dec.{ltb}
+use Rattle.std.proofs.Math.ListN.{length-map}
+use mathlib.Core.List.{foldl, map-append}
 use mathlib.Core.Option
-use mathlib.Core.Option.{Option, none, some}
-use mathlib.Core.Path.{◌≡◌, refl, sym, ap, ◌∙◌}
-use native.Mathlib.Omega.{arith}
-use borrow.Author.Tests.{ltb-true, lt-ltb, le-ltb}
-use lib.Dec.{ltb}
-use lib.ListN.{length, length-append, length-map}
 use Rattle.policy.proofs.ListLaws.{and_in, all_append}
 use Rattle.policy.specs.Fault.{refusal}
-use Rattle.policy.specs.Limits.{valid, in_range, crowded, repeated, ruleLimit, constraintLimit, Acceptable}
-use Rattle.policy.specs.Line.{PolicyLine, rule, constraint, headsOf}
+use Rattle.policy.specs.Limits.{valid, in_range, crowded, repeated, rule_limit, constraint_limit, Acceptable}
+use Rattle.policy.specs.Line.{PolicyLine, rule, constraint, heads_of}
 use Rattle.policy.specs.List.{all}
 use Rattle.policy.specs.Policy.{Policy}
 use Rattle.policy.specs.declared.comparison.Comparison.{Comparison}
@@ -21,21 +17,21 @@ use Rattle.policy.specs.declared.fault.Fault.{Fault}
 use Rattle.policy.specs.declared.fault.Source.{Source}
 use Rattle.policy.specs.declared.line.Test.{Test}
 use Rattle.policy.specs.declared.number.Action.{Action}
-use Rattle.syntax.proofs.JudgeLaws.{Judged, yes-line, no_line, judged-cases}
-use Rattle.lexer.specs.Token.{Token, both, literalOf, actionOf}
-use Rattle.syntax.specs.Grammar.{Joined, last, before, joined, conditionFrom, causes, never, ruleAfter, constraintAfter, after, lineFrom}
+use Rattle.syntax.proofs.JudgeLaws.{Judged, yes_line, no_line, judged_cases}
+use Rattle.lexer.specs.Token.{Token, both, literal_of, action_of}
+use Rattle.syntax.specs.Grammar.{Joined, last, before, joined, condition_from, causes, never, rule_after, constraint_after, after, line_from}
 use Rattle.lexer.specs.Byte.{is}
-use Rattle.lexer.specs.Lines.{lines_of, tokensOf}
-use Rattle.syntax.specs.Judge.{LineAnswer, skipped, refused, accepted, judgeLine, isComment, tokensAnswer, lineAnswer}
-use Rattle.rule_text.specs.Text.{Progress, reading, stopped, withRule, withConstraint, advance, readLine, emptyPolicy, textLimit, readBehind, inText, readText, readSite, readTexts}
+use Rattle.lexer.specs.Lines.{lines_of, tokens_of}
+use Rattle.syntax.specs.Judge.{LineAnswer, skipped, refused, accepted, judge_line, is_comment, tokens_answer, line_answer}
+use Rattle.rule_text.specs.Text.{Progress, reading, stopped, with_rule, with_constraint, advance, read_line, empty_policy, text_limit, read_text_behind, in_text, read_text, read_site, read_texts}
 
 -- ---- a line of either shape has a literal or an action
 
 module _ {A : Type 0} where
-  some-items : (item : Token → Option A) (ts : List Token) (j : Joined A) → joined item ts ≡ some j → 0 < length j.items
+  some_items : (item : Token → Option A) (ts : List Token) (j : Joined A) → joined item ts ≡ some j → 0 < length j.items
   unfolding joined both
-  some-items item [] j e = let w : ◌≡◌ {A = ℕ} 0 1 = cc in absurd (omega arith)
-  some-items item (t ∷ []) j e = one (item t) e
+  some_items item [] j e = let w : ◌≡◌ {A = ℕ} 0 1 = cc in absurd (omega arith)
+  some_items item (t ∷ []) j e = one (item t) e
     where
       one : (o : Option A) → Option.map (last []) o ≡ some j → 0 < length j.items
       one none q = let w : ◌≡◌ {A = ℕ} 0 1 = cc in absurd (omega arith)
@@ -43,7 +39,7 @@ module _ {A : Type 0} where
         where
           same : some (last [] x) ≡ some j → last [] x ≡ j
           same k = cc
-  some-items item (t ∷ s ∷ ts) j e = go (is "&" s) (item t) (joined item ts) e
+  some_items item (t ∷ s ∷ ts) j e = go (is "&" s) (item t) (joined item ts) e
     where
       more : (o : Option A) (x : Option (Joined A)) → both before o x ≡ some j → 0 < length j.items
       more none x q = let w : ◌≡◌ {A = ℕ} 0 1 = cc in absurd (omega arith)
@@ -64,73 +60,73 @@ module _ {A : Type 0} where
       go true o x q = more o x q
       go false o x q = alone o q
 
-some-heads : (l : PolicyLine) → Type 0
-some-heads l = 0 < length (headsOf l)
+some_heads : (l : PolicyLine) → Type 0
+some_heads l = 0 < length (heads_of l)
 
 module _ (l : PolicyLine) where
-  constraint-heads : (o : Option (Joined Action)) → ((j : Joined Action) → o ≡ some j → 0 < length j.items) → after constraintAfter o ≡ some l → some-heads l
-  unfolding after constraintAfter some-heads headsOf
-  constraint-heads none h e = let w : ◌≡◌ {A = ℕ} 0 1 = cc in absurd (omega arith)
-  constraint-heads (some j) h e = go (conditionFrom j.rest) e
+  constraint_heads : (o : Option (Joined Action)) → ((j : Joined Action) → o ≡ some j → 0 < length j.items) → after constraint_after o ≡ some l → some_heads l
+  unfolding after constraint_after some_heads heads_of
+  constraint_heads none h e = let w : ◌≡◌ {A = ℕ} 0 1 = cc in absurd (omega arith)
+  constraint_heads (some j) h e = go (condition_from j.rest) e
     where
-      go : (x : Option (List Comparison)) → Option.map (never j.items) x ≡ some l → 0 < length (headsOf l)
+      go : (x : Option (List Comparison)) → Option.map (never j.items) x ≡ some l → 0 < length (heads_of l)
       go none q = let w : ◌≡◌ {A = ℕ} 0 1 = cc in absurd (omega arith)
       go (some cs) q = rw (← same q) (omega (arith, length-map j.items Test.Member, h j refl))
         where
           same : some (never j.items cs) ≡ some l → never j.items cs ≡ l
           same k = cc
 
-  rule-heads : (o : Option (Joined Literal)) → ((j : Joined Literal) → o ≡ some j → 0 < length j.items) → after ruleAfter o ≡ some l → some-heads l
-  unfolding after ruleAfter some-heads headsOf both
-  rule-heads none h e = let w : ◌≡◌ {A = ℕ} 0 1 = cc in absurd (omega arith)
-  rule-heads (some j) h e = go j.rest e
+  rule_heads : (o : Option (Joined Literal)) → ((j : Joined Literal) → o ≡ some j → 0 < length j.items) → after rule_after o ≡ some l → some_heads l
+  unfolding after rule_after some_heads heads_of both
+  rule_heads none h e = let w : ◌≡◌ {A = ℕ} 0 1 = cc in absurd (omega arith)
+  rule_heads (some j) h e = go j.rest e
     where
-      made : (a : Action) (cs : List Comparison) → some (causes j.items a cs) ≡ some l → 0 < length (headsOf l)
+      made : (a : Action) (cs : List Comparison) → some (causes j.items a cs) ≡ some l → 0 < length (heads_of l)
       made a cs q = rw (← same q) (omega (arith, length-map j.items Test.Occurs, h j refl))
         where
           same : some (causes j.items a cs) ≡ some l → causes j.items a cs ≡ l
           same k = cc
 
-      shape : (b : Bool) (x : Option Action) (y : Option (List Comparison)) → cond b (both (causes j.items) x y) none ≡ some l → 0 < length (headsOf l)
+      shape : (b : Bool) (x : Option Action) (y : Option (List Comparison)) → cond b (both (causes j.items) x y) none ≡ some l → 0 < length (heads_of l)
       shape true none y q = let w : ◌≡◌ {A = ℕ} 0 1 = cc in absurd (omega arith)
       shape true (some a) none q = let w : ◌≡◌ {A = ℕ} 0 1 = cc in absurd (omega arith)
       shape true (some a) (some cs) q = made a cs q
       shape false x y q = let w : ◌≡◌ {A = ℕ} 0 1 = cc in absurd (omega arith)
 
-      go : (ts : List Token) → ruleAfter j.items ts ≡ some l → 0 < length (headsOf l)
+      go : (ts : List Token) → rule_after j.items ts ≡ some l → 0 < length (heads_of l)
       go [] q = let w : ◌≡◌ {A = ℕ} 0 1 = cc in absurd (omega arith)
       go (t ∷ []) q = let w : ◌≡◌ {A = ℕ} 0 1 = cc in absurd (omega arith)
-      go (t ∷ a ∷ ts) q = shape (is "causes" t) (actionOf a) (conditionFrom ts) q
+      go (t ∷ a ∷ ts) q = shape (is "causes" t) (action_of a) (condition_from ts) q
 
-  line-heads : (ts : List Token) → lineFrom ts ≡ some l → some-heads l
-  unfolding lineFrom
-  line-heads [] e = let w : ◌≡◌ {A = ℕ} 0 1 = cc in absurd (omega arith)
-  line-heads (t ∷ ts) e = go (is "never" t) e
+  line_heads : (ts : List Token) → line_from ts ≡ some l → some_heads l
+  unfolding line_from
+  line_heads [] e = let w : ◌≡◌ {A = ℕ} 0 1 = cc in absurd (omega arith)
+  line_heads (t ∷ ts) e = go (is "never" t) e
     where
-      go : (b : Bool) → cond b (after constraintAfter (joined actionOf ts)) (after ruleAfter (joined literalOf (t ∷ ts))) ≡ some l → some-heads l
-      go true q = constraint-heads (joined actionOf ts) (some-items actionOf ts) q
-      go false q = rule-heads (joined literalOf (t ∷ ts)) (some-items literalOf (t ∷ ts)) q
+      go : (b : Bool) → cond b (after constraint_after (joined action_of ts)) (after rule_after (joined literal_of (t ∷ ts))) ≡ some l → some_heads l
+      go true q = constraint_heads (joined action_of ts) (some_items action_of ts) q
+      go false q = rule_heads (joined literal_of (t ∷ ts)) (some_items literal_of (t ∷ ts)) q
 
 -- ---- an accepted line is valid
 
-pub accepted-valid : (line : List ℕ) (l : PolicyLine) → lineAnswer line ≡ accepted l → valid l ≡ true
-unfolding lineAnswer tokensAnswer valid some-heads
-accepted-valid line l = go (tokensOf line)
+pub accepted_valid : (line : List ℕ) (l : PolicyLine) → line_answer line ≡ accepted l → valid l ≡ true
+unfolding line_answer tokens_answer valid some_heads
+accepted_valid line l = go (tokens_of line)
   where
-    of-line : (ts : List Token) → Judged (lineFrom ts) → judgeLine (lineFrom ts) ≡ accepted l → ltb 0 (length (headsOf l)) && in_range l && not (crowded l) && not (repeated l) ≡ true
-    of-line ts (yes-line m p h c r k) q = rw (same (sym q ∙ k)) (and_in (and_in (and_in (lt-ltb 0 (length (headsOf m)) (line-heads m ts p)) h) (ap not c)) (ap not r))
+    of_line_is : (ts : List Token) → Judged (line_from ts) → judge_line (line_from ts) ≡ accepted l → ltb 0 (length (heads_of l)) && in_range l && not (crowded l) && not (repeated l) ≡ true
+    of_line_is ts (yes_line m p h c r k) q = rw (same (sym q ∙ k)) (and_in (and_in (and_in (lt-ltb 0 (length (heads_of m)) (line_heads m ts p)) h) (ap not c)) (ap not r))
       where
         same : accepted l ≡ accepted m → l ≡ m
         same e = cc
-    of-line ts (no_line f k) q = let w : ◌≡◌ {A = ℕ} 0 1 = cc in absurd (omega arith)
+    of_line_is ts (no_line f k) q = let w : ◌≡◌ {A = ℕ} 0 1 = cc in absurd (omega arith)
 
-    go : (ts : List Token) → tokensAnswer ts ≡ accepted l → ltb 0 (length (headsOf l)) && in_range l && not (crowded l) && not (repeated l) ≡ true
+    go : (ts : List Token) → tokens_answer ts ≡ accepted l → ltb 0 (length (heads_of l)) && in_range l && not (crowded l) && not (repeated l) ≡ true
     go [] q = let w : ◌≡◌ {A = ℕ} 0 1 = cc in absurd (omega arith)
-    go (t ∷ ts) q = comment (isComment t) q
+    go (t ∷ ts) q = comment (is_comment t) q
       where
-        comment : (b : Bool) → cond b skipped (judgeLine (lineFrom (t ∷ ts))) ≡ accepted l → ltb 0 (length (headsOf l)) && in_range l && not (crowded l) && not (repeated l) ≡ true
+        comment : (b : Bool) → cond b skipped (judge_line (line_from (t ∷ ts))) ≡ accepted l → ltb 0 (length (heads_of l)) && in_range l && not (crowded l) && not (repeated l) ≡ true
         comment true k = let w : ◌≡◌ {A = ℕ} 0 1 = cc in absurd (omega arith)
-        comment false k = of-line (t ∷ ts) (judged-cases (lineFrom (t ∷ ts))) k
+        comment false k = of_line_is (t ∷ ts) (judged_cases (line_from (t ∷ ts))) k
 
 -- ---- an accepted text is within the limits
 
@@ -149,76 +145,76 @@ keeps : (n : ℕ) (p : Policy) (a : LineAnswer) → ((l : PolicyLine) → a ≡ 
 unfolding advance still
 keeps n p skipped v w = w
 keeps n p (refused f) v w = tt
-keeps n p (accepted (rule r)) v w = go (ltb (length p.rules) ruleLimit) refl
+keeps n p (accepted (rule r)) v w = go (ltb (length p.rules) rule_limit) refl
   where
-    go : (b : Bool) → ltb (length p.rules) ruleLimit ≡ b → still (cond b (reading (suc n) (withRule p r)) (stopped (refusal Fault.TooManyLines n)))
+    go : (b : Bool) → ltb (length p.rules) rule_limit ≡ b → still (cond b (reading (suc n) (with_rule p r)) (stopped (refusal Fault.TooManyLines n)))
     go true e =
         record {
-          rules-valid = one_more rule p.rules r w.rules-valid (v (rule r) refl);
-          constraints-valid = w.constraints-valid;
-          few-rules = room_after p.rules r ruleLimit e;
-          few-constraints = w.few-constraints;
+          rules_valid = one_more rule p.rules r w.rules_valid (v (rule r) refl);
+          constraints_valid = w.constraints_valid;
+          few_rules = room_after p.rules r rule_limit e;
+          few_constraints = w.few_constraints;
         }
     go false e = tt
-keeps n p (accepted (constraint c)) v w = go (ltb (length p.constraints) constraintLimit) refl
+keeps n p (accepted (constraint c)) v w = go (ltb (length p.constraints) constraint_limit) refl
   where
-    go : (b : Bool) → ltb (length p.constraints) constraintLimit ≡ b → still (cond b (reading (suc n) (withConstraint p c)) (stopped (refusal Fault.TooManyLines n)))
+    go : (b : Bool) → ltb (length p.constraints) constraint_limit ≡ b → still (cond b (reading (suc n) (with_constraint p c)) (stopped (refusal Fault.TooManyLines n)))
     go true e =
         record {
-          rules-valid = w.rules-valid;
-          constraints-valid = one_more constraint p.constraints c w.constraints-valid (v (constraint c) refl);
-          few-rules = w.few-rules;
-          few-constraints = room_after p.constraints c constraintLimit e;
+          rules_valid = w.rules_valid;
+          constraints_valid = one_more constraint p.constraints c w.constraints_valid (v (constraint c) refl);
+          few_rules = w.few_rules;
+          few_constraints = room_after p.constraints c constraint_limit e;
         }
     go false e = tt
 
-keeps_line : (s : Progress) (line : List ℕ) → still s → still (readLine s line)
-unfolding readLine still
-keeps_line (reading n p) line w = keeps n p (lineAnswer line) (accepted-valid line) w
+keeps_line : (s : Progress) (line : List ℕ) → still s → still (read_line s line)
+unfolding read_line still
+keeps_line (reading n p) line w = keeps n p (line_answer line) (accepted_valid line) w
 keeps_line (stopped r) line w = tt
 
-keeps-lines : (ls : List (List ℕ)) (s : Progress) → still s → still (foldl readLine s ls)
-keeps-lines [] s w = w
-keeps-lines (l ∷ ls) s w = keeps-lines ls (readLine s l) (keeps_line s l w)
+keeps_lines : (ls : List (List ℕ)) (s : Progress) → still s → still (foldl read_line s ls)
+keeps_lines [] s w = w
+keeps_lines (l ∷ ls) s w = keeps_lines ls (read_line s l) (keeps_line s l w)
 
-keeps-behind : (p : Policy) (text : List ℕ) → Acceptable p → still (readBehind p text)
-unfolding readBehind still
-keeps-behind p text w = go (ltb textLimit (length text))
+keeps_behind : (p : Policy) (text : List ℕ) → Acceptable p → still (read_text_behind p text)
+unfolding read_text_behind still
+keeps_behind p text w = go (ltb text_limit (length text))
   where
-    go : (b : Bool) → still (cond b (stopped (refusal Fault.TooLong 0)) (foldl readLine (reading 1 p) (lines_of text)))
+    go : (b : Bool) → still (cond b (stopped (refusal Fault.TooLong 0)) (foldl read_line (reading 1 p) (lines_of text)))
     go true = tt
-    go false = keeps-lines (lines_of text) (reading 1 p) w
+    go false = keeps_lines (lines_of text) (reading 1 p) w
 
-keeps-source : (source : Source) (s : Progress) → still s → still (inText source s)
-unfolding inText still
-keeps-source source (reading n p) w = w
-keeps-source source (stopped r) w = tt
+keeps_source : (source : Source) (s : Progress) → still s → still (in_text source s)
+unfolding in_text still
+keeps_source source (reading n p) w = w
+keeps_source source (stopped r) w = tt
 
-keeps-text : (text : List ℕ) → still (readText text)
-unfolding readText all
-keeps-text text = keeps-source Source.Maker (readBehind emptyPolicy text) (keeps-behind emptyPolicy text (record { rules-valid = refl; constraints-valid = refl; few-rules = omega arith; few-constraints = omega arith }))
+keeps_text : (text : List ℕ) → still (read_text text)
+unfolding read_text all
+keeps_text text = keeps_source Source.Maker (read_text_behind empty_policy text) (keeps_behind empty_policy text (record { rules_valid = refl; constraints_valid = refl; few_rules = omega arith; few_constraints = omega arith }))
 
-keeps-site : (s : Progress) (site : List ℕ) → still s → still (readSite s site)
-unfolding readSite still
-keeps-site (reading n p) site w = keeps-source Source.Site (readBehind p site) (keeps-behind p site w)
-keeps-site (stopped r) site w = tt
+keeps_site : (s : Progress) (site : List ℕ) → still s → still (read_site s site)
+unfolding read_site still
+keeps_site (reading n p) site w = keeps_source Source.Site (read_text_behind p site) (keeps_behind p site w)
+keeps_site (stopped r) site w = tt
 
-still-acceptable : (s : Progress) (n : ℕ) (p : Policy) → still s → s ≡ reading n p → Acceptable p
+still_acceptable : (s : Progress) (n : ℕ) (p : Policy) → still s → s ≡ reading n p → Acceptable p
 unfolding still
-still-acceptable (reading m q) n p w k = rw (← same k) w
+still_acceptable (reading m q) n p w k = rw (← same k) w
   where
     same : reading m q ≡ reading n p → q ≡ p
     same h = cc
-still-acceptable (stopped r) n p w k = let z : ◌≡◌ {A = ℕ} 0 1 = cc in absurd (omega arith)
+still_acceptable (stopped r) n p w k = let z : ◌≡◌ {A = ℕ} 0 1 = cc in absurd (omega arith)
 
-pub accepted-acceptable : (text : List ℕ) (n : ℕ) (p : Policy) → readText text ≡ reading n p → Acceptable p
-accepted-acceptable text n p e = still-acceptable (readText text) n p (keeps-text text) e
+pub accepted_acceptable : (text : List ℕ) (n : ℕ) (p : Policy) → read_text text ≡ reading n p → Acceptable p
+accepted_acceptable text n p e = still_acceptable (read_text text) n p (keeps_text text) e
 
-pub texts-acceptable : (maker site : List ℕ) (n : ℕ) (p : Policy) → readTexts maker site ≡ reading n p → Acceptable p
-unfolding readTexts
-texts-acceptable maker site n p e = still-acceptable (readSite (readText maker) site) n p (keeps-site (readText maker) site (keeps-text maker)) e
+pub texts_acceptable : (maker site : List ℕ) (n : ℕ) (p : Policy) → read_texts maker site ≡ reading n p → Acceptable p
+unfolding read_texts
+texts_acceptable maker site n p e = still_acceptable (read_site (read_text maker) site) n p (keeps_site (read_text maker) site (keeps_text maker)) e
 
 -- two texts within the length with the same lines have the same answer
-pub lines-decide : (s t : List ℕ) → length s ≤ textLimit → length t ≤ textLimit → lines_of s ≡ lines_of t → readText s ≡ readText t
-unfolding readText readBehind
-lines-decide s t h k e = rw (le-ltb textLimit (length s) h, le-ltb textLimit (length t) k) (ap (λ (ls : List (List ℕ)). inText Source.Maker (foldl readLine (reading 1 emptyPolicy) ls)) e)
+pub lines_decide : (s t : List ℕ) → length s ≤ text_limit → length t ≤ text_limit → lines_of s ≡ lines_of t → read_text s ≡ read_text t
+unfolding read_text read_text_behind
+lines_decide s t h k e = rw (le-ltb text_limit (length s) h, le-ltb text_limit (length t) k) (ap (λ (ls : List (List ℕ)). in_text Source.Maker (foldl read_line (reading 1 empty_policy) ls)) e)

@@ -1,44 +1,41 @@
 -- The events of an epoch that a line names are E0 to E63.
-use Prim.Native.Nat.{ℕ}
-use mathlib.Core.Bool.{Bool, true, false, not, cond}
-use mathlib.Core.List.{List, [], ◌∷◌, foldl}
-use mathlib.Core.Option.{Option, none, some}
-use mathlib.Core.Path.{◌≡◌, subst}
-use lib.Dec.{lit<, ltb, eqb}
-use lib.ListN.{length}
-use Rattle.policy.proofs.SetLaws.{insert-limit}
+use Rattle.std.proofs.Common.{ℕ, Bool, true, false, not, cond, List, [], ◌∷◌, ◌≡◌, subst, lit<, length}
+use Rattle.std.proofs.Math.Option.{Option, none, some}
+use Rattle.std.proofs.Math.Dec.{ltb, eqb}
+use mathlib.Core.List.{foldl}
+use Rattle.policy.proofs.SetLaws.{insert_limit}
 use Rattle.policy.specs.Epoch.{Epoch, InAlphabet}
 use Rattle.policy.specs.List.{all, any}
 use Rattle.policy.specs.Limits.{repeats}
 use Rattle.policy.specs.declared.fault.Fault.{Fault}
-use Rattle.lexer.specs.Lines.{tokensOf}
-use Rattle.epoch_line.specs.Epoch.{Item, event, value, items_of, itemInRange, givenBy, addItem, emptyEpoch, EpochAnswer, refused, accepted, judgeEpoch, epochLimit, readEpoch}
+use Rattle.lexer.specs.Lines.{tokens_of}
+use Rattle.epoch_line.specs.Epoch.{Item, event, value, items_of, item_in_range, given_by, add_item, empty_epoch, EpochAnswer, refused, accepted, judge_epoch, epoch_limit, read_epoch}
 
-added : (is : List Item) (e : Epoch) → InAlphabet e → InAlphabet (foldl addItem e is)
-unfolding addItem
+added : (is : List Item) (e : Epoch) → InAlphabet e → InAlphabet (foldl add_item e is)
+unfolding add_item
 added [] e h = h
-added (event n ∷ is) e h = added is (addItem e (event n)) (insert-limit e.events.0 n h)
-added (value n k ∷ is) e h = added is (addItem e (value n k)) h
+added (event n ∷ is) e h = added is (add_item e (event n)) (insert_limit e.events.bits n h)
+added (value n k ∷ is) e h = added is (add_item e (value n k)) h
 
 -- an answer that is no refusal has such an epoch
 abbrev Inside : EpochAnswer → Type 0
 Inside (refused f) = Unit {0}
 Inside (accepted e) = InAlphabet e
 
-inside : (line : List ℕ) → Inside (readEpoch line)
-unfolding readEpoch judgeEpoch
-inside line = go (ltb epochLimit (length line)) (any (eqb 10) line) (items_of (tokensOf line))
+inside : (line : List ℕ) → Inside (read_epoch line)
+unfolding read_epoch judge_epoch
+inside line = go (ltb epoch_limit (length line)) (any (eqb 10) line) (items_of (tokens_of line))
   where
-    judged : (a b : Bool) (is : List Item) → Inside (cond (not a) (refused Fault.EpochRange) (cond b (refused Fault.DuplicateReading) (accepted (foldl addItem emptyEpoch is))))
+    judged : (a b : Bool) (is : List Item) → Inside (cond (not a) (refused Fault.EpochRange) (cond b (refused Fault.DuplicateReading) (accepted (foldl add_item empty_epoch is))))
     judged true true is = tt
-    judged true false is = added is emptyEpoch (lit< tt)
+    judged true false is = added is empty_epoch (lit< tt)
     judged false b is = tt
 
-    go : (a b : Bool) (o : Option (List Item)) → Inside (cond a (refused Fault.TooLong) (cond b (refused Fault.EpochSyntax) (judgeEpoch o)))
+    go : (a b : Bool) (o : Option (List Item)) → Inside (cond a (refused Fault.TooLong) (cond b (refused Fault.EpochSyntax) (judge_epoch o)))
     go true b o = tt
     go false true o = tt
     go false false none = tt
-    go false false (some is) = judged (all itemInRange is) (repeats (givenBy is)) is
+    go false false (some is) = judged (all item_in_range is) (repeats (given_by is)) is
 
-pub line-inside : (line : List ℕ) (e : Epoch) → readEpoch line ≡ accepted e → InAlphabet e
-line-inside line e q = subst Inside q (inside line)
+pub line_inside : (line : List ℕ) (e : Epoch) → read_epoch line ≡ accepted e → InAlphabet e
+line_inside line e q = subst Inside q (inside line)

@@ -1,49 +1,41 @@
 -- Of a text over its length 32,769 bytes are enough: a program need not hold more to read it, alone or with another.
-use Prim.Native.Nat.{ℕ, ◌<◌}
-use mathlib.Core.Bool.{Bool, true, false}
-use mathlib.Core.List.{List}
-use mathlib.Core.Logic.{◌⊎◌, inl, inr}
-use mathlib.Core.Path.{◌≡◌, refl, sym, ap, ◌∙◌}
-use native.Mathlib.Omega.{arith}
-use borrow.Author.Tests.{leb-true, leb-false, lt-ltb}
-use lib.Dec.{leb}
-use lib.ListN.{length, take, length-take}
-use lib.Seq.{take_all}
+use Rattle.std.proofs.Common.{ℕ, ◌<◌, Bool, true, false, List, ◌⊎◌, inl, inr, ◌≡◌, refl, sym, ap, ◌∙◌, arith, leb-true, leb-false, lt-ltb, length, take, length-take, take_all}
+use Rattle.std.proofs.Math.Dec.{leb}
 use Rattle.policy.specs.Fault.{refusal}
 use Rattle.policy.specs.Policy.{Policy}
 use Rattle.policy.specs.declared.fault.Fault.{Fault}
 use Rattle.policy.specs.declared.fault.Source.{Source}
-use Rattle.rule_text.specs.Text.{Progress, reading, stopped, emptyPolicy, readBehind, inText, readText, readSite, readTexts}
+use Rattle.rule_text.specs.Text.{Progress, reading, stopped, empty_policy, read_text_behind, in_text, read_text, read_site, read_texts}
 
 -- what is cut off is cut off a text that is too long
-pub whole-or-long : (text : List ℕ) → (take 32769 text ≡ text) ⊎ (32768 < length text)
-whole-or-long text = go (leb (length text) 32769) refl
+pub whole_or_long : (text : List ℕ) → (take 32769 text ≡ text) ⊎ (32768 < length text)
+whole_or_long text = go (leb (length text) 32769) refl
   where
     go : (b : Bool) → leb (length text) 32769 ≡ b → (take 32769 text ≡ text) ⊎ (32768 < length text)
     go true e = inl (take_all 32769 text (leb-true (length text) 32769 e))
     go false e = inr (let k = leb-false (length text) 32769 e in omega arith)
 
-pub long-stops : (p : Policy) (text : List ℕ) → 32768 < length text → readBehind p text ≡ stopped (refusal Fault.TooLong 0)
-unfolding readBehind
-long-stops p text h = rw (lt-ltb 32768 (length text) h)
+pub long_stops : (p : Policy) (text : List ℕ) → 32768 < length text → read_text_behind p text ≡ stopped (refusal Fault.TooLong 0)
+unfolding read_text_behind
+long_stops p text h = rw (lt-ltb 32768 (length text) h)
 
-behind-cut : (p : Policy) (text : List ℕ) → readBehind p (take 32769 text) ≡ readBehind p text
-behind-cut p text = go (whole-or-long text)
+behind_cut : (p : Policy) (text : List ℕ) → read_text_behind p (take 32769 text) ≡ read_text_behind p text
+behind_cut p text = go (whole_or_long text)
   where
-    go : (take 32769 text ≡ text) ⊎ (32768 < length text) → readBehind p (take 32769 text) ≡ readBehind p text
-    go (inl e) = ap (readBehind p) e
+    go : (take 32769 text ≡ text) ⊎ (32768 < length text) → read_text_behind p (take 32769 text) ≡ read_text_behind p text
+    go (inl e) = ap (read_text_behind p) e
     go (inr h) =
         let l : length (take 32769 text) ≡ 32769 = length-take 32769 text ∙ omega arith in
-        long-stops p (take 32769 text) (omega arith) ∙ sym (long-stops p text h)
+        long_stops p (take 32769 text) (omega arith) ∙ sym (long_stops p text h)
 
-pub text-cut : (text : List ℕ) → readText (take 32769 text) ≡ readText text
-unfolding readText
-text-cut text = ap (inText Source.Maker) (behind-cut emptyPolicy text)
+pub text_cut : (text : List ℕ) → read_text (take 32769 text) ≡ read_text text
+unfolding read_text
+text_cut text = ap (in_text Source.Maker) (behind_cut empty_policy text)
 
-pub texts-cut : (maker site : List ℕ) → readTexts (take 32769 maker) (take 32769 site) ≡ readTexts maker site
-unfolding readTexts readSite
-texts-cut maker site = ap (λ (s : Progress). readSite s (take 32769 site)) (text-cut maker) ∙ go (readText maker)
+pub texts_cut : (maker site : List ℕ) → read_texts (take 32769 maker) (take 32769 site) ≡ read_texts maker site
+unfolding read_texts read_site
+texts_cut maker site = ap (λ (s : Progress). read_site s (take 32769 site)) (text_cut maker) ∙ go (read_text maker)
   where
-    go : (s : Progress) → readSite s (take 32769 site) ≡ readSite s site
-    go (reading n p) = ap (inText Source.Site) (behind-cut p site)
+    go : (s : Progress) → read_site s (take 32769 site) ≡ read_site s site
+    go (reading n p) = ap (in_text Source.Site) (behind_cut p site)
     go (stopped r) = refl

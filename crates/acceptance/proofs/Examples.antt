@@ -1,29 +1,28 @@
 -- Each row of the tables of examples is as document 01 says.
-use mathlib.Core.List.{map}
-use mathlib.Core.Option.{or_else}
-use mathlib.Core.Path.{◌≡◌, refl}
-use Rattle.policy.specs.Limits.{isReadingValue, testNumber, operandInRange, comparisonInRange, endingInRange, in_range, crowded, repeats, repeated}
-use Rattle.policy.specs.Line.{headsOf, comparisonsOf, endingOf}
+use Rattle.std.proofs.Common.{map, ◌≡◌, refl}
+use Rattle.std.proofs.Math.Option.{or_else}
+use Rattle.policy.specs.Limits.{is_reading_value, test_number, operand_in_range, comparison_in_range, ending_in_range, in_range, crowded, repeats, repeated}
+use Rattle.policy.specs.Line.{heads_of, comparisons_of, ending_of}
 use Rattle.policy.specs.List.{all, any}
 use Rattle.policy.specs.Set.{has, insert}
-use Rattle.lexer.specs.Byte.{bytes, sameBytes, is, hexValue}
-use Rattle.epoch_line.specs.Epoch.{toLeft, atEquals, assignmentOf, item_of, items_of, itemInRange, givenBy, addItem, judgeEpoch, readEpoch}
-use Rattle.acceptance.specs.Examples.{TextExample, PairExample, LineExample, texts, pairs, epochLines, textAnswer, pairAnswer, epochAnswer}
-use Rattle.lexer.specs.Token.{named, literalOf, actionOf, reading_of, relationOf, operandOf, both, comparisonOf}
-use Rattle.syntax.specs.Grammar.{comparisonsFrom, conditionFrom, joined, ruleAfter, constraintAfter, after, lineFrom}
-use Rattle.lexer.specs.Lines.{prepend, pieces, lines_of, nonEmpty, tokensOf}
-use Rattle.lexer.specs.Number.{decimalFrom, is_empty, number_of, positive, negative, decimalOf, patternOf, hexadecimalOf, constant_of}
-use Rattle.syntax.specs.Judge.{judgeLine, isComment, tokensAnswer, lineAnswer}
-use Rattle.rule_text.specs.Text.{advance, readLine, readBehind, inText, readText, readSite, readTexts}
+use Rattle.lexer.specs.Byte.{bytes, bytes_equal, is, hex_value}
+use Rattle.epoch_line.specs.Epoch.{to_left, at_equals, assignment_of, item_of, items_of, item_in_range, given_by, add_item, judge_epoch, read_epoch}
+use Rattle.acceptance.specs.Examples.{TextExample, PairExample, LineExample, texts, pairs, epoch_lines, text_answer, pair_answer, epoch_answer}
+use Rattle.lexer.specs.Token.{named, literal_of, action_of, reading_of, relation_of, operand_of, both, comparison_of}
+use Rattle.syntax.specs.Grammar.{comparisons_from, condition_from, joined, rule_after, constraint_after, after, line_from}
+use Rattle.lexer.specs.Lines.{prepend, pieces, lines_of, non_empty, tokens_of}
+use Rattle.lexer.specs.Number.{decimal_from, is_empty, number_of, positive, negative, decimal_of, pattern_of, hexadecimal_of, constant_of}
+use Rattle.syntax.specs.Judge.{judge_line, is_comment, tokens_answer, line_answer}
+use Rattle.rule_text.specs.Text.{advance, read_line, read_text_behind, in_text, read_text, read_site, read_texts}
 
-pub texts-read : map textAnswer texts ≡ map (λ (x : TextExample). x.answer) texts
-unfolding texts textAnswer bytes sameBytes is named literalOf actionOf reading_of relationOf or_else operandOf both comparisonOf comparisonsFrom conditionFrom joined ruleAfter constraintAfter after lineFrom prepend pieces lines_of nonEmpty tokensOf decimalFrom is_empty number_of positive negative hexValue decimalOf patternOf hexadecimalOf constant_of judgeLine isComment tokensAnswer lineAnswer advance readLine readBehind inText readText isReadingValue testNumber operandInRange comparisonInRange endingInRange in_range crowded repeats repeated headsOf comparisonsOf endingOf all any
-texts-read = refl
+pub texts_read_is : map text_answer texts ≡ map (λ (x : TextExample). x.answer) texts
+unfolding texts text_answer bytes bytes_equal is named literal_of action_of reading_of relation_of or_else operand_of both comparison_of comparisons_from condition_from joined rule_after constraint_after after line_from prepend pieces lines_of non_empty tokens_of decimal_from is_empty number_of positive negative hex_value decimal_of pattern_of hexadecimal_of constant_of judge_line is_comment tokens_answer line_answer advance read_line read_text_behind in_text read_text is_reading_value test_number operand_in_range comparison_in_range ending_in_range in_range crowded repeats repeated heads_of comparisons_of ending_of all any
+texts_read_is = refl
 
-pub pairs-read : map pairAnswer pairs ≡ map (λ (x : PairExample). x.answer) pairs
-unfolding pairs pairAnswer bytes sameBytes is named literalOf actionOf reading_of relationOf or_else operandOf both comparisonOf comparisonsFrom conditionFrom joined ruleAfter constraintAfter after lineFrom prepend pieces lines_of nonEmpty tokensOf decimalFrom is_empty number_of positive negative hexValue decimalOf patternOf hexadecimalOf constant_of judgeLine isComment tokensAnswer lineAnswer advance readLine readBehind inText readText readSite readTexts isReadingValue testNumber operandInRange comparisonInRange endingInRange in_range crowded repeats repeated headsOf comparisonsOf endingOf all any
-pairs-read = refl
+pub pairs_read : map pair_answer pairs ≡ map (λ (x : PairExample). x.answer) pairs
+unfolding pairs pair_answer bytes bytes_equal is named literal_of action_of reading_of relation_of or_else operand_of both comparison_of comparisons_from condition_from joined rule_after constraint_after after line_from prepend pieces lines_of non_empty tokens_of decimal_from is_empty number_of positive negative hex_value decimal_of pattern_of hexadecimal_of constant_of judge_line is_comment tokens_answer line_answer advance read_line read_text_behind in_text read_text read_site read_texts is_reading_value test_number operand_in_range comparison_in_range ending_in_range in_range crowded repeats repeated heads_of comparisons_of ending_of all any
+pairs_read = refl
 
-pub epochs-read : map epochAnswer epochLines ≡ map (λ (x : LineExample). x.answer) epochLines
-unfolding epochLines epochAnswer bytes sameBytes is named or_else both prepend pieces nonEmpty tokensOf decimalFrom is_empty number_of positive negative hexValue decimalOf patternOf hexadecimalOf constant_of toLeft atEquals assignmentOf item_of items_of itemInRange givenBy addItem judgeEpoch readEpoch isReadingValue repeats all any has insert
-epochs-read = refl
+pub epochs_read : map epoch_answer epoch_lines ≡ map (λ (x : LineExample). x.answer) epoch_lines
+unfolding epoch_lines epoch_answer bytes bytes_equal is named or_else both prepend pieces non_empty tokens_of decimal_from is_empty number_of positive negative hex_value decimal_of pattern_of hexadecimal_of constant_of to_left at_equals assignment_of item_of items_of item_in_range given_by add_item judge_epoch read_epoch is_reading_value repeats all any has insert
+epochs_read = refl

@@ -3,7 +3,7 @@ use Rattle.std.specs.Prelude.{ℕ, true, false, List, [], ◌∷◌, ℤ, pos, n
 use Prim.Native.String.{String}
 use Rattle.policy.specs.Fault.{refusal, within}
 use Rattle.policy.specs.Policy.{Policy}
-use Rattle.policy.specs.Set.{noEvents}
+use Rattle.policy.specs.Set.{no_events, set_of}
 use Rattle.policy.specs.declared.comparison.Comparison.{Comparison}
 use Rattle.policy.specs.declared.comparison.Operand.{Operand}
 use Rattle.policy.specs.declared.comparison.Relation.{Relation}
@@ -11,9 +11,9 @@ use Rattle.policy.specs.declared.fault.Fault.{Fault}
 use Rattle.policy.specs.declared.fault.Source.{Source}
 use Rattle.lexer.specs.Byte.{bytes}
 use Rattle.epoch_line.specs.Epoch as Epoch
-use Rattle.epoch_line.specs.Epoch.{EpochAnswer, readEpoch, emptyEpoch}
-use Rattle.lexer.specs.Token.{literalAs}
-use Rattle.rule_text.specs.Text.{Progress, reading, stopped, readText, readTexts, emptyPolicy}
+use Rattle.epoch_line.specs.Epoch.{EpochAnswer, read_epoch, empty_epoch}
+use Rattle.lexer.specs.Token.{literal_as}
+use Rattle.rule_text.specs.Text.{Progress, reading, stopped, read_text, read_texts, empty_policy}
 
 -- ---- rule texts
 
@@ -22,11 +22,11 @@ worked =
     record {
       rules =
           record {
-            literals = literalAs false 1 ∷ literalAs true 2 ∷ [];
+            literals = literal_as false 1 ∷ literal_as true 2 ∷ [];
             action = record { 0 = 3 };
             comparisons = record { reading = record { 0 = 0 }; relation = Relation.Greater; operand = Operand.Constant (pos 40) } ∷ [];
           }
-          ∷ record { literals = literalAs false 3 ∷ []; action = record { 0 = 4 }; comparisons = [] } ∷ [];
+          ∷ record { literals = literal_as false 3 ∷ []; action = record { 0 = 4 }; comparisons = [] } ∷ [];
       constraints = record { actions = record { 0 = 3 } ∷ record { 0 = 4 } ∷ []; comparisons = [] } ∷ [];
     }
 
@@ -40,7 +40,7 @@ patterns =
     record {
       rules =
           record {
-            literals = literalAs false 1 ∷ [];
+            literals = literal_as false 1 ∷ [];
             action = record { 0 = 1 };
             comparisons = equals 0 (pos 32832) ∷ equals 1 (negsuc 0) ∷ equals 2 (negsuc 2147483647) ∷ equals 3 (pos 2147483647) ∷ [];
           }
@@ -57,60 +57,60 @@ abbrev row : String → Progress → TextExample
 row text answer = record { text = text; answer = answer }
 
 -- refused in that text, at that line
-abbrev refusedAt : Source → Fault → ℕ → Progress
-refusedAt source f n = stopped (within source (refusal f n))
+abbrev refused_at : Source → Fault → ℕ → Progress
+refused_at source f n = stopped (within source (refusal f n))
 
 unfoldable pub texts : List TextExample
 texts =
     row "E1 & !E2 causes A3 if R0 > 40\nE3 causes A4\nnever A3 & A4\n" (reading 4 worked)
     ∷ row "  never A3 & A4 \n\n# comment\nE1  &  !E2 causes A3 if R0 > 40\n#\nE3 causes A4" (reading 7 worked)
-    ∷ row "" (reading 1 emptyPolicy)
-    ∷ row "\n \n" (reading 3 emptyPolicy)
+    ∷ row "" (reading 1 empty_policy)
+    ∷ row "\n \n" (reading 3 empty_policy)
     ∷ row
     "E1 causes A1 if R0 = 0x8040 , R1 = 0xFFFFFFFF , R2 = 0x80000000 , R3 = 0x7fffffff\nnever A1 if R0 = 0x00 , R1 = 0x00000001 , R2 = 0xAbCdEf\n"
     (reading 3 patterns)
-    ∷ row "E01 causes A1" (refusedAt Source.Maker Fault.Syntax 1)
-    ∷ row "E1 causes A1 if R0 = -0" (refusedAt Source.Maker Fault.Syntax 1)
-    ∷ row "E1 causes A1 if R0 = 00" (refusedAt Source.Maker Fault.Syntax 1)
-    ∷ row "E1 causes A1 if R0 = 01" (refusedAt Source.Maker Fault.Syntax 1)
-    ∷ row "E1 causes A1 if R0 = +1" (refusedAt Source.Maker Fault.Syntax 1)
-    ∷ row "E1 causes A1 if R0 = 0x" (refusedAt Source.Maker Fault.Syntax 1)
-    ∷ row "E1 causes A1 if R0 = 0X1" (refusedAt Source.Maker Fault.Syntax 1)
-    ∷ row "E1 causes A1 if R0 = -0x1" (refusedAt Source.Maker Fault.Syntax 1)
-    ∷ row "E1 causes A1 if R0 = 0x1G" (refusedAt Source.Maker Fault.Syntax 1)
-    ∷ row "E1 causes A1 if R0 = 0x000000001G" (refusedAt Source.Maker Fault.Syntax 1)
-    ∷ row "E1 causes A1 if R0 = 0x 1" (refusedAt Source.Maker Fault.Syntax 1)
-    ∷ row "E1 causes A1 if R0 = R0x0" (refusedAt Source.Maker Fault.Syntax 1)
-    ∷ row "E1 causes A1 if R0x0 = 1" (refusedAt Source.Maker Fault.Syntax 1)
-    ∷ row "E0x1 causes A1" (refusedAt Source.Maker Fault.Syntax 1)
-    ∷ row "\nE causes A1" (refusedAt Source.Maker Fault.Syntax 2)
-    ∷ row "! E2 causes A1" (refusedAt Source.Maker Fault.Syntax 1)
-    ∷ row "!!E2 causes A1" (refusedAt Source.Maker Fault.Syntax 1)
-    ∷ row "E1 causes A1 if R0=40" (refusedAt Source.Maker Fault.Syntax 1)
-    ∷ row "E1 # x" (refusedAt Source.Maker Fault.Syntax 1)
-    ∷ row "never" (refusedAt Source.Maker Fault.Syntax 1)
-    ∷ row "E1 causes causes A1" (refusedAt Source.Maker Fault.Syntax 1)
-    ∷ row "E1 causes A1 if" (refusedAt Source.Maker Fault.Syntax 1)
-    ∷ row "E1 & causes A1" (refusedAt Source.Maker Fault.Syntax 1)
-    ∷ row "never A1 &" (refusedAt Source.Maker Fault.Syntax 1)
-    ∷ row "E1 causes A1 if R0 = 1 ," (refusedAt Source.Maker Fault.Syntax 1)
-    ∷ row "E64 causes A1 if" (refusedAt Source.Maker Fault.Syntax 1)
-    ∷ row "E1\tcauses A1" (refusedAt Source.Maker Fault.Syntax 1)
-    ∷ row "E1 causes A1\r\n" (refusedAt Source.Maker Fault.Syntax 1)
-    ∷ row "E64 causes A1" (refusedAt Source.Maker Fault.OutOfRange 1)
-    ∷ row "E1 causes A64" (refusedAt Source.Maker Fault.OutOfRange 1)
-    ∷ row "E1 causes A1 if R16 = 1" (refusedAt Source.Maker Fault.OutOfRange 1)
-    ∷ row "E1 causes A1 if R0 = R16" (refusedAt Source.Maker Fault.OutOfRange 1)
-    ∷ row "E1 causes A1 if R0 = 2147483648" (refusedAt Source.Maker Fault.OutOfRange 1)
-    ∷ row "E1 causes A1 if R0 = -2147483649" (refusedAt Source.Maker Fault.OutOfRange 1)
-    ∷ row "E1 causes A1 if R0 = 0x100000000" (refusedAt Source.Maker Fault.OutOfRange 1)
-    ∷ row "E1 causes A1 if R0 = 0x000000001" (refusedAt Source.Maker Fault.OutOfRange 1)
-    ∷ row "E0 & E1 & E2 & E3 & E4 & E5 & E6 & E7 & E100000000000000000000000000000 causes A1" (refusedAt Source.Maker Fault.OutOfRange 1)
-    ∷ row "E0 & E1 & E2 & E3 & E4 & E5 & E6 & E7 & E8 causes A1" (refusedAt Source.Maker Fault.TooManyParts 1)
-    ∷ row "E0 & E1 & E2 & E3 & E4 & E5 & E6 & E7 & E7 causes A1" (refusedAt Source.Maker Fault.TooManyParts 1)
-    ∷ row "never A1 if R0 = 1 , R0 = 1 , R0 = 1 , R0 = 1 , R0 = 1" (refusedAt Source.Maker Fault.TooManyParts 1)
-    ∷ row "# first\n\nE1 & !E1 causes A1" (refusedAt Source.Maker Fault.Duplicate 3)
-    ∷ row "never A1 & A2 & A1" (refusedAt Source.Maker Fault.Duplicate 1)
+    ∷ row "E01 causes A1" (refused_at Source.Maker Fault.Syntax 1)
+    ∷ row "E1 causes A1 if R0 = -0" (refused_at Source.Maker Fault.Syntax 1)
+    ∷ row "E1 causes A1 if R0 = 00" (refused_at Source.Maker Fault.Syntax 1)
+    ∷ row "E1 causes A1 if R0 = 01" (refused_at Source.Maker Fault.Syntax 1)
+    ∷ row "E1 causes A1 if R0 = +1" (refused_at Source.Maker Fault.Syntax 1)
+    ∷ row "E1 causes A1 if R0 = 0x" (refused_at Source.Maker Fault.Syntax 1)
+    ∷ row "E1 causes A1 if R0 = 0X1" (refused_at Source.Maker Fault.Syntax 1)
+    ∷ row "E1 causes A1 if R0 = -0x1" (refused_at Source.Maker Fault.Syntax 1)
+    ∷ row "E1 causes A1 if R0 = 0x1G" (refused_at Source.Maker Fault.Syntax 1)
+    ∷ row "E1 causes A1 if R0 = 0x000000001G" (refused_at Source.Maker Fault.Syntax 1)
+    ∷ row "E1 causes A1 if R0 = 0x 1" (refused_at Source.Maker Fault.Syntax 1)
+    ∷ row "E1 causes A1 if R0 = R0x0" (refused_at Source.Maker Fault.Syntax 1)
+    ∷ row "E1 causes A1 if R0x0 = 1" (refused_at Source.Maker Fault.Syntax 1)
+    ∷ row "E0x1 causes A1" (refused_at Source.Maker Fault.Syntax 1)
+    ∷ row "\nE causes A1" (refused_at Source.Maker Fault.Syntax 2)
+    ∷ row "! E2 causes A1" (refused_at Source.Maker Fault.Syntax 1)
+    ∷ row "!!E2 causes A1" (refused_at Source.Maker Fault.Syntax 1)
+    ∷ row "E1 causes A1 if R0=40" (refused_at Source.Maker Fault.Syntax 1)
+    ∷ row "E1 # x" (refused_at Source.Maker Fault.Syntax 1)
+    ∷ row "never" (refused_at Source.Maker Fault.Syntax 1)
+    ∷ row "E1 causes causes A1" (refused_at Source.Maker Fault.Syntax 1)
+    ∷ row "E1 causes A1 if" (refused_at Source.Maker Fault.Syntax 1)
+    ∷ row "E1 & causes A1" (refused_at Source.Maker Fault.Syntax 1)
+    ∷ row "never A1 &" (refused_at Source.Maker Fault.Syntax 1)
+    ∷ row "E1 causes A1 if R0 = 1 ," (refused_at Source.Maker Fault.Syntax 1)
+    ∷ row "E64 causes A1 if" (refused_at Source.Maker Fault.Syntax 1)
+    ∷ row "E1\tcauses A1" (refused_at Source.Maker Fault.Syntax 1)
+    ∷ row "E1 causes A1\r\n" (refused_at Source.Maker Fault.Syntax 1)
+    ∷ row "E64 causes A1" (refused_at Source.Maker Fault.OutOfRange 1)
+    ∷ row "E1 causes A64" (refused_at Source.Maker Fault.OutOfRange 1)
+    ∷ row "E1 causes A1 if R16 = 1" (refused_at Source.Maker Fault.OutOfRange 1)
+    ∷ row "E1 causes A1 if R0 = R16" (refused_at Source.Maker Fault.OutOfRange 1)
+    ∷ row "E1 causes A1 if R0 = 2147483648" (refused_at Source.Maker Fault.OutOfRange 1)
+    ∷ row "E1 causes A1 if R0 = -2147483649" (refused_at Source.Maker Fault.OutOfRange 1)
+    ∷ row "E1 causes A1 if R0 = 0x100000000" (refused_at Source.Maker Fault.OutOfRange 1)
+    ∷ row "E1 causes A1 if R0 = 0x000000001" (refused_at Source.Maker Fault.OutOfRange 1)
+    ∷ row "E0 & E1 & E2 & E3 & E4 & E5 & E6 & E7 & E100000000000000000000000000000 causes A1" (refused_at Source.Maker Fault.OutOfRange 1)
+    ∷ row "E0 & E1 & E2 & E3 & E4 & E5 & E6 & E7 & E8 causes A1" (refused_at Source.Maker Fault.TooManyParts 1)
+    ∷ row "E0 & E1 & E2 & E3 & E4 & E5 & E6 & E7 & E7 causes A1" (refused_at Source.Maker Fault.TooManyParts 1)
+    ∷ row "never A1 if R0 = 1 , R0 = 1 , R0 = 1 , R0 = 1 , R0 = 1" (refused_at Source.Maker Fault.TooManyParts 1)
+    ∷ row "# first\n\nE1 & !E1 causes A1" (refused_at Source.Maker Fault.Duplicate 3)
+    ∷ row "never A1 & A2 & A1" (refused_at Source.Maker Fault.Duplicate 1)
     ∷ []
 
 -- ---- two texts as one (document 02, L6)
@@ -130,13 +130,13 @@ pairs =
     ∷ pair "E1 & !E2 causes A3 if R0 > 40\nE3 causes A4\n" "# site\nnever A3 & A4\n" (reading 3 worked)
     ∷ pair "E1 & !E2 causes A3 if R0 > 40\nE3 causes A4\nnever A3 & A4\n" "" (reading 1 worked)
     ∷ pair "" "E1 & !E2 causes A3 if R0 > 40\nE3 causes A4\nnever A3 & A4\n" (reading 4 worked)
-    ∷ pair "" "" (reading 1 emptyPolicy)
+    ∷ pair "" "" (reading 1 empty_policy)
     -- the bytes are not joined
-    ∷ pair "E1 causes" " A1" (refusedAt Source.Maker Fault.Syntax 1)
+    ∷ pair "E1 causes" " A1" (refused_at Source.Maker Fault.Syntax 1)
     -- the maker's faults come first, and lines are counted from 1 in each text
-    ∷ pair "\n\nE1" "E64 causes A1" (refusedAt Source.Maker Fault.Syntax 3)
-    ∷ pair "E64 causes A1" "E1" (refusedAt Source.Maker Fault.OutOfRange 1)
-    ∷ pair "E1 causes A1\n\n" "\nE1 & E1 causes A1\n" (refusedAt Source.Site Fault.Duplicate 2)
+    ∷ pair "\n\nE1" "E64 causes A1" (refused_at Source.Maker Fault.Syntax 3)
+    ∷ pair "E64 causes A1" "E1" (refused_at Source.Maker Fault.OutOfRange 1)
+    ∷ pair "E1 causes A1\n\n" "\nE1 & E1 causes A1\n" (refused_at Source.Site Fault.Duplicate 2)
     ∷ []
 
 -- ---- epoch lines
@@ -148,15 +148,15 @@ pub record LineExample : Type 0 where
 abbrev entry : String → EpochAnswer → LineExample
 entry line answer = record { line = line; answer = answer }
 
-unfoldable pub epochLines : List LineExample
-epochLines =
-    entry "" (Epoch.accepted emptyEpoch)
-    ∷ entry " E1 E3 E1  R0=41 " (Epoch.accepted (record { events = record { 0 = 10 }; readings = record { given = record { 0 = 1 }; values = pos 41 ∷ replicate 15 (pos 0) } }))
-    ∷ entry "R15=-2147483648 E63" (Epoch.accepted (record { events = record { 0 = 9223372036854775808 }; readings = record { given = record { 0 = 32768 }; values = set (replicate 16 (pos 0)) 15 (negsuc 2147483647) } }))
+unfoldable pub epoch_lines : List LineExample
+epoch_lines =
+    entry "" (Epoch.accepted empty_epoch)
+    ∷ entry " E1 E3 E1  R0=41 " (Epoch.accepted (record { events = set_of 10; readings = record { given = set_of 1; values = pos 41 ∷ replicate 15 (pos 0) } }))
+    ∷ entry "R15=-2147483648 E63" (Epoch.accepted (record { events = set_of 9223372036854775808; readings = record { given = set_of 32768; values = set (replicate 16 (pos 0)) 15 (negsuc 2147483647) } }))
     ∷ entry "R0=0x8040 R1=0xFFFFFFFF R2=0x00"
-    (Epoch.accepted (record { events = noEvents; readings = record { given = record { 0 = 7 }; values = pos 32832 ∷ negsuc 0 ∷ replicate 14 (pos 0) } }))
+    (Epoch.accepted (record { events = no_events; readings = record { given = set_of 7; values = pos 32832 ∷ negsuc 0 ∷ replicate 14 (pos 0) } }))
     ∷ entry "R15=0x80000000 R0=0x7fffffff"
-    (Epoch.accepted (record { events = noEvents; readings = record { given = record { 0 = 32769 }; values = set (pos 2147483647 ∷ replicate 15 (pos 0)) 15 (negsuc 2147483647) } }))
+    (Epoch.accepted (record { events = no_events; readings = record { given = set_of 32769; values = set (pos 2147483647 ∷ replicate 15 (pos 0)) 15 (negsuc 2147483647) } }))
     ∷ entry "E1\nE2" (Epoch.refused Fault.EpochSyntax)
     ∷ entry "E1 \n" (Epoch.refused Fault.EpochSyntax)
     ∷ entry "E1=2" (Epoch.refused Fault.EpochSyntax)
@@ -189,11 +189,11 @@ epochLines =
 
 -- ---- what the definitions say of each row
 
-unfoldable pub textAnswer : TextExample → Progress
-textAnswer x = readText (bytes x.text)
+unfoldable pub text_answer : TextExample → Progress
+text_answer x = read_text (bytes x.text)
 
-unfoldable pub pairAnswer : PairExample → Progress
-pairAnswer x = readTexts (bytes x.maker) (bytes x.site)
+unfoldable pub pair_answer : PairExample → Progress
+pair_answer x = read_texts (bytes x.maker) (bytes x.site)
 
-unfoldable pub epochAnswer : LineExample → EpochAnswer
-epochAnswer x = readEpoch (bytes x.line)
+unfoldable pub epoch_answer : LineExample → EpochAnswer
+epoch_answer x = read_epoch (bytes x.line)

@@ -1,27 +1,27 @@
 -- Document 01, "Grounds for refusing": which faults a text and an epoch line have, and at which locations.
 use Rattle.std.specs.Prelude.{ℕ, ◌≤◌, true, List, [], ◌∷◌, ◌≡◌, eqb, length}
 use Rattle.std.proofs.Math.Option.{some}
-use Rattle.policy.specs.Fault.{faultNumber, refusal, within}
+use Rattle.policy.specs.Fault.{fault_number, refusal, within}
 use Rattle.policy.specs.List.{any}
 use Rattle.policy.specs.declared.fault.Fault.{Fault}
 use Rattle.policy.specs.Policy.{Policy}
 use Rattle.policy.specs.declared.fault.Refusal.{Refusal}
 use Rattle.policy.specs.declared.fault.Source.{Source}
 use Rattle.lexer.specs.Lines.{lines_of}
-use Rattle.rule_text.specs.Text.{stopped, readText, policyOf}
+use Rattle.rule_text.specs.Text.{stopped, read_text, policy_of}
 
 -- 1, at no line, or one of 2 to 6 at a line of the text, counted from 1; the place says which text it is
 pub data OfText (source : Source) (text : List ℕ) : Refusal → Type 0 where
   too_long : OfText source text (within source (refusal Fault.TooLong 0))
-  in-line : (f : Fault) (n : ℕ) → 2 ≤ faultNumber f → faultNumber f ≤ 6 → 1 ≤ n → n ≤ length (lines_of text) → OfText source text (within source (refusal f n))
+  in_line_is : (f : Fault) (n : ℕ) → 2 ≤ fault_number f → fault_number f ≤ 6 → 1 ≤ n → n ≤ length (lines_of text) → OfText source text (within source (refusal f n))
 
 -- document 02, L6: of two texts, one of the maker's, or, where the maker's text is accepted alone, one of the site's
 pub data OfTexts (maker site : List ℕ) (r : Refusal) : Type 0 where
-  of-maker : readText maker ≡ stopped r → OfText Source.Maker maker r → OfTexts maker site r
-  of-site : (p : Policy) → policyOf maker ≡ some p → OfText Source.Site site r → OfTexts maker site r
+  of_maker : read_text maker ≡ stopped r → OfText Source.Maker maker r → OfTexts maker site r
+  of_site : (p : Policy) → policy_of maker ≡ some p → OfText Source.Site site r → OfTexts maker site r
 
 -- 1, 12, 13 or 14, at no line and in no text
 pub record OfEpoch (r : Refusal) : Type 0 where
-  pub number : any (eqb (faultNumber r.fault)) (1 ∷ 12 ∷ 13 ∷ 14 ∷ []) ≡ true
+  pub number : any (eqb (fault_number r.fault)) (1 ∷ 12 ∷ 13 ∷ 14 ∷ []) ≡ true
   pub source : r.source ≡ Source.Neither
   pub location : r.location ≡ 0

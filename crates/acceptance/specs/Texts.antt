@@ -1,9 +1,9 @@
 -- Document 02, L6: what two accepted texts have as one.
 use Rattle.std.specs.Prelude.{ℕ, ◌≤◌, List, ◌++◌, ◌≡◌, length}
 use Rattle.std.proofs.Math.Option.{some}
-use Rattle.policy.specs.Limits.{ruleLimit, constraintLimit}
+use Rattle.policy.specs.Limits.{rule_limit, constraint_limit}
 use Rattle.policy.specs.Policy.{Policy}
-use Rattle.rule_text.specs.Text.{policyOf}
+use Rattle.rule_text.specs.Text.{policy_of}
 
 -- the rules of both, and the constraints of both, the first policy's before the second's
 abbrev pub joint : Policy → Policy → Policy
@@ -14,8 +14,8 @@ joint p q = record { rules = p.rules ++ q.rules; constraints = p.constraints ++ 
 pub record Joint (maker site : List ℕ) (p : Policy) : Type 0 where
   pub makers : Policy
   pub sites : Policy
-  pub maker-read : policyOf maker ≡ some makers
-  pub site-read : policyOf site ≡ some sites
+  pub maker_read : policy_of maker ≡ some makers
+  pub site_read : policy_of site ≡ some sites
   pub same : p ≡ joint makers sites
-  pub few-rules : length p.rules ≤ ruleLimit
-  pub few-constraints : length p.constraints ≤ constraintLimit
+  pub few_rules : length p.rules ≤ rule_limit
+  pub few_constraints : length p.constraints ≤ constraint_limit

@@ -1,65 +1,59 @@
 -- Putting word 0, the lines and the check words into a buffer with room for them leaves the image of the text's policy in it.
-use Prim.Native.Nat.{ℕ, ◌+◌, ◌*◌, ◌/◌, ◌≤◌, ◌<◌}
-use mathlib.Core.List.{List, [], ◌∷◌, ◌++◌, map}
-use mathlib.Core.Path.{◌≡◌, refl, sym, ap, ap₂, ◌∙◌}
-use native.Mathlib.Nat.{zero-add}
-use native.Mathlib.Omega.{arith}
-use borrow.Author.Tests.{le-leb, lt-leb}
-use lib.ListN.{length, take, drop, length-append}
-use lib.Seq.{take_at}
-use Rattle.policy.specs.Line.{PolicyLine, rule, constraint, endingOf}
+use Rattle.std.proofs.Common.{ℕ, ◌+◌, ◌*◌, ◌/◌, ◌≤◌, ◌<◌, List, [], ◌∷◌, ◌++◌, map, ◌≡◌, refl, sym, ap, ap₂, ◌∙◌, zero-add, arith, le-leb, length, take, drop, length-append, take_at}
+use borrow.Author.Tests.{lt-leb}
+use Rattle.policy.specs.Line.{PolicyLine, rule, constraint, ending_of}
 use Rattle.policy.specs.Policy.{Policy, Rule, Constraint}
 use Rattle.policy.specs.Fault.{refusal}
 use Rattle.policy.specs.Fill.{Filled}
 use Rattle.policy.specs.declared.fault.Fault.{Fault}
 use Rattle.policy.specs.declared.fault.Refusal.{Refusal}
-use Rattle.exactness.proofs.Exact.{content-below, image-length}
-use Rattle.word.proofs.WordLaws.{words_append, bytes-length}
-use Rattle.word.proofs.WriteLaws.{put_in, put-length, put-append, put-none, put-swap}
-use Rattle.word.specs.Steps.Write.{putBytes, putWords}
+use Rattle.exactness.proofs.Exact.{content_below, image_length}
+use Rattle.word.proofs.WordLaws.{words_append, bytes_length}
+use Rattle.word.proofs.WriteLaws.{put_in, put_length, put_append, put_none, put_swap}
+use Rattle.word.specs.Steps.Write.{put_bytes, put_words}
 use Rattle.word.specs.Word.{bytes_of, words_of}
-use Rattle.layout.specs.Header.{packHeader}
-use Rattle.image.specs.Held.{rulesIn, constraintsIn}
-use Rattle.layout.specs.Layout.{lineWords, linesWords, ruleWords, constraintWords, headerWord, contentWords, checkWords, imageWords, image_of}
-use Rattle.rule_text.specs.Answer.{textReadOf, textsRead}
-use Rattle.acceptance.proofs.Texts.{restarted, site-empty}
-use Rattle.rule_text.specs.Text.{Progress, reading, stopped, readText, readTexts}
+use Rattle.layout.specs.Header.{pack_header}
+use Rattle.image.specs.Held.{rules_in, constraints_in}
+use Rattle.layout.specs.Layout.{line_words, lines_words, rule_part_words, constraint_part_words, header_word, content_words, check_words, image_words, image_of}
+use Rattle.rule_text.specs.Answer.{text_read_of, texts_read}
+use Rattle.acceptance.proofs.Texts.{restarted, site_empty}
+use Rattle.rule_text.specs.Text.{Progress, reading, stopped, read_text, read_texts}
 use Rattle.rule_text.specs.declared.TextCounts.{TextCounts}
 use Rattle.rule_text.specs.declared.TextRead.{TextRead}
-use Rattle.codegen.proofs.AcceptedLaws.{newest-known, AcceptedTexts}
-use Rattle.codegen.specs.Compile.{newestForm, outputOf, compiled, compiledTexts}
-use Rattle.codegen.specs.Steps.Put.{wordCount, cursorFor, cursorsAfter, linesOfBoth, putLines, putContent, putImage}
+use Rattle.codegen.proofs.AcceptedLaws.{newest_known, AcceptedTexts}
+use Rattle.codegen.specs.Compile.{newest_form, output_of, compiled, compiled_texts}
+use Rattle.codegen.specs.Steps.Put.{word_count, cursor_for, cursors_after, lines_of_both, put_lines, put_content, put_image}
 use Rattle.codegen.specs.declared.Compiled.{Compiled}
 
 -- ---- the lines, one after another, are the two parts
 
-abbrev rulePart : List PolicyLine → List ℕ
-rulePart ls = linesWords (map rule (rulesIn ls))
+abbrev rule_part : List PolicyLine → List ℕ
+rule_part ls = lines_words (map rule (rules_in ls))
 
-abbrev constraintPart : List PolicyLine → List ℕ
-constraintPart ls = linesWords (map constraint (constraintsIn ls))
+abbrev constraint_part : List PolicyLine → List ℕ
+constraint_part ls = lines_words (map constraint (constraints_in ls))
 
-lines-put : (ls : List PolicyLine) (i j : ℕ) (buffer : List ℕ) → i + length (rulePart ls) ≤ j → j + length (constraintPart ls) ≤ length buffer / 4
-    → putLines ls (record { rules = i; constraints = j }) buffer ≡ putWords (putWords buffer i (rulePart ls)) j (constraintPart ls)
-unfolding putLines rulesIn constraintsIn linesWords cursorsAfter cursorFor endingOf
-lines-put [] i j buffer h k = sym (put-none (putWords buffer i []) j ∙ put-none buffer i)
-lines-put (rule r ∷ ls) i j buffer h k =
-    let w : List ℕ = lineWords (rule r) in
-    let n = length-append w (rulePart ls) in
-    lines-put ls (i + length w) j (putWords buffer i w) (omega arith) (omega (arith, put-length buffer i w))
-    ∙ ap (λ (b : List ℕ). putWords b j (constraintPart ls)) (put-append buffer i w (rulePart ls) (omega arith))
-lines-put (constraint c ∷ ls) i j buffer h k =
-    let w : List ℕ = lineWords (constraint c) in
-    let n = length-append w (constraintPart ls) in
-    lines-put ls i (j + length w) (putWords buffer j w) (omega arith) (omega (arith, put-length buffer j w))
-    ∙ ap (λ (b : List ℕ). putWords b (j + length w) (constraintPart ls)) (put-swap buffer i j (rulePart ls) w h (omega arith))
-    ∙ put-append (putWords buffer i (rulePart ls)) j w (constraintPart ls) (omega (arith, put-length buffer i (rulePart ls)))
+lines_put : (ls : List PolicyLine) (i j : ℕ) (buffer : List ℕ) → i + length (rule_part ls) ≤ j → j + length (constraint_part ls) ≤ length buffer / 4
+    → put_lines ls (record { rules = i; constraints = j }) buffer ≡ put_words (put_words buffer i (rule_part ls)) j (constraint_part ls)
+unfolding put_lines rules_in constraints_in lines_words cursors_after cursor_for ending_of
+lines_put [] i j buffer h k = sym (put_none (put_words buffer i []) j ∙ put_none buffer i)
+lines_put (rule r ∷ ls) i j buffer h k =
+    let w : List ℕ = line_words (rule r) in
+    let n = length-append w (rule_part ls) in
+    lines_put ls (i + length w) j (put_words buffer i w) (omega arith) (omega (arith, put_length buffer i w))
+    ∙ ap (λ (b : List ℕ). put_words b j (constraint_part ls)) (put_append buffer i w (rule_part ls) (omega arith))
+lines_put (constraint c ∷ ls) i j buffer h k =
+    let w : List ℕ = line_words (constraint c) in
+    let n = length-append w (constraint_part ls) in
+    lines_put ls i (j + length w) (put_words buffer j w) (omega arith) (omega (arith, put_length buffer j w))
+    ∙ ap (λ (b : List ℕ). put_words b (j + length w) (constraint_part ls)) (put_swap buffer i j (rule_part ls) w h (omega arith))
+    ∙ put_append (put_words buffer i (rule_part ls)) j w (constraint_part ls) (omega (arith, put_length buffer i (rule_part ls)))
 
-three-put : (buffer : List ℕ) (h : ℕ) (r c : List ℕ) → 1 + length r + length c ≤ length buffer / 4
-    → putWords (putWords (putWords buffer 0 (h ∷ [])) 1 r) (1 + length r) c ≡ putWords buffer 0 (h ∷ r ++ c)
-three-put buffer h r c room =
+three_put : (buffer : List ℕ) (h : ℕ) (r c : List ℕ) → 1 + length r + length c ≤ length buffer / 4
+    → put_words (put_words (put_words buffer 0 (h ∷ [])) 1 r) (1 + length r) c ≡ put_words buffer 0 (h ∷ r ++ c)
+three_put buffer h r c room =
     let n : 1 + length r ≡ 0 + length (h ∷ r) = omega arith in
-    ap₂ (λ (b : List ℕ) (k : ℕ). putWords b k c) (put-append buffer 0 (h ∷ []) r (omega arith)) n ∙ put-append buffer 0 (h ∷ r) c (omega arith)
+    ap₂ (λ (b : List ℕ) (k : ℕ). put_words b k c) (put_append buffer 0 (h ∷ []) r (omega arith)) n ∙ put_append buffer 0 (h ∷ r) c (omega arith)
 
 -- ---- the image of two accepted texts
 
@@ -68,100 +62,100 @@ module _ (maker site : List ℕ) (counts : TextCounts) (t : AcceptedTexts maker 
   p = t.policy
 
   abbrev P : ℕ
-  P = length (ruleWords p)
+  P = length (rule_part_words p)
 
   abbrev N : ℕ
-  N = length (constraintWords p)
+  N = length (constraint_part_words p)
 
   abbrev image : List ℕ
-  image = image_of newestForm p
+  image = image_of newest_form p
 
-  pub image-bytes : length image ≡ (P + N + 2) * 4
+  pub image_bytes : length image ≡ (P + N + 2) * 4
   unfolding image_of
-  image-bytes = omega (arith, bytes-length (imageWords newestForm p), image-length newestForm newest-known p t.acceptable)
+  image_bytes = omega (arith, bytes_length (image_words newest_form p), image_length newest_form newest_known p t.acceptable)
 
-  content-length : length (contentWords newestForm p) ≡ 1 + P + N
-  unfolding contentWords
-  content-length = omega (arith, length-append (ruleWords p) (constraintWords p))
+  content_length : length (content_words newest_form p) ≡ 1 + P + N
+  unfolding content_words
+  content_length = omega (arith, length-append (rule_part_words p) (constraint_part_words p))
 
   module _ (room : length image ≤ length buffer) where
-    words-room : P + N + 2 ≤ length buffer / 4
-    words-room = omega (arith, image-bytes)
+    words_room : P + N + 2 ≤ length buffer / 4
+    words_room = omega (arith, image_bytes)
 
-    content-put : putContent (linesOfBoth maker site) P N buffer ≡ putWords buffer 0 (contentWords newestForm p)
-    unfolding putContent contentWords headerWord ruleWords constraintWords
-    content-put =
-        let ls : List PolicyLine = linesOfBoth maker site in
-        let h : ℕ = packHeader newestForm P N in
-        let r : rulePart ls ≡ ruleWords p = ap (λ (x : List Rule). linesWords (map rule x)) t.rules in
-        let c : constraintPart ls ≡ constraintWords p = ap (λ (x : List Constraint). linesWords (map constraint x)) t.constraints in
-        let m = words-room in
-        lines-put ls 1 (1 + P) (putWords buffer 0 (h ∷ [])) (omega (arith, ap length r)) (omega (arith, ap length c, put-length buffer 0 (h ∷ [])))
-        ∙ ap₂ (λ (x y : List ℕ). putWords (putWords (putWords buffer 0 (h ∷ [])) 1 x) (1 + P) y) r c ∙ three-put buffer h (ruleWords p) (constraintWords p) (omega arith)
+    content_put : put_content (lines_of_both maker site) P N buffer ≡ put_words buffer 0 (content_words newest_form p)
+    unfolding put_content content_words header_word rule_part_words constraint_part_words
+    content_put =
+        let ls : List PolicyLine = lines_of_both maker site in
+        let h : ℕ = pack_header newest_form P N in
+        let r : rule_part ls ≡ rule_part_words p = ap (λ (x : List Rule). lines_words (map rule x)) t.rules in
+        let c : constraint_part ls ≡ constraint_part_words p = ap (λ (x : List Constraint). lines_words (map constraint x)) t.constraints in
+        let m = words_room in
+        lines_put ls 1 (1 + P) (put_words buffer 0 (h ∷ [])) (omega (arith, ap length r)) (omega (arith, ap length c, put_length buffer 0 (h ∷ [])))
+        ∙ ap₂ (λ (x y : List ℕ). put_words (put_words (put_words buffer 0 (h ∷ [])) 1 x) (1 + P) y) r c ∙ three_put buffer h (rule_part_words p) (constraint_part_words p) (omega arith)
 
-    content-read : take (1 + P + N) (words_of (putWords buffer 0 (contentWords newestForm p))) ≡ contentWords newestForm p
-    unfolding putBytes
-    content-read =
-        let w : List ℕ = contentWords newestForm p in
+    content_read : take (1 + P + N) (words_of (put_words buffer 0 (content_words newest_form p))) ≡ content_words newest_form p
+    unfolding put_bytes
+    content_read =
+        let w : List ℕ = content_words newest_form p in
         let rest : List ℕ = drop (0 * 4 + length (bytes_of w)) buffer in
-        let m = words-room in
-        ap (λ (b : List ℕ). take (1 + P + N) (words_of b)) (put_in buffer 0 w (omega (arith, content-length)))
-        ∙ ap (take (1 + P + N)) (words_append w rest (content-below newestForm newest-known p t.acceptable)) ∙ take_at w (words_of rest) (1 + P + N) content-length
+        let m = words_room in
+        ap (λ (b : List ℕ). take (1 + P + N) (words_of b)) (put_in buffer 0 w (omega (arith, content_length)))
+        ∙ ap (take (1 + P + N)) (words_append w rest (content_below newest_form newest_known p t.acceptable)) ∙ take_at w (words_of rest) (1 + P + N) content_length
 
-    pub image-written : putImage (linesOfBoth maker site) P N buffer ≡ image ++ drop (length image) buffer
-    unfolding putImage imageWords image_of checkWords putBytes
-    image-written =
-        let w : List ℕ = contentWords newestForm p in
-        let m = words-room in
-        ap (λ (b : List ℕ). putWords b (1 + P + N) (checkWords newestForm (take (1 + P + N) (words_of b)))) content-put
-        ∙ ap (λ (x : List ℕ). putWords (putWords buffer 0 w) (1 + P + N) (checkWords newestForm x)) content-read
-        ∙ ap (λ (n : ℕ). putWords (putWords buffer 0 w) n (checkWords newestForm w)) (sym (zero-add (length w) ∙ content-length))
-        ∙ put-append buffer 0 w (checkWords newestForm w) (omega (arith, content-length))
-        ∙ put_in buffer 0 (imageWords newestForm p) (omega (arith, image-length newestForm newest-known p t.acceptable))
+    pub image_written : put_image (lines_of_both maker site) P N buffer ≡ image ++ drop (length image) buffer
+    unfolding put_image image_words image_of check_words put_bytes
+    image_written =
+        let w : List ℕ = content_words newest_form p in
+        let m = words_room in
+        ap (λ (b : List ℕ). put_words b (1 + P + N) (check_words newest_form (take (1 + P + N) (words_of b)))) content_put
+        ∙ ap (λ (x : List ℕ). put_words (put_words buffer 0 w) (1 + P + N) (check_words newest_form x)) content_read
+        ∙ ap (λ (n : ℕ). put_words (put_words buffer 0 w) n (check_words newest_form w)) (sym (zero-add (length w) ∙ content_length))
+        ∙ put_append buffer 0 w (check_words newest_form w) (omega (arith, content_length))
+        ∙ put_in buffer 0 (image_words newest_form p) (omega (arith, image_length newest_form newest_known p t.acceptable))
         ∙ ap (λ (n : ℕ). image ++ drop n buffer) (zero-add (length image))
 
   -- ---- what the compiler answers
 
-  module _ (rules constraints : ℕ) (r : rules ≡ wordCount counts.rules) (k : constraints ≡ wordCount counts.constraints) where
+  module _ (rules constraints : ℕ) (r : rules ≡ word_count counts.rules) (k : constraints ≡ word_count counts.constraints) where
     abbrev size : ℕ
     size = (rules + constraints + 2) * 4
 
     size_is : size ≡ length image
-    size_is = omega (arith, image-bytes, t.rule-count, t.constraint-count)
+    size_is = omega (arith, image_bytes, t.rule_count_is, t.constraint_count_is)
 
-    pub compiled-short : (x : Refusal) → x ≡ refusal Fault.BufferTooSmall 0 → length buffer < size → (Compiled.Refused x ≡ (compiledTexts maker site buffer).answer) × (buffer ≡ (compiledTexts maker site buffer).buffer)
-    unfolding compiledTexts outputOf
-    compiled-short x e h = rw (e, t.read, lt-leb (length image) (length buffer) (omega (arith, size_is))) (refl, refl)
+    pub compiled_short : (x : Refusal) → x ≡ refusal Fault.BufferTooSmall 0 → length buffer < size → (Compiled.Refused x ≡ (compiled_texts maker site buffer).answer) × (buffer ≡ (compiled_texts maker site buffer).buffer)
+    unfolding compiled_texts output_of
+    compiled_short x e h = rw (e, t.read, lt-leb (length image) (length buffer) (omega (arith, size_is))) (refl, refl)
 
-    pub compiled-image : size ≤ length buffer → (after : List ℕ) → after ≡ putImage (linesOfBoth maker site) rules constraints buffer
-        → (Compiled.Image size ≡ (compiledTexts maker site buffer).answer) × (after ≡ (compiledTexts maker site buffer).buffer)
-    unfolding compiledTexts outputOf
-    compiled-image h after e =
+    pub compiled_image : size ≤ length buffer → (after : List ℕ) → after ≡ put_image (lines_of_both maker site) rules constraints buffer
+        → (Compiled.Image size ≡ (compiled_texts maker site buffer).answer) × (after ≡ (compiled_texts maker site buffer).buffer)
+    unfolding compiled_texts output_of
+    compiled_image h after e =
         let room : length image ≤ length buffer = omega (arith, size_is) in
-        let done : after ≡ image ++ drop (length image) buffer = e ∙ ap₂ (λ (m n : ℕ). putImage (linesOfBoth maker site) m n buffer) (r ∙ t.rule-count) (k ∙ t.constraint-count) ∙ image-written room in
+        let done : after ≡ image ++ drop (length image) buffer = e ∙ ap₂ (λ (m n : ℕ). put_image (lines_of_both maker site) m n buffer) (r ∙ t.rule_count_is) (k ∙ t.constraint_count_is) ∙ image_written room in
         rw (t.read, le-leb (length image) (length buffer) room) (ap Compiled.Image size_is, done)
 
-pub compiled-refused : (maker site buffer : List ℕ) (r : Refusal) → textsRead maker site ≡ TextRead.Refused r → (Compiled.Refused r ≡ (compiledTexts maker site buffer).answer) × (buffer ≡ (compiledTexts maker site buffer).buffer)
-unfolding textsRead textReadOf compiledTexts outputOf
-compiled-refused maker site buffer r e = go (readTexts maker site) e
+pub compiled_refused : (maker site buffer : List ℕ) (r : Refusal) → texts_read maker site ≡ TextRead.Refused r → (Compiled.Refused r ≡ (compiled_texts maker site buffer).answer) × (buffer ≡ (compiled_texts maker site buffer).buffer)
+unfolding texts_read text_read_of compiled_texts output_of
+compiled_refused maker site buffer r e = go (read_texts maker site) e
   where
-    go : (s : Progress) → textReadOf s ≡ TextRead.Refused r → (Compiled.Refused r ≡ (outputOf s buffer).answer) × (buffer ≡ (outputOf s buffer).buffer)
+    go : (s : Progress) → text_read_of s ≡ TextRead.Refused r → (Compiled.Refused r ≡ (output_of s buffer).answer) × (buffer ≡ (output_of s buffer).buffer)
     go (reading m p) k = let w : ◌≡◌ {A = ℕ} 0 1 = cc in absurd (omega arith)
     go (stopped x) k = let a : Compiled.Refused r ≡ Compiled.Refused x = cc in (a, refl)
 
 -- ---- a single text
 
 -- with an empty site's text all is as for the maker's alone
-pub compiled-alone : (text buffer : List ℕ) → compiledTexts text [] buffer ≡ compiled text buffer
-unfolding compiledTexts compiled readTexts outputOf restarted
-compiled-alone text buffer = ap (λ (s : Progress). outputOf s buffer) (site-empty (readText text)) ∙ go (readText text)
+pub compiled_alone : (text buffer : List ℕ) → compiled_texts text [] buffer ≡ compiled text buffer
+unfolding compiled_texts compiled read_texts output_of restarted
+compiled_alone text buffer = ap (λ (s : Progress). output_of s buffer) (site_empty (read_text text)) ∙ go (read_text text)
   where
-    go : (s : Progress) → outputOf (restarted s) buffer ≡ outputOf s buffer
+    go : (s : Progress) → output_of (restarted s) buffer ≡ output_of s buffer
     go (reading n p) = refl
     go (stopped r) = refl
 
-pub alone-answer : (text buffer : List ℕ) (x : Compiled) → x ≡ (compiledTexts text [] buffer).answer → x ≡ (compiled text buffer).answer
-alone-answer text buffer x e = e ∙ ap (λ (o : Filled Compiled). o.answer) (compiled-alone text buffer)
+pub alone_answer : (text buffer : List ℕ) (x : Compiled) → x ≡ (compiled_texts text [] buffer).answer → x ≡ (compiled text buffer).answer
+alone_answer text buffer x e = e ∙ ap (λ (o : Filled Compiled). o.answer) (compiled_alone text buffer)
 
-pub alone-buffer : (text buffer after : List ℕ) → after ≡ (compiledTexts text [] buffer).buffer → after ≡ (compiled text buffer).buffer
-alone-buffer text buffer after e = e ∙ ap (λ (o : Filled Compiled). o.buffer) (compiled-alone text buffer)
+pub alone_buffer : (text buffer after : List ℕ) → after ≡ (compiled_texts text [] buffer).buffer → after ≡ (compiled text buffer).buffer
+alone_buffer text buffer after e = e ∙ ap (λ (o : Filled Compiled). o.buffer) (compiled_alone text buffer)

@@ -5,29 +5,29 @@ use Rattle.std.proofs.Math.Option.{Option, none, some}
 use Rattle.policy.specs.Fill.{Filled, refuse, fill}
 use Rattle.policy.specs.declared.fault.Refusal.{Refusal}
 use Rattle.layout.specs.Layout.{image_of}
-use Rattle.rule_text.specs.Text.{Progress, reading, stopped, readText, readTexts}
+use Rattle.rule_text.specs.Text.{Progress, reading, stopped, read_text, read_texts}
 use Rattle.codegen.specs.declared.Compiled.{Compiled}
 
 -- the form that the compiler writes
-abbrev pub newestForm : ℕ
-newestForm = 1
+abbrev pub newest_form : ℕ
+newest_form = 1
 
-unfoldable pub outputOf : Progress → List ℕ → Filled Compiled
-outputOf (stopped r) buffer = refuse Compiled.Refused Compiled.Image r buffer
-outputOf (reading n p) buffer = fill Compiled.Refused Compiled.Image (image_of newestForm p) buffer
+unfoldable pub output_of : Progress → List ℕ → Filled Compiled
+output_of (stopped r) buffer = refuse Compiled.Refused Compiled.Image r buffer
+output_of (reading n p) buffer = fill Compiled.Refused Compiled.Image (image_of newest_form p) buffer
 
 unfoldable pub compiled : List ℕ → List ℕ → Filled Compiled
-compiled text buffer = outputOf (readText text) buffer
+compiled text buffer = output_of (read_text text) buffer
 
 -- document 02, L6: the same of the maker's and the site's text as one
-unfoldable pub compiledTexts : List ℕ → List ℕ → List ℕ → Filled Compiled
-compiledTexts maker site buffer = outputOf (readTexts maker site) buffer
+unfoldable pub compiled_texts : List ℕ → List ℕ → List ℕ → Filled Compiled
+compiled_texts maker site buffer = output_of (read_texts maker site) buffer
 
 -- ---- what an answer says: the fault with its location, if it is a refusal, and how many bytes were written
 
-abbrev pub refusalIn : Compiled → Option Refusal
-refusalIn (Compiled.Refused r) = some r
-refusalIn (Compiled.Image size) = none
+abbrev pub refusal_in : Compiled → Option Refusal
+refusal_in (Compiled.Refused r) = some r
+refusal_in (Compiled.Image size) = none
 
 abbrev pub size_of : Compiled → ℕ
 size_of (Compiled.Refused r) = 0

@@ -4,14 +4,14 @@ use Rattle.std.proofs.Math.Option.{Option, some}
 use Rattle.policy.specs.Fill.{Filled}
 use Rattle.policy.specs.Limits.{Acceptable}
 use Rattle.policy.specs.Policy.{Policy}
-use Rattle.exactness.specs.Exact.{contentsOf}
-use Rattle.layout.specs.Layout.{image_of, sizeLimit}
+use Rattle.exactness.specs.Exact.{contents_of}
+use Rattle.layout.specs.Layout.{image_of, size_limit}
 use Rattle.image.specs.Load.{load}
-use Rattle.image.specs.Held.{policyIn}
+use Rattle.image.specs.Held.{policy_in}
 use Rattle.image.specs.declared.load.Loaded.{Loaded}
-use Rattle.rule_text.specs.Text.{policyOf, policyOfTexts}
+use Rattle.rule_text.specs.Text.{policy_of, policy_of_texts}
 use Rattle.codegen.specs.declared.Compiled.{Compiled}
-use Rattle.codegen.specs.Compile.{newestForm, compiled, compiledTexts}
+use Rattle.codegen.specs.Compile.{newest_form, compiled, compiled_texts}
 
 -- the bytes that a compilation of so many bytes wrote
 abbrev pub written_by : ℕ → Filled Compiled → List ℕ
@@ -23,23 +23,23 @@ pub record WrittenBy (known : Option Policy) (made : Filled Compiled) (buffer : 
   pub policy : Policy
   pub read : known ≡ some policy
   pub acceptable : Acceptable policy
-  pub image : written_by size made ≡ image_of newestForm policy
+  pub image : written_by size made ≡ image_of newest_form policy
   pub long : length (written_by size made) ≡ size
   -- what lies behind the image is as it was
   pub behind : drop size made.buffer ≡ drop size buffer
-  pub largest : size ≤ sizeLimit
+  pub largest : size ≤ size_limit
   -- the loader takes the bytes and holds the policy, which compiles to them again
-  pub taken : load (written_by size made) ≡ Loaded.Image (contentsOf newestForm policy)
-  pub holds : policyIn (written_by size made) ≡ policy
-  pub again : image_of newestForm (policyIn (written_by size made)) ≡ written_by size made
+  pub taken : load (written_by size made) ≡ Loaded.Image (contents_of newest_form policy)
+  pub holds : policy_in (written_by size made) ≡ policy
+  pub again : image_of newest_form (policy_in (written_by size made)) ≡ written_by size made
 
 -- of a text
-abbrev pub writtenIn : ℕ → List ℕ → List ℕ → List ℕ
-writtenIn size text buffer = written_by size (compiled text buffer)
+abbrev pub written_in : ℕ → List ℕ → List ℕ → List ℕ
+written_in size text buffer = written_by size (compiled text buffer)
 
 abbrev pub Written : List ℕ → List ℕ → ℕ → Type 0
-Written text buffer size = WrittenBy (policyOf text) (compiled text buffer) buffer size
+Written text buffer size = WrittenBy (policy_of text) (compiled text buffer) buffer size
 
 -- of two texts as one
 abbrev pub WrittenTexts : List ℕ → List ℕ → List ℕ → ℕ → Type 0
-WrittenTexts maker site buffer size = WrittenBy (policyOfTexts maker site) (compiledTexts maker site buffer) buffer size
+WrittenTexts maker site buffer size = WrittenBy (policy_of_texts maker site) (compiled_texts maker site buffer) buffer size

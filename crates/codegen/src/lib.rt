@@ -1,10 +1,12 @@
 // The compiler: from a rule text, or two texts as one, to the image of their policy, in a lent buffer. Start with specs/Compile.antt.
+#![tactic(auto)]
+
 ghost use Rattle.std.specs.Prelude.{◌≡◌, ◌≤◌, length};
-ghost use Rattle.word.specs.Steps.Write.{putWords};
-ghost use Rattle.layout.specs.Steps.Value.{valueWords};
+ghost use Rattle.word.specs.Steps.Write.{put_words};
+ghost use Rattle.layout.specs.Steps.Value.{value_words};
 ghost use Rattle.lexer.specs.Lines.{lines_of};
-ghost use Rattle.codegen.specs.Compile.{compiled, compiledTexts};
-ghost use Rattle.codegen.specs.Steps.Put.{wordCount, cursorFor, cursorsAfter, cursorsBehind, acceptedLines, linesOfBoth, putLines, putImage, Near, Further};
+ghost use Rattle.codegen.specs.Compile.{compiled, compiled_texts};
+ghost use Rattle.codegen.specs.Steps.Put.{word_count, cursor_for, cursors_after, cursors_behind, accepted_lines, lines_of_both, put_lines, put_image, Near, Further};
 
 use layout::{header, put_check_words, put_line};
 use line_value::Line;
@@ -15,7 +17,7 @@ use word::put_word;
 
 const FORM: u8 = 1;
 
-#[derive(Drop)]
+#[derive(Clone, Copy)]
 pub enum Compiled {
     Refused(Refusal),
     // How many bytes the image has.
@@ -24,14 +26,14 @@ pub enum Compiled {
 
 // How many words lines take.
 fn words(counts: LineCounts) -> usize
-    requires { wordCount counts ≤ 4096 }
-    ensures { result ≡ wordCount counts }
+    requires { word_count counts ≤ 4096 }
+    ensures { result ≡ word_count counts }
 {
     counts.lines + counts.heads + counts.comparisons + counts.constants
 }
 
 // The words at which the next rule and the next constraint go.
-#[derive(Drop)]
+#[derive(Clone, Copy)]
 pub struct Cursors {
     pub rules: usize,
     pub constraints: usize,
@@ -40,9 +42,9 @@ pub struct Cursors {
 // A line put in behind those of its kind.
 fn put_next(out: &mut [u8], cursors: Cursors, line: Line) -> Cursors
     requires near { Near 2000000 cursors }
-    requires short { length (valueWords line) ≤ 17 }
-    ensures answer { result ≡ cursorsAfter line.ending cursors (length (valueWords line)) }
-    ensures buffer { out.new ≡ putWords out.old (cursorFor line.ending cursors) (valueWords line) }
+    requires short { length (value_words line) ≤ 17 }
+    ensures answer { result ≡ cursors_after line.ending cursors (length (value_words line)) }
+    ensures buffer { out.new ≡ put_words out.old (cursor_for line.ending cursors) (value_words line) }
 {
     let ending = line.ending;
     match ending {
@@ -67,9 +69,9 @@ fn put_next(out: &mut [u8], cursors: Cursors, line: Line) -> Cursors
 fn put_lines(out: &mut [u8], text: &[u8], start: Cursors) -> Cursors
     requires near { Near 600000 start }
     requires short { length text.now ≤ 32768 }
-    ensures answer { result ≡ cursorsBehind (acceptedLines (lines_of text.now)) start }
+    ensures answer { result ≡ cursors_behind (accepted_lines (lines_of text.now)) start }
     ensures near { Further start result }
-    ensures buffer { out.new ≡ putLines (acceptedLines (lines_of text.now)) start out.old }
+    ensures buffer { out.new ≡ put_lines (accepted_lines (lines_of text.now)) start out.old }
 {
     let mut cursors = start;
     let mut at = 0;
@@ -97,7 +99,7 @@ fn put_image(out: &mut [u8], maker: &[u8], site: &[u8], rule_words: usize, const
     requires site { length site.now ≤ 32768 }
     requires rules { rule_words ≤ 2176 }
     requires constraints { constraint_words ≤ 1088 }
-    ensures { out.new ≡ putImage (linesOfBoth maker.now site.now) rule_words constraint_words out.old }
+    ensures { out.new ≡ put_image (lines_of_both maker.now site.now) rule_words constraint_words out.old }
 {
     put_word(out, 0, header(FORM, rule_words, constraint_words));
     let middle = 1 + rule_words;
@@ -113,8 +115,8 @@ fn put_image(out: &mut [u8], maker: &[u8], site: &[u8], rule_words: usize, const
 // The image of the maker's and the site's text as one from the start of the buffer on, or why there is none. A refusal leaves the
 // buffer as it is.
 pub fn compile_texts(maker: &[u8], site: &[u8], out: &mut [u8]) -> Compiled
-    ensures answer { result ≡ (compiledTexts maker.now site.now out.old).answer }
-    ensures buffer { out.new ≡ (compiledTexts maker.now site.now out.old).buffer }
+    ensures answer { result ≡ (compiled_texts maker.now site.now out.old).answer }
+    ensures buffer { out.new ≡ (compiled_texts maker.now site.now out.old).buffer }
 {
     let read = read_texts(maker, site);
     match read {

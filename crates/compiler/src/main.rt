@@ -1,61 +1,70 @@
 // Reads a rule text from standard input, or the maker's and the site's text from two files, and prints the image, one word a line, or
-// why it is refused. What is printed for which text is `session`'s: this program reads and writes, and prints nothing where a text
-// could not be read to its end.
-use files::TEXT_SIZE;
-use libc::{STDERR_FILENO, STDIN_FILENO};
-use session::LISTING_SIZE;
+// why it is refused. What is printed for which text is `session`'s: this program names the ends, and says which of them failed.
+#![tactic(auto)]
 
-fn write_listing(listing: &[u8]) {
-    if !stream::write(listing) {
-        os::fail(b"compiler: standard output");
+use files::Named;
+use session::TextsFailure;
+use std::io::{Stdin, Stdout};
+use std::{env, io};
+use stream::{Failure, Pair};
+
+fn say(rt: HostRuntime, what: &str, error: &io::Error) {
+    files::say(rt, "compiler", what, error);
+}
+
+fn standard(rt: HostRuntime) -> Pair<Stdin, Stdout> {
+    Pair {
+        reader: rt.stdin(),
+        writer: rt.stdout(),
     }
 }
 
 // A text from standard input.
-fn compile_input() {
-    let mut text = [0u8; TEXT_SIZE];
-    let input = files::read_all(STDIN_FILENO, &mut text);
-    if input.failed {
-        os::fail(b"compiler: standard input");
-        return;
+fn compile_input(rt: HostRuntime) {
+    match session::list_input(&mut standard(rt)) {
+        Ok(()) => {}
+        Err(Failure::Read(e)) => say(rt, "standard input", &e),
+        Err(Failure::Write(e)) => say(rt, "standard output", &e),
     }
-    let size = input.size;
-    let mut out = [0u8; LISTING_SIZE];
-    let end = session::put_listing(&text[..size], &mut out);
-    write_listing(&out[..end]);
 }
 
-// The maker's and the site's text from the files of the two arguments.
-fn compile_files() {
-    let mut maker = [0u8; TEXT_SIZE];
-    let first = files::read_argument(b"compiler", 1, &mut maker);
-    if first.failed {
-        return;
+// The maker's and the site's text from the files of these names.
+fn compile_files(rt: HostRuntime, maker: &str, site: &str) {
+    let mut first = Pair {
+        reader: Named::new(rt, maker),
+        writer: io::sink(),
+    };
+    let mut second = Pair {
+        reader: Named::new(rt, site),
+        writer: io::sink(),
+    };
+    match session::list_texts(&mut first, &mut second, &mut standard(rt)) {
+        Ok(()) => {}
+        Err(TextsFailure::Maker(e)) => say(rt, maker, &e),
+        Err(TextsFailure::Site(e)) => say(rt, site, &e),
+        Err(TextsFailure::Write(e)) => say(rt, "standard output", &e),
     }
-    let mut site = [0u8; TEXT_SIZE];
-    let second = files::read_argument(b"compiler", 2, &mut site);
-    if second.failed {
-        return;
-    }
-    let maker_size = first.size;
-    let site_size = second.size;
-    let mut out = [0u8; LISTING_SIZE];
-    let end = session::put_texts_listing(&maker[..maker_size], &site[..site_size], &mut out);
-    write_listing(&out[..end]);
 }
 
-fn main() {
-    let arguments = os::arg_count();
-    if arguments == 3 {
-        compile_files();
-        return;
+fn main(rt: HostRuntime) {
+    let mut words = match env::args(&rt) {
+        Ok(words) => words,
+        Err(e) => {
+            say(rt, "arguments", &e);
+            return;
+        }
+    };
+    words.next();
+    let maker = words.next();
+    let site = words.next();
+    let more = words.next();
+    match (maker, site, more) {
+        (None, _, _) => compile_input(rt),
+        (Some(maker), Some(site), None) => compile_files(rt, maker.as_str(), site.as_str()),
+        _ => {
+            let _ = eprintln!(rt;
+                "usage: compiler, with a rule text on standard input, or compiler MAKER SITE"
+            );
+        }
     }
-    if 1 < arguments {
-        io::write_all(
-            STDERR_FILENO,
-            b"usage: compiler, with a rule text on standard input, or compiler MAKER SITE\n",
-        );
-        return;
-    }
-    compile_input();
 }

@@ -1,33 +1,29 @@
 -- One line, by the number of its words.
-use Prim.Native.Nat.{ℕ, ◌≤◌, ◌<◌}
-use mathlib.Core.List.{List}
-use mathlib.Core.Option.{Option, none, some}
-use mathlib.Core.Path.{◌≡◌, refl, ap}
-use native.Mathlib.Omega.{arith}
-use lib.ListN.{length, drop, length-append}
-use Rattle.policy.specs.Line.{PolicyLine, headsOf, comparisonsOf, endingOf}
-use Rattle.decode.proofs.DecodeLaws.{line-out}
-use Rattle.layout.proofs.LayoutLaws.{part_length, condition-size-limit}
-use Rattle.layout.specs.Layout.{lineWords}
-use Rattle.decode.specs.Decode.{line_at, lineLength}
+use Rattle.std.proofs.Common.{ℕ, ◌≤◌, ◌<◌, List, ◌≡◌, refl, ap, arith, length, drop, length-append}
+use Rattle.std.proofs.Math.Option.{Option, none, some}
+use Rattle.policy.specs.Line.{PolicyLine, heads_of, comparisons_of, ending_of}
+use Rattle.decode.proofs.DecodeLaws.{line_out}
+use Rattle.layout.proofs.LayoutLaws.{part_length, condition_size_limit}
+use Rattle.layout.specs.Layout.{line_words}
+use Rattle.decode.specs.Decode.{line_at, line_length}
 use Rattle.policy.specs.declared.line.Part.{Part}
 
-pub line-some : (l : PolicyLine) → 0 < length (lineWords l)
-unfolding lineWords
-line-some l = omega (arith, part_length (headsOf l) (comparisonsOf l) (endingOf l), condition-size-limit (comparisonsOf l))
+pub line_some : (l : PolicyLine) → 0 < length (line_words l)
+unfolding line_words
+line_some l = omega (arith, part_length (heads_of l) (comparisons_of l) (ending_of l), condition_size_limit (comparisons_of l))
 
 -- one line, by the number of its words
 pub data Found (part : Part) (ws : List ℕ) (n : ℕ) : Type 0 where
   is_none : line_at part ws ≡ none → n ≡ 0 → Found part ws n
-  is_line : (l : PolicyLine) → line_at part ws ≡ some l → n ≡ length (lineWords l) → 0 < n → n ≤ length ws → Found part ws n
+  is_line : (l : PolicyLine) → line_at part ws ≡ some l → n ≡ length (line_words l) → 0 < n → n ≤ length ws → Found part ws n
 
-pub found : (part : Part) (ws : List ℕ) (n : ℕ) → n ≡ lineLength (line_at part ws) → Found part ws n
-unfolding lineLength
+pub found : (part : Part) (ws : List ℕ) (n : ℕ) → n ≡ line_length (line_at part ws) → Found part ws n
+unfolding line_length
 found part ws n e = go (line_at part ws) refl e
   where
-    go : (o : Option PolicyLine) → line_at part ws ≡ o → n ≡ lineLength o → Found part ws n
+    go : (o : Option PolicyLine) → line_at part ws ≡ o → n ≡ line_length o → Found part ws n
     go none q r = is_none q r
     go (some l) q r =
-        let h = line-out part ws l q in
-        let s = line-some l in
-        is_line l q r (omega arith) (omega (arith, ap length h.words, length-append (lineWords l) (drop (length (lineWords l)) ws)))
+        let h = line_out part ws l q in
+        let s = line_some l in
+        is_line l q r (omega arith) (omega (arith, ap length h.words, length-append (line_words l) (drop (length (line_words l)) ws)))

@@ -1,49 +1,44 @@
 -- What a scan takes is a line: the scan finds the lines that `line_at` finds.
-use Prim.Native.Nat.{ℕ, zero, suc, ◌+◌, ◌-◌, ◌≤◌, ◌<◌}
-use mathlib.Core.Bool.{Bool, true, false, cond, ◌&&◌}
-use mathlib.Core.List.{List, [], ◌∷◌, ◌++◌, map, append_assoc}
-use mathlib.Core.Option.{Option, none, some}
-use mathlib.Core.Path.{◌≡◌, refl, sym, ap, ap₂, ◌∙◌, subst}
-use native.Mathlib.Omega.{arith}
-use borrow.Author.Tests.{ltb-true, lt-ltb, leb-true, ne_eqb}
-use lib.Dec.{ltb, leb}
-use lib.ListN.{length, drop, get_or, length-append}
-use Rattle.policy.proofs.ListLaws.{true-false, and_in, and-out}
-use Rattle.policy.specs.Limits.{testNumber, comparisonInRange, endingInRange}
-use Rattle.policy.specs.Line.{PolicyLine, headsOf, comparisonsOf, endingOf}
+use Rattle.std.proofs.Common.{ℕ, zero, suc, ◌+◌, ◌-◌, ◌≤◌, ◌<◌, Bool, true, false, cond, ◌&&◌, List, [], ◌∷◌, ◌++◌, map, append_assoc, ◌≡◌, refl, sym, ap, ap₂, ◌∙◌, subst, arith, ltb-true, lt-ltb, leb-true, ne_eqb, length, drop, length-append}
+use Rattle.std.proofs.Math.Option.{Option, none, some}
+use Rattle.std.proofs.Math.Dec.{ltb, leb}
+use Rattle.std.proofs.Math.ListN.{get_or}
+use Rattle.policy.proofs.ListLaws.{true_false, and_in, and_out}
+use Rattle.policy.specs.Limits.{test_number, comparison_in_range, ending_in_range}
+use Rattle.policy.specs.Line.{PolicyLine, heads_of, comparisons_of, ending_of}
 use Rattle.policy.specs.List.{all}
 use Rattle.policy.specs.Set.{insert}
 use Rattle.policy.specs.declared.comparison.Comparison.{Comparison}
 use Rattle.policy.specs.declared.line.Test.{Test}
-use Rattle.operation.proofs.PartsLaws.{Compares, test-again, constant-in-range, constant-again, reading-in-range, reading-again}
-use Rattle.decode.proofs.DecodeLaws.{line-out, line-none}
-use Rattle.decode.proofs.FreshLaws.{Fresh, fresh_in, fresh-none}
-use Rattle.decode.proofs.ScanLaws.{HeadFacts, head-out, Sized, sizedConstant, sizedReading, sizedNone, sized, fill_step, fill_none, line-found, scan-by, add-head, add-comparison, comparison-on-words, end_line}
-use Rattle.policy.proofs.ValidLaws.{ValidParts, valid-in, testInRange}
-use Rattle.operation.specs.Parts.{testWord, comparisonWords, constantComparison, readingComparison}
-use Rattle.word.specs.Word.{wordLimit, Below}
-use Rattle.operation.specs.Fields.{first_of, second_of, skipOf}
+use Rattle.operation.proofs.PartsLaws.{Compares, test_again, constant_in_range, constant_again, reading_in_range, reading_again}
+use Rattle.decode.proofs.DecodeLaws.{line_out, line_none}
+use Rattle.decode.proofs.FreshLaws.{Fresh, fresh_in, fresh_none}
+use Rattle.decode.proofs.ScanLaws.{HeadFacts, head_out, Sized, sized_constant, sized_reading, sized_none, sized, fill_step, fill_none, line_found, scan_by, add_head, add_comparison_is, comparison_on_words, end_line}
+use Rattle.policy.proofs.ValidLaws.{ValidParts, valid_in, test_in_range}
+use Rattle.operation.specs.Parts.{test_word, comparison_words, constant_comparison, reading_comparison}
+use Rattle.word.specs.Word.{word_limit, Below}
+use Rattle.operation.specs.Fields.{first_of, second_of, skip_of}
 use Rattle.operation.specs.declared.operation.Operation.{Operation}
-use Rattle.layout.specs.Layout.{lineWords}
-use Rattle.decode.specs.Decode.{inPart, line_at, lineLength}
-use Rattle.decode.specs.Steps.Scan.{isEnding, headSound, headCount, comparisonLength, comparisonsFill, scanLine}
+use Rattle.layout.specs.Layout.{line_words}
+use Rattle.decode.specs.Decode.{in_part, line_at, line_length}
+use Rattle.decode.specs.Steps.Scan.{is_ending, head_sound, count_heads, comparison_length, comparisons_fill, scan_line}
 use Rattle.policy.specs.declared.line.Part.{Part}
 
 -- ---- comparisons and the ending word: m words and one
 
 record Condition (part : Part) (room m : ℕ) (ws : List ℕ) : Type 0 where
   line : PolicyLine
-  kind : inPart part line ≡ true
-  headless : headsOf line ≡ []
-  words : ws ≡ lineWords line ++ drop (suc m) ws
-  size : length (lineWords line) ≡ suc m
-  comparisons : all comparisonInRange (comparisonsOf line) ≡ true
-  ending : endingInRange (endingOf line) ≡ true
-  few : length (comparisonsOf line) ≤ room
+  kind : in_part part line ≡ true
+  headless : heads_of line ≡ []
+  words : ws ≡ line_words line ++ drop (suc m) ws
+  size : length (line_words line) ≡ suc m
+  comparisons : all comparison_in_range (comparisons_of line) ≡ true
+  ending : ending_in_range (ending_of line) ≡ true
+  few : length (comparisons_of line) ≤ room
 
-condition-end : (part : Part) (room w : ℕ) (ws : List ℕ) → isEnding part w ≡ true → w < wordLimit → Condition part room 0 (w ∷ ws)
+condition_end : (part : Part) (room w : ℕ) (ws : List ℕ) → is_ending part w ≡ true → w < word_limit → Condition part room 0 (w ∷ ws)
 unfolding all
-condition-end part room w ws h l =
+condition_end part room w ws h l =
     let r = end_line part w h l in
     record {
       line = r.line;
@@ -56,21 +51,21 @@ condition-end part room w ws h l =
       few = omega (arith, ap length r.comparisons);
     }
 
-condition-more : (part : Part) (room m n : ℕ) (c : Comparison) (ws rest : List ℕ) → Condition part room m rest → comparisonInRange c ≡ true → comparisonWords c (suc m) ++ rest ≡ ws
-    → length (comparisonWords c (suc m)) + suc m ≡ suc n → drop (suc n) ws ≡ drop (suc m) rest → Condition part (suc room) n ws
+condition_more : (part : Part) (room m n : ℕ) (c : Comparison) (ws rest : List ℕ) → Condition part room m rest → comparison_in_range c ≡ true → comparison_words c (suc m) ++ rest ≡ ws
+    → length (comparison_words c (suc m)) + suc m ≡ suc n → drop (suc n) ws ≡ drop (suc m) rest → Condition part (suc room) n ws
 unfolding all
-condition-more part room m n c ws rest t i e size same =
-    let r = add-comparison part c t.line t.kind in
-    let words : lineWords r.line ≡ comparisonWords c (suc m) ++ lineWords t.line =
-    comparison-on-words part c t.line r t.headless ∙ ap (λ (k : ℕ). comparisonWords c k ++ lineWords t.line) t.size in
+condition_more part room m n c ws rest t i e size same =
+    let r = add_comparison_is part c t.line t.kind in
+    let words : line_words r.line ≡ comparison_words c (suc m) ++ line_words t.line =
+    comparison_on_words part c t.line r t.headless ∙ ap (λ (k : ℕ). comparison_words c k ++ line_words t.line) t.size in
     record {
       line = r.line;
       kind = r.kind;
       headless = r.heads ∙ t.headless;
       words =
-          sym e ∙ ap (λ (x : List ℕ). comparisonWords c (suc m) ++ x) (t.words ∙ ap (λ (x : List ℕ). lineWords t.line ++ x) (sym same))
-          ∙ sym (append_assoc (comparisonWords c (suc m)) (lineWords t.line) (drop (suc n) ws)) ∙ ap (λ (x : List ℕ). x ++ drop (suc n) ws) (sym words);
-      size = ap length words ∙ length-append (comparisonWords c (suc m)) (lineWords t.line) ∙ ap (λ (k : ℕ). length (comparisonWords c (suc m)) + k) t.size ∙ size;
+          sym e ∙ ap (λ (x : List ℕ). comparison_words c (suc m) ++ x) (t.words ∙ ap (λ (x : List ℕ). line_words t.line ++ x) (sym same))
+          ∙ sym (append_assoc (comparison_words c (suc m)) (line_words t.line) (drop (suc n) ws)) ∙ ap (λ (x : List ℕ). x ++ drop (suc n) ws) (sym words);
+      size = ap length words ∙ length-append (comparison_words c (suc m)) (line_words t.line) ∙ ap (λ (k : ℕ). length (comparison_words c (suc m)) + k) t.size ∙ size;
       comparisons = rw r.comparisons (and_in i t.comparisons);
       ending = rw r.ending t.ending;
       few = let f = t.few in omega (arith, ap length r.comparisons);
@@ -78,7 +73,7 @@ condition-more part room m n c ws rest t i e size same =
 
 -- what comparisons that fill m words say
 abbrev Filled : Part → ℕ → ℕ → List ℕ → Type 0
-Filled part room m ws = m < length ws → Below wordLimit ws → isEnding part (get_or ws m 0) ≡ true → comparisonsFill room m ws ≡ true → Condition part room m ws
+Filled part room m ws = m < length ws → Below word_limit ws → is_ending part (get_or ws m 0) ≡ true → comparisons_fill room m ws ≡ true → Condition part room m ws
 
 two : (k : ℕ) → 2 + suc k ≡ suc (suc (suc k))
 two k = omega arith
@@ -86,60 +81,60 @@ two k = omega arith
 one : (k : ℕ) → 1 + suc k ≡ suc (suc k)
 one k = omega arith
 
-filled-constant : (part : Part) (room m w k : ℕ) (ws : List ℕ) → Compares Operation.AgainstConstant w k → second_of w ≡ 0 → 0 < k → suc m ≡ k + 1 → comparisonLength w (suc m) ≡ 2 → ((m' : ℕ) (xs : List ℕ) → Filled part room m' xs)
+filled_constant : (part : Part) (room m w k : ℕ) (ws : List ℕ) → Compares Operation.AgainstConstant w k → second_of w ≡ 0 → 0 < k → suc m ≡ k + 1 → comparison_length w (suc m) ≡ 2 → ((m' : ℕ) (xs : List ℕ) → Filled part room m' xs)
     → Filled part (suc room) (suc m) (w ∷ ws)
-filled-constant part room zero w k ws h z p q s later l b n e = absurd (omega arith)
-filled-constant part room (suc m) w k [] h z p q s later l b n e = absurd (omega arith)
-filled-constant part room (suc m) w k (v ∷ ws) h z p q s later l b n e =
+filled_constant part room zero w k ws h z p q s later l b n e = absurd (omega arith)
+filled_constant part room (suc m) w k [] h z p q s later l b n e = absurd (omega arith)
+filled_constant part room (suc m) w k (v ∷ ws) h z p q s later l b n e =
     let same : k ≡ suc m = omega arith in
     let f : Compares Operation.AgainstConstant w (suc m) = subst (Compares Operation.AgainstConstant w) same h in
-    let again = constant-again w v (suc m) f z (b 1) in
+    let again = constant_again w v (suc m) f z (b 1) in
     let left : suc (suc m) - 2 ≡ m = omega arith in
-    condition-more part room m (suc (suc m)) (constantComparison w v) (w ∷ v ∷ ws) ws
-    (later m ws (omega arith) (λ j. b (suc (suc j))) n (ap (λ (x : ℕ). comparisonsFill room x ws) (sym left) ∙ sym (fill_step (suc m) room 2 w (v ∷ ws) s (omega arith)) ∙ e))
-    (constant-in-range w v (suc m) f (b 1)) (ap (λ (x : List ℕ). x ++ ws) again) (ap (λ (x : List ℕ). length x + suc m) again ∙ two m) refl
+    condition_more part room m (suc (suc m)) (constant_comparison w v) (w ∷ v ∷ ws) ws
+    (later m ws (omega arith) (λ j. b (suc (suc j))) n (ap (λ (x : ℕ). comparisons_fill room x ws) (sym left) ∙ sym (fill_step (suc m) room 2 w (v ∷ ws) s (omega arith)) ∙ e))
+    (constant_in_range w v (suc m) f (b 1)) (ap (λ (x : List ℕ). x ++ ws) again) (ap (λ (x : List ℕ). length x + suc m) again ∙ two m) refl
 
-filled-reading : (part : Part) (room m w : ℕ) (ws : List ℕ) → Compares Operation.AgainstReading w (suc m) → second_of w < 16 → comparisonLength w (suc m) ≡ 1 → ((m' : ℕ) (xs : List ℕ) → Filled part room m' xs)
+filled_reading : (part : Part) (room m w : ℕ) (ws : List ℕ) → Compares Operation.AgainstReading w (suc m) → second_of w < 16 → comparison_length w (suc m) ≡ 1 → ((m' : ℕ) (xs : List ℕ) → Filled part room m' xs)
     → Filled part (suc room) (suc m) (w ∷ ws)
-filled-reading part room m w ws h z s later l b n e =
-    let again = reading-again w (suc m) h in
+filled_reading part room m w ws h z s later l b n e =
+    let again = reading_again w (suc m) h in
     let left : suc m - 1 ≡ m = omega arith in
-    condition-more part room m (suc m) (readingComparison w) (w ∷ ws) ws
-    (later m ws (omega arith) (λ j. b (suc j)) n (ap (λ (x : ℕ). comparisonsFill room x ws) (sym left) ∙ sym (fill_step m room 1 w ws s (omega arith)) ∙ e))
-    (reading-in-range w (suc m) h z) (ap (λ (x : List ℕ). x ++ ws) again) (ap (λ (x : List ℕ). length x + suc m) again ∙ one m) refl
+    condition_more part room m (suc m) (reading_comparison w) (w ∷ ws) ws
+    (later m ws (omega arith) (λ j. b (suc j)) n (ap (λ (x : ℕ). comparisons_fill room x ws) (sym left) ∙ sym (fill_step m room 1 w ws s (omega arith)) ∙ e))
+    (reading_in_range w (suc m) h z) (ap (λ (x : List ℕ). x ++ ws) again) (ap (λ (x : List ℕ). length x + suc m) again ∙ one m) refl
 
 filled : (part : Part) (room m : ℕ) (ws : List ℕ) → Filled part room m ws
-unfolding comparisonsFill
+unfolding comparisons_fill
 filled part zero zero [] l b n e = absurd (omega arith)
-filled part zero zero (w ∷ ws) l b n e = condition-end part zero w ws n (b 0)
-filled part zero (suc m) ws l b n e = absurd (true-false e (ne_eqb (suc m) 0 (λ q. omega arith)))
+filled part zero zero (w ∷ ws) l b n e = condition_end part zero w ws n (b 0)
+filled part zero (suc m) ws l b n e = absurd (true_false e (ne_eqb (suc m) 0 (λ q. omega arith)))
 filled part (suc room) zero [] l b n e = absurd (omega arith)
-filled part (suc room) zero (w ∷ ws) l b n e = condition-end part (suc room) w ws n (b 0)
+filled part (suc room) zero (w ∷ ws) l b n e = condition_end part (suc room) w ws n (b 0)
 filled part (suc room) (suc m) [] l b n e = absurd (omega arith)
 filled part (suc room) (suc m) (w ∷ ws) l b n e = go (sized w (suc m) (b 0)) (filled part room)
   where
     go : Sized w (suc m) → ((m' : ℕ) (xs : List ℕ) → Filled part room m' xs) → Condition part (suc room) (suc m) (w ∷ ws)
-    go (sizedConstant k h z p q s) later = filled-constant part room m w k ws h z p q s later l b n e
-    go (sizedReading h z s) later = filled-reading part room m w ws h z s later l b n e
-    go (sizedNone s) later = absurd (true-false e (fill_none m room w ws s))
+    go (sized_constant k h z p q s) later = filled_constant part room m w k ws h z p q s later l b n e
+    go (sized_reading h z s) later = filled_reading part room m w ws h z s later l b n e
+    go (sized_none s) later = absurd (true_false e (fill_none m room w ws s))
 
 -- ---- heads before them
 
 record Tail (part : Part) (seen m : ℕ) (ws : List ℕ) : Type 0 where
   line : PolicyLine
-  kind : inPart part line ≡ true
-  words : ws ≡ lineWords line ++ drop (suc m) ws
-  size : length (lineWords line) ≡ suc m
-  tests : all testInRange (headsOf line) ≡ true
-  comparisons : all comparisonInRange (comparisonsOf line) ≡ true
-  ending : endingInRange (endingOf line) ≡ true
-  few : length (comparisonsOf line) ≤ 4
-  fresh : Fresh seen (map testNumber (headsOf line))
-  counted : headCount part seen m ws ≡ length (headsOf line)
+  kind : in_part part line ≡ true
+  words : ws ≡ line_words line ++ drop (suc m) ws
+  size : length (line_words line) ≡ suc m
+  tests : all test_in_range (heads_of line) ≡ true
+  comparisons : all comparison_in_range (comparisons_of line) ≡ true
+  ending : ending_in_range (ending_of line) ≡ true
+  few : length (comparisons_of line) ≤ 4
+  fresh : Fresh seen (map test_number (heads_of line))
+  counted : count_heads part seen m ws ≡ length (heads_of line)
 
-tail-headless : (part : Part) (seen m : ℕ) (ws : List ℕ) → headCount part seen m ws ≡ 0 → Condition part 4 m ws → Tail part seen m ws
+tail_headless : (part : Part) (seen m : ℕ) (ws : List ℕ) → count_heads part seen m ws ≡ 0 → Condition part 4 m ws → Tail part seen m ws
 unfolding all
-tail-headless part seen m ws z t =
+tail_headless part seen m ws z t =
     record {
       line = t.line;
       kind = t.kind;
@@ -149,17 +144,17 @@ tail-headless part seen m ws z t =
       comparisons = t.comparisons;
       ending = t.ending;
       few = t.few;
-      fresh = rw t.headless (fresh-none seen);
+      fresh = rw t.headless (fresh_none seen);
       counted = z ∙ sym (ap length t.headless);
     }
 
-tail-head : (part : Part) (seen m w : ℕ) (ws : List ℕ) → w < wordLimit → HeadFacts part seen w (suc m) → headCount part seen (suc m) (w ∷ ws) ≡ suc (headCount part (insert seen (first_of w)) m ws)
+tail_head : (part : Part) (seen m w : ℕ) (ws : List ℕ) → w < word_limit → HeadFacts part seen w (suc m) → count_heads part seen (suc m) (w ∷ ws) ≡ suc (count_heads part (insert seen (first_of w)) m ws)
     → Tail part (insert seen (first_of w)) m ws → Tail part seen (suc m) (w ∷ ws)
 unfolding all
-tail-head part seen m w ws l h q t =
-    let r = add-head part w t.line h.operation t.kind in
-    let size : suc m ≡ length (lineWords t.line) = sym t.size in
-    let again : testWord r.test (suc m) ≡ w = test-again r.test w (suc m) r.known l h.low r.operation r.number in
+tail_head part seen m w ws l h q t =
+    let r = add_head part w t.line h.operation t.kind in
+    let size : suc m ≡ length (line_words t.line) = sym t.size in
+    let again : test_word r.test (suc m) ≡ w = test_again r.test w (suc m) r.known l h.low r.operation r.number in
     let first : first_of w < 64 = omega arith in
     record {
       line = r.line;
@@ -170,20 +165,20 @@ tail-head part seen m w ws l h q t =
       comparisons = rw r.comparisons t.comparisons;
       ending = rw r.ending t.ending;
       few = rw r.comparisons t.few;
-      fresh = rw (r.heads, r.number) (fresh_in seen (first_of w) (map testNumber (headsOf t.line)) first h.unseen t.fresh);
+      fresh = rw (r.heads, r.number) (fresh_in seen (first_of w) (map test_number (heads_of t.line)) first h.unseen t.fresh);
       counted = q ∙ ap suc t.counted ∙ sym (ap length r.heads);
     }
 
-scan-tail : (part : Part) (m seen : ℕ) (ws : List ℕ) → m < length ws → Below wordLimit ws → isEnding part (get_or ws m 0) ≡ true
-    → comparisonsFill 4 (m - headCount part seen m ws) (drop (headCount part seen m ws) ws) ≡ true → Tail part seen m ws
-unfolding headCount
-scan-tail part zero seen ws l b n e = tail-headless part seen zero ws refl (filled part 4 zero ws l b n e)
-scan-tail part (suc m) seen [] l b n e = absurd (omega arith)
-scan-tail part (suc m) seen (w ∷ ws) l b n e =
-    go (headSound part seen w (suc m)) refl (λ q. scan-tail part m (insert seen (first_of w)) ws (omega arith) (λ j. b (suc j)) n q)
+scan_tail : (part : Part) (m seen : ℕ) (ws : List ℕ) → m < length ws → Below word_limit ws → is_ending part (get_or ws m 0) ≡ true
+    → comparisons_fill 4 (m - count_heads part seen m ws) (drop (count_heads part seen m ws) ws) ≡ true → Tail part seen m ws
+unfolding count_heads
+scan_tail part zero seen ws l b n e = tail_headless part seen zero ws refl (filled part 4 zero ws l b n e)
+scan_tail part (suc m) seen [] l b n e = absurd (omega arith)
+scan_tail part (suc m) seen (w ∷ ws) l b n e =
+    go (head_sound part seen w (suc m)) refl (λ q. scan_tail part m (insert seen (first_of w)) ws (omega arith) (λ j. b (suc j)) n q)
   where
     next : ℕ
-    next = headCount part (insert seen (first_of w)) m ws
+    next = count_heads part (insert seen (first_of w)) m ws
 
     whole : suc m - 0 ≡ suc m
     whole = omega arith
@@ -191,48 +186,48 @@ scan-tail part (suc m) seen (w ∷ ws) l b n e =
     fewer : suc m - suc next ≡ m - next
     fewer = omega arith
 
-    count : (x : Bool) → headSound part seen w (suc m) ≡ x → headCount part seen (suc m) (w ∷ ws) ≡ cond x (suc next) 0
+    count : (x : Bool) → head_sound part seen w (suc m) ≡ x → count_heads part seen (suc m) (w ∷ ws) ≡ cond x (suc next) 0
     count x q = ap (λ (y : Bool). cond y (suc next) 0) q
 
-    by : (h : ℕ) → headCount part seen (suc m) (w ∷ ws) ≡ h → comparisonsFill 4 (suc m - h) (drop h (w ∷ ws)) ≡ true
-    by h q = ap (λ (k : ℕ). comparisonsFill 4 (suc m - k) (drop k (w ∷ ws))) (sym q) ∙ e
+    by : (h : ℕ) → count_heads part seen (suc m) (w ∷ ws) ≡ h → comparisons_fill 4 (suc m - h) (drop h (w ∷ ws)) ≡ true
+    by h q = ap (λ (k : ℕ). comparisons_fill 4 (suc m - k) (drop k (w ∷ ws))) (sym q) ∙ e
 
-    go : (x : Bool) → headSound part seen w (suc m) ≡ x → (comparisonsFill 4 (m - next) (drop next ws) ≡ true → Tail part (insert seen (first_of w)) m ws) → Tail part seen (suc m) (w ∷ ws)
-    go true q later = tail-head part seen m w ws (b 0) (head-out part seen w (suc m) q) (count true q) (later (ap (λ (k : ℕ). comparisonsFill 4 k (drop next ws)) (sym fewer) ∙ by (suc next) (count true q)))
-    go false q later = tail-headless part seen (suc m) (w ∷ ws) (count false q) (filled part 4 (suc m) (w ∷ ws) l b n (ap (λ (k : ℕ). comparisonsFill 4 k (w ∷ ws)) (sym whole) ∙ by 0 (count false q)))
+    go : (x : Bool) → head_sound part seen w (suc m) ≡ x → (comparisons_fill 4 (m - next) (drop next ws) ≡ true → Tail part (insert seen (first_of w)) m ws) → Tail part seen (suc m) (w ∷ ws)
+    go true q later = tail_head part seen m w ws (b 0) (head_out part seen w (suc m) q) (count true q) (later (ap (λ (k : ℕ). comparisons_fill 4 k (drop next ws)) (sym fewer) ∙ by (suc next) (count true q)))
+    go false q later = tail_headless part seen (suc m) (w ∷ ws) (count false q) (filled part 4 (suc m) (w ∷ ws) l b n (ap (λ (k : ℕ). comparisons_fill 4 k (w ∷ ws)) (sym whole) ∙ by 0 (count false q)))
 
 -- ---- the scan finds what `line_at` finds
 
-pub scan-line : (part : Part) (ws : List ℕ) → Below wordLimit ws → scanLine part ws ≡ lineLength (line_at part ws)
-unfolding lineLength
-scan-line part ws b = go (line_at part ws) refl
+pub scan_line_is : (part : Part) (ws : List ℕ) → Below word_limit ws → scan_line part ws ≡ line_length (line_at part ws)
+unfolding line_length
+scan_line_is part ws b = go (line_at part ws) refl
   where
     m : ℕ
-    m = skipOf (get_or ws 0 0)
+    m = skip_of (get_or ws 0 0)
 
     h : ℕ
-    h = headCount part 0 m ws
+    h = count_heads part 0 m ws
 
-    unscanned : line_at part ws ≡ none → (c : Bool) → ltb m (length ws) && isEnding part (get_or ws m 0) && ltb 0 h && leb h 8 && comparisonsFill 4 (m - h) (drop h ws) ≡ c → cond c (m + 1) 0 ≡ 0
+    unscanned : line_at part ws ≡ none → (c : Bool) → ltb m (length ws) && is_ending part (get_or ws m 0) && ltb 0 h && leb h 8 && comparisons_fill 4 (m - h) (drop h ws) ≡ c → cond c (m + 1) 0 ≡ 0
     unscanned q false e = refl
     unscanned q true e =
-        let p = and-out (ltb m (length ws) && isEnding part (get_or ws m 0) && ltb 0 h && leb h 8) (comparisonsFill 4 (m - h) (drop h ws)) e in
-        let r = and-out (ltb m (length ws) && isEnding part (get_or ws m 0) && ltb 0 h) (leb h 8) p.0 in
-        let s = and-out (ltb m (length ws) && isEnding part (get_or ws m 0)) (ltb 0 h) r.0 in
-        let u = and-out (ltb m (length ws)) (isEnding part (get_or ws m 0)) s.0 in
-        let x = scan-tail part m 0 ws (ltb-true m (length ws) u.0) b u.1 p.1 in
-        let parts : ValidParts (headsOf x.line) (comparisonsOf x.line) (endingOf x.line) =
+        let p = and_out (ltb m (length ws) && is_ending part (get_or ws m 0) && ltb 0 h && leb h 8) (comparisons_fill 4 (m - h) (drop h ws)) e in
+        let r = and_out (ltb m (length ws) && is_ending part (get_or ws m 0) && ltb 0 h) (leb h 8) p.0 in
+        let s = and_out (ltb m (length ws) && is_ending part (get_or ws m 0)) (ltb 0 h) r.0 in
+        let u = and_out (ltb m (length ws)) (is_ending part (get_or ws m 0)) s.0 in
+        let x = scan_tail part m 0 ws (ltb-true m (length ws) u.0) b u.1 p.1 in
+        let parts : ValidParts (heads_of x.line) (comparisons_of x.line) (ending_of x.line) =
         record {
           some = omega (arith, x.counted, ltb-true 0 h s.1);
           tests = x.tests;
           comparisons = x.comparisons;
           ending = x.ending;
-          few-tests = omega (arith, x.counted, leb-true h 8 r.1);
-          few-comparisons = x.few;
+          few_tests = omega (arith, x.counted, leb-true h 8 r.1);
+          few_comparisons = x.few;
           distinct = x.fresh.once;
         } in
-        absurd (line-none part ws q x.line (drop (suc m) ws) x.kind (valid-in x.line parts) x.words)
+        absurd (line_none part ws q x.line (drop (suc m) ws) x.kind (valid_in x.line parts) x.words)
 
-    go : (o : Option PolicyLine) → line_at part ws ≡ o → scanLine part ws ≡ lineLength o
-    go none q = scan-by part ws m refl ∙ unscanned q (ltb m (length ws) && isEnding part (get_or ws m 0) && ltb 0 h && leb h 8 && comparisonsFill 4 (m - h) (drop h ws)) refl
-    go (some l) q = let h = line-out part ws l q in ap (scanLine part) h.words ∙ line-found part l (drop (length (lineWords l)) ws) h.kind h.sound
+    go : (o : Option PolicyLine) → line_at part ws ≡ o → scan_line part ws ≡ line_length o
+    go none q = scan_by part ws m refl ∙ unscanned q (ltb m (length ws) && is_ending part (get_or ws m 0) && ltb 0 h && leb h 8 && comparisons_fill 4 (m - h) (drop h ws)) refl
+    go (some l) q = let h = line_out part ws l q in ap (scan_line part) h.words ∙ line_found part l (drop (length (line_words l)) ws) h.kind h.sound

@@ -1,10 +1,12 @@
 // The lines of an image: whether a whole line that an accepted text may have stands at a word, and its value.
+#![tactic(auto)]
+
 ghost use Rattle.std.specs.Prelude.{◌≡◌, [], ◌+◌, ◌-◌, ◌/◌, ◌<◌, ◌≤◌, length, drop};
 ghost use Rattle.line_value.specs.Value.{line_of};
 ghost use Rattle.word.specs.Word.{words_of, between};
-ghost use Rattle.decode.specs.Decode.{line_at, lineLength};
-ghost use Rattle.decode.specs.Steps.Scan.{isHead, isEnding, headOpcodes, headSound, headCount, constantSound, readingSound, comparisonLength, comparisonsFill, part_at, valueFrom, lineAnswer};
-ghost use Rattle.operation.specs.Operation.{operationFrom};
+ghost use Rattle.decode.specs.Decode.{line_at, line_length};
+ghost use Rattle.decode.specs.Steps.Scan.{is_head, is_ending, head_opcodes, head_sound, count_heads, constant_sound, reading_sound, comparison_length, comparisons_fill, part_at, value_from, line_answer};
+ghost use Rattle.operation.specs.Operation.{operation_from};
 
 use line_value::Line;
 use operation::{
@@ -30,7 +32,7 @@ const READINGS: u32 = 16;
 const RELATIONS: u32 = 6;
 
 // A line, and the word at which the next one starts: the same word where no line stands.
-#[derive(Drop)]
+#[derive(Clone, Copy)]
 pub struct LineAt {
     pub line: Line,
     pub next: usize,
@@ -38,7 +40,7 @@ pub struct LineAt {
 
 // Bit n of the number is 1 where a head of the part may have the operation of number n.
 fn head_opcodes(part: Part) -> u32
-    ensures { result ≡ headOpcodes part }
+    ensures { result ≡ head_opcodes part }
 {
     match part {
         Part::Rules => (1 << Operation::Present.opcode()) + (1 << Operation::Absent.opcode()),
@@ -49,14 +51,14 @@ fn head_opcodes(part: Part) -> u32
 // A test of one bit, which is faster than one of each operation.
 fn is_head(part: Part, opcode: u32) -> bool
     requires { opcode < 16 }
-    ensures { result ≡ isHead part (operationFrom opcode) }
+    ensures { result ≡ is_head part (operation_from opcode) }
 {
     (head_opcodes(part) >> opcode) % 2 == 1
 }
 
 // Here and in the tests of a comparison each test leaves at once: joined by `&&` they take up to 6% more of loading.
 fn is_ending(part: Part, word: u32) -> bool
-    ensures { result ≡ isEnding part word }
+    ensures { result ≡ is_ending part word }
 {
     match part {
         Part::Rules => {
@@ -71,7 +73,7 @@ fn is_ending(part: Part, word: u32) -> bool
 
 // Whether the word may stand as a head, with `left` words of the line behind it.
 fn head_sound(part: Part, seen: u64, word: u32, left: u32) -> bool
-    ensures { result ≡ headSound part seen word left }
+    ensures { result ≡ head_sound part seen word left }
 {
     word % BELOW_FIRST == left && is_head(part, opcode(word)) && !member(seen, first(word) as u8)
 }
@@ -79,7 +81,7 @@ fn head_sound(part: Part, seen: u64, word: u32, left: u32) -> bool
 // Whether a comparison with a constant may stand here, with `left` words of the line behind its first: its constant, and at least
 // one more.
 fn constant_sound(word: u32, left: u32) -> bool
-    ensures { result ≡ constantSound word left }
+    ensures { result ≡ constant_sound word left }
 {
     if first(word) >= READINGS {
         return false;
@@ -98,7 +100,7 @@ fn constant_sound(word: u32, left: u32) -> bool
 
 // Whether a comparison with a reading may stand here, with `left` words of the line behind it.
 fn reading_sound(word: u32, left: u32) -> bool
-    ensures { result ≡ readingSound word left }
+    ensures { result ≡ reading_sound word left }
 {
     if first(word) >= READINGS {
         return false;
@@ -114,7 +116,7 @@ fn reading_sound(word: u32, left: u32) -> bool
 
 // How many words the comparison has that the word begins, with `left` words of the line behind it: 0 where none may stand.
 fn comparison_length(word: u32, left: u32) -> usize
-    ensures { result ≡ comparisonLength word left }
+    ensures { result ≡ comparison_length word left }
 {
     let operation = Operation::of(word);
     match operation {
@@ -129,7 +131,7 @@ fn heads_end(image: &[u8], part: Part, at: usize, last: usize) -> usize
     requires ordered { at ≤ last }
     requires short { last < at + 32 }
     requires inside { last ≤ length image.now / 4 }
-    ensures { result ≡ at + headCount part 0 (last - at) (drop at (words_of image.now)) }
+    ensures { result ≡ at + count_heads part 0 (last - at) (drop at (words_of image.now)) }
 {
     let mut seen: u64 = 0;
     let mut i = at;
@@ -149,7 +151,7 @@ fn comparisons_sound(image: &[u8], from: usize, last: usize) -> bool
     requires ordered { from ≤ last }
     requires short { last < from + 32 }
     requires inside { last ≤ length image.now / 4 }
-    ensures { result ≡ comparisonsFill 4 (last - from) (drop from (words_of image.now)) }
+    ensures { result ≡ comparisons_fill 4 (last - from) (drop from (words_of image.now)) }
 {
     let mut room = COMPARISON_LIMIT;
     let mut i = from;
@@ -170,7 +172,7 @@ fn comparisons_sound(image: &[u8], from: usize, last: usize) -> bool
 // How many words the line has that starts at the word `at` and ends before the word `end`: 0 where no line that an
 // accepted text may have does.
 pub fn line_length(image: &[u8], part: Part, at: usize, end: usize) -> usize
-    ensures { result ≡ lineLength (line_at part (between at end (words_of image.now))) }
+    ensures { result ≡ line_length (line_at part (between at end (words_of image.now))) }
 {
     let count = at_most(end, image.len() / 4);
     if count <= at {
@@ -198,7 +200,7 @@ pub fn line_length(image: &[u8], part: Part, at: usize, end: usize) -> usize
 }
 
 // What a word of a line stands for.
-#[derive(Drop)]
+#[derive(Clone, Copy)]
 enum LinePart {
     Head(Test),
     Comparison(Comparison),
@@ -238,7 +240,7 @@ fn part_at(image: &[u8], at: usize) -> LinePart
 // The value of the line whose words stand from `start` up to `end`.
 fn read_line(image: &[u8], start: usize, end: usize) -> Line
     requires inside { end ≤ length image.now / 4 }
-    ensures { result ≡ valueFrom (line_of [] [] Ending.Never) (end - start) 0 (drop start (words_of image.now)) }
+    ensures { result ≡ value_from (line_of [] [] Ending.Never) (end - start) 0 (drop start (words_of image.now)) }
 {
     let empty = Line::new();
     let mut heads = empty.heads;
@@ -281,7 +283,7 @@ fn read_line(image: &[u8], start: usize, end: usize) -> Line
 // The line that starts at the word `at`: its first skip tells where it ends. Nothing is checked, so it is for images that the loader
 // takes.
 pub fn line_at(image: &[u8], at: usize) -> LineAt
-    ensures { result ≡ lineAnswer (words_of image.now) at }
+    ensures { result ≡ line_answer (words_of image.now) at }
 {
     let count = image.len() / 4;
     if count <= at {

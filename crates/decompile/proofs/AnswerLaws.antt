@@ -1,26 +1,22 @@
 -- Each way through `decompile`.
-use Prim.Native.Nat.{ℕ, ◌+◌, ◌≤◌, ◌<◌}
-use mathlib.Core.List.{List, [], ◌∷◌, ◌++◌}
-use mathlib.Core.Path.{◌≡◌, refl, sym, ap, ◌∙◌}
-use native.Mathlib.Omega.{arith}
-use borrow.Author.Tests.{le-leb, lt-leb}
-use lib.ListN.{length, drop}
+use Rattle.std.proofs.Common.{ℕ, ◌+◌, ◌≤◌, ◌<◌, min, List, ◌++◌, ◌≡◌, sym, ap, ◌∙◌, arith, le-leb, length, drop}
+use borrow.Author.Tests.{lt-leb}
 use Rattle.policy.specs.Fault.{refusal}
 use Rattle.policy.specs.Fill.{Filled}
 use Rattle.policy.specs.declared.fault.Fault.{Fault}
 use Rattle.policy.specs.declared.fault.Refusal.{Refusal}
 use Rattle.line_value.specs.declared.Line.{Line}
 use Rattle.word.specs.Word.{words_of}
-use Rattle.image.specs.Held.{policyIn}
+use Rattle.image.specs.Held.{policy_in}
 use Rattle.image.specs.Load.{load}
 use Rattle.image.specs.declared.load.Contents.{Contents}
 use Rattle.image.specs.declared.load.Loaded.{Loaded}
 use Rattle.output.specs.Buffer.{appended}
-use Rattle.output.proofs.AppendLaws.{append-start}
+use Rattle.output.proofs.AppendLaws.{append_start}
 use Rattle.printer.specs.Printed.{text_of}
-use Rattle.decompile.proofs.TextLaws.{TakenText, taken-text}
-use Rattle.decompile.specs.Decompile.{outputOf, decompiled}
-use Rattle.decompile.specs.Steps.Walk.{valuesFrom, textOfValues, sizeOfValues}
+use Rattle.decompile.proofs.TextLaws.{taken_text}
+use Rattle.decompile.specs.Decompile.{output_of, decompiled}
+use Rattle.decompile.specs.Steps.Walk.{values_from, text_of_values}
 use Rattle.decompile.specs.declared.Decompiled.{Decompiled}
 
 -- what the function answers and leaves in the buffer
@@ -32,33 +28,36 @@ answers image buffer answer after e = (sym (ap (λ (o : Filled Decompiled). o.an
 
 module _ (image buffer : List ℕ) where
   pub refused : (r : Refusal) → load image ≡ Loaded.Refused r → Answers image buffer (Decompiled.Refused r) buffer
-  unfolding decompiled outputOf
-  refused r e = answers image buffer (Decompiled.Refused r) buffer (ap (λ (l : Loaded). outputOf l (text_of (policyIn image)) buffer) e)
+  unfolding decompiled output_of
+  refused r e = answers image buffer (Decompiled.Refused r) buffer (ap (λ (l : Loaded). output_of l (text_of (policy_in image)) buffer) e)
 
   module _ (contents : Contents) (taken : load image ≡ Loaded.Image contents) where
     text : List ℕ
-    text = text_of (policyIn image)
+    text = text_of (policy_in image)
 
-    on-text : decompiled image buffer ≡ outputOf (Loaded.Image contents) text buffer
+    on_text : decompiled image buffer ≡ output_of (Loaded.Image contents) text buffer
     unfolding decompiled text
-    on-text = ap (λ (l : Loaded). outputOf l (text_of (policyIn image)) buffer) taken
+    on_text = ap (λ (l : Loaded). output_of l (text_of (policy_in image)) buffer) taken
 
     abbrev values : List Line
-    values = valuesFrom (words_of image) (contents.rules + contents.constraints) 1
+    values = values_from (words_of image) (contents.rules + contents.constraints) 1
 
-    pub short : (size : ℕ) → size ≡ sizeOfValues values → length buffer < size → Answers image buffer (Decompiled.Refused (refusal Fault.BufferTooSmall 0)) buffer
-    unfolding outputOf text
-    short size e h =
-        let n : size ≡ length (text_of (policyIn image)) = e ∙ (taken-text image contents taken).size in
-        answers image buffer (Decompiled.Refused (refusal Fault.BufferTooSmall 0)) buffer (on-text ∙ rw (lt-leb (length (text_of (policyIn image))) (length buffer) (omega arith)))
+    -- the texts of the lines are that of the policy
+    same : text_of_values values ≡ text_of (policy_in image)
+    same = (taken_text image contents taken).text
 
-    pub written : (size : ℕ) → size ≡ sizeOfValues values → size ≤ length buffer → (after : List ℕ) → after ≡ appended buffer 0 (textOfValues values)
-        → Answers image buffer (Decompiled.Text size) after
-    unfolding outputOf text
-    written size e h after q =
-        let t = taken-text image contents taken in
-        let n : length (text_of (policyIn image)) ≡ size = sym (e ∙ t.size) in
-        let whole : after ≡ text_of (policyIn image) ++ drop (length (text_of (policyIn image))) buffer =
-        (rw t.text at q) ∙ append-start buffer (text_of (policyIn image)) (omega arith) in
+    pub short : length buffer < length (text_of_values values) → Answers image buffer (Decompiled.Refused (refusal Fault.BufferTooSmall 0)) buffer
+    unfolding output_of text
+    short h =
+        answers image buffer (Decompiled.Refused (refusal Fault.BufferTooSmall 0)) buffer
+        (on_text ∙ rw (lt-leb (length (text_of (policy_in image))) (length buffer) (rw same at h)))
+
+    pub written : length (text_of_values values) ≤ length buffer → (size : ℕ) → size ≡ min (length (text_of_values values)) (length buffer)
+        → (after : List ℕ) → after ≡ appended buffer 0 (text_of_values values) → Answers image buffer (Decompiled.Text size) after
+    unfolding output_of text
+    written h size e after q =
+        let n : length (text_of (policy_in image)) ≡ size = omega (arith, ap length same) in
+        let whole : after ≡ text_of (policy_in image) ++ drop (length (text_of (policy_in image))) buffer =
+        (rw same at q) ∙ append_start buffer (text_of (policy_in image)) (rw same at h) in
         answers image buffer (Decompiled.Text size) after
-        (on-text ∙ rw (le-leb (length (text_of (policyIn image))) (length buffer) (omega arith)) (rw (whole, n)))
+        (on_text ∙ rw (le-leb (length (text_of (policy_in image))) (length buffer) (rw same at h)) (rw (whole, n)))

@@ -1,60 +1,31 @@
--- Laws of going over the lines of an image: one turn of each loop, and its end.
-use Prim.Native.Nat.{ℕ, zero, suc, ◌+◌, ◌*◌, ◌-◌, ◌≤◌, ◌<◌, min}
-use mathlib.Core.List.{List, [], ◌∷◌}
-use mathlib.Core.Path.{◌≡◌, refl, sym, ap}
-use native.Mathlib.Omega.{arith}
-use lib.ListN.{length}
-use Rattle.line_value.specs.declared.Line.{Line}
-use Rattle.decode.specs.Steps.Scan.{lineAnswer}
+-- Laws of going over the lines of an image: one turn of the loop, and its end.
+use Rattle.std.proofs.Common.{◌≡◌, ℕ, suc, ◌+◌, ◌-◌, ◌≤◌, ◌<◌, List, ◌++◌, refl, sym, ap, ◌∙◌, arith}
+use Rattle.decode.specs.Steps.Scan.{line_answer}
 use Rattle.decode.specs.declared.LineAt.{LineAt}
-use Rattle.output.proofs.AppendLaws.{Put, Left, left-turn}
-use Rattle.output.specs.Buffer.{appended}
-use Rattle.printer.specs.Steps.Value.{valueText}
-use Rattle.decompile.specs.Steps.Walk.{valuesFrom, textOfValues, sizeOfValues}
-
-size-limit : (ls : List Line) → sizeOfValues ls ≤ 150 * length ls
-unfolding sizeOfValues
-size-limit [] = omega arith
-size-limit (l ∷ ls) = omega (arith, size-limit ls)
+use Rattle.output.specs.Sink.{fed, fed-none}
+use Rattle.output.proofs.SinkLaws.{fed_then}
+use Rattle.printer.specs.Steps.Value.{value_text}
+use Rattle.decompile.specs.Steps.Walk.{values_from, text_of_values}
 
 module _ (ws : List ℕ) where
-  values_length : (n at : ℕ) → length (valuesFrom ws n at) ≡ n
-  unfolding valuesFrom
-  values_length zero at = refl
-  values_length (suc n) at = ap suc (values_length n (lineAnswer ws at).next)
+  -- the text of the lines that are left
+  abbrev pub left_text : ℕ → ℕ → List ℕ
+  left_text n at = text_of_values (values_from ws n at)
 
-  pub walk-limit : (n at : ℕ) → sizeOfValues (valuesFrom ws n at) ≤ 150 * n
-  walk-limit n at = omega (arith, size-limit (valuesFrom ws n at), values_length n at)
+  -- of the next line, as `line_at` found it, and of those behind it
+  text_next : (n at : ℕ) (found : LineAt) → found ≡ line_answer ws at → left_text (suc n) at ≡ value_text found.line ++ left_text n found.next
+  unfolding values_from text_of_values
+  text_next n at found e = ap (λ (x : LineAt). value_text x.line ++ left_text n x.next) (sym e)
 
-  values-none : (n at : ℕ) → n ≤ 0 → valuesFrom ws n at ≡ []
-  unfolding valuesFrom
-  values-none zero at h = refl
-  values-none (suc n) at h = absurd (omega arith)
+  module _ {S : Type 0} (taken : S → ℕ → S) (sink : S) where
+    pub walk_next : {after : S} (lines i at : ℕ) (found : LineAt) → i < lines → found ≡ line_answer ws at → after ≡ fed taken sink (value_text found.line)
+        → fed taken after (left_text (lines - (i + 1)) found.next) ≡ fed taken sink (left_text (lines - i) at)
+    walk_next lines i at found h e f =
+        let n : lines - i ≡ suc (lines - (i + 1)) = omega arith in
+        let rest : List ℕ = left_text (lines - (i + 1)) found.next in
+        fed_then taken sink (value_text found.line) rest f refl
+        ∙ ap (fed taken sink) (sym (ap (λ (k : ℕ). left_text k at) n ∙ text_next (lines - (i + 1)) at found e))
 
-  -- the next line, as `line_at` found it
-  values-here : (n at : ℕ) (found : LineAt) → 0 < n → found ≡ lineAnswer ws at → valuesFrom ws n at ≡ found.line ∷ valuesFrom ws (n - 1) found.next
-  unfolding valuesFrom
-  values-here zero at found h e = absurd (omega arith)
-  values-here (suc n) at found h e =
-      let k : suc n - 1 ≡ n = omega arith in
-      rw k (ap (λ (x : LineAt). x.line ∷ valuesFrom ws n x.next) (sym e))
-
-  pub size-turn : (n at : ℕ) (found : LineAt) (bytes : ℕ) → 0 < n → found ≡ lineAnswer ws at → bytes ≡ min (length (valueText found.line)) 150
-      → sizeOfValues (valuesFrom ws n at) ≡ bytes + sizeOfValues (valuesFrom ws (n - 1) found.next)
-  unfolding sizeOfValues
-  size-turn n at found bytes h e q = rw (values-here n at found h e, q)
-
-  pub size_none : (n at : ℕ) → n ≤ 0 → sizeOfValues (valuesFrom ws n at) ≡ 0
-  unfolding sizeOfValues
-  size_none n at h = rw (values-none n at h)
-
-  module _ (n at : ℕ) {buffer : List ℕ} {from : ℕ} {all out : List ℕ} {position : ℕ} (l : Left buffer from all out position (textOfValues (valuesFrom ws n at))) where
-    pub text-turn : (found : LineAt) → 0 < n → found ≡ lineAnswer ws at → (after : List ℕ) (next : ℕ) → Put out position (valueText found.line) after next
-        → Left buffer from all after next (textOfValues (valuesFrom ws (n - 1) found.next))
-    unfolding textOfValues
-    text-turn found h e after next p =
-        left-turn (valueText found.line) (textOfValues (valuesFrom ws (n - 1) found.next)) after next (rw (values-here n at found h e) at l) p
-
-    pub text-none : n ≤ 0 → out ≡ appended buffer from all
-    unfolding textOfValues appended
-    text-none h = rw (values-none n at h) at l.holds
+    pub walk_over : (lines i at : ℕ) → lines ≤ i → sink ≡ fed taken sink (left_text (lines - i) at)
+    unfolding values_from text_of_values
+    walk_over lines i at h = let n : lines - i ≡ 0 = omega arith in rw n (sym (fed-none taken sink))

@@ -4,25 +4,25 @@ use Rattle.std.specs.Prelude.{ℕ, List}
 use Rattle.std.proofs.Math.Option.{Option, none, some}
 use Rattle.policy.specs.Fill.{Filled, refuse, fill}
 use Rattle.policy.specs.declared.fault.Refusal.{Refusal}
-use Rattle.image.specs.Held.{policyIn}
+use Rattle.image.specs.Held.{policy_in}
 use Rattle.image.specs.Load.{load}
 use Rattle.image.specs.declared.load.Loaded.{Loaded}
 use Rattle.printer.specs.Printed.{text_of}
 use Rattle.decompile.specs.declared.Decompiled.{Decompiled}
 
 -- the loader's answer, and the text of what the image holds where it takes it
-unfoldable pub outputOf : Loaded → List ℕ → List ℕ → Filled Decompiled
-outputOf (Loaded.Refused r) text buffer = refuse Decompiled.Refused Decompiled.Text r buffer
-outputOf (Loaded.Image contents) text buffer = fill Decompiled.Refused Decompiled.Text text buffer
+unfoldable pub output_of : Loaded → List ℕ → List ℕ → Filled Decompiled
+output_of (Loaded.Refused r) text buffer = refuse Decompiled.Refused Decompiled.Text r buffer
+output_of (Loaded.Image contents) text buffer = fill Decompiled.Refused Decompiled.Text text buffer
 
 unfoldable pub decompiled : List ℕ → List ℕ → Filled Decompiled
-decompiled image buffer = outputOf (load image) (text_of (policyIn image)) buffer
+decompiled image buffer = output_of (load image) (text_of (policy_in image)) buffer
 
 -- ---- what an answer says: the fault with its location, if it is a refusal, and how many bytes were written
 
-abbrev pub refusalIn : Decompiled → Option Refusal
-refusalIn (Decompiled.Refused r) = some r
-refusalIn (Decompiled.Text size) = none
+abbrev pub refusal_in : Decompiled → Option Refusal
+refusal_in (Decompiled.Refused r) = some r
+refusal_in (Decompiled.Text size) = none
 
 abbrev pub size_of : Decompiled → ℕ
 size_of (Decompiled.Refused r) = 0

@@ -1,4 +1,4 @@
--- Images and what the decompiler makes of them, one row each: the worked example of document 01, a line with every kind of part,
+-- Images and what the decompiler makes of them, one row each: a worked example, a line with every kind of part,
 -- patterns, and the order of the faults. A buffer is full of dots at first.
 use Prim.Native.Char.{code}
 use Rattle.std.specs.Prelude.{ℕ, List, [], ◌∷◌, replicate}
@@ -9,7 +9,7 @@ use Rattle.policy.specs.Fill.{Filled}
 use Rattle.policy.specs.Policy.{Policy}
 use Rattle.policy.specs.declared.fault.Fault.{Fault}
 use Rattle.lexer.specs.Byte.{bytes}
-use Rattle.rule_text.specs.Text.{policyOf}
+use Rattle.rule_text.specs.Text.{policy_of}
 use Rattle.word.specs.Word.{bytes_of}
 use Rattle.layout.specs.Layout.{image_of}
 use Rattle.decompile.specs.Decompile.{decompiled}
@@ -24,31 +24,31 @@ abbrev row : List ℕ → ℕ → Decompiled → String → Example
 row image room answer buffer = record { image = image; room = room; output = record { answer = answer; buffer = bytes buffer } }
 
 -- 01007003, 10400004, 20800003, 30008001, 00000028, 50C00000, 10C00001, 51000000, 60C00002, 61000001, 70000000, and the last word
-unfoldable pub workedWith : ℕ → List ℕ
-workedWith last =
+unfoldable pub worked_with : ℕ → List ℕ
+worked_with last =
     bytes_of (16805891 ∷ 272629764 ∷ 545259523 ∷ 805339137 ∷ 40 ∷ 1354760192 ∷ 281018369 ∷ 1358954496 ∷ 1623195650 ∷ 1627389953 ∷ 1879048192 ∷ last ∷ [])
 
-unfoldable pub imageIn : Option Policy → List ℕ
-imageIn none = []
-imageIn (some p) = image_of 1 p
+unfoldable pub image_in : Option Policy → List ℕ
+image_in none = []
+image_in (some p) = image_of 1 p
 
-unfoldable pub imageFrom : String → List ℕ
-imageFrom text = imageIn (policyOf (bytes text))
+unfoldable pub image_from : String → List ℕ
+image_from text = image_in (policy_of (bytes text))
 
 unfoldable pub examples : List Example
 examples =
     -- B9FF0FC9 brings the sum to 0
-    row (workedWith 3120500681) 60 (Decompiled.Text 57) "E1 & !E2 causes A3 if R0 > 40\nE3 causes A4\nnever A3 & A4\n..."
+    row (worked_with 3120500681) 60 (Decompiled.Text 57) "E1 & !E2 causes A3 if R0 > 40\nE3 causes A4\nnever A3 & A4\n..."
     -- one byte short
-    ∷ row (workedWith 3120500681) 56 (Decompiled.Refused (refusal Fault.BufferTooSmall 0)) "........................................................"
+    ∷ row (worked_with 3120500681) 56 (Decompiled.Refused (refusal Fault.BufferTooSmall 0)) "........................................................"
     -- a wrong sum comes before too little room
-    ∷ row (workedWith 3120500682) 4 (Decompiled.Refused (refusal Fault.ImageSum 0)) "...."
+    ∷ row (worked_with 3120500682) 4 (Decompiled.Refused (refusal Fault.ImageSum 0)) "...."
     -- rules first; spaces, comments and blank lines are not held
-    ∷ row (imageFrom "# start\n never  A63 & A0 if  R15 != R0 , R10 <= -1\n\n  !E63 & E9  causes A10 if R1 = 0 , R2 < 2147483647 , R3 > R4 , R5 >= -2147483648")
+    ∷ row (image_from "# start\n never  A63 & A0 if  R15 != R0 , R10 <= -1\n\n  !E63 & E9  causes A10 if R1 = 0 , R2 < 2147483647 , R3 > R4 , R5 >= -2147483648")
     120 (Decompiled.Text 119)
     "!E63 & E9 causes A10 if R1 = 0 , R2 < 2147483647 , R3 > R4 , R5 >= -2147483648\nnever A63 & A0 if R15 != R0 , R10 <= -1\n."
-    -- L5: a pattern is written in decimal
-    ∷ row (imageFrom "E1 causes A1 if R0 = 0x8040 , R1 = 0xFFFFFFFF , R2 = 0x80000000 , R3 = 0x7fffffff") 75 (Decompiled.Text 74)
+    -- a pattern is written in decimal
+    ∷ row (image_from "E1 causes A1 if R0 = 0x8040 , R1 = 0xFFFFFFFF , R2 = 0x80000000 , R3 = 0x7fffffff") 75 (Decompiled.Text 74)
     "E1 causes A1 if R0 = 32832 , R1 = -1 , R2 = -2147483648 , R3 = 2147483647\n."
     -- the empty policy, 01000000 and FF000000, fits an empty buffer
     ∷ row (bytes_of (16777216 ∷ 4278190080 ∷ [])) 0 (Decompiled.Text 0) ""

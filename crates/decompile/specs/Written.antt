@@ -1,23 +1,23 @@
 -- What a decompilation that answers a size has done.
 use Rattle.std.specs.Prelude.{ℕ, ◌≤◌, List, ◌≡◌, length, take, drop}
-use Rattle.image.specs.Held.{policyIn}
+use Rattle.image.specs.Held.{policy_in}
 use Rattle.image.specs.Load.{load}
 use Rattle.image.specs.declared.load.Contents.{Contents}
 use Rattle.image.specs.declared.load.Loaded.{Loaded}
-use Rattle.printer.specs.Printed.{longestText, text_of}
+use Rattle.printer.specs.Printed.{longest_text, text_of}
 use Rattle.decompile.specs.Decompile.{decompiled}
 
 -- the bytes that a decompilation of so many bytes wrote
-abbrev pub writtenIn : ℕ → List ℕ → List ℕ → List ℕ
-writtenIn size image buffer = take size (decompiled image buffer).buffer
+abbrev pub written_in : ℕ → List ℕ → List ℕ → List ℕ
+written_in size image buffer = take size (decompiled image buffer).buffer
 
 -- a decompilation of so many bytes
 pub record Written (image buffer : List ℕ) (size : ℕ) : Type 0 where
   -- the loader takes the image, and the bytes are the text of the policy that it holds
   pub contents : Contents
   pub taken : load image ≡ Loaded.Image contents
-  pub text : writtenIn size image buffer ≡ text_of (policyIn image)
-  pub long : length (writtenIn size image buffer) ≡ size
+  pub text : written_in size image buffer ≡ text_of (policy_in image)
+  pub long : length (written_in size image buffer) ≡ size
   -- what lies behind the text is as it was
   pub behind : drop size (decompiled image buffer).buffer ≡ drop size buffer
-  pub largest : size ≤ longestText
+  pub largest : size ≤ longest_text

@@ -1,91 +1,88 @@
 // The decompiler: from an image to the rule text of its policy, in a lent buffer. Start with specs/Decompile.antt.
-ghost use Rattle.std.specs.Prelude.{◌≡◌, ◌≤◌, min, length};
+#![tactic(auto)]
+
+ghost use Rattle.std.specs.Prelude.{◌≡◌, ◌≤◌, ◌↔◌, IsTrue, min, length};
 ghost use Rattle.word.specs.Word.{words_of};
 ghost use Rattle.output.specs.Buffer.{appended};
-ghost use Rattle.printer.specs.Steps.Value.{valueText};
+ghost use Rattle.output.specs.Sink.{fed};
+ghost use Rattle.printer.specs.Printed.{longest_text};
 ghost use Rattle.decompile.specs.Decompile.{decompiled};
-ghost use Rattle.decompile.specs.Steps.Walk.{valuesFrom, sizeOfValues, textOfValues};
+ghost use Rattle.decompile.specs.Steps.Walk.{values_from, text_of_values};
 
 use decode::line_at;
 use image::{Loaded, load_image};
-use line_value::Line;
+use output::{Counter, Page, Sink};
 use policy::{Fault, Refusal};
 use printer::put_line;
 
-// Bytes of the longest line, its end included: eight literals as `!E63`, an action as `A63`, and four comparisons as
-// `R15 >= -2147483648`.
-const LINE_SIZE: usize = 150;
-
-// Bytes of the longest text: 128 rules of 150 bytes, and 64 constraints of 137.
+/// Bytes of the longest text: 128 rules of 150 bytes, and 64 constraints of 137.
 pub const TEXT_SIZE: usize = 27968;
 
-#[derive(Drop)]
+/// What came of it: a refusal, or how many bytes the text has.
+#[derive(Clone, Copy)]
 pub enum Decompiled {
     Refused(Refusal),
-    // How many bytes the text has.
     Text(usize),
 }
 
-// How many bytes the text of a line has, up to those of the longest. It is printed to be counted, into a buffer of one line.
-fn line_size(line: Line) -> usize
-    ensures { result ≡ min (length (valueText line)) 150 }
-{
-    let mut text = [0u8; LINE_SIZE];
-    put_line(&mut text, 0, line)
-}
-
-// How many bytes the texts of so many lines have, from the first on.
-fn text_size(image: &[u8], lines: usize) -> usize
-    requires { lines ≤ 192 }
-    ensures { result ≡ sizeOfValues (valuesFrom (words_of image.now) lines 1) }
-{
-    let mut size = 0;
-    let mut at = 1;
-    let mut left = lines;
-    while 0 < left {
-        let found = line_at(image, at);
-        let line = found.line;
-        size += line_size(line);
-        at = found.next;
-        left -= 1;
-    }
-    size
-}
-
 // The texts of so many lines, from the first on.
-fn put_text(out: &mut [u8], image: &[u8], lines: usize)
-    ensures { out.new ≡ appended out.old 0 (textOfValues (valuesFrom (words_of image.now) lines 1)) }
+fn put_text<S: Sink>(sink: &mut S, image: &[u8], lines: usize)
+    ensures { sink.new ≡ fed S.taken sink.old (text_of_values (values_from (words_of image.now) lines 1)) }
 {
-    let mut end = 0;
     let mut at = 1;
-    let mut left = lines;
-    while 0 < left {
+    for i in 0..lines {
         let found = line_at(image, at);
-        let line = found.line;
-        end = put_line(out, end, line);
+        put_line(sink, &found.line);
         at = found.next;
-        left -= 1;
     }
 }
 
-// The text of an image that the loader takes, from the start of the buffer on, or why there is none. A refusal leaves the buffer as
-// it is: the bytes are counted first, then written.
+// How many bytes the texts have.
+#[tactic(auto, using(output::proofs::SinkLaws::counted_all))]
+fn text_size(image: &[u8], lines: usize) -> usize
+    requires { length (text_of_values (values_from (words_of image.now) lines 1)) ≤ longest_text }
+    ensures { result ≡ length (text_of_values (values_from (words_of image.now) lines 1)) }
+{
+    let mut counter = Counter { count: 0 };
+    put_text(&mut counter, image, lines);
+    counter.count
+}
+
+// Whether the texts have room in so many bytes. Where the longest text has, they need not be counted.
+fn fits(image: &[u8], lines: usize, room: usize) -> bool
+    requires { length (text_of_values (values_from (words_of image.now) lines 1)) ≤ longest_text }
+    ensures { IsTrue result ↔ (length (text_of_values (values_from (words_of image.now) lines 1)) ≤ room) }
+{
+    TEXT_SIZE <= room || text_size(image, lines) <= room
+}
+
+// Writes the texts from the start of the buffer on. The answer is where they end.
+#[tactic(auto, using(output::proofs::SinkLaws::stored_all))]
+fn write_text(out: &mut [u8], image: &[u8], lines: usize) -> usize
+    ensures end { result ≡ min (length (text_of_values (values_from (words_of image.now) lines 1))) (length out.old) }
+    ensures buffer { out.new ≡ appended out.old 0 (text_of_values (values_from (words_of image.now) lines 1)) }
+{
+    let mut page = Page { bytes: out, end: 0 };
+    put_text(&mut page, image, lines);
+    page.end
+}
+
+/// Writes the text of an image from the start of the buffer on, or says why there is none. A refusal leaves the buffer as it
+/// is: where the text might have no room it is counted first.
 pub fn decompile(image: &[u8], out: &mut [u8]) -> Decompiled
     ensures answer { result ≡ (decompiled image.now out.old).answer }
     ensures buffer { out.new ≡ (decompiled image.now out.old).buffer }
 {
-    let loaded = load_image(image);
-    match loaded {
+    match load_image(image) {
         Loaded::Refused(refusal) => Decompiled::Refused(refusal),
         Loaded::Image(contents) => {
             // The constraints stand straight behind the rules.
             let lines = contents.rules + contents.constraints;
-            let size = text_size(image, lines);
-            if out.len() < size {
-                return Decompiled::Refused(Fault::BufferTooSmall.at(0));
+            if fits(image, lines, out.len()) {
+                Decompiled::Text(write_text(out, image, lines))
+            } else {
+                Decompiled::Refused(Fault::BufferTooSmall.at(0))
             }
-            put_text(out, image, lines);
-            Decompiled::Text(size)
         }
     }
 }

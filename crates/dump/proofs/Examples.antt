@@ -1,27 +1,27 @@
 -- Each row of the table of examples is as it says.
 use Rattle.std.proofs.Common.{◌≡◌, map, refl}
-use Rattle.policy.specs.Limits.{isReadingValue, testNumber, operandInRange, comparisonInRange, endingInRange, in_range, crowded, repeats, repeated, valid}
-use Rattle.policy.specs.Line.{headsOf, comparisonsOf, endingOf, constantCount}
+use Rattle.policy.specs.Limits.{is_reading_value, test_number, operand_in_range, comparison_in_range, ending_in_range, in_range, crowded, repeats, repeated, valid}
+use Rattle.policy.specs.Line.{heads_of, comparisons_of, ending_of, constant_count}
 use Rattle.policy.specs.List.{all, any}
-use Rattle.lexer.specs.Byte.{bytes, hexValue}
+use Rattle.lexer.specs.Byte.{bytes, hex_value}
 use Rattle.lexer.specs.Lines.{prepend, pieces, lines_of}
 use Rattle.output.specs.Number.{digits, decimal}
-use Rattle.operation.specs.Operation.{operationFrom, relationFrom}
+use Rattle.operation.specs.Operation.{operation_from, relation_from}
 use Rattle.word.specs.Word.{words_of, bytes_of, between}
 use Rattle.operation.specs.Fields.{pack}
-use Rattle.layout.specs.Header.{packHeader}
-use Rattle.operation.specs.Parts.{testOperation, testWord, operand_word, constantWords, comparisonWord, comparisonWords, constantComparison, readingComparison, endingWord}
-use Rattle.layout.specs.Layout.{conditionWords, partWords, lineWords, linesWords, knownForm, checkCount, sum}
-use Rattle.decode.specs.Decode.{addLiteral, addMember, addComparison, decodeWord, decode, isPrefix, inPart, standsAt, keepIf, line_at}
-use Rattle.image.specs.Check.{wellSized, countsFit, sumsToZero}
-use Rattle.image.specs.Held.{rulesIn, constraintsIn, linesIn, policyIn}
-use Rattle.image.specs.Lines.{addLine, afterLine, lines_from, partLines}
-use Rattle.image.specs.Load.{bodyAnswer, loadWords, load}
-use Rattle.printer.specs.Printed.{constantToken, literalToken, actionToken, readingToken, relationToken, operandToken, comparisonTokens, joinedBy, headTokens, conditionTokens, lineTokens, lineBytes, linesText, text_of}
-use Rattle.report.specs.Report.{imageRefusalLine, notWordLine}
-use Rattle.dump.specs.Dump.{word_in, behindWords, readLine, readDump, answerTo, imageAnswer, dumpAnswer, restored}
-use Rattle.dump.specs.Examples.{dumps, dumpRestored, expected}
+use Rattle.layout.specs.Header.{pack_header}
+use Rattle.operation.specs.Parts.{test_operation, test_word, operand_word, constant_words, comparison_word, comparison_words, constant_comparison, reading_comparison, ending_word}
+use Rattle.layout.specs.Layout.{condition_words, part_words, line_words, lines_words, known_form, check_count, sum}
+use Rattle.decode.specs.Decode.{add_literal, add_member, add_comparison, decode_word, decode, is_prefix, in_part, stands_at, keep_if, line_at}
+use Rattle.image.specs.Check.{well_sized, counts_fit, sums_to_zero}
+use Rattle.image.specs.Held.{rules_in, constraints_in, lines_in, policy_in}
+use Rattle.image.specs.Lines.{add_line, after_line, lines_from, part_lines}
+use Rattle.image.specs.Load.{body_answer, load_words, load}
+use Rattle.printer.specs.Printed.{constant_token, literal_token, action_token, reading_token, relation_token, operand_token, comparison_tokens, joined_by, head_tokens, condition_tokens, line_tokens, line_bytes, lines_text, text_of}
+use Rattle.report.specs.Report.{image_refusal_line, not_word_line}
+use Rattle.dump.specs.Dump.{word_in, behind_words, read_line, read_dump, answer_to, image_answer, dump_answer, restored}
+use Rattle.dump.specs.Examples.{dumps, dump_restored, expected}
 
-pub dumps-hold : map dumpRestored dumps ≡ map expected dumps
-unfolding isReadingValue testNumber operandInRange comparisonInRange endingInRange in_range crowded repeats repeated valid headsOf comparisonsOf endingOf constantCount all any bytes hexValue prepend pieces lines_of digits decimal operationFrom relationFrom words_of bytes_of between pack packHeader testOperation testWord operand_word constantWords comparisonWord comparisonWords constantComparison readingComparison endingWord conditionWords partWords lineWords linesWords knownForm checkCount sum addLiteral addMember addComparison decodeWord decode isPrefix inPart standsAt keepIf line_at wellSized countsFit sumsToZero rulesIn constraintsIn linesIn policyIn addLine afterLine lines_from partLines bodyAnswer loadWords load constantToken literalToken actionToken readingToken relationToken operandToken comparisonTokens joinedBy headTokens conditionTokens lineTokens lineBytes linesText text_of imageRefusalLine notWordLine word_in behindWords readLine readDump answerTo imageAnswer dumpAnswer restored dumps dumpRestored expected
-dumps-hold = refl
+pub dumps_hold : map dump_restored dumps ≡ map expected dumps
+unfolding is_reading_value test_number operand_in_range comparison_in_range ending_in_range in_range crowded repeats repeated valid heads_of comparisons_of ending_of constant_count all any bytes hex_value prepend pieces lines_of digits decimal operation_from relation_from words_of bytes_of between pack pack_header test_operation test_word operand_word constant_words comparison_word comparison_words constant_comparison reading_comparison ending_word condition_words part_words line_words lines_words known_form check_count sum add_literal add_member add_comparison decode_word decode is_prefix in_part stands_at keep_if line_at well_sized counts_fit sums_to_zero rules_in constraints_in lines_in policy_in add_line after_line lines_from part_lines body_answer load_words load constant_token literal_token action_token reading_token relation_token operand_token comparison_tokens joined_by head_tokens condition_tokens line_tokens line_bytes lines_text text_of image_refusal_line not_word_line word_in behind_words read_line read_dump answer_to image_answer dump_answer restored dumps dump_restored expected
+dumps_hold = refl

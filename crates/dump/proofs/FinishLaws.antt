@@ -1,53 +1,53 @@
 -- Laws of what is printed at the end of the input.
-use Rattle.std.proofs.Common.{◌≡◌, ℕ, ◌+◌, ◌*◌, ◌/◌, ◌≤◌, min, Bool, true, false, leb, List, ◌++◌, length, take, drop, sym, refl, ap, ◌∙◌, ap₂, arith, leb-true}
+use Rattle.std.proofs.Common.{◌≡◌, ℕ, ◌*◌, ◌/◌, ◌≤◌, min, Bool, true, false, leb, List, ◌++◌, length, take, drop, sym, refl, ap, ◌∙◌, ap₂, arith, leb-true}
 use Rattle.policy.specs.Fault.{refusal}
 use Rattle.policy.specs.declared.fault.Fault.{Fault}
 use Rattle.policy.specs.declared.fault.Refusal.{Refusal}
-use Rattle.image.specs.Held.{policyIn}
+use Rattle.image.specs.Held.{policy_in}
 use Rattle.image.specs.Load.{load}
 use Rattle.image.specs.declared.load.Loaded.{Loaded}
 use Rattle.printer.specs.Printed.{text_of}
 use Rattle.output.specs.Buffer.{behind}
-use Rattle.output.proofs.AppendLaws.{Put, put_same, append-start}
-use Rattle.report.specs.Report.{imageRefusalLine, notWordLine}
-use Rattle.decompile.specs.Decompile.{outputOf, decompiled}
+use Rattle.output.proofs.AppendLaws.{Put, put_same, append_start}
+use Rattle.report.specs.Report.{image_refusal_line, not_word_line}
+use Rattle.decompile.specs.Decompile.{output_of, decompiled}
 use Rattle.decompile.specs.declared.Decompiled.{Decompiled}
 use Rattle.dump.specs.Dump.{next}
-use Rattle.dump.specs.Calls.{Held, answerWithin, imageWithin, finished}
+use Rattle.dump.specs.Calls.{Held, answer_within, image_within, finished}
 use Rattle.dump.specs.declared.state.State.{State}
 
 -- ---- an image, by the loader's answer
 
 module _ (text out between : List ℕ) where
-  refused-same : (l : Loaded) (r : Refusal) → Decompiled.Refused r ≡ (outputOf l text out).answer → between ≡ (outputOf l text out).buffer
-      → (between ≡ out) × (imageRefusalLine r ≡ answerWithin (length out) l text)
-  unfolding outputOf answerWithin
-  refused-same (Loaded.Refused q) r e b = let p : r ≡ q = cc in (b, ap imageRefusalLine p)
-  refused-same (Loaded.Image contents) r e b = go (leb (length text) (length out)) refl e b
+  refused_same : (l : Loaded) (r : Refusal) → Decompiled.Refused r ≡ (output_of l text out).answer → between ≡ (output_of l text out).buffer
+      → (between ≡ out) × (image_refusal_line r ≡ answer_within (length out) l text)
+  unfolding output_of answer_within
+  refused_same (Loaded.Refused q) r e b = let p : r ≡ q = cc in (b, ap image_refusal_line p)
+  refused_same (Loaded.Image contents) r e b = go (leb (length text) (length out)) refl e b
     where
       go : (t : Bool) → leb (length text) (length out) ≡ t
-          → Decompiled.Refused r ≡ (outputOf (Loaded.Image contents) text out).answer → between ≡ (outputOf (Loaded.Image contents) text out).buffer
-          → (between ≡ out) × (imageRefusalLine r ≡ answerWithin (length out) (Loaded.Image contents) text)
+          → Decompiled.Refused r ≡ (output_of (Loaded.Image contents) text out).answer → between ≡ (output_of (Loaded.Image contents) text out).buffer
+          → (between ≡ out) × (image_refusal_line r ≡ answer_within (length out) (Loaded.Image contents) text)
       go true t e b = let f : Decompiled.Refused r ≡ Decompiled.Text (length text) = rw t at e in let z : ◌≡◌ {A = ℕ} 0 1 = cc in absurd (omega arith)
       go false t e b =
           let f : Decompiled.Refused r ≡ Decompiled.Refused (refusal Fault.BufferTooSmall 0) = rw t at e in
           let p : r ≡ refusal Fault.BufferTooSmall 0 = cc in
           let k : between ≡ out = rw t at b in
-          rw t (k, ap imageRefusalLine p)
+          rw t (k, ap image_refusal_line p)
 
   from_start : length text ≤ length out → Put out 0 text (text ++ drop (length text) out) (length text)
   unfolding behind
-  from_start h = (omega arith, sym (append-start out text h))
+  from_start h = (omega arith, sym (append_start out text h))
 
-  text_same : (l : Loaded) (n : ℕ) → Decompiled.Text n ≡ (outputOf l text out).answer → between ≡ (outputOf l text out).buffer
-      → Put out 0 (answerWithin (length out) l text) between n
-  unfolding outputOf answerWithin
+  text_same : (l : Loaded) (n : ℕ) → Decompiled.Text n ≡ (output_of l text out).answer → between ≡ (output_of l text out).buffer
+      → Put out 0 (answer_within (length out) l text) between n
+  unfolding output_of answer_within
   text_same (Loaded.Refused q) n e b = let z : ◌≡◌ {A = ℕ} 0 1 = cc in absurd (omega arith)
   text_same (Loaded.Image contents) n e b = go (leb (length text) (length out)) refl e b
     where
       go : (t : Bool) → leb (length text) (length out) ≡ t
-          → Decompiled.Text n ≡ (outputOf (Loaded.Image contents) text out).answer → between ≡ (outputOf (Loaded.Image contents) text out).buffer
-          → Put out 0 (answerWithin (length out) (Loaded.Image contents) text) between n
+          → Decompiled.Text n ≡ (output_of (Loaded.Image contents) text out).answer → between ≡ (output_of (Loaded.Image contents) text out).buffer
+          → Put out 0 (answer_within (length out) (Loaded.Image contents) text) between n
       go true t e b =
           let f : Decompiled.Text n ≡ Decompiled.Text (length text) = rw t at e in
           let p : n ≡ length text = cc in
@@ -59,30 +59,30 @@ module _ (text out between : List ℕ) where
           absurd (omega arith)
 
 module _ (image out : List ℕ) (answer : Decompiled) (between : List ℕ) (a : answer ≡ (decompiled image out).answer) (b : between ≡ (decompiled image out).buffer) where
-  pub image-refused : (r : Refusal) → answer ≡ Decompiled.Refused r → (after : List ℕ) (end : ℕ)
-      → Put between 0 (imageRefusalLine r) after end → Put out 0 (imageWithin (length out) image) after end
-  unfolding decompiled imageWithin
-  image-refused r e after end p =
-      let q = refused-same (text_of (policyIn image)) out between (load image) r (sym e ∙ a) b in
-      put_same out 0 (imageRefusalLine r) (imageWithin (length out) image) after end q.1 (rw q.0 at p)
+  pub image_refused : (r : Refusal) → answer ≡ Decompiled.Refused r → (after : List ℕ) (end : ℕ)
+      → Put between 0 (image_refusal_line r) after end → Put out 0 (image_within (length out) image) after end
+  unfolding decompiled image_within
+  image_refused r e after end p =
+      let q = refused_same (text_of (policy_in image)) out between (load image) r (sym e ∙ a) b in
+      put_same out 0 (image_refusal_line r) (image_within (length out) image) after end q.1 (rw q.0 at p)
 
-  pub image-text : (n : ℕ) → answer ≡ Decompiled.Text n → Put out 0 (imageWithin (length out) image) between n
-  unfolding decompiled imageWithin
-  image-text n e = text_same (text_of (policyIn image)) out between (load image) n (sym e ∙ a) b
+  pub image_text : (n : ℕ) → answer ≡ Decompiled.Text n → Put out 0 (image_within (length out) image) between n
+  unfolding decompiled image_within
+  image_text n e = text_same (text_of (policy_in image)) out between (load image) n (sym e ∙ a) b
 
 -- ---- the state that is left
 
 module _ (h : Held) (s : State) (e : s ≡ h.state) where
-  pub finish-broken : s.broken ≡ true → (room line : ℕ) → line ≡ next s.lines → notWordLine line ≡ finished room h
+  pub finish_broken : s.broken ≡ true → (room line : ℕ) → line ≡ next s.lines → not_word_line line ≡ finished room h
   unfolding finished
-  finish-broken t room line n =
+  finish_broken t room line n =
       let b : h.state.broken ≡ true = rw e at t in
-      rw b (ap notWordLine (n ∙ ap (λ (x : State). next x.lines) e))
+      rw b (ap not_word_line (n ∙ ap (λ (x : State). next x.lines) e))
 
-  pub finish-words : s.broken ≡ false → (room : ℕ) (image : List ℕ) (count : ℕ) → image ≡ h.image → count ≡ min s.words (length image / 4)
-      → imageWithin room (take (count * 4) image) ≡ finished room h
+  pub finish_words : s.broken ≡ false → (room : ℕ) (image : List ℕ) (count : ℕ) → image ≡ h.image → count ≡ min s.words (length image / 4)
+      → image_within room (take (count * 4) image) ≡ finished room h
   unfolding finished
-  finish-words t room image count i n =
+  finish_words t room image count i n =
       let b : h.state.broken ≡ false = rw e at t in
       let k : count ≡ min h.state.words (length h.image / 4) = n ∙ ap₂ (λ (x : State) (l : List ℕ). min x.words (length l / 4)) e i in
-      rw b (ap (imageWithin room) (ap₂ (λ (m : ℕ) (l : List ℕ). take (m * 4) l) k i))
+      rw b (ap (image_within room) (ap₂ (λ (m : ℕ) (l : List ℕ). take (m * 4) l) k i))

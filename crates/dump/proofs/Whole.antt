@@ -1,159 +1,200 @@
 -- However the input is cut into chunks, what is printed at its end is what the definition says for all of it.
-use Rattle.std.proofs.Common.{◌≡◌, ℕ, ◌+◌, ◌*◌, ◌/◌, ◌%◌, ◌^◌, ◌<◌, ◌≤◌, min, Bool, true, false, ◌&&◌, eqb, leb, List, [], ◌∷◌, ◌++◌, length, take, drop, sym, refl, ap, ◌∙◌, arith, length-append, length-take, take_all, take_at, le-leb, leb-false, leb-true}
+use Rattle.std.proofs.Common.{◌≡◌, ℕ, ◌+◌, ◌*◌, ◌/◌, ◌%◌, ◌^◌, ◌<◌, ◌≤◌, min, Bool, true, false, cond, ◌&&◌, eqb, leb, List, [], ◌∷◌, ◌++◌, length, take, drop, sym, refl, ap, ◌∙◌, arith, length-append, length-take, take_all, take_at, le-leb, leb-false, leb-true}
+use Rattle.std.proofs.Math.Option.{Option, none, some}
 use mathlib.Core.List.{flatten, foldl, foldl-append}
-use mathlib.Core.Option.{Option, none, some}
-use Rattle.policy.specs.Fault.{faultNumber, refusal}
+use Rattle.policy.specs.Fault.{fault_number, refusal}
 use Rattle.policy.specs.declared.fault.Fault.{Fault}
 use Rattle.policy.specs.declared.fault.Refusal.{Refusal}
-use Rattle.policy.proofs.ListLaws.{and-out}
+use Rattle.policy.proofs.ListLaws.{and_out}
 use Rattle.lexer.specs.Byte.{bytes}
 use Rattle.lexer.specs.Lines.{lines_of}
 use Rattle.word.specs.Word.{words_of, bytes_of}
-use Rattle.word.specs.Steps.Write.{putBytes}
-use Rattle.word.proofs.WordLaws.{words-length, bytes-length, bytes_below}
-use Rattle.word.proofs.WriteLaws.{put_in, put-length}
-use Rattle.image.specs.Check.{wellSized}
-use Rattle.image.specs.Held.{policyIn}
-use Rattle.image.specs.Load.{load, refusalIn}
+use Rattle.word.specs.Steps.Write.{put_bytes}
+use Rattle.word.proofs.WordLaws.{words_length, bytes_length, bytes_below}
+use Rattle.word.proofs.WriteLaws.{put_in, put_length}
+use Rattle.image.specs.Check.{well_sized}
+use Rattle.image.specs.Held.{policy_in}
+use Rattle.image.specs.Load.{load, refusal_in}
 use Rattle.image.specs.declared.load.Loaded.{Loaded}
-use Rattle.image.proofs.LoadLaws.{size-large, load-size}
-use Rattle.exactness.specs.Exact.{RefusalOf, ofChecks, ofBody}
-use Rattle.exactness.proofs.Exact.{held-acceptable, refusals}
+use Rattle.image.proofs.LoadLaws.{size_large, load_size}
+use Rattle.exactness.specs.Exact.{RefusalOf, of_checks, of_body}
+use Rattle.exactness.proofs.Exact.{held_acceptable, refusals}
 use Rattle.printer.specs.Printed.{text_of}
-use Rattle.printer.proofs.Printing.{text-length}
+use Rattle.printer.proofs.Printing.{text_length}
 use Rattle.output.specs.Buffer.{appended, behind}
-use Rattle.output.proofs.DecimalLaws.{decimal-short}
-use Rattle.output.proofs.AppendLaws.{append-start}
-use Rattle.report.specs.Report.{imageRefusalLine, notWordLine}
-use Rattle.dump.specs.Dump.{word_in, Dump, words, notWord, next, behindWords, readLine, readDump, answerTo, imageAnswer, dumpAnswer, restored}
-use Rattle.dump.specs.Calls.{Held, held, startState, stepped, fed, closed, answerWithin, imageWithin, finished}
+use Rattle.output.proofs.DecimalLaws.{decimal_short}
+use Rattle.output.proofs.AppendLaws.{append_start}
+use Rattle.output.proofs.RoomLaws.{put_take}
+use Rattle.report.specs.Report.{image_refusal_line, not_word_line}
+use Rattle.dump.specs.Dump.{word_in, Dump, words, not_word, next, behind_words, read_line, read_dump, answer_to, image_answer, dump_answer, restored}
+use Rattle.dump.specs.Calls.{Held, held, start_state, stepped, fed, closed, image_held, answer_within, image_within, finished}
+use Rattle.dump.specs.declared.state.State.{State}
 use Rattle.dump.proofs.ReadLaws.{kept, Stored, Ends, reads_all}
 
 -- ---- the words that are held are those of the image, or tell that there are too many
 
 stored_bytes : (buffer ws : List ℕ) (count : ℕ) (image : List ℕ) → Stored buffer ws count image
     → take (min count (length image / 4) * 4) image ≡ bytes_of (kept buffer ws)
-unfolding putBytes
+unfolding put_bytes
 stored_bytes buffer ws count image s =
     let x : List ℕ = kept buffer ws in
     let few : length x ≤ length buffer / 4 = omega (arith, length-take (length buffer / 4) ws) in
-    let long : length image ≡ length buffer = ap length s.stored ∙ put-length buffer 0 x in
-    let size : min count (length image / 4) * 4 ≡ length (bytes_of x) = omega (arith, s.counted, bytes-length x) in
+    let long : length image ≡ length buffer = ap length s.stored ∙ put_length buffer 0 x in
+    let size : min count (length image / 4) * 4 ≡ length (bytes_of x) = omega (arith, s.counted, bytes_length x) in
     let here : image ≡ bytes_of x ++ drop (0 + length (bytes_of x)) buffer = s.stored ∙ put_in buffer 0 x (omega arith) in
     rw (size, here) (take_at (bytes_of x) (drop (0 + length (bytes_of x)) buffer) (length (bytes_of x)) refl)
 
-too_large : (image : List ℕ) → 13064 < length image → imageAnswer image ≡ imageRefusalLine (refusal Fault.ImageSize 0)
-unfolding imageAnswer answerTo
-too_large image h = rw (sym (load-size image (sym (size-large (length image) (omega arith) h))))
+too_large : (image : List ℕ) → 13064 < length image → image_answer image ≡ image_refusal_line (refusal Fault.ImageSize 0)
+unfolding image_answer answer_to
+too_large image h = rw (sym (load_size image (sym (size_large (length image) (omega arith) h))))
 
-kept-answer : (buffer ws : List ℕ) → 13068 ≤ length buffer → imageAnswer (bytes_of (kept buffer ws)) ≡ imageAnswer (bytes_of ws)
-kept-answer buffer ws room = go (leb (length ws) (length buffer / 4)) refl
+kept_answer : (buffer ws : List ℕ) → 13068 ≤ length buffer → image_answer (bytes_of (kept buffer ws)) ≡ image_answer (bytes_of ws)
+kept_answer buffer ws room = go (leb (length ws) (length buffer / 4)) refl
   where
-    go : (b : Bool) → leb (length ws) (length buffer / 4) ≡ b → imageAnswer (bytes_of (kept buffer ws)) ≡ imageAnswer (bytes_of ws)
-    go true e = ap (λ (vs : List ℕ). imageAnswer (bytes_of vs)) (take_all (length buffer / 4) ws (leb-true (length ws) (length buffer / 4) e))
+    go : (b : Bool) → leb (length ws) (length buffer / 4) ≡ b → image_answer (bytes_of (kept buffer ws)) ≡ image_answer (bytes_of ws)
+    go true e = ap (λ (vs : List ℕ). image_answer (bytes_of vs)) (take_all (length buffer / 4) ws (leb-true (length ws) (length buffer / 4) e))
     go false e =
         let l : length buffer / 4 < length ws = leb-false (length ws) (length buffer / 4) e in
         let k : length (kept buffer ws) ≡ length buffer / 4 = length-take (length buffer / 4) ws ∙ omega arith in
-        too_large (bytes_of (kept buffer ws)) (omega (arith, bytes-length (kept buffer ws))) ∙ sym (too_large (bytes_of ws) (omega (arith, bytes-length ws)))
+        too_large (bytes_of (kept buffer ws)) (omega (arith, bytes_length (kept buffer ws))) ∙ sym (too_large (bytes_of ws) (omega (arith, bytes_length ws)))
 
 -- ---- a text always has room
 
-text-short : (ws : List ℕ) → (l : Loaded) → load (bytes_of ws) ≡ l → (room : ℕ) → 27968 ≤ room
-    → answerWithin room l (text_of (policyIn (bytes_of ws))) ≡ answerTo l (text_of (policyIn (bytes_of ws)))
-unfolding answerWithin answerTo
-text-short ws (Loaded.Refused r) e room h = refl
-text-short ws (Loaded.Image contents) e room h =
+text_short : (ws : List ℕ) → (l : Loaded) → load (bytes_of ws) ≡ l → (room : ℕ) → 27968 ≤ room
+    → answer_within room l (text_of (policy_in (bytes_of ws))) ≡ answer_to l (text_of (policy_in (bytes_of ws)))
+unfolding answer_within answer_to
+text_short ws (Loaded.Refused r) e room h = refl
+text_short ws (Loaded.Image contents) e room h =
     let image : List ℕ = bytes_of ws in
-    let short = text-length (policyIn image) (held-acceptable image (bytes_below ws) contents e) in
-    rw (le-leb (length (text_of (policyIn image))) room (omega arith))
+    let short = text_length (policy_in image) (held_acceptable image (bytes_below ws) contents e) in
+    rw (le-leb (length (text_of (policy_in image))) room (omega arith))
 
-image-whole : (ws : List ℕ) (room : ℕ) → 27968 ≤ room → imageWithin room (bytes_of ws) ≡ imageAnswer (bytes_of ws)
-unfolding imageWithin imageAnswer
-image-whole ws room h = text-short ws (load (bytes_of ws)) refl room h
+image_whole : (ws : List ℕ) (room : ℕ) → 27968 ≤ room → image_within room (bytes_of ws) ≡ image_answer (bytes_of ws)
+unfolding image_within image_answer
+image_whole ws room h = text_short ws (load (bytes_of ws)) refl room h
 
 -- ---- the whole input
 
-ends-answer : (buffer : List ℕ) (d : Dump) (h : Held) (room : ℕ) → 13068 ≤ length buffer → 27968 ≤ room → Ends buffer d h
-    → finished room h ≡ dumpAnswer d
-unfolding Ends finished dumpAnswer
-ends-answer buffer (words ws) h room long large (b, s) =
-    rw b (ap (imageWithin room) (stored_bytes buffer ws h.state.words h.image s) ∙ image-whole (kept buffer ws) room large ∙ kept-answer buffer ws long)
-ends-answer buffer (notWord n) h room long large (b, e) = rw b (ap notWordLine e)
+ends_answer : (buffer : List ℕ) (d : Dump) (h : Held) (room : ℕ) → 13068 ≤ length buffer → 27968 ≤ room → Ends buffer d h
+    → finished room h ≡ dump_answer d
+unfolding Ends finished dump_answer
+ends_answer buffer (words ws) h room long large (b, s) =
+    rw b (ap (image_within room) (stored_bytes buffer ws h.state.words h.image s) ∙ image_whole (kept buffer ws) room large ∙ kept_answer buffer ws long)
+ends_answer buffer (not_word n) h room long large (b, e) = rw b (ap not_word_line e)
 
-fed-joined : (h : Held) (chunks : List (List ℕ)) → foldl fed h chunks ≡ fed h (flatten chunks)
+fed_joined : (h : Held) (chunks : List (List ℕ)) → foldl fed h chunks ≡ fed h (flatten chunks)
 unfolding flatten
-fed-joined h [] = refl
-fed-joined h (chunk ∷ chunks) = fed-joined (fed h chunk) chunks ∙ sym (foldl-append stepped h chunk (flatten chunks))
+fed_joined h [] = refl
+fed_joined h (chunk ∷ chunks) = fed_joined (fed h chunk) chunks ∙ sym (foldl-append stepped h chunk (flatten chunks))
 
 -- ---- all of it has room
 
-sized-few : (n : ℕ) → wellSized n ≡ true → n ≤ 13064
-unfolding wellSized
-sized-few n e = leb-true n 13064 (and-out (leb 8 n) (leb n 13064) (and-out (leb 8 n && leb n 13064) (eqb (n % 4) 0) e).0).1
+sized_few : (n : ℕ) → well_sized n ≡ true → n ≤ 13064
+unfolding well_sized
+sized_few n e = leb-true n 13064 (and_out (leb 8 n) (leb n 13064) (and_out (leb 8 n && leb n 13064) (eqb (n % 4) 0) e).0).1
 
-location-small : (image : List ℕ) (r : Refusal) → length image ≤ 13064 → RefusalOf (length (words_of image)) r
-    → (faultNumber r.fault < 2 ^ 64) × (r.location < 2 ^ 64)
-location-small image r h (ofChecks s a b c) = (omega arith, omega arith)
-location-small image r h (ofBody s a b c) = (omega arith, omega (arith, words-length image))
+location_small : (image : List ℕ) (r : Refusal) → length image ≤ 13064 → RefusalOf (length (words_of image)) r
+    → (fault_number r.fault < 2 ^ 64) × (r.location < 2 ^ 64)
+location_small image r h (of_checks s a b c) = (omega arith, omega arith)
+location_small image r h (of_body s a b c) = (omega arith, omega (arith, words_length image))
 
-refusal-small : (image : List ℕ) (r : Refusal) → load image ≡ Loaded.Refused r → (faultNumber r.fault < 2 ^ 64) × (r.location < 2 ^ 64)
-refusal-small image r e = go (wellSized (length image)) refl
+refusal_small : (image : List ℕ) (r : Refusal) → load image ≡ Loaded.Refused r → (fault_number r.fault < 2 ^ 64) × (r.location < 2 ^ 64)
+refusal_small image r e = go (well_sized (length image)) refl
   where
-    go : (b : Bool) → wellSized (length image) ≡ b → (faultNumber r.fault < 2 ^ 64) × (r.location < 2 ^ 64)
-    go true q = location-small image r (sized-few (length image) q) (refusals image r (ap refusalIn e))
+    go : (b : Bool) → well_sized (length image) ≡ b → (fault_number r.fault < 2 ^ 64) × (r.location < 2 ^ 64)
+    go true q = location_small image r (sized_few (length image) q) (refusals image r (ap refusal_in e))
     go false q =
-        let f : Loaded.Refused r ≡ Loaded.Refused (refusal Fault.ImageSize 0) = sym e ∙ sym (load-size image q) in
+        let f : Loaded.Refused r ≡ Loaded.Refused (refusal Fault.ImageSize 0) = sym e ∙ sym (load_size image q) in
         let p : r ≡ refusal Fault.ImageSize 0 = cc in
         rw p (omega arith, omega arith)
 
-refusal-short : (r : Refusal) → faultNumber r.fault < 2 ^ 64 → r.location < 2 ^ 64 → length (imageRefusalLine r) ≤ 27968
-unfolding imageRefusalLine bytes
-refusal-short r f l = simp length-append (omega (arith, decimal-short (faultNumber r.fault) f, decimal-short r.location l))
+refusal_short : (r : Refusal) → fault_number r.fault < 2 ^ 64 → r.location < 2 ^ 64 → length (image_refusal_line r) ≤ 27968
+unfolding image_refusal_line bytes
+refusal_short r f l = simp length-append (omega (arith, decimal_short (fault_number r.fault) f, decimal_short r.location l))
 
-image-short : (ws : List ℕ) → length (imageAnswer (bytes_of ws)) ≤ 27968
-unfolding imageAnswer answerTo
-image-short ws = go (load (bytes_of ws)) refl
+image_short : (ws : List ℕ) → length (image_answer (bytes_of ws)) ≤ 27968
+unfolding image_answer answer_to
+image_short ws = go (load (bytes_of ws)) refl
   where
-    go : (l : Loaded) → load (bytes_of ws) ≡ l → length (answerTo l (text_of (policyIn (bytes_of ws)))) ≤ 27968
-    go (Loaded.Refused r) e = let s = refusal-small (bytes_of ws) r e in refusal-short r s.0 s.1
-    go (Loaded.Image contents) e = text-length (policyIn (bytes_of ws)) (held-acceptable (bytes_of ws) (bytes_below ws) contents e)
+    go : (l : Loaded) → load (bytes_of ws) ≡ l → length (answer_to l (text_of (policy_in (bytes_of ws)))) ≤ 27968
+    go (Loaded.Refused r) e = let s = refusal_small (bytes_of ws) r e in refusal_short r s.0 s.1
+    go (Loaded.Image contents) e = text_length (policy_in (bytes_of ws)) (held_acceptable (bytes_of ws) (bytes_below ws) contents e)
 
-number_small : (n : ℕ) (lines : List (List ℕ)) (m : ℕ) → readDump n lines ≡ notWord m → m < 2 ^ 64
-unfolding readDump readLine behindWords
+number_small : (n : ℕ) (lines : List (List ℕ)) (m : ℕ) → read_dump n lines ≡ not_word m → m < 2 ^ 64
+unfolding read_dump read_line behind_words
 number_small n [] m e = let z : ◌≡◌ {A = ℕ} 0 1 = cc in absurd (omega arith)
-number_small n (line ∷ lines) m e = go (word_in line) (readDump (next n) lines) (number_small (next n) lines m) e
+number_small n (line ∷ lines) m e = go (word_in line) (read_dump (next n) lines) (number_small (next n) lines m) e
   where
-    go : (o : Option ℕ) (d : Dump) → (d ≡ notWord m → m < 2 ^ 64) → readLine n o d ≡ notWord m → m < 2 ^ 64
+    go : (o : Option ℕ) (d : Dump) → (d ≡ not_word m → m < 2 ^ 64) → read_line n o d ≡ not_word m → m < 2 ^ 64
     go none d f q = let p : next n ≡ m = cc in omega arith
     go (some w) (words vs) f q = let z : ◌≡◌ {A = ℕ} 0 1 = cc in absurd (omega arith)
-    go (some w) (notWord k) f q = f q
+    go (some w) (not_word k) f q = f q
 
-line-short : (n : ℕ) → n < 2 ^ 64 → length (notWordLine n) ≤ 27968
-unfolding notWordLine bytes
-line-short n h = simp length-append (omega (arith, decimal-short n h))
+line_short : (n : ℕ) → n < 2 ^ 64 → length (not_word_line n) ≤ 27968
+unfolding not_word_line bytes
+line_short n h = simp length-append (omega (arith, decimal_short n h))
 
 -- what is printed for any input is no longer than the longest text
-pub restored-short : (input : List ℕ) → length (restored input) ≤ 27968
-unfolding restored dumpAnswer
-restored-short input = go (readDump 0 (lines_of input)) refl
+pub restored_short : (input : List ℕ) → length (restored input) ≤ 27968
+unfolding restored dump_answer
+restored_short input = go (read_dump 0 (lines_of input)) refl
   where
-    go : (d : Dump) → readDump 0 (lines_of input) ≡ d → length (dumpAnswer d) ≤ 27968
-    go (words ws) e = image-short ws
-    go (notWord n) e = line-short n (number_small 0 (lines_of input) n e)
+    go : (d : Dump) → read_dump 0 (lines_of input) ≡ d → length (dump_answer d) ≤ 27968
+    go (words ws) e = image_short ws
+    go (not_word n) e = line_short n (number_small 0 (lines_of input) n e)
 
 -- `begin`, `feed` on each chunk, and `finish`, as their contracts have it: the output holds just what is to be printed, from its start up
 -- to the position that is answered
-pub all-restored : (chunks : List (List ℕ)) (image out after : List ℕ) (end : ℕ) → 13068 ≤ length image → 27968 ≤ length out
-    → end ≡ behind out 0 (finished (length out) (closed (foldl fed (held startState image) chunks)))
-    → after ≡ appended out 0 (finished (length out) (closed (foldl fed (held startState image) chunks)))
+pub all_restored : (chunks : List (List ℕ)) (image out after : List ℕ) (end : ℕ) → 13068 ≤ length image → 27968 ≤ length out
+    → end ≡ behind out 0 (finished (length out) (closed (foldl fed (held start_state image) chunks)))
+    → after ≡ appended out 0 (finished (length out) (closed (foldl fed (held start_state image) chunks)))
     → take end after ≡ restored (flatten chunks)
 unfolding restored behind
-all-restored chunks image out after end long large p q =
+all_restored chunks image out after end long large p q =
     let input : List ℕ = flatten chunks in
-    let e : finished (length out) (closed (foldl fed (held startState image) chunks)) ≡ restored input =
-    ap (λ (h : Held). finished (length out) (closed h)) (fed-joined (held startState image) chunks)
-    ∙ ends-answer image (readDump 0 (lines_of input)) (closed (fed (held startState image) input)) (length out) long large (reads_all image input) in
-    let short = restored-short input in
+    let e : finished (length out) (closed (foldl fed (held start_state image) chunks)) ≡ restored input =
+    ap (λ (h : Held). finished (length out) (closed h)) (fed_joined (held start_state image) chunks)
+    ∙ ends_answer image (read_dump 0 (lines_of input)) (closed (fed (held start_state image) input)) (length out) long large (reads_all image input) in
+    let short = restored_short input in
     let n : end ≡ length (restored input) = (rw e at p) ∙ omega arith in
-    let here : after ≡ restored input ++ drop (length (restored input)) out = (rw e at q) ∙ append-start out (restored input) (omega arith) in
+    let here : after ≡ restored input ++ drop (length (restored input)) out = (rw e at q) ∙ append_start out (restored input) (omega arith) in
     rw here (take_at (restored input) (drop (length (restored input)) out) end (sym n))
+
+-- ---- what is printed at the end of the input has room, whatever was read
+
+within_short : (image : List ℕ) → length (image_within 27968 image) ≤ 27968
+unfolding image_within answer_within
+within_short image = go (load image) refl
+  where
+    text : List ℕ
+    text = text_of (policy_in image)
+
+    go : (l : Loaded) → load image ≡ l → length (answer_within 27968 l text) ≤ 27968
+    go (Loaded.Refused r) e = let s = refusal_small image r e in refusal_short r s.0 s.1
+    go (Loaded.Image contents) e = fit (leb (length text) 27968) refl
+      where
+        fit : (b : Bool) → leb (length text) 27968 ≡ b → length (cond b text (image_refusal_line (refusal Fault.BufferTooSmall 0))) ≤ 27968
+        fit true t = leb-true (length text) 27968 t
+        fit false t = refusal_short (refusal Fault.BufferTooSmall 0) (omega arith) (omega arith)
+
+finished_short : (h : Held) → length (finished 27968 h) ≤ 27968
+unfolding finished
+finished_short h = go h.state.broken
+  where
+    go : (b : Bool) → length (cond b (not_word_line (next h.state.lines)) (image_within 27968 (image_held h))) ≤ 27968
+    go true = line_short (next h.state.lines) (omega arith)
+    go false = within_short (image_held h)
+
+pub finished_whole : (h : Held) (out after : List ℕ) (end : ℕ) → length out ≡ 27968
+    → (end ≡ behind out 0 (finished (length out) h)) × (after ≡ appended out 0 (finished (length out) h)) → take end after ≡ finished 27968 h
+finished_whole h out after end long p = put_take out 0 (finished 27968 h) after end (omega (arith, long, finished_short h)) (rw long at p)
+
+-- from the start of the input, what is printed is what the definition says for all of it
+start_restored : (image : List ℕ) → 13068 ≤ length image → (input : List ℕ) → finished 27968 (closed (fed (held start_state image) input)) ≡ restored input
+unfolding restored
+start_restored image long input =
+    ends_answer image (read_dump 0 (lines_of input)) (closed (fed (held start_state image) input)) 27968 long (omega arith) (reads_all image input)
+
+pub starts_restored : (s : State) (image : List ℕ) → s ≡ start_state → 13068 ≤ length image
+    → (λ (input : List ℕ). finished 27968 (closed (fed (held s image) input))) ≡ restored
+starts_restored s image e long = rw e (λ i. λ input. start_restored image long input i)

@@ -1,15 +1,15 @@
 -- What the functions do: with a byte of the input, with the bytes of a chunk, and at the end of the input.
 use Rattle.std.specs.Prelude.{ℕ, ◌+◌, ◌*◌, ◌/◌, ◌%◌, ◌^◌, min, true, false, cond, ◌&&◌, ◌||◌, List, [], ◌∷◌, length, take, ◌==◌, nat_le, nat_lt}
 use mathlib.Core.List.{foldl}
-use Rattle.lexer.specs.Byte.{isLineEnd, hexValue}
-use Rattle.word.specs.Steps.Write.{fits, putWords}
+use Rattle.lexer.specs.Byte.{is_line_end, hex_value}
+use Rattle.word.specs.Steps.Write.{fits, put_words}
 use Rattle.policy.specs.Fault.{refusal}
 use Rattle.policy.specs.declared.fault.Fault.{Fault}
-use Rattle.image.specs.Held.{policyIn}
+use Rattle.image.specs.Held.{policy_in}
 use Rattle.image.specs.Load.{load}
 use Rattle.image.specs.declared.load.Loaded.{Loaded}
 use Rattle.printer.specs.Printed.{text_of}
-use Rattle.report.specs.Report.{imageRefusalLine, notWordLine}
+use Rattle.report.specs.Report.{image_refusal_line, not_word_line}
 use Rattle.dump.specs.Dump.{next}
 use Rattle.dump.specs.declared.state.State.{State}
 
@@ -21,38 +21,38 @@ pub record Held : Type 0 where
 abbrev pub held : State → List ℕ → Held
 held s image = record { state = s; image = image }
 
-abbrev pub startState : State
-startState = record { lines = 0; words = 0; digits = 0; value = 0; broken = false }
+abbrev pub start_state : State
+start_state = record { lines = 0; words = 0; digits = 0; value = 0; broken = false }
 
 -- the open line is no word
 abbrev pub broken : State → State
 broken s = record { lines = s.lines; words = s.words; digits = s.digits; value = s.value; broken = true }
 
 -- one digit more
-abbrev pub withDigit : State → ℕ → State
-withDigit s d =
+abbrev pub with_digit : State → ℕ → State
+with_digit s d =
     record { lines = s.lines; words = s.words; digits = s.digits + 1; value = s.value % 2 ^ 28 * 16 + d; broken = false }
 
 -- one word more, of which so many are then held
-abbrev pub withWord : State → ℕ → State
-withWord s count = record { lines = next s.lines; words = count; digits = 0; value = 0; broken = false }
+abbrev pub with_word : State → ℕ → State
+with_word s count = record { lines = next s.lines; words = count; digits = 0; value = 0; broken = false }
 
 -- the open line has ended
-unfoldable pub lineEnded : Held → Held
-lineEnded h =
+unfoldable pub line_ended : Held → Held
+line_ended h =
     let s : State = h.state in
     cond (s.digits == 8)
-    (held (withWord s (cond (fits h.image s.words 1) (s.words + 1) s.words)) (putWords h.image s.words (s.value ∷ [])))
+    (held (with_word s (cond (fits h.image s.words 1) (s.words + 1) s.words)) (put_words h.image s.words (s.value ∷ [])))
     (held (broken s) h.image)
 
 -- a byte of the open line that has the value as a digit
-unfoldable pub digitTaken : State → ℕ → State
-digitTaken s d = cond (nat_lt d 16 && nat_lt s.digits 8) (withDigit s d) (broken s)
+unfoldable pub digit_taken : State → ℕ → State
+digit_taken s d = cond (nat_lt d 16 && nat_lt s.digits 8) (with_digit s d) (broken s)
 
 unfoldable pub stepped : Held → ℕ → Held
 stepped h b =
     cond h.state.broken h
-    (cond (isLineEnd b) (lineEnded h) (held (digitTaken h.state (hexValue b)) h.image))
+    (cond (is_line_end b) (line_ended h) (held (digit_taken h.state (hex_value b)) h.image))
 
 -- the bytes of a chunk
 abbrev pub fed : Held → List ℕ → Held
@@ -60,22 +60,22 @@ fed h chunk = foldl stepped h chunk
 
 -- the input has ended: an open line has ended with it
 unfoldable pub closed : Held → Held
-closed h = cond (h.state.broken || h.state.digits == 0) h (lineEnded h)
+closed h = cond (h.state.broken || h.state.digits == 0) h (line_ended h)
 
 -- the bytes of the words that are held
-abbrev pub imageHeld : Held → List ℕ
-imageHeld h = take (min h.state.words (length h.image / 4) * 4) h.image
+abbrev pub image_held : Held → List ℕ
+image_held h = take (min h.state.words (length h.image / 4) * 4) h.image
 
 -- ---- what is printed at the end of the input, in a lent buffer of so many bytes
 
--- as `answerTo`, but a text that has no room is refused
-unfoldable pub answerWithin : ℕ → Loaded → List ℕ → List ℕ
-answerWithin room (Loaded.Refused r) text = imageRefusalLine r
-answerWithin room (Loaded.Image contents) text = cond (nat_le (length text) room) text (imageRefusalLine (refusal Fault.BufferTooSmall 0))
+-- as `answer_to`, but a text that has no room is refused
+unfoldable pub answer_within : ℕ → Loaded → List ℕ → List ℕ
+answer_within room (Loaded.Refused r) text = image_refusal_line r
+answer_within room (Loaded.Image contents) text = cond (nat_le (length text) room) text (image_refusal_line (refusal Fault.BufferTooSmall 0))
 
-unfoldable pub imageWithin : ℕ → List ℕ → List ℕ
-imageWithin room image = answerWithin room (load image) (text_of (policyIn image))
+unfoldable pub image_within : ℕ → List ℕ → List ℕ
+image_within room image = answer_within room (load image) (text_of (policy_in image))
 
 -- the line behind those that were read is no word, or all are
 unfoldable pub finished : ℕ → Held → List ℕ
-finished room h = cond h.state.broken (notWordLine (next h.state.lines)) (imageWithin room (imageHeld h))
+finished room h = cond h.state.broken (not_word_line (next h.state.lines)) (image_within room (image_held h))

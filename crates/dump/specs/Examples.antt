@@ -40,8 +40,8 @@ dumps =
     ∷ row "01000000 \nFF000000\n" "line 1 is not a word\n"
     ∷ []
 
-unfoldable pub dumpRestored : Example → List ℕ
-dumpRestored x = restored (bytes x.input)
+unfoldable pub dump_restored : Example → List ℕ
+dump_restored x = restored (bytes x.input)
 
 unfoldable pub expected : Example → List ℕ
 expected x = bytes x.output

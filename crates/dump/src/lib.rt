@@ -1,15 +1,20 @@
 // Reads the words of an image as the compiler prints them, in chunks of any sizes, and prints the rule text of the image. Start with
 // specs/Dump.antt.
+#![tactic(auto)]
+
+mod decompiler;
+mod page;
 mod state;
 
 ghost use Rattle.std.specs.Prelude.{◌≡◌, length};
 ghost use Rattle.output.specs.Buffer.{appended, behind};
 ghost use Rattle.io.specs.Counts.{IsPrefixLen};
-ghost use Rattle.dump.specs.Calls.{startState, held, fed, closed, imageWithin, finished};
+ghost use Rattle.dump.specs.Calls.{start_state, held, fed, closed, image_within, finished};
 
 pub use decompile::TEXT_SIZE;
 use decompile::{Decompiled, decompile};
-use report::{put_image_refusal, put_not_word};
+pub use decompiler::restore_input;
+use page::{put_image_refusal, put_not_word};
 pub use state::State;
 use state::{close, step};
 use word::at_most;
@@ -19,7 +24,7 @@ pub const DUMP_SIZE: usize = 13068;
 
 // Before any input.
 pub fn begin() -> State
-    ensures { result ≡ startState }
+    ensures { result ≡ start_state }
 {
     State {
         lines: 0,
@@ -46,8 +51,8 @@ pub fn feed(start: State, chunk: &[u8], image: &mut [u8]) -> State
 
 // What is printed for an image: its text, or why it is refused.
 fn put_image(image: &[u8], out: &mut [u8]) -> usize
-    ensures answer { result ≡ behind out.old 0 (imageWithin (length out.old) image.now) }
-    ensures buffer { out.new ≡ appended out.old 0 (imageWithin (length out.old) image.now) }
+    ensures answer { result ≡ behind out.old 0 (image_within (length out.old) image.now) }
+    ensures buffer { out.new ≡ appended out.old 0 (image_within (length out.old) image.now) }
 {
     let decompiled = decompile(image, out);
     match decompiled {

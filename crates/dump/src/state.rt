@@ -1,13 +1,13 @@
 // What was read of the input, and what a byte more does to it.
 ghost use Rattle.std.specs.Prelude.{◌≡◌};
-ghost use Rattle.dump.specs.Calls.{held, broken, lineEnded, digitTaken, stepped, closed};
+ghost use Rattle.dump.specs.Calls.{held, broken, line_ended, digit_taken, stepped, closed};
 
 use lexer::hex_value;
 use word::put_word;
 
 // `lines` whole lines were read, all words, of which the first `words` are held, and of the open line `digits` digits, whose value is
 // `value`; or the line behind `lines` lines is no word.
-#[derive(Drop)]
+#[derive(Clone, Copy)]
 pub struct State {
     pub lines: u64,
     pub words: usize,
@@ -36,8 +36,8 @@ fn break_line(state: State) -> State
 
 // The open line has ended. A word that has no room is counted as a line and not held.
 fn end_line(state: State, image: &mut [u8]) -> State
-    ensures answer { result ≡ (lineEnded (held state image.old)).state }
-    ensures image { image.new ≡ (lineEnded (held state image.old)).image }
+    ensures answer { result ≡ (line_ended (held state image.old)).state }
+    ensures image { image.new ≡ (line_ended (held state image.old)).image }
 {
     if state.digits != DIGITS {
         return break_line(state);
@@ -57,7 +57,7 @@ fn end_line(state: State, image: &mut [u8]) -> State
 
 // A byte of the open line, by its value as a digit.
 fn take_digit(state: State, digit: u8) -> State
-    ensures { result ≡ digitTaken state digit }
+    ensures { result ≡ digit_taken state digit }
 {
     if BASE <= digit {
         return break_line(state);

@@ -1,312 +1,308 @@
 -- Laws of scanning an epoch line, token by token, and of its judgement against the definition.
-use Prim.Native.Nat.{ℕ, suc, ◌<◌, ◌≤◌}
-use mathlib.Core.Bool.{Bool, true, false, not, ◌&&◌, ◌||◌, cond, or-true, or_assoc, or-false}
-use mathlib.Core.List.{List, [], ◌∷◌, foldl}
-use mathlib.Core.Option.{Option, none, some, or_else}
-use mathlib.Core.Path.{◌≡◌, refl, sym, ap, ap₂, ◌∙◌}
-use native.Mathlib.Omega.{arith}
-use borrow.Author.Tests.{eqb-true, eq-eqb, ne_eqb, ltb-true, lt-ltb, le-ltb}
-use lib.Dec.{eqb, ltb}
-use lib.IntN.{ℤ, pos}
-use lib.ListN.{length, set, drop, drop_of_length-le, length-drop, replicate}
-use Rattle.policy.proofs.ListLaws.{true-false, and_in, and-out}
-use Rattle.policy.proofs.SeenLaws.{seen-repeats}
+use Rattle.std.proofs.Common.{ℕ, suc, ◌<◌, ◌≤◌, Bool, true, false, not, ◌&&◌, ◌||◌, cond, List, [], ◌∷◌, ◌≡◌, refl, sym, ap, ap₂, ◌∙◌, arith, eqb-true, eq-eqb, ne_eqb, ltb-true, lt-ltb, le-ltb, ℤ, pos, length, drop, drop_of_length-le, length-drop, replicate}
+use Rattle.std.proofs.Math.Bool.{or-true, or_assoc, or-false}
+use Rattle.std.proofs.Math.Option.{Option, none, some, or_else}
+use Rattle.std.proofs.Math.Dec.{eqb, ltb}
+use Rattle.std.proofs.Math.ListN.{set}
+use mathlib.Core.List.{foldl}
+use Rattle.policy.proofs.ListLaws.{true_false, and_in, and_out}
+use Rattle.policy.proofs.SeenLaws.{seen_repeats}
 use Rattle.policy.specs.Epoch.{Epoch}
-use Rattle.policy.specs.Limits.{isReadingValue, repeats}
-use Rattle.policy.specs.Steps.Seen.{seenIn}
+use Rattle.policy.specs.Limits.{is_reading_value, repeats}
+use Rattle.policy.specs.Steps.Seen.{seen_in}
 use Rattle.policy.specs.List.{all, any}
-use Rattle.policy.specs.Number.{setLimit}
-use Rattle.policy.specs.Set.{insertEvent, hasReading, insertReading, noEvents, noReadings}
+use Rattle.policy.specs.Number.{set_limit}
+use Rattle.policy.specs.Set.{insert_event, has_reading, insert_reading, no_events, no_readings}
 use Rattle.policy.specs.declared.fault.Fault.{Fault}
 use Rattle.policy.specs.declared.number.Event.{Event}
 use Rattle.policy.specs.declared.number.Reading.{Reading}
-use Rattle.lexer.proofs.WhileLaws.{skip-ge, drop-skip}
-use Rattle.lexer.proofs.TokenLaws.{tokens-after-spaces, tokens-first, tokens-ended}
-use Rattle.lexer.proofs.KeywordLaws.{empty-end, token-inside, skip-grows}
-use Rattle.lexer.specs.Byte.{isSpace}
-use Rattle.epoch_line.specs.Epoch.{Item, event, value, item_of, items_of, itemInRange, givenBy, addItem, emptyEpoch, judgeEpoch, refused, accepted, epochLimit, readEpoch, atEquals, assignmentOf}
-use Rattle.epoch_line.specs.Steps.EpochScan.{itemWithin, itemEnding, item_at, Scanned, scanned, addScanned, flagged, takeItem, finishRead, itemsRead, epochFrom}
-use Rattle.epoch_line.specs.Answer.{refusedRead, acceptedRead, answerRead, epochRead}
+use Rattle.lexer.proofs.WhileLaws.{skip_ge, drop_skip}
+use Rattle.lexer.proofs.TokenLaws.{tokens_after_spaces, tokens_first, tokens_ended}
+use Rattle.lexer.proofs.KeywordLaws.{empty_end, token_inside, skip_grows}
+use Rattle.lexer.specs.Byte.{is_space}
+use Rattle.epoch_line.specs.Epoch.{Item, event, value, item_of, items_of, item_in_range, given_by, add_item, empty_epoch, judge_epoch, refused, accepted, epoch_limit, read_epoch, at_equals, assignment_of}
+use Rattle.epoch_line.specs.Steps.EpochScan.{item_within, item_ending, item_at, Scanned, scanned, add_scanned, flagged, take_item, finish_read, items_read, epoch_from}
+use Rattle.epoch_line.specs.Answer.{refused_read, accepted_read, answer_read, epoch_read}
 use Rattle.lexer.specs.Token.{Token, named, both}
-use Rattle.lexer.specs.Lines.{tokensOf, takeWhile, skipWhile, inLine, restOfLine}
+use Rattle.lexer.specs.Lines.{tokens_of, take_leading, skip_while, in_line, rest_of_line}
 use Rattle.lexer.specs.Number.{is_empty}
-use Rattle.lexer.specs.Steps.Scan.{inToken, tokenAt, tokensAt}
+use Rattle.lexer.specs.Steps.Scan.{in_token, token_at, tokens_at}
 use Rattle.epoch_line.specs.declared.EpochRead.{EpochRead}
 use Rattle.epoch_line.specs.declared.ItemAt.{ItemAt}
 
 -- ---- a line end among bytes
 
-unfoldable hasEnd : List ℕ → Bool
-hasEnd s = any (eqb 10) s
+unfoldable has_end : List ℕ → Bool
+has_end s = any (eqb 10) s
 
-end-past : (p : ℕ → Bool) → ((b : ℕ) → p b ≡ true → eqb 10 b ≡ false) → (s : List ℕ) → hasEnd s ≡ hasEnd (drop (length (takeWhile p s)) s)
-unfolding hasEnd any takeWhile
-end-past p h [] = refl
-end-past p h (b ∷ s) = go (p b) refl (end-past p h s)
+end_past : (p : ℕ → Bool) → ((b : ℕ) → p b ≡ true → eqb 10 b ≡ false) → (s : List ℕ) → has_end s ≡ has_end (drop (length (take_leading p s)) s)
+unfolding has_end any take_leading
+end_past p h [] = refl
+end_past p h (b ∷ s) = go (p b) refl (end_past p h s)
   where
-    go : (x : Bool) → p b ≡ x → hasEnd s ≡ hasEnd (drop (length (takeWhile p s)) s) → eqb 10 b || any (eqb 10) s ≡ hasEnd (drop (length (cond x (b ∷ takeWhile p s) [])) (b ∷ s))
+    go : (x : Bool) → p b ≡ x → has_end s ≡ has_end (drop (length (take_leading p s)) s) → eqb 10 b || any (eqb 10) s ≡ has_end (drop (length (cond x (b ∷ take_leading p s) [])) (b ∷ s))
     go true e k = rw (h b e) k
     go false e k = refl
 
 -- where spaces were passed over and no token starts, and the line has not ended, there is a line end
-end-here : (s : List ℕ) → length (takeWhile isSpace s) < length s → is_empty (takeWhile inToken (drop (length (takeWhile isSpace s)) s)) ≡ true → hasEnd s ≡ true
-unfolding hasEnd any takeWhile is_empty
-end-here [] l e = absurd (omega arith)
-end-here (b ∷ s) l e = go (eqb b 32) refl l e (end-here s)
+end_here : (s : List ℕ) → length (take_leading is_space s) < length s → is_empty (take_leading in_token (drop (length (take_leading is_space s)) s)) ≡ true → has_end s ≡ true
+unfolding has_end any take_leading is_empty
+end_here [] l e = absurd (omega arith)
+end_here (b ∷ s) l e = go (eqb b 32) refl l e (end_here s)
   where
-    ends : (x : Bool) → eqb b 10 ≡ x → is_empty (cond (not x) (b ∷ takeWhile inToken s) []) ≡ true → eqb 10 b || any (eqb 10) s ≡ true
+    ends : (x : Bool) → eqb b 10 ≡ x → is_empty (cond (not x) (b ∷ take_leading in_token s) []) ≡ true → eqb 10 b || any (eqb 10) s ≡ true
     ends true p q = rw (eqb-true b 10 p)
-    ends false p q = absurd (true-false q refl)
+    ends false p q = absurd (true_false q refl)
 
-    go : (x : Bool) → eqb b 32 ≡ x → length (cond x (b ∷ takeWhile isSpace s) []) < suc (length s) → is_empty (takeWhile inToken (drop (length (cond x (b ∷ takeWhile isSpace s) [])) (b ∷ s))) ≡ true → (length (takeWhile isSpace s) < length s → is_empty (takeWhile inToken (drop (length (takeWhile isSpace s)) s)) ≡ true → hasEnd s ≡ true) → eqb 10 b || any (eqb 10) s ≡ true
+    go : (x : Bool) → eqb b 32 ≡ x → length (cond x (b ∷ take_leading is_space s) []) < suc (length s) → is_empty (take_leading in_token (drop (length (cond x (b ∷ take_leading is_space s) [])) (b ∷ s))) ≡ true → (length (take_leading is_space s) < length s → is_empty (take_leading in_token (drop (length (take_leading is_space s)) s)) ≡ true → has_end s ≡ true) → eqb 10 b || any (eqb 10) s ≡ true
     go true p k q h = rw (h (omega arith) q) (or-true (eqb 10 b))
-    go false p k q h = ends (eqb b 10) refl (sym (ap (λ (y : Bool). is_empty (cond (not (y || eqb b 10)) (b ∷ takeWhile inToken s) [])) p) ∙ q)
+    go false p k q h = ends (eqb b 10) refl (sym (ap (λ (y : Bool). is_empty (cond (not (y || eqb b 10)) (b ∷ take_leading in_token s) [])) p) ∙ q)
 
-space-no-end : (b : ℕ) → isSpace b ≡ true → eqb 10 b ≡ false
-space-no-end b e = rw (eqb-true b 32 e)
+space_no_end : (b : ℕ) → is_space b ≡ true → eqb 10 b ≡ false
+space_no_end b e = rw (eqb-true b 32 e)
 
-inside-no-end : (b : ℕ) → inToken b ≡ true → eqb 10 b ≡ false
-inside-no-end b e = ne_eqb 10 b (λ q. true-false (sym (ap inToken (sym q)) ∙ e) refl)
+inside_no_end : (b : ℕ) → in_token b ≡ true → eqb 10 b ≡ false
+inside_no_end b e = ne_eqb 10 b (λ q. true_false (sym (ap in_token (sym q)) ∙ e) refl)
 
-no_end : (s : List ℕ) → hasEnd s ≡ false → takeWhile inLine s ≡ s
-unfolding hasEnd any takeWhile
+no_end : (s : List ℕ) → has_end s ≡ false → take_leading in_line s ≡ s
+unfolding has_end any take_leading
 no_end [] e = refl
 no_end (b ∷ s) e = go (eqb b 10) refl e (no_end s)
   where
-    go : (x : Bool) → eqb b 10 ≡ x → eqb 10 b || any (eqb 10) s ≡ false → (hasEnd s ≡ false → takeWhile inLine s ≡ s) → cond (not x) (b ∷ takeWhile inLine s) [] ≡ b ∷ s
-    go true p q h = absurd (true-false (rw (eqb-true b 10 p)) q)
-    go false p q h = ap (λ (t : List ℕ). b ∷ t) (h (sym (ap (λ (y : Bool). y || any (eqb 10) s) (ne_eqb 10 b (λ z. true-false (eq-eqb b 10 (sym z)) p))) ∙ q))
+    go : (x : Bool) → eqb b 10 ≡ x → eqb 10 b || any (eqb 10) s ≡ false → (has_end s ≡ false → take_leading in_line s ≡ s) → cond (not x) (b ∷ take_leading in_line s) [] ≡ b ∷ s
+    go true p q h = absurd (true_false (rw (eqb-true b 10 p)) q)
+    go false p q h = ap (λ (t : List ℕ). b ∷ t) (h (sym (ap (λ (y : Bool). y || any (eqb 10) s) (ne_eqb 10 b (λ z. true_false (eq-eqb b 10 (sym z)) p))) ∙ q))
 
 module _ (line : List ℕ) (at : ℕ) where
-  end-skipped : (p : ℕ → Bool) → ((b : ℕ) → p b ≡ true → eqb 10 b ≡ false) → hasEnd (drop at line) ≡ hasEnd (drop (skipWhile p line at) line)
-  end-skipped p h = end-past p h (drop at line) ∙ ap hasEnd (sym (drop-skip p line at))
+  end_skipped : (p : ℕ → Bool) → ((b : ℕ) → p b ≡ true → eqb 10 b ≡ false) → has_end (drop at line) ≡ has_end (drop (skip_while p line at) line)
+  end_skipped p h = end_past p h (drop at line) ∙ ap has_end (sym (drop_skip p line at))
 
 -- ---- the judgement of all items against collecting them one by one
 
 unfoldable closed : Bool → Bool → Epoch → EpochRead
-closed outOfRange twice e = cond outOfRange (refusedRead Fault.EpochRange) (cond twice (refusedRead Fault.DuplicateReading) (acceptedRead e))
+closed out_of_range twice e = cond out_of_range (refused_read Fault.EpochRange) (cond twice (refused_read Fault.DuplicateReading) (accepted_read e))
 
 module _ (s : Scanned) (is : List Item) where
   abbrev after : Scanned → List Item → EpochRead
-  after s is = closed (s.outOfRange || not (all itemInRange is)) (s.twice || seenIn s.epoch.readings.given.0 (givenBy is)) (foldl addItem s.epoch is)
+  after s is = closed (s.out_of_range || not (all item_in_range is)) (s.twice || seen_in s.epoch.readings.given.bits (given_by is)) (foldl add_item s.epoch is)
 
-  one_more : (i : Item) → after (takeItem s i) is ≡ after s (i ∷ is)
-  unfolding takeItem addScanned closed all seenIn givenBy addItem
-  one_more i = go i (itemInRange i) refl
+  one_more : (i : Item) → after (take_item s i) is ≡ after s (i ∷ is)
+  unfolding take_item add_scanned closed all seen_in given_by add_item
+  one_more i = go i (item_in_range i) refl
     where
-      go : (i : Item) (b : Bool) → itemInRange i ≡ b → after (takeItem s i) is ≡ after s (i ∷ is)
+      go : (i : Item) (b : Bool) → item_in_range i ≡ b → after (take_item s i) is ≡ after s (i ∷ is)
       go (event n) true e = rw e
-      go (value n k) true e = rw (e, or_assoc s.twice (hasReading s.epoch.readings.given (record { 0 = n })) (seenIn (insertReading s.epoch.readings.given (record { 0 = n })).0 (givenBy is)))
-      go i false e = rw (e, or-true s.outOfRange)
+      go (value n k) true e = rw (e, or_assoc s.twice (has_reading s.epoch.readings.given (record { 0 = n })) (seen_in (insert_reading s.epoch.readings.given (record { 0 = n })).bits (given_by is)))
+      go i false e = rw (e, or-true s.out_of_range)
 
-collected : (s : Scanned) (is : List Item) → finishRead (foldl takeItem s is) ≡ closed (s.outOfRange || not (all itemInRange is)) (s.twice || seenIn s.epoch.readings.given.0 (givenBy is)) (foldl addItem s.epoch is)
-unfolding finishRead closed all seenIn givenBy
-collected s [] = rw (or-false s.outOfRange, or-false s.twice)
-collected s (i ∷ is) = collected (takeItem s i) is ∙ one_more s is i
+collected : (s : Scanned) (is : List Item) → finish_read (foldl take_item s is) ≡ closed (s.out_of_range || not (all item_in_range is)) (s.twice || seen_in s.epoch.readings.given.bits (given_by is)) (foldl add_item s.epoch is)
+unfolding finish_read closed all seen_in given_by
+collected s [] = rw (or-false s.out_of_range, or-false s.twice)
+collected s (i ∷ is) = collected (take_item s i) is ∙ one_more s is i
 
-given-small : (is : List Item) → all itemInRange is ≡ true → all (λ (n : ℕ). ltb n setLimit) (givenBy is) ≡ true
-unfolding all itemInRange givenBy
-given-small [] e = refl
-given-small (event n ∷ is) e = given-small is (and-out (ltb n 64) (all itemInRange is) e).1
-given-small (value n k ∷ is) e =
-    let p = and-out (ltb n 16 && isReadingValue k) (all itemInRange is) e in
-    let l = ltb-true n 16 (and-out (ltb n 16) (isReadingValue k) p.0).0 in
-    and_in (lt-ltb n 64 (omega arith)) (given-small is p.1)
+given_small : (is : List Item) → all item_in_range is ≡ true → all (λ (n : ℕ). ltb n set_limit) (given_by is) ≡ true
+unfolding all item_in_range given_by
+given_small [] e = refl
+given_small (event n ∷ is) e = given_small is (and_out (ltb n 64) (all item_in_range is) e).1
+given_small (value n k ∷ is) e =
+    let p = and_out (ltb n 16 && is_reading_value k) (all item_in_range is) e in
+    let l = ltb-true n 16 (and_out (ltb n 16) (is_reading_value k) p.0).0 in
+    and_in (lt-ltb n 64 (omega arith)) (given_small is p.1)
 
 abbrev nothing : Scanned
-nothing = scanned false false noEvents noReadings (replicate 16 (pos 0))
+nothing = scanned false false no_events no_readings (replicate 16 (pos 0))
 
-judged : (o : Option (List Item)) → itemsRead nothing o ≡ answerRead (judgeEpoch o)
-unfolding itemsRead judgeEpoch answerRead closed
+judged : (o : Option (List Item)) → items_read nothing o ≡ answer_read (judge_epoch o)
+unfolding items_read judge_epoch answer_read closed
 judged none = refl
-judged (some is) = collected nothing is ∙ go (all itemInRange is) refl
+judged (some is) = collected nothing is ∙ go (all item_in_range is) refl
   where
-    twice : (r : Bool) → cond r (refusedRead Fault.DuplicateReading) (acceptedRead (foldl addItem emptyEpoch is)) ≡ answerRead (cond r (refused Fault.DuplicateReading) (accepted (foldl addItem emptyEpoch is)))
+    twice : (r : Bool) → cond r (refused_read Fault.DuplicateReading) (accepted_read (foldl add_item empty_epoch is)) ≡ answer_read (cond r (refused Fault.DuplicateReading) (accepted (foldl add_item empty_epoch is)))
     twice true = refl
     twice false = refl
 
-    go : (a : Bool) → all itemInRange is ≡ a → closed (not a) (seenIn 0 (givenBy is)) (foldl addItem emptyEpoch is) ≡ answerRead (cond (not a) (refused Fault.EpochRange) (cond (repeats (givenBy is)) (refused Fault.DuplicateReading) (accepted (foldl addItem emptyEpoch is))))
-    go true e = rw (seen-repeats (givenBy is) (given-small is e)) (twice (repeats (givenBy is)))
+    go : (a : Bool) → all item_in_range is ≡ a → closed (not a) (seen_in 0 (given_by is)) (foldl add_item empty_epoch is) ≡ answer_read (cond (not a) (refused Fault.EpochRange) (cond (repeats (given_by is)) (refused Fault.DuplicateReading) (accepted (foldl add_item empty_epoch is))))
+    go true e = rw (seen_repeats (given_by is) (given_small is e)) (twice (repeats (given_by is)))
     go false e = refl
 
 -- the whole line, from its start
-pub read_all : (line : List ℕ) → length line ≤ epochLimit → epochFrom nothing line 0 ≡ epochRead line
-unfolding epochFrom epochRead readEpoch answerRead hasEnd tokensAt restOfLine
-read_all line h = rw (le-ltb 1024 (length line) h) (go (hasEnd line) refl)
+pub read_all : (line : List ℕ) → length line ≤ epoch_limit → epoch_from nothing line 0 ≡ epoch_read line
+unfolding epoch_from epoch_read read_epoch answer_read has_end tokens_at rest_of_line
+read_all line h = rw (le-ltb 1024 (length line) h) (go (has_end line) refl)
   where
-    go : (b : Bool) → hasEnd line ≡ b → cond b (refusedRead Fault.EpochSyntax) (itemsRead nothing (items_of (tokensOf (takeWhile inLine line)))) ≡ answerRead (cond b (refused Fault.EpochSyntax) (judgeEpoch (items_of (tokensOf line))))
+    go : (b : Bool) → has_end line ≡ b → cond b (refused_read Fault.EpochSyntax) (items_read nothing (items_of (tokens_of (take_leading in_line line)))) ≡ answer_read (cond b (refused Fault.EpochSyntax) (judge_epoch (items_of (tokens_of line))))
     go true e = refl
-    go false e = rw (no_end line e) (judged (items_of (tokensOf line)))
+    go false e = rw (no_end line e) (judged (items_of (tokens_of line)))
 
-pub read-long : (line : List ℕ) → epochLimit < length line → refusedRead Fault.TooLong ≡ epochRead line
-unfolding epochRead readEpoch answerRead
-read-long line h = rw (lt-ltb 1024 (length line) h)
+pub read_long : (line : List ℕ) → epoch_limit < length line → refused_read Fault.TooLong ≡ epoch_read line
+unfolding epoch_read read_epoch answer_read
+read_long line h = rw (lt-ltb 1024 (length line) h)
 
 -- ---- one token
 
-item-token : (t : Token) (i : Item) → item_of t ≡ some i → is_empty t ≡ false
-unfolding item_of named assignmentOf atEquals or_else is_empty
-item-token [] i e = let w : ◌≡◌ {A = ℕ} 0 1 = cc in absurd (omega arith)
-item-token (b ∷ t) i e = refl
+item_token : (t : Token) (i : Item) → item_of t ≡ some i → is_empty t ≡ false
+unfolding item_of named assignment_of at_equals or_else is_empty
+item_token [] i e = let w : ◌≡◌ {A = ℕ} 0 1 = cc in absurd (omega arith)
+item_token (b ∷ t) i e = refl
 
 -- an item at a position, and the position behind it
 record ItemRead (line : List ℕ) (at e : ℕ) (i : Item) : Type 0 where
-  read : item_of (tokenAt line at) ≡ some i
-  behind : e ≡ skipWhile inToken line at
+  read : item_of (token_at line at) ≡ some i
+  behind : e ≡ skip_while in_token line at
 
 module _ (line : List ℕ) (at : ℕ) where
-  item-none : item_at line at ≡ ItemAt.Malformed → item_of (tokenAt line at) ≡ none
-  unfolding item_at itemEnding itemWithin
-  item-none = go (item_of (tokenAt line at))
+  item_none : item_at line at ≡ ItemAt.Malformed → item_of (token_at line at) ≡ none
+  unfolding item_at item_ending item_within
+  item_none = go (item_of (token_at line at))
     where
-      made : (i : Item) (b : Bool) → cond b (itemWithin (skipWhile inToken line at) i) (ItemAt.OutOfRange (skipWhile inToken line at)) ≡ ItemAt.Malformed → ⊥
+      made : (i : Item) (b : Bool) → cond b (item_within (skip_while in_token line at) i) (ItemAt.OutOfRange (skip_while in_token line at)) ≡ ItemAt.Malformed → ⊥
       made (event n) true q = let w : ◌≡◌ {A = ℕ} 0 1 = cc in omega arith
       made (value n k) true q = let w : ◌≡◌ {A = ℕ} 0 1 = cc in omega arith
       made i false q = let w : ◌≡◌ {A = ℕ} 0 1 = cc in omega arith
 
-      go : (o : Option Item) → itemEnding (skipWhile inToken line at) o ≡ ItemAt.Malformed → o ≡ none
+      go : (o : Option Item) → item_ending (skip_while in_token line at) o ≡ ItemAt.Malformed → o ≡ none
       go none q = refl
-      go (some i) q = absurd (made i (itemInRange i) q)
+      go (some i) q = absurd (made i (item_in_range i) q)
 
   module _ (e : ℕ) where
-    item-event : (x : Event) → item_at line at ≡ ItemAt.Event x e → ItemRead line at e (event x.0) × (itemInRange (event x.0) ≡ true)
-    unfolding item_at itemEnding itemWithin
-    item-event x = go (item_of (tokenAt line at)) refl
+    item_event : (x : Event) → item_at line at ≡ ItemAt.Event x e → ItemRead line at e (event x.0) × (item_in_range (event x.0) ≡ true)
+    unfolding item_at item_ending item_within
+    item_event x = go (item_of (token_at line at)) refl
       where
-        made : (i : Item) → item_of (tokenAt line at) ≡ some i → (b : Bool) → itemInRange i ≡ b → cond b (itemWithin (skipWhile inToken line at) i) (ItemAt.OutOfRange (skipWhile inToken line at)) ≡ ItemAt.Event x e → ItemRead line at e (event x.0) × (itemInRange (event x.0) ≡ true)
+        made : (i : Item) → item_of (token_at line at) ≡ some i → (b : Bool) → item_in_range i ≡ b → cond b (item_within (skip_while in_token line at) i) (ItemAt.OutOfRange (skip_while in_token line at)) ≡ ItemAt.Event x e → ItemRead line at e (event x.0) × (item_in_range (event x.0) ≡ true)
         made (event n) p true r q =
             let k : record { 0 = n } ≡ x = cc in
             let m : n ≡ x.0 = ap (λ (y : Event). y.0) k in
-            (record { read = p ∙ ap (λ (y : ℕ). some (event y)) m; behind = cc }, sym (ap (λ (y : ℕ). itemInRange (event y)) m) ∙ r)
+            (record { read = p ∙ ap (λ (y : ℕ). some (event y)) m; behind = cc }, sym (ap (λ (y : ℕ). item_in_range (event y)) m) ∙ r)
         made (value n k) p true r q = let w : ◌≡◌ {A = ℕ} 0 1 = cc in absurd (omega arith)
         made i p false r q = let w : ◌≡◌ {A = ℕ} 0 1 = cc in absurd (omega arith)
 
-        go : (o : Option Item) → item_of (tokenAt line at) ≡ o → itemEnding (skipWhile inToken line at) o ≡ ItemAt.Event x e → ItemRead line at e (event x.0) × (itemInRange (event x.0) ≡ true)
+        go : (o : Option Item) → item_of (token_at line at) ≡ o → item_ending (skip_while in_token line at) o ≡ ItemAt.Event x e → ItemRead line at e (event x.0) × (item_in_range (event x.0) ≡ true)
         go none p q = let w : ◌≡◌ {A = ℕ} 0 1 = cc in absurd (omega arith)
-        go (some i) p q = made i p (itemInRange i) refl q
+        go (some i) p q = made i p (item_in_range i) refl q
 
-    item-value : (x : Reading) (k : ℤ) → item_at line at ≡ ItemAt.Value x k e → ItemRead line at e (value x.0 k) × (itemInRange (value x.0 k) ≡ true)
-    unfolding item_at itemEnding itemWithin
-    item-value x k = go (item_of (tokenAt line at)) refl
+    item_value : (x : Reading) (k : ℤ) → item_at line at ≡ ItemAt.Value x k e → ItemRead line at e (value x.0 k) × (item_in_range (value x.0 k) ≡ true)
+    unfolding item_at item_ending item_within
+    item_value x k = go (item_of (token_at line at)) refl
       where
-        made : (i : Item) → item_of (tokenAt line at) ≡ some i → (b : Bool) → itemInRange i ≡ b → cond b (itemWithin (skipWhile inToken line at) i) (ItemAt.OutOfRange (skipWhile inToken line at)) ≡ ItemAt.Value x k e → ItemRead line at e (value x.0 k) × (itemInRange (value x.0 k) ≡ true)
+        made : (i : Item) → item_of (token_at line at) ≡ some i → (b : Bool) → item_in_range i ≡ b → cond b (item_within (skip_while in_token line at) i) (ItemAt.OutOfRange (skip_while in_token line at)) ≡ ItemAt.Value x k e → ItemRead line at e (value x.0 k) × (item_in_range (value x.0 k) ≡ true)
         made (event n) p true r q = let w : ◌≡◌ {A = ℕ} 0 1 = cc in absurd (omega arith)
         made (value n l) p true r q =
             let j : record { 0 = n } ≡ x = cc in
             let m : n ≡ x.0 = ap (λ (y : Reading). y.0) j in
             let v : l ≡ k = cc in
-            (record { read = p ∙ ap₂ (λ (y : ℕ) (z : ℤ). some (value y z)) m v; behind = cc }, sym (ap₂ (λ (y : ℕ) (z : ℤ). itemInRange (value y z)) m v) ∙ r)
+            (record { read = p ∙ ap₂ (λ (y : ℕ) (z : ℤ). some (value y z)) m v; behind = cc }, sym (ap₂ (λ (y : ℕ) (z : ℤ). item_in_range (value y z)) m v) ∙ r)
         made i p false r q = let w : ◌≡◌ {A = ℕ} 0 1 = cc in absurd (omega arith)
 
-        go : (o : Option Item) → item_of (tokenAt line at) ≡ o → itemEnding (skipWhile inToken line at) o ≡ ItemAt.Value x k e → ItemRead line at e (value x.0 k) × (itemInRange (value x.0 k) ≡ true)
+        go : (o : Option Item) → item_of (token_at line at) ≡ o → item_ending (skip_while in_token line at) o ≡ ItemAt.Value x k e → ItemRead line at e (value x.0 k) × (item_in_range (value x.0 k) ≡ true)
         go none p q = let w : ◌≡◌ {A = ℕ} 0 1 = cc in absurd (omega arith)
-        go (some i) p q = made i p (itemInRange i) refl q
+        go (some i) p q = made i p (item_in_range i) refl q
 
-    item-outside : item_at line at ≡ ItemAt.OutOfRange e → (i : Item) × ItemRead line at e i × (itemInRange i ≡ false)
-    unfolding item_at itemEnding itemWithin
-    item-outside = go (item_of (tokenAt line at)) refl
+    item_outside : item_at line at ≡ ItemAt.OutOfRange e → (i : Item) × ItemRead line at e i × (item_in_range i ≡ false)
+    unfolding item_at item_ending item_within
+    item_outside = go (item_of (token_at line at)) refl
       where
-        made : (i : Item) → item_of (tokenAt line at) ≡ some i → (b : Bool) → itemInRange i ≡ b → cond b (itemWithin (skipWhile inToken line at) i) (ItemAt.OutOfRange (skipWhile inToken line at)) ≡ ItemAt.OutOfRange e → (j : Item) × ItemRead line at e j × (itemInRange j ≡ false)
+        made : (i : Item) → item_of (token_at line at) ≡ some i → (b : Bool) → item_in_range i ≡ b → cond b (item_within (skip_while in_token line at) i) (ItemAt.OutOfRange (skip_while in_token line at)) ≡ ItemAt.OutOfRange e → (j : Item) × ItemRead line at e j × (item_in_range j ≡ false)
         made (event n) p true r q = let w : ◌≡◌ {A = ℕ} 0 1 = cc in absurd (omega arith)
         made (value n k) p true r q = let w : ◌≡◌ {A = ℕ} 0 1 = cc in absurd (omega arith)
         made i p false r q = (i, record { read = p; behind = cc }, r)
 
-        go : (o : Option Item) → item_of (tokenAt line at) ≡ o → itemEnding (skipWhile inToken line at) o ≡ ItemAt.OutOfRange e → (j : Item) × ItemRead line at e j × (itemInRange j ≡ false)
+        go : (o : Option Item) → item_of (token_at line at) ≡ o → item_ending (skip_while in_token line at) o ≡ ItemAt.OutOfRange e → (j : Item) × ItemRead line at e j × (item_in_range j ≡ false)
         go none p q = let w : ◌≡◌ {A = ℕ} 0 1 = cc in absurd (omega arith)
-        go (some i) p q = made i p (itemInRange i) refl q
+        go (some i) p q = made i p (item_in_range i) refl q
 
 -- ---- a turn of scanning
 
-item-first : (s : Scanned) (i : Item) (o : Option (List Item)) → itemsRead s (both ◌∷◌ (some i) o) ≡ itemsRead (takeItem s i) o
-unfolding itemsRead both
-item-first s i none = refl
-item-first s i (some is) = refl
+item_first : (s : Scanned) (i : Item) (o : Option (List Item)) → items_read s (both ◌∷◌ (some i) o) ≡ items_read (take_item s i) o
+unfolding items_read both
+item_first s i none = refl
+item_first s i (some is) = refl
 
 module _ (line : List ℕ) (at : ℕ) (s : Scanned) where
   abbrev start : ℕ
-  start = skipWhile isSpace line at
+  start = skip_while is_space line at
 
-  read-skipped : epochFrom s line at ≡ epochFrom s line start
-  unfolding epochFrom hasEnd
-  read-skipped =
-      ap₂ (λ (b : Bool) (ts : List Token). cond b (refusedRead Fault.EpochSyntax) (itemsRead s (items_of ts)))
-      (end-skipped line at isSpace space-no-end) (tokens-after-spaces line at)
+  read_skipped : epoch_from s line at ≡ epoch_from s line start
+  unfolding epoch_from has_end
+  read_skipped =
+      ap₂ (λ (b : Bool) (ts : List Token). cond b (refused_read Fault.EpochSyntax) (items_read s (items_of ts)))
+      (end_skipped line at is_space space_no_end) (tokens_after_spaces line at)
 
-  pub read-ended : length line ≤ start → finishRead s ≡ epochFrom s line at
-  unfolding epochFrom any items_of itemsRead
-  read-ended h =
-      sym (read-skipped ∙ rw (drop_of_length-le line h, tokens-ended line at (sym (empty-end line start h))))
+  pub read_ended : length line ≤ start → finish_read s ≡ epoch_from s line at
+  unfolding epoch_from any items_of items_read
+  read_ended h =
+      sym (read_skipped ∙ rw (drop_of_length-le line h, tokens_ended line at (sym (empty_end line start h))))
 
-  pub read-malformed : start < length line → item_at line start ≡ ItemAt.Malformed → refusedRead Fault.EpochSyntax ≡ epochFrom s line at
-  unfolding epochFrom items_of itemsRead both hasEnd skipWhile tokenAt
-  read-malformed h q = sym (read-skipped ∙ go (is_empty (tokenAt line start)) refl)
+  pub read_malformed : start < length line → item_at line start ≡ ItemAt.Malformed → refused_read Fault.EpochSyntax ≡ epoch_from s line at
+  unfolding epoch_from items_of items_read both has_end skip_while token_at
+  read_malformed h q = sym (read_skipped ∙ go (is_empty (token_at line start)) refl)
     where
-      shorter : length (takeWhile isSpace (drop at line)) < length (drop at line)
+      shorter : length (take_leading is_space (drop at line)) < length (drop at line)
       shorter = omega (arith, length-drop at line)
 
-      end-met : is_empty (tokenAt line start) ≡ true → any (eqb 10) (drop start line) ≡ true
-      end-met e =
-          sym (end-skipped line at isSpace space-no-end)
-          ∙ end-here (drop at line) shorter (ap (λ (l : List ℕ). is_empty (takeWhile inToken l)) (sym (drop-skip isSpace line at)) ∙ e)
+      end_met : is_empty (token_at line start) ≡ true → any (eqb 10) (drop start line) ≡ true
+      end_met e =
+          sym (end_skipped line at is_space space_no_end)
+          ∙ end_here (drop at line) shorter (ap (λ (l : List ℕ). is_empty (take_leading in_token l)) (sym (drop_skip is_space line at)) ∙ e)
 
-      same : (b : Bool) → ◌≡◌ {A = EpochRead} (cond b (refusedRead Fault.EpochSyntax) (refusedRead Fault.EpochSyntax)) (refusedRead Fault.EpochSyntax)
+      same : (b : Bool) → ◌≡◌ {A = EpochRead} (cond b (refused_read Fault.EpochSyntax) (refused_read Fault.EpochSyntax)) (refused_read Fault.EpochSyntax)
       same true = refl
       same false = refl
 
-      go : (b : Bool) → is_empty (tokenAt line start) ≡ b → epochFrom s line start ≡ refusedRead Fault.EpochSyntax
-      go true e = rw (end-met e)
-      go false e = rw (tokens-first line start e, item-none line start q) (same (any (eqb 10) (drop start line)))
+      go : (b : Bool) → is_empty (token_at line start) ≡ b → epoch_from s line start ≡ refused_read Fault.EpochSyntax
+      go true e = rw (end_met e)
+      go false e = rw (tokens_first line start e, item_none line start q) (same (any (eqb 10) (drop start line)))
 
   module _ (e : ℕ) (i : Item) (r : ItemRead line start e i) where
-    solid : is_empty (tokenAt line start) ≡ false
-    solid = item-token (tokenAt line start) i r.read
+    solid : is_empty (token_at line start) ≡ false
+    solid = item_token (token_at line start) i r.read
 
-    read_taken : epochFrom s line at ≡ epochFrom (takeItem s i) line e
-    unfolding epochFrom hasEnd items_of
+    read_taken : epoch_from s line at ≡ epoch_from (take_item s i) line e
+    unfolding epoch_from has_end items_of
     read_taken =
-        read-skipped
-        ∙ ap₂ (λ (b : Bool) (x : EpochRead). cond b (refusedRead Fault.EpochSyntax) x)
-        (end-skipped line start inToken inside-no-end ∙ ap (λ (k : ℕ). any (eqb 10) (drop k line)) (sym r.behind))
-        (ap (λ (ts : List Token). itemsRead s (items_of ts)) (tokens-first line start solid)
-        ∙ ap (λ (o : Option Item). itemsRead s (both ◌∷◌ o (items_of (tokensAt line (skipWhile inToken line start))))) r.read
-        ∙ item-first s i (items_of (tokensAt line (skipWhile inToken line start)))
-        ∙ ap (λ (k : ℕ). itemsRead (takeItem s i) (items_of (tokensAt line k))) (sym r.behind))
+        read_skipped
+        ∙ ap₂ (λ (b : Bool) (x : EpochRead). cond b (refused_read Fault.EpochSyntax) x)
+        (end_skipped line start in_token inside_no_end ∙ ap (λ (k : ℕ). any (eqb 10) (drop k line)) (sym r.behind))
+        (ap (λ (ts : List Token). items_read s (items_of ts)) (tokens_first line start solid)
+        ∙ ap (λ (o : Option Item). items_read s (both ◌∷◌ o (items_of (tokens_at line (skip_while in_token line start))))) r.read
+        ∙ item_first s i (items_of (tokens_at line (skip_while in_token line start)))
+        ∙ ap (λ (k : ℕ). items_read (take_item s i) (items_of (tokens_at line k))) (sym r.behind))
 
-    read-on : (at < length line) × (at < e)
-    read-on =
-        let l : start < length line = token-inside line start solid in
-        let g : e ≡ skipWhile inToken line start = r.behind in
-        (omega (arith, skip-ge isSpace line at), omega (arith, skip-ge isSpace line at, skip-grows line start solid))
+    read_on : (at < length line) × (at < e)
+    read_on =
+        let l : start < length line = token_inside line start solid in
+        let g : e ≡ skip_while in_token line start = r.behind in
+        (omega (arith, skip_ge is_space line at), omega (arith, skip_ge is_space line at, skip_grows line start solid))
 
-  pub read-outside : (e : ℕ) → item_at line start ≡ ItemAt.OutOfRange e → epochFrom s line at ≡ epochFrom (flagged s) line e
-  unfolding takeItem
-  read-outside e q =
-      let p = item-outside line start e q in
-      read_taken e p.0 p.1 ∙ ap (λ (b : Bool). epochFrom (cond b (addScanned s p.0) (flagged s)) line e) p.2
+  pub read_outside : (e : ℕ) → item_at line start ≡ ItemAt.OutOfRange e → epoch_from s line at ≡ epoch_from (flagged s) line e
+  unfolding take_item
+  read_outside e q =
+      let p = item_outside line start e q in
+      read_taken e p.0 p.1 ∙ ap (λ (b : Bool). epoch_from (cond b (add_scanned s p.0) (flagged s)) line e) p.2
 
-  pub outside-on : (e : ℕ) → item_at line start ≡ ItemAt.OutOfRange e → (at < length line) × (at < e)
-  outside-on e q = let p = item-outside line start e q in read-on e p.0 p.1
+  pub outside_on : (e : ℕ) → item_at line start ≡ ItemAt.OutOfRange e → (at < length line) × (at < e)
+  outside_on e q = let p = item_outside line start e q in read_on e p.0 p.1
 
   module _ (x : Event) (e : ℕ) (q : item_at line start ≡ ItemAt.Event x e) where
-    pub read-event : epochFrom s line at ≡ epochFrom (scanned s.outOfRange s.twice (insertEvent s.epoch.events x) s.epoch.readings.given s.epoch.readings.values) line e
-    unfolding takeItem addScanned addItem
-    read-event =
-        let p = item-event line start e x q in
-        read_taken e (event x.0) p.0 ∙ ap (λ (b : Bool). epochFrom (cond b (addScanned s (event x.0)) (flagged s)) line e) p.1
+    pub read_event : epoch_from s line at ≡ epoch_from (scanned s.out_of_range s.twice (insert_event s.epoch.events x) s.epoch.readings.given s.epoch.readings.values) line e
+    unfolding take_item add_scanned add_item
+    read_event =
+        let p = item_event line start e x q in
+        read_taken e (event x.0) p.0 ∙ ap (λ (b : Bool). epoch_from (cond b (add_scanned s (event x.0)) (flagged s)) line e) p.1
 
-    pub event-on : (at < length line) × (at < e)
-    event-on = read-on e (event x.0) (item-event line start e x q).0
+    pub event_on : (at < length line) × (at < e)
+    event_on = read_on e (event x.0) (item_event line start e x q).0
 
   module _ (x : Reading) (k : ℤ) (e : ℕ) (q : item_at line start ≡ ItemAt.Value x k e) where
-    pub read-value : epochFrom s line at ≡ epochFrom (scanned s.outOfRange (s.twice || hasReading s.epoch.readings.given x) s.epoch.events (insertReading s.epoch.readings.given x) (set s.epoch.readings.values x.0 k)) line e
-    unfolding takeItem addScanned addItem
-    read-value =
-        let p = item-value line start e x k q in
-        read_taken e (value x.0 k) p.0 ∙ ap (λ (b : Bool). epochFrom (cond b (addScanned s (value x.0 k)) (flagged s)) line e) p.1
+    pub read_value : epoch_from s line at ≡ epoch_from (scanned s.out_of_range (s.twice || has_reading s.epoch.readings.given x) s.epoch.events (insert_reading s.epoch.readings.given x) (set s.epoch.readings.values x.0 k)) line e
+    unfolding take_item add_scanned add_item
+    read_value =
+        let p = item_value line start e x k q in
+        read_taken e (value x.0 k) p.0 ∙ ap (λ (b : Bool). epoch_from (cond b (add_scanned s (value x.0 k)) (flagged s)) line e) p.1
 
     pub value_on : (at < length line) × (at < e)
-    value_on = read-on e (value x.0 k) (item-value line start e x k q).0
+    value_on = read_on e (value x.0 k) (item_value line start e x k q).0
 
-    pub value-small : x.0 < 16
-    unfolding itemInRange
-    value-small = ltb-true x.0 16 (and-out (ltb x.0 16) (isReadingValue k) (item-value line start e x k q).1).0
+    pub value_small : x.0 < 16
+    unfolding item_in_range
+    value_small = ltb-true x.0 16 (and_out (ltb x.0 16) (is_reading_value k) (item_value line start e x k q).1).0

@@ -1,36 +1,30 @@
 -- Laws of reading one token of an epoch line: an event, or a reading, `=` and a constant.
-use Prim.Native.Nat.{ℕ, ◌+◌, ◌<◌, ◌≤◌}
-use mathlib.Core.Bool.{Bool, true, false, ◌&&◌, cond}
-use mathlib.Core.List.{List, [], ◌∷◌}
-use mathlib.Core.Option.{Option, none, some, or_else}
-use mathlib.Core.Path.{◌≡◌, refl, sym, ap, ap₂, ◌∙◌}
-use native.Mathlib.Omega.{arith}
-use borrow.Author.Tests.{eqb-true, eq-eqb, ne_eqb}
-use lib.Dec.{eqb, ltb}
-use lib.IntN.{ℤ}
-use lib.ListN.{length, get_or, drop, drop_of_length-le}
-use Rattle.policy.proofs.ListLaws.{true-false}
-use Rattle.policy.specs.Limits.{isReadingValue}
+use Rattle.std.proofs.Common.{ℕ, ◌+◌, ◌<◌, ◌≤◌, Bool, true, false, ◌&&◌, cond, List, [], ◌∷◌, ◌≡◌, refl, sym, ap, ap₂, ◌∙◌, arith, eqb-true, eq-eqb, ne_eqb, ℤ, length, drop, drop_of_length-le}
+use Rattle.std.proofs.Math.Option.{Option, none, some, or_else}
+use Rattle.std.proofs.Math.Dec.{eqb, ltb}
+use Rattle.std.proofs.Math.ListN.{get_or}
+use Rattle.policy.proofs.ListLaws.{true_false}
+use Rattle.policy.specs.Limits.{is_reading_value}
 use Rattle.policy.specs.List.{all}
-use Rattle.policy.specs.Number.{checkEvent, checkReading}
+use Rattle.policy.specs.Number.{check_event, check_reading}
 use Rattle.policy.specs.declared.number.Event.{Event}
 use Rattle.policy.specs.declared.number.EventCheck.{EventCheck}
 use Rattle.policy.specs.declared.number.Reading.{Reading}
 use Rattle.policy.specs.declared.number.ReadingCheck.{ReadingCheck}
-use Rattle.lexer.proofs.ClassLaws.{digit-bounds}
-use Rattle.lexer.proofs.DigitLaws.{digit-inside, not-number, ending-none, number-end}
+use Rattle.lexer.proofs.ClassLaws.{digit_bounds}
+use Rattle.lexer.proofs.DigitLaws.{digit_inside, not_number, ending_none, number_end}
 use Rattle.token.proofs.PartLaws as PartLaws
-use Rattle.token.proofs.PartLaws.{reading-valid, reading-outside, name-some, name-none, clip-below, clip-same}
-use Rattle.lexer.proofs.WhileLaws.{at_byte, skip-past, drop-skip, skip-on}
-use Rattle.lexer.proofs.KeywordLaws.{token_end, token-here, token-past}
-use Rattle.lexer.specs.Byte.{isDigit}
-use Rattle.epoch_line.specs.Epoch.{Item, event, value, Halves, toLeft, atEquals, assignmentOf, item_of, itemInRange}
-use Rattle.epoch_line.specs.Steps.EpochScan.{itemWithin, itemEnding, valueItem, value_at, item_at}
+use Rattle.token.proofs.PartLaws.{reading_valid, reading_outside, name_some, name_none, clip_below, clip_same}
+use Rattle.lexer.proofs.WhileLaws.{at_byte, skip_past, drop_skip, skip_on}
+use Rattle.lexer.proofs.KeywordLaws.{token_end, token_here, token_past}
+use Rattle.lexer.specs.Byte.{is_digit}
+use Rattle.epoch_line.specs.Epoch.{Item, event, value, Halves, to_left, at_equals, assignment_of, item_of, item_in_range}
+use Rattle.epoch_line.specs.Steps.EpochScan.{item_within, item_ending, value_item, value_at, item_at}
 use Rattle.lexer.specs.Token.{named, both}
 use Rattle.lexer.specs.Number.{number_of, constant_of}
-use Rattle.token.specs.Steps.PartAt.{constantEnding, constantAt}
-use Rattle.lexer.specs.Steps.Scan.{inToken, tokenAt, clip, numberEnding, digitsAt, name_at}
-use Rattle.lexer.specs.Lines.{takeWhile, skipWhile}
+use Rattle.token.specs.Steps.PartAt.{constant_ending, constant_at}
+use Rattle.lexer.specs.Steps.Scan.{in_token, token_at, clip, number_ending, digits_at, name_at}
+use Rattle.lexer.specs.Lines.{take_leading, skip_while}
 use Rattle.epoch_line.specs.declared.ItemAt.{ItemAt}
 use Rattle.lexer.specs.declared.scan.NumberAt.{NumberAt}
 use Rattle.token.specs.declared.constant.ConstantAt.{ConstantAt}
@@ -38,219 +32,219 @@ use Rattle.token.specs.declared.constant.ConstantAt.{ConstantAt}
 -- ---- checked numbers
 
 module _ (n e : ℕ) where
-  pub event-valid : (x : Event) → checkEvent n ≡ EventCheck.Valid x → ItemAt.Event x e ≡ itemEnding e (some (event n))
-  unfolding itemEnding itemWithin itemInRange
-  event-valid x q = let p = PartLaws.event-valid n x q in rw (p.0, p.1)
+  pub event_valid : (x : Event) → check_event n ≡ EventCheck.Valid x → ItemAt.Event x e ≡ item_ending e (some (event n))
+  unfolding item_ending item_within item_in_range
+  event_valid x q = let p = PartLaws.event_valid n x q in rw (p.0, p.1)
 
-  pub event-outside : checkEvent n ≡ EventCheck.OutOfRange → ItemAt.OutOfRange e ≡ itemEnding e (some (event n))
-  unfolding itemEnding itemInRange
-  event-outside q = rw (PartLaws.event-outside n q)
+  pub event_outside : check_event n ≡ EventCheck.OutOfRange → ItemAt.OutOfRange e ≡ item_ending e (some (event n))
+  unfolding item_ending item_in_range
+  event_outside q = rw (PartLaws.event_outside n q)
 
   module _ (k : ℤ) where
-    pub value-valid : (r : Reading) → checkReading n ≡ ReadingCheck.Valid r → ItemAt.Value r k e ≡ valueItem n (ConstantAt.Value k e)
-    unfolding valueItem
-    value-valid r q = let p = reading-valid n r q in rw (p.0, p.1)
+    pub value_valid : (r : Reading) → check_reading n ≡ ReadingCheck.Valid r → ItemAt.Value r k e ≡ value_item n (ConstantAt.Value k e)
+    unfolding value_item
+    value_valid r q = let p = reading_valid n r q in rw (p.0, p.1)
 
-    pub value-outside : checkReading n ≡ ReadingCheck.OutOfRange → ItemAt.OutOfRange e ≡ valueItem n (ConstantAt.Value k e)
-    unfolding valueItem
-    value-outside q = rw (reading-outside n q)
+    pub value_outside : check_reading n ≡ ReadingCheck.OutOfRange → ItemAt.OutOfRange e ≡ value_item n (ConstantAt.Value k e)
+    unfolding value_item
+    value_outside q = rw (reading_outside n q)
 
 -- a value is read from a clipped number and a constant as from the number and the constant
-value-clipped : (n e : ℕ) (o : Option ℤ) → valueItem (clip n) (constantEnding e o) ≡ itemEnding e (both value (some n) o)
-unfolding valueItem constantEnding itemEnding itemInRange itemWithin both
-value-clipped n e none = refl
-value-clipped n e (some k) = go (ltb n 16) refl (isReadingValue k)
+value_clipped : (n e : ℕ) (o : Option ℤ) → value_item (clip n) (constant_ending e o) ≡ item_ending e (both value (some n) o)
+unfolding value_item constant_ending item_ending item_in_range item_within both
+value_clipped n e none = refl
+value_clipped n e (some k) = go (ltb n 16) refl (is_reading_value k)
   where
-    go : (b : Bool) → ltb n 16 ≡ b → (v : Bool) → valueItem (clip n) (cond v (ConstantAt.Value k e) (ConstantAt.OutOfRange e)) ≡ cond (b && v) (ItemAt.Value (record { 0 = n }) k e) (ItemAt.OutOfRange e)
-    go true p true = rw (clip-below 16 n (omega arith), p) (ap (λ (m : ℕ). ItemAt.Value (record { 0 = m }) k e) (clip-same 16 n (omega arith) p))
+    go : (b : Bool) → ltb n 16 ≡ b → (v : Bool) → value_item (clip n) (cond v (ConstantAt.Value k e) (ConstantAt.OutOfRange e)) ≡ cond (b && v) (ItemAt.Value (record { 0 = n }) k e) (ItemAt.OutOfRange e)
+    go true p true = rw (clip_below 16 n (omega arith), p) (ap (λ (m : ℕ). ItemAt.Value (record { 0 = m }) k e) (clip_same 16 n (omega arith) p))
     go true p false = refl
-    go false p true = rw (clip-below 16 n (omega arith), p)
+    go false p true = rw (clip_below 16 n (omega arith), p)
     go false p false = refl
 
 -- ---- the first `=` of a token that begins with digits
 
-digit-no-equals : (b : ℕ) → isDigit b ≡ true → eqb b 61 ≡ false
-digit-no-equals b e = ne_eqb b 61 (λ q. omega (arith, digit-bounds b e))
+digit_no_equals : (b : ℕ) → is_digit b ≡ true → eqb b 61 ≡ false
+digit_no_equals b e = ne_eqb b 61 (λ q. omega (arith, digit_bounds b e))
 
 -- the `=` stands right behind the digits
-equals-here : (s r : List ℕ) → drop (length (takeWhile isDigit s)) s ≡ 61 ∷ r → atEquals (takeWhile inToken s) ≡ some (record { left = takeWhile isDigit s; right = takeWhile inToken r })
-unfolding takeWhile atEquals toLeft
-equals-here [] r e = let w : ◌≡◌ {A = ℕ} 0 1 = cc in absurd (omega arith)
-equals-here (b ∷ s) r e = go (isDigit b) refl (equals-here s r) e
+equals_here : (s r : List ℕ) → drop (length (take_leading is_digit s)) s ≡ 61 ∷ r → at_equals (take_leading in_token s) ≡ some (record { left = take_leading is_digit s; right = take_leading in_token r })
+unfolding take_leading at_equals to_left
+equals_here [] r e = let w : ◌≡◌ {A = ℕ} 0 1 = cc in absurd (omega arith)
+equals_here (b ∷ s) r e = go (is_digit b) refl (equals_here s r) e
   where
-    go : (d : Bool) → isDigit b ≡ d → (drop (length (takeWhile isDigit s)) s ≡ 61 ∷ r → atEquals (takeWhile inToken s) ≡ some (record { left = takeWhile isDigit s; right = takeWhile inToken r })) → drop (length (cond d (b ∷ takeWhile isDigit s) [])) (b ∷ s) ≡ 61 ∷ r → atEquals (takeWhile inToken (b ∷ s)) ≡ some (record { left = cond d (b ∷ takeWhile isDigit s) []; right = takeWhile inToken r })
-    go true p h k = rw (digit-inside b p, digit-no-equals b p, h k)
-    go false p h k = ap (λ (l : List ℕ). atEquals (takeWhile inToken l)) k
+    go : (d : Bool) → is_digit b ≡ d → (drop (length (take_leading is_digit s)) s ≡ 61 ∷ r → at_equals (take_leading in_token s) ≡ some (record { left = take_leading is_digit s; right = take_leading in_token r })) → drop (length (cond d (b ∷ take_leading is_digit s) [])) (b ∷ s) ≡ 61 ∷ r → at_equals (take_leading in_token (b ∷ s)) ≡ some (record { left = cond d (b ∷ take_leading is_digit s) []; right = take_leading in_token r })
+    go true p h k = rw (digit_inside b p, digit_no_equals b p, h k)
+    go false p h k = ap (λ (l : List ℕ). at_equals (take_leading in_token l)) k
 
 -- no `=`, or a left half with another byte than a digit
-unfoldable noDigits : Option Halves → Bool
-noDigits none = true
-noDigits (some h) = cond (all isDigit h.left) false true
+unfoldable no_digits : Option Halves → Bool
+no_digits none = true
+no_digits (some h) = cond (all is_digit h.left) false true
 
-left-more : (b : ℕ) (o : Option Halves) → noDigits o ≡ true → noDigits (toLeft b o) ≡ true
-unfolding noDigits toLeft all
-left-more b none e = refl
-left-more b (some h) e = go (isDigit b) (all isDigit h.left) e
+left_more : (b : ℕ) (o : Option Halves) → no_digits o ≡ true → no_digits (to_left b o) ≡ true
+unfolding no_digits to_left all
+left_more b none e = refl
+left_more b (some h) e = go (is_digit b) (all is_digit h.left) e
   where
     go : (x y : Bool) → cond y false true ≡ true → cond (x && y) false true ≡ true
     go true y q = q
     go false y q = refl
 
-left_other : (b : ℕ) (o : Option Halves) → isDigit b ≡ false → noDigits (toLeft b o) ≡ true
-unfolding noDigits toLeft all
+left_other : (b : ℕ) (o : Option Halves) → is_digit b ≡ false → no_digits (to_left b o) ≡ true
+unfolding no_digits to_left all
 left_other b none e = refl
 left_other b (some h) e = rw e
 
-equals-none : (s : List ℕ) → ((r : List ℕ) → drop (length (takeWhile isDigit s)) s ≡ 61 ∷ r → ⊥) → noDigits (atEquals (takeWhile inToken s)) ≡ true
-unfolding takeWhile atEquals noDigits
-equals-none [] q = refl
-equals-none (b ∷ s) q = go (isDigit b) refl (equals-none s) q
+equals_none : (s : List ℕ) → ((r : List ℕ) → drop (length (take_leading is_digit s)) s ≡ 61 ∷ r → ⊥) → no_digits (at_equals (take_leading in_token s)) ≡ true
+unfolding take_leading at_equals no_digits
+equals_none [] q = refl
+equals_none (b ∷ s) q = go (is_digit b) refl (equals_none s) q
   where
-    other : (i : Bool) → (b ≡ 61 → ⊥) → isDigit b ≡ false → noDigits (atEquals (cond i (b ∷ takeWhile inToken s) [])) ≡ true
-    other true n e = rw (ne_eqb b 61 n) (left_other b (atEquals (takeWhile inToken s)) e)
+    other : (i : Bool) → (b ≡ 61 → ⊥) → is_digit b ≡ false → no_digits (at_equals (cond i (b ∷ take_leading in_token s) [])) ≡ true
+    other true n e = rw (ne_eqb b 61 n) (left_other b (at_equals (take_leading in_token s)) e)
     other false n e = refl
 
-    go : (d : Bool) → isDigit b ≡ d → (((r : List ℕ) → drop (length (takeWhile isDigit s)) s ≡ 61 ∷ r → ⊥) → noDigits (atEquals (takeWhile inToken s)) ≡ true) → ((r : List ℕ) → drop (length (cond d (b ∷ takeWhile isDigit s) [])) (b ∷ s) ≡ 61 ∷ r → ⊥) → noDigits (atEquals (takeWhile inToken (b ∷ s))) ≡ true
-    go true p h k = rw (digit-inside b p, digit-no-equals b p) (left-more b (atEquals (takeWhile inToken s)) (h k))
-    go false p h k = other (inToken b) (λ e. k s (ap (λ (x : ℕ). x ∷ s) e)) p
+    go : (d : Bool) → is_digit b ≡ d → (((r : List ℕ) → drop (length (take_leading is_digit s)) s ≡ 61 ∷ r → ⊥) → no_digits (at_equals (take_leading in_token s)) ≡ true) → ((r : List ℕ) → drop (length (cond d (b ∷ take_leading is_digit s) [])) (b ∷ s) ≡ 61 ∷ r → ⊥) → no_digits (at_equals (take_leading in_token (b ∷ s))) ≡ true
+    go true p h k = rw (digit_inside b p, digit_no_equals b p) (left_more b (at_equals (take_leading in_token s)) (h k))
+    go false p h k = other (in_token b) (λ e. k s (ap (λ (x : ℕ). x ∷ s) e)) p
 
 -- ---- the value of a token, by its first byte
 
-other-left : (b : ℕ) (o : Option Halves) → (b ≡ 82 → ⊥) → assignmentOf (toLeft b o) ≡ none
-unfolding assignmentOf toLeft named both
-other-left b none q = refl
-other-left b (some h) q = rw (ne_eqb b 82 q)
+other_left : (b : ℕ) (o : Option Halves) → (b ≡ 82 → ⊥) → assignment_of (to_left b o) ≡ none
+unfolding assignment_of to_left named both
+other_left b none q = refl
+other_left b (some h) q = rw (ne_eqb b 82 q)
 
-other-value : (b : ℕ) (t : List ℕ) → (b ≡ 82 → ⊥) → assignmentOf (atEquals (b ∷ t)) ≡ none
-unfolding assignmentOf atEquals named both
-other-value b t q = go (eqb b 61) refl
+other_value : (b : ℕ) (t : List ℕ) → (b ≡ 82 → ⊥) → assignment_of (at_equals (b ∷ t)) ≡ none
+unfolding assignment_of at_equals named both
+other_value b t q = go (eqb b 61) refl
   where
-    go : (x : Bool) → eqb b 61 ≡ x → assignmentOf (cond x (some (record { left = []; right = t })) (toLeft b (atEquals t))) ≡ none
+    go : (x : Bool) → eqb b 61 ≡ x → assignment_of (cond x (some (record { left = []; right = t })) (to_left b (at_equals t))) ≡ none
     go true e = refl
-    go false e = other-left b (atEquals t) q
+    go false e = other_left b (at_equals t) q
 
-value_none : (o : Option Halves) → noDigits o ≡ true → assignmentOf (toLeft 82 o) ≡ none
-unfolding noDigits assignmentOf toLeft named both
+value_none : (o : Option Halves) → no_digits o ≡ true → assignment_of (to_left 82 o) ≡ none
+unfolding no_digits assignment_of to_left named both
 value_none none e = refl
-value_none (some h) e = rw (not-number h.left (not-all (all isDigit h.left) e))
+value_none (some h) e = rw (not_number h.left (not_all (all is_digit h.left) e))
   where
-    not-all : (b : Bool) → cond b false true ≡ true → b ≡ false
-    not-all true q = absurd (true-false q refl)
-    not-all false q = refl
+    not_all : (b : Bool) → cond b false true ≡ true → b ≡ false
+    not_all true q = absurd (true_false q refl)
+    not_all false q = refl
 
 -- the value of a token `R` and the token at `s`
-valueFrom : List ℕ → Option Item
-valueFrom s = assignmentOf (toLeft 82 (atEquals (takeWhile inToken s)))
+value_from : List ℕ → Option Item
+value_from s = assignment_of (to_left 82 (at_equals (take_leading in_token s)))
 
-from-none : (s : List ℕ) → ((r : List ℕ) → drop (length (takeWhile isDigit s)) s ≡ 61 ∷ r → ⊥) → valueFrom s ≡ none
-unfolding valueFrom
-from-none s q = value_none (atEquals (takeWhile inToken s)) (equals-none s q)
+from_none : (s : List ℕ) → ((r : List ℕ) → drop (length (take_leading is_digit s)) s ≡ 61 ∷ r → ⊥) → value_from s ≡ none
+unfolding value_from
+from_none s q = value_none (at_equals (take_leading in_token s)) (equals_none s q)
 
-from_some : (s r : List ℕ) → drop (length (takeWhile isDigit s)) s ≡ 61 ∷ r → valueFrom s ≡ both value (number_of (takeWhile isDigit s)) (constant_of (takeWhile inToken r))
-unfolding valueFrom assignmentOf toLeft named
-from_some s r e = rw (equals-here s r e)
+from_some : (s r : List ℕ) → drop (length (take_leading is_digit s)) s ≡ 61 ∷ r → value_from s ≡ both value (number_of (take_leading is_digit s)) (constant_of (take_leading in_token r))
+unfolding value_from assignment_of to_left named
+from_some s r e = rw (equals_here s r e)
 
-from-malformed : (s : List ℕ) → number_of (takeWhile isDigit s) ≡ none → valueFrom s ≡ none
+from_malformed : (s : List ℕ) → number_of (take_leading is_digit s) ≡ none → value_from s ≡ none
 unfolding both
-from-malformed s e = go (drop (length (takeWhile isDigit s)) s) refl
+from_malformed s e = go (drop (length (take_leading is_digit s)) s) refl
   where
-    none_of : (c : ℕ) (r : List ℕ) → drop (length (takeWhile isDigit s)) s ≡ c ∷ r → (b : Bool) → eqb c 61 ≡ b → valueFrom s ≡ none
+    none_of : (c : ℕ) (r : List ℕ) → drop (length (take_leading is_digit s)) s ≡ c ∷ r → (b : Bool) → eqb c 61 ≡ b → value_from s ≡ none
     none_of c r q true p = from_some s r (q ∙ ap (λ (x : ℕ). x ∷ r) (eqb-true c 61 p)) ∙ rw e
-    none_of c r q false p = from-none s (λ r₂ k. true-false (eq-eqb c 61 (first (sym q ∙ k))) p)
+    none_of c r q false p = from_none s (λ r₂ k. true_false (eq-eqb c 61 (first (sym q ∙ k))) p)
       where
         first : {r₂ : List ℕ} → c ∷ r ≡ 61 ∷ r₂ → c ≡ 61
         first k = cc
 
-    go : (l : List ℕ) → drop (length (takeWhile isDigit s)) s ≡ l → valueFrom s ≡ none
-    go [] q = from-none s (λ r k. let w : ◌≡◌ {A = ℕ} 0 1 = cc in absurd (omega arith))
+    go : (l : List ℕ) → drop (length (take_leading is_digit s)) s ≡ l → value_from s ≡ none
+    go [] q = from_none s (λ r k. let w : ◌≡◌ {A = ℕ} 0 1 = cc in absurd (omega arith))
     go (c ∷ r) q = none_of c r q (eqb c 61) refl
 
 -- ---- the token at a position
 
 module _ (line : List ℕ) (at : ℕ) where
-  pub value-end : length line ≤ at → ItemAt.Malformed ≡ value_at line at
-  unfolding value_at assignmentOf atEquals itemEnding
-  value-end h = rw (token_end line at h)
+  pub value_end : length line ≤ at → ItemAt.Malformed ≡ value_at line at
+  unfolding value_at assignment_of at_equals item_ending
+  value_end h = rw (token_end line at h)
 
   -- another byte than `R`
-  pub value-other : at < length line → (get_or line at 0 ≡ 82 → ⊥) → ItemAt.Malformed ≡ value_at line at
-  unfolding value_at itemEnding assignmentOf atEquals
-  value-other h q = sym (ap (itemEnding (skipWhile inToken line at)) (go (inToken (get_or line at 0)) refl))
+  pub value_other : at < length line → (get_or line at 0 ≡ 82 → ⊥) → ItemAt.Malformed ≡ value_at line at
+  unfolding value_at item_ending assignment_of at_equals
+  value_other h q = sym (ap (item_ending (skip_while in_token line at)) (go (in_token (get_or line at 0)) refl))
     where
-      go : (b : Bool) → inToken (get_or line at 0) ≡ b → assignmentOf (atEquals (tokenAt line at)) ≡ none
-      go true e = ap (λ (t : List ℕ). assignmentOf (atEquals t)) (token-past line at h e) ∙ other-value (get_or line at 0) (tokenAt line (at + 1)) q
-      go false e = ap (λ (t : List ℕ). assignmentOf (atEquals t)) (token-here line at h e)
+      go : (b : Bool) → in_token (get_or line at 0) ≡ b → assignment_of (at_equals (token_at line at)) ≡ none
+      go true e = ap (λ (t : List ℕ). assignment_of (at_equals t)) (token_past line at h e) ∙ other_value (get_or line at 0) (token_at line (at + 1)) q
+      go false e = ap (λ (t : List ℕ). assignment_of (at_equals t)) (token_here line at h e)
 
   module _ (h : at < length line) (q : get_or line at 0 ≡ 82) where
-    inside : inToken (get_or line at 0) ≡ true
-    inside = ap inToken q
+    inside : in_token (get_or line at 0) ≡ true
+    inside = ap in_token q
 
-    from_first : value_at line at ≡ itemEnding (skipWhile inToken line (at + 1)) (valueFrom (drop (at + 1) line))
-    unfolding value_at valueFrom tokenAt atEquals
+    from_first : value_at line at ≡ item_ending (skip_while in_token line (at + 1)) (value_from (drop (at + 1) line))
+    unfolding value_at value_from token_at at_equals
     from_first =
-        ap₂ itemEnding (skip-past inToken line at h inside)
-        (ap (λ (t : List ℕ). assignmentOf (atEquals t)) (token-past line at h inside ∙ ap (λ (b : ℕ). b ∷ tokenAt line (at + 1)) q))
+        ap₂ item_ending (skip_past in_token line at h inside)
+        (ap (λ (t : List ℕ). assignment_of (at_equals t)) (token_past line at h inside ∙ ap (λ (b : ℕ). b ∷ token_at line (at + 1)) q))
 
-    no_value : valueFrom (drop (at + 1) line) ≡ none → ItemAt.Malformed ≡ value_at line at
-    unfolding itemEnding
-    no_value e = sym (from_first ∙ ap (itemEnding (skipWhile inToken line (at + 1))) e)
+    no_value : value_from (drop (at + 1) line) ≡ none → ItemAt.Malformed ≡ value_at line at
+    unfolding item_ending
+    no_value e = sym (from_first ∙ ap (item_ending (skip_while in_token line (at + 1))) e)
 
-    pub value-no-number : digitsAt line (at + 1) ≡ NumberAt.Malformed → ItemAt.Malformed ≡ value_at line at
-    unfolding digitsAt
-    value-no-number d = no_value (from-malformed (drop (at + 1) line) (ending-none (skipWhile isDigit line (at + 1)) (number_of (takeWhile isDigit (drop (at + 1) line))) d))
+    pub value_no_number : digits_at line (at + 1) ≡ NumberAt.Malformed → ItemAt.Malformed ≡ value_at line at
+    unfolding digits_at
+    value_no_number d = no_value (from_malformed (drop (at + 1) line) (ending_none (skip_while is_digit line (at + 1)) (number_of (take_leading is_digit (drop (at + 1) line))) d))
 
-    module _ (v e : ℕ) (d : digitsAt line (at + 1) ≡ NumberAt.Number v e) where
-      left : drop (length (takeWhile isDigit (drop (at + 1) line))) (drop (at + 1) line) ≡ drop e line
-      left = sym (drop-skip isDigit line (at + 1)) ∙ ap (λ (k : ℕ). drop k line) (number-end line (at + 1) v e d)
+    module _ (v e : ℕ) (d : digits_at line (at + 1) ≡ NumberAt.Number v e) where
+      left : drop (length (take_leading is_digit (drop (at + 1) line))) (drop (at + 1) line) ≡ drop e line
+      left = sym (drop_skip is_digit line (at + 1)) ∙ ap (λ (k : ℕ). drop k line) (number_end line (at + 1) v e d)
 
-      pub value-ended : length line ≤ e → ItemAt.Malformed ≡ value_at line at
-      value-ended l = no_value (from-none (drop (at + 1) line) (λ r k. nothing (sym (drop_of_length-le line l) ∙ sym left ∙ k)))
+      pub value_ended : length line ≤ e → ItemAt.Malformed ≡ value_at line at
+      value_ended l = no_value (from_none (drop (at + 1) line) (λ r k. nothing (sym (drop_of_length-le line l) ∙ sym left ∙ k)))
         where
           nothing : {r : List ℕ} → [] ≡ 61 ∷ r → ⊥
           nothing k = let w : ◌≡◌ {A = ℕ} 0 1 = cc in omega arith
 
-      pub value-no-equals : e < length line → (get_or line e 0 ≡ 61 → ⊥) → ItemAt.Malformed ≡ value_at line at
-      value-no-equals l z = no_value (from-none (drop (at + 1) line) (λ r k. z (first (sym (at_byte line e l) ∙ sym left ∙ k))))
+      pub value_no_equals : e < length line → (get_or line e 0 ≡ 61 → ⊥) → ItemAt.Malformed ≡ value_at line at
+      value_no_equals l z = no_value (from_none (drop (at + 1) line) (λ r k. z (first (sym (at_byte line e l) ∙ sym left ∙ k))))
         where
           first : {r : List ℕ} → get_or line e 0 ∷ drop (e + 1) line ≡ 61 ∷ r → get_or line e 0 ≡ 61
           first k = cc
 
-      pub value_read : e < length line → get_or line e 0 ≡ 61 → valueItem v (constantAt line (e + 1)) ≡ value_at line at
-      unfolding constantAt tokenAt digitsAt numberEnding
-      value_read l z = go (number_of (takeWhile isDigit (drop (at + 1) line))) refl d
+      pub value_read : e < length line → get_or line e 0 ≡ 61 → value_item v (constant_at line (e + 1)) ≡ value_at line at
+      unfolding constant_at token_at digits_at number_ending
+      value_read l z = go (number_of (take_leading is_digit (drop (at + 1) line))) refl d
         where
-          ends : skipWhile inToken line (at + 1) ≡ skipWhile inToken line (e + 1)
+          ends : skip_while in_token line (at + 1) ≡ skip_while in_token line (e + 1)
           ends =
-              sym (skip-on inToken isDigit digit-inside line (at + 1)) ∙ ap (skipWhile inToken line) (number-end line (at + 1) v e d)
-              ∙ skip-past inToken line e l (ap inToken z)
+              sym (skip_on in_token is_digit digit_inside line (at + 1)) ∙ ap (skip_while in_token line) (number_end line (at + 1) v e d)
+              ∙ skip_past in_token line e l (ap in_token z)
 
-          equals : drop (length (takeWhile isDigit (drop (at + 1) line))) (drop (at + 1) line) ≡ 61 ∷ drop (e + 1) line
+          equals : drop (length (take_leading is_digit (drop (at + 1) line))) (drop (at + 1) line) ≡ 61 ∷ drop (e + 1) line
           equals = left ∙ at_byte line e l ∙ ap (λ (b : ℕ). b ∷ drop (e + 1) line) z
 
-          go : (o : Option ℕ) → number_of (takeWhile isDigit (drop (at + 1) line)) ≡ o → numberEnding (skipWhile isDigit line (at + 1)) o ≡ NumberAt.Number v e → valueItem v (constantAt line (e + 1)) ≡ value_at line at
+          go : (o : Option ℕ) → number_of (take_leading is_digit (drop (at + 1) line)) ≡ o → number_ending (skip_while is_digit line (at + 1)) o ≡ NumberAt.Number v e → value_item v (constant_at line (e + 1)) ≡ value_at line at
           go none p k = let w : ◌≡◌ {A = ℕ} 0 1 = cc in absurd (omega arith)
           go (some n) p k =
               let c : v ≡ clip n = cc in
-              ap (λ (m : ℕ). valueItem m (constantAt line (e + 1))) c
-              ∙ value-clipped n (skipWhile inToken line (e + 1)) (constant_of (tokenAt line (e + 1)))
-              ∙ sym (from_first ∙ ap₂ itemEnding ends (from_some (drop (at + 1) line) (drop (e + 1) line) equals ∙ ap (λ (o : Option ℕ). both value o (constant_of (tokenAt line (e + 1)))) p))
+              ap (λ (m : ℕ). value_item m (constant_at line (e + 1))) c
+              ∙ value_clipped n (skip_while in_token line (e + 1)) (constant_of (token_at line (e + 1)))
+              ∙ sym (from_first ∙ ap₂ item_ending ends (from_some (drop (at + 1) line) (drop (e + 1) line) equals ∙ ap (λ (o : Option ℕ). both value o (constant_of (token_at line (e + 1)))) p))
 
   -- ---- an event, or else a value
 
-  event-clipped : (n e : ℕ) → itemEnding e (some (event (clip n))) ≡ itemEnding e (some (event n))
-  unfolding itemEnding itemInRange itemWithin
-  event-clipped n e = rw (clip-below 64 n (omega arith)) (go (ltb n 64) refl)
+  event_clipped : (n e : ℕ) → item_ending e (some (event (clip n))) ≡ item_ending e (some (event n))
+  unfolding item_ending item_in_range item_within
+  event_clipped n e = rw (clip_below 64 n (omega arith)) (go (ltb n 64) refl)
     where
       go : (b : Bool) → ltb n 64 ≡ b → cond b (ItemAt.Event (record { 0 = clip n }) e) (ItemAt.OutOfRange e) ≡ cond b (ItemAt.Event (record { 0 = n }) e) (ItemAt.OutOfRange e)
-      go true p = ap (λ (m : ℕ). ItemAt.Event (record { 0 = m }) e) (clip-same 64 n (omega arith) p)
+      go true p = ap (λ (m : ℕ). ItemAt.Event (record { 0 = m }) e) (clip_same 64 n (omega arith) p)
       go false p = refl
 
-  pub item-event : (v e : ℕ) → name_at line at 69 ≡ NumberAt.Number v e → itemEnding e (some (event v)) ≡ item_at line at
+  pub item_event : (v e : ℕ) → name_at line at 69 ≡ NumberAt.Number v e → item_ending e (some (event v)) ≡ item_at line at
   unfolding item_at item_of or_else
-  item-event v e q =
-      let p = name-some 69 line at v e q in
-      ap₂ (λ (k n : ℕ). itemEnding k (some (event n))) p.behind p.clipped ∙ event-clipped p.number (skipWhile inToken line at) ∙ sym (rw p.is)
+  item_event v e q =
+      let p = name_some 69 line at v e q in
+      ap₂ (λ (k n : ℕ). item_ending k (some (event n))) p.behind p.clipped ∙ event_clipped p.number (skip_while in_token line at) ∙ sym (rw p.is)
 
-  pub item-value : name_at line at 69 ≡ NumberAt.Malformed → value_at line at ≡ item_at line at
+  pub item_value : name_at line at 69 ≡ NumberAt.Malformed → value_at line at ≡ item_at line at
   unfolding item_at item_of or_else value_at
-  item-value q = rw (name-none 69 line at q)
+  item_value q = rw (name_none 69 line at q)

@@ -1,17 +1,17 @@
 -- Document 01, the epoch line: its tokens `E5` and `R0=41`, what it is refused for (1, 12, 13, 14, each over the whole
 -- line), and the epoch that an accepted one has.
 use Prim.Native.Char.{code}
-use Rattle.std.specs.Prelude.{ℕ, Bool, not, ◌&&◌, cond, eqb, ltb, ℤ, pos, length, set, replicate}
-use mathlib.Core.List.{List, [], ◌∷◌, foldl}
+use Rattle.std.specs.Prelude.{ℕ, Bool, not, ◌&&◌, cond, eqb, ltb, ℤ, pos, length, set, replicate, List, [], ◌∷◌}
+use mathlib.Core.List.{foldl}
 use Rattle.std.proofs.Math.Option.{Option, none, some, map, or_else}
 use Rattle.policy.specs.Epoch.{Epoch}
-use Rattle.policy.specs.Limits.{isReadingValue, repeats}
+use Rattle.policy.specs.Limits.{is_reading_value, repeats}
 use Rattle.policy.specs.List.{all, any}
-use Rattle.policy.specs.Number.{setLimit, readingLimit}
-use Rattle.policy.specs.Set.{noEvents, insertEvent, noReadings, insertReading}
+use Rattle.policy.specs.Number.{set_limit, reading_limit}
+use Rattle.policy.specs.Set.{no_events, insert_event, no_readings, insert_reading}
 use Rattle.policy.specs.declared.fault.Fault.{Fault}
 use Rattle.lexer.specs.Token.{Token, named, both}
-use Rattle.lexer.specs.Lines.{tokensOf}
+use Rattle.lexer.specs.Lines.{tokens_of}
 use Rattle.lexer.specs.Number.{constant_of}
 
 pub data Item : Type 0 where
@@ -23,63 +23,63 @@ pub record Halves : Type 0 where
   pub left : List ℕ
   pub right : List ℕ
 
-unfoldable pub toLeft : ℕ → Option Halves → Option Halves
-toLeft b none = none
-toLeft b (some h) = some (record { left = b ∷ h.left; right = h.right })
+unfoldable pub to_left : ℕ → Option Halves → Option Halves
+to_left b none = none
+to_left b (some h) = some (record { left = b ∷ h.left; right = h.right })
 
-unfoldable pub atEquals : List ℕ → Option Halves
-atEquals [] = none
-atEquals (b ∷ bs) = cond (eqb b (code "=")) (some (record { left = []; right = bs })) (toLeft b (atEquals bs))
+unfoldable pub at_equals : List ℕ → Option Halves
+at_equals [] = none
+at_equals (b ∷ bs) = cond (eqb b (code "=")) (some (record { left = []; right = bs })) (to_left b (at_equals bs))
 
-unfoldable pub assignmentOf : Option Halves → Option Item
-assignmentOf none = none
-assignmentOf (some h) = both value (named (code "R") h.left) (constant_of h.right)
+unfoldable pub assignment_of : Option Halves → Option Item
+assignment_of none = none
+assignment_of (some h) = both value (named (code "R") h.left) (constant_of h.right)
 
 unfoldable pub item_of : Token → Option Item
-item_of t = or_else (map event (named (code "E") t)) (assignmentOf (atEquals t))
+item_of t = or_else (map event (named (code "E") t)) (assignment_of (at_equals t))
 
 unfoldable pub items_of : List Token → Option (List Item)
 items_of [] = some []
 items_of (t ∷ ts) = both ◌∷◌ (item_of t) (items_of ts)
 
-unfoldable pub itemInRange : Item → Bool
-itemInRange (event n) = ltb n setLimit
-itemInRange (value n k) = ltb n readingLimit && isReadingValue k
+unfoldable pub item_in_range : Item → Bool
+item_in_range (event n) = ltb n set_limit
+item_in_range (value n k) = ltb n reading_limit && is_reading_value k
 
 -- the readings that are given
-unfoldable pub givenBy : List Item → List ℕ
-givenBy [] = []
-givenBy (event n ∷ is) = givenBy is
-givenBy (value n k ∷ is) = n ∷ givenBy is
+unfoldable pub given_by : List Item → List ℕ
+given_by [] = []
+given_by (event n ∷ is) = given_by is
+given_by (value n k ∷ is) = n ∷ given_by is
 
-unfoldable pub addItem : Epoch → Item → Epoch
-addItem e (event n) = record { events = insertEvent e.events (record { 0 = n }); readings = e.readings }
-addItem e (value n k) =
+unfoldable pub add_item : Epoch → Item → Epoch
+add_item e (event n) = record { events = insert_event e.events (record { 0 = n }); readings = e.readings }
+add_item e (value n k) =
     record {
       events = e.events;
-      readings = record { given = insertReading e.readings.given (record { 0 = n }); values = set e.readings.values n k };
+      readings = record { given = insert_reading e.readings.given (record { 0 = n }); values = set e.readings.values n k };
     }
 
 -- a blank line: no event, and no reading is given; what stands in the places of the readings are no values
-abbrev pub emptyEpoch : Epoch
-emptyEpoch = record { events = noEvents; readings = record { given = noReadings; values = replicate readingLimit (pos 0) } }
+abbrev pub empty_epoch : Epoch
+empty_epoch = record { events = no_events; readings = record { given = no_readings; values = replicate reading_limit (pos 0) } }
 
 pub data EpochAnswer : Type 0 where
   refused : Fault → EpochAnswer
   accepted : Epoch → EpochAnswer
 
 -- the faults of a line in their order: 12, 13, 14
-unfoldable pub judgeEpoch : Option (List Item) → EpochAnswer
-judgeEpoch none = refused Fault.EpochSyntax
-judgeEpoch (some is) =
-    cond (not (all itemInRange is)) (refused Fault.EpochRange)
-    (cond (repeats (givenBy is)) (refused Fault.DuplicateReading) (accepted (foldl addItem emptyEpoch is)))
+unfoldable pub judge_epoch : Option (List Item) → EpochAnswer
+judge_epoch none = refused Fault.EpochSyntax
+judge_epoch (some is) =
+    cond (not (all item_in_range is)) (refused Fault.EpochRange)
+    (cond (repeats (given_by is)) (refused Fault.DuplicateReading) (accepted (foldl add_item empty_epoch is)))
 
-abbrev pub epochLimit : ℕ
-epochLimit = 1024
+abbrev pub epoch_limit : ℕ
+epoch_limit = 1024
 
 -- "a byte 10 inside the line is ground 12"
-unfoldable pub readEpoch : List ℕ → EpochAnswer
-readEpoch line =
-    cond (ltb epochLimit (length line)) (refused Fault.TooLong)
-    (cond (any (eqb 10) line) (refused Fault.EpochSyntax) (judgeEpoch (items_of (tokensOf line))))
+unfoldable pub read_epoch : List ℕ → EpochAnswer
+read_epoch line =
+    cond (ltb epoch_limit (length line)) (refused Fault.TooLong)
+    (cond (any (eqb 10) line) (refused Fault.EpochSyntax) (judge_epoch (items_of (tokens_of line))))

@@ -1,11 +1,13 @@
 // The epoch line: events and values of readings. The line is scanned once: what it names is collected with two flags, a
 // number out of range and a reading given twice, and the line is judged at its end.
+#![tactic(auto)]
+
 ghost use Rattle.std.specs.Prelude.{◌≡◌, false, pos, replicate};
 ghost use Rattle.std.proofs.Math.Option.{some};
 ghost use Rattle.epoch_line.specs.Epoch.{event};
-ghost use Rattle.policy.specs.Set.{noEvents, noReadings};
-ghost use Rattle.epoch_line.specs.Steps.EpochScan.{itemEnding, valueItem, value_at, item_at, scanned, finishRead, epochFrom};
-ghost use Rattle.epoch_line.specs.Answer.{refusedRead, epochRead};
+ghost use Rattle.policy.specs.Set.{no_events, no_readings};
+ghost use Rattle.epoch_line.specs.Steps.EpochScan.{item_ending, value_item, value_at, item_at, scanned, finish_read, epoch_from};
+ghost use Rattle.epoch_line.specs.Answer.{refused_read, epoch_read};
 
 use lexer::{NumberAt, digits_at, event_at, skip_spaces};
 use policy::{
@@ -13,14 +15,14 @@ use policy::{
 };
 use token::{ConstantAt, constant_at};
 
-#[derive(Drop)]
+#[derive(Clone, Copy)]
 pub enum EpochStatus {
     Refused(Fault),
     Accepted,
 }
 
 // The answer to an epoch line. Where the line is refused, the sets are empty and all values are 0.
-#[derive(Drop)]
+#[derive(Clone, Copy)]
 pub struct EpochRead {
     pub status: EpochStatus,
     pub events: EventSet,
@@ -29,7 +31,7 @@ pub struct EpochRead {
     pub values: [i32; READING_LIMIT],
 }
 
-#[derive(Drop)]
+#[derive(Clone, Copy)]
 pub enum ItemAt {
     // What the token names, and the position behind it.
     Event(Event, usize),
@@ -39,7 +41,7 @@ pub enum ItemAt {
 }
 
 fn event_item(n: u32, end: usize) -> ItemAt
-    ensures { result ≡ itemEnding end (some (event n)) }
+    ensures { result ≡ item_ending end (some (event n)) }
 {
     let check = Event::new(n);
     match check {
@@ -50,7 +52,7 @@ fn event_item(n: u32, end: usize) -> ItemAt
 
 // The value of the reading with this number.
 fn value_item(n: u32, constant: ConstantAt) -> ItemAt
-    ensures { result ≡ valueItem n constant }
+    ensures { result ≡ value_item n constant }
 {
     match constant {
         ConstantAt::Value(k, end) => {
@@ -99,7 +101,7 @@ fn item_at(line: &[u8], at: usize) -> ItemAt
 }
 
 fn refused(fault: Fault) -> EpochRead
-    ensures { result ≡ refusedRead fault }
+    ensures { result ≡ refused_read fault }
 {
     EpochRead {
         status: EpochStatus::Refused(fault),
@@ -117,7 +119,7 @@ fn finished(
     given: ReadingSet,
     values: [i32; READING_LIMIT],
 ) -> EpochRead
-    ensures { result ≡ finishRead (scanned out_of_range twice events given values) }
+    ensures { result ≡ finish_read (scanned out_of_range twice events given values) }
 {
     if out_of_range {
         return refused(Fault::EpochRange);
@@ -135,7 +137,7 @@ fn finished(
 
 // The tokens of the line, one after another. At a byte 10 no token stands: that is malformed too.
 fn read_items(line: &[u8]) -> EpochRead
-    ensures { result ≡ epochFrom (scanned false false noEvents noReadings (replicate 16 (pos 0))) line.now 0 }
+    ensures { result ≡ epoch_from (scanned false false no_events no_readings (replicate 16 (pos 0))) line.now 0 }
 {
     let mut out_of_range = false;
     let mut twice = false;
@@ -174,7 +176,7 @@ const EPOCH_LIMIT: usize = 1024;
 
 // An epoch line, without its line end.
 pub fn read_epoch(line: &[u8]) -> EpochRead
-    ensures { result ≡ epochRead line.now }
+    ensures { result ≡ epoch_read line.now }
 {
     if EPOCH_LIMIT < line.len() {
         refused(Fault::TooLong)

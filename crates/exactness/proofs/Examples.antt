@@ -1,23 +1,22 @@
 -- The worked example of document 01 and the empty policy: the words of their images, and that loading them yields the
 -- policy again.
-use mathlib.Core.List.{map}
-use mathlib.Core.Path.{◌≡◌, refl}
-use Rattle.policy.specs.Limits.{valid, in_range, crowded, repeated, repeats, testNumber, operandInRange, comparisonInRange, endingInRange, isReadingValue}
-use Rattle.policy.specs.Line.{headsOf, comparisonsOf, endingOf}
+use Rattle.std.proofs.Common.{map, ◌≡◌, refl}
+use Rattle.policy.specs.Limits.{valid, in_range, crowded, repeated, repeats, test_number, operand_in_range, comparison_in_range, ending_in_range, is_reading_value}
+use Rattle.policy.specs.Line.{heads_of, comparisons_of, ending_of}
 use Rattle.policy.specs.List.{all, any}
-use Rattle.operation.specs.Operation.{operationFrom, relationFrom}
-use Rattle.operation.specs.Parts.{constantComparison, readingComparison, testOperation, testWord, operand_word, constantWords, comparisonWord, comparisonWords, endingWord}
+use Rattle.operation.specs.Operation.{operation_from, relation_from}
+use Rattle.operation.specs.Parts.{constant_comparison, reading_comparison, test_operation, test_word, operand_word, constant_words, comparison_word, comparison_words, ending_word}
 use Rattle.word.specs.Word.{words_of, bytes_of, between}
 use Rattle.operation.specs.Fields.{pack}
-use Rattle.layout.specs.Header.{packHeader}
-use Rattle.image.specs.Check.{wellSized, countsFit, sumsToZero}
-use Rattle.image.specs.Held.{rulesIn, constraintsIn, linesIn, policyIn}
-use Rattle.layout.specs.Layout.{conditionWords, partWords, lineWords, linesWords, knownForm, checkCount, sum, checkWord, checkWords, headerWord, ruleWords, constraintWords, contentWords, imageWords, image_of}
-use Rattle.decode.specs.Decode.{addLiteral, addMember, addComparison, decodeWord, decode, isPrefix, inPart, standsAt, keepIf, line_at}
-use Rattle.image.specs.Lines.{addLine, afterLine, lines_from, partLines}
-use Rattle.image.specs.Load.{bodyAnswer, loadWords, load}
-use Rattle.exactness.specs.Examples.{worked, nothing, policies, images, imageFor}
+use Rattle.layout.specs.Header.{pack_header}
+use Rattle.image.specs.Check.{well_sized, counts_fit, sums_to_zero}
+use Rattle.image.specs.Held.{rules_in, constraints_in, lines_in, policy_in}
+use Rattle.layout.specs.Layout.{condition_words, part_words, line_words, lines_words, known_form, check_count, sum, check_word, check_words, header_word, rule_part_words, constraint_part_words, content_words, image_words, image_of}
+use Rattle.decode.specs.Decode.{add_literal, add_member, add_comparison, decode_word, decode, is_prefix, in_part, stands_at, keep_if, line_at}
+use Rattle.image.specs.Lines.{add_line, after_line, lines_from, part_lines}
+use Rattle.image.specs.Load.{body_answer, load_words, load}
+use Rattle.exactness.specs.Examples.{worked, nothing, policies, images, image_for}
 
-pub images-hold : map imageFor policies ≡ images
-unfolding worked nothing policies images imageFor words_of bytes_of between pack packHeader operationFrom relationFrom constantComparison readingComparison testOperation testWord comparisonWord operand_word constantWords comparisonWords endingWord conditionWords partWords lineWords linesWords knownForm checkCount sum checkWord checkWords headerWord ruleWords constraintWords contentWords imageWords image_of addLiteral addMember addComparison decodeWord decode isPrefix inPart standsAt keepIf line_at addLine afterLine lines_from partLines wellSized countsFit sumsToZero bodyAnswer loadWords load rulesIn constraintsIn linesIn policyIn valid in_range crowded repeated repeats testNumber operandInRange comparisonInRange endingInRange isReadingValue headsOf comparisonsOf endingOf all any
-images-hold = refl
+pub images_hold : map image_for policies ≡ images
+unfolding worked nothing policies images image_for words_of bytes_of between pack pack_header operation_from relation_from constant_comparison reading_comparison test_operation test_word comparison_word operand_word constant_words comparison_words ending_word condition_words part_words line_words lines_words known_form check_count sum check_word check_words header_word rule_part_words constraint_part_words content_words image_words image_of add_literal add_member add_comparison decode_word decode is_prefix in_part stands_at keep_if line_at add_line after_line lines_from part_lines well_sized counts_fit sums_to_zero body_answer load_words load rules_in constraints_in lines_in policy_in valid in_range crowded repeated repeats test_number operand_in_range comparison_in_range ending_in_range is_reading_value heads_of comparisons_of ending_of all any
+images_hold = refl

@@ -1,80 +1,74 @@
 -- Laws of whole images: that their words are words, and their parts.
-use Prim.Native.Nat.{ℕ, zero, suc, ◌+◌, ◌<◌}
-use mathlib.Core.Bool.{true}
-use mathlib.Core.List.{List, [], ◌∷◌, ◌++◌, append_assoc}
-use mathlib.Core.Path.{◌≡◌, sym, ap, ap₂, ◌∙◌}
-use native.Mathlib.Omega.{arith}
-use borrow.Author.Tests.{ltb-true}
-use lib.ListN.{length, take, drop, get_or, length-append, length-take, length-drop, take-append-drop, drop_of_length-le}
-use lib.Seq.{drop-cons, take_at, drop_at, take-take, get_or-take}
-use Rattle.policy.proofs.ListLaws.{and-out}
-use Rattle.policy.specs.Limits.{valid, testNumber, comparisonInRange, endingInRange}
-use Rattle.operation.specs.Parts.{testWord, comparisonWords, endingWord}
-use Rattle.word.specs.Word.{wordLimit, between, Below}
-use Rattle.layout.specs.Layout.{conditionWords, partWords, lineWords, linesWords}
-use Rattle.layout.specs.Steps.Size.{comparisonsSize, conditionSize}
-use Rattle.policy.specs.Line.{PolicyLine, headsOf, comparisonsOf, endingOf}
+use Rattle.std.proofs.Common.{ℕ, zero, suc, ◌+◌, ◌<◌, true, List, [], ◌∷◌, ◌++◌, append_assoc, ◌≡◌, sym, ap, ap₂, ◌∙◌, arith, ltb-true, length, take, drop, length-append, length-take, length-drop, take-append-drop, drop_of_length-le, drop-cons, take_at, drop_at, take-take, get_or-take}
+use Rattle.std.proofs.Math.ListN.{get_or}
+use Rattle.policy.proofs.ListLaws.{and_out}
+use Rattle.policy.specs.Limits.{valid, test_number, comparison_in_range, ending_in_range}
+use Rattle.operation.specs.Parts.{test_word, comparison_words, ending_word}
+use Rattle.word.specs.Word.{word_limit, between, Below}
+use Rattle.layout.specs.Layout.{condition_words, part_words, line_words, lines_words}
+use Rattle.layout.specs.Steps.Size.{comparisons_size, condition_size}
+use Rattle.policy.specs.Line.{PolicyLine, heads_of, comparisons_of, ending_of}
 use Rattle.policy.specs.List.{all}
 use Rattle.policy.specs.declared.comparison.Comparison.{Comparison}
 use Rattle.policy.specs.declared.line.Ending.{Ending}
 use Rattle.policy.specs.declared.line.Test.{Test}
-use Rattle.operation.proofs.PartsLaws.{Written, withConstant, withReading, written, test_below, causes-below, never-below}
-use Rattle.layout.proofs.LayoutLaws.{condition-length, part_length, condition-size-limit}
-use Rattle.policy.proofs.ValidLaws.{valid-out, testInRange}
+use Rattle.operation.proofs.PartsLaws.{Written, with_constant, with_reading, written, test_below, causes_below, never_below}
+use Rattle.layout.proofs.LayoutLaws.{condition_length, part_length, condition_size_limit}
+use Rattle.policy.proofs.ValidLaws.{valid_out, test_in_range}
 
 -- ---- words below 2 ^ 32
 
-pub below-append : (k : ℕ) (a b : List ℕ) → Below k a → Below k b → Below k (a ++ b)
-below-append k [] b ha hb i = hb i
-below-append k (x ∷ a) b ha hb zero = ha 0
-below-append k (x ∷ a) b ha hb (suc i) = below-append k a b (λ j. ha (suc j)) hb i
+pub below_append : (k : ℕ) (a b : List ℕ) → Below k a → Below k b → Below k (a ++ b)
+below_append k [] b ha hb i = hb i
+below_append k (x ∷ a) b ha hb zero = ha 0
+below_append k (x ∷ a) b ha hb (suc i) = below_append k a b (λ j. ha (suc j)) hb i
 
-pub below-cons : (k w : ℕ) (ws : List ℕ) → w < k → Below k ws → Below k (w ∷ ws)
-below-cons k w ws h b zero = h
-below-cons k w ws h b (suc i) = b i
+pub below_cons : (k w : ℕ) (ws : List ℕ) → w < k → Below k ws → Below k (w ∷ ws)
+below_cons k w ws h b zero = h
+below_cons k w ws h b (suc i) = b i
 
-pub below_none : Below wordLimit []
+pub below_none : Below word_limit []
 below_none i = omega arith
 
-ending-below : (e : Ending) → endingInRange e ≡ true → endingWord e < wordLimit
-unfolding endingInRange
-ending-below (Ending.Causes a) h = causes-below a (ltb-true a.0 64 h)
-ending-below Ending.Never h = never-below
+ending_below : (e : Ending) → ending_in_range e ≡ true → ending_word e < word_limit
+unfolding ending_in_range
+ending_below (Ending.Causes a) h = causes_below a (ltb-true a.0 64 h)
+ending_below Ending.Never h = never_below
 
-comparison-below : (c : Comparison) (k : ℕ) → Written c k → Below wordLimit (comparisonWords c k)
-comparison-below c k (withConstant w v q o s b h z) = rw q (below-cons wordLimit w (v ∷ []) h.limit (below-cons wordLimit v [] z.1 below_none))
-comparison-below c k (withReading w q o s b h z) = rw q (below-cons wordLimit w [] h.limit below_none)
+comparison_below : (c : Comparison) (k : ℕ) → Written c k → Below word_limit (comparison_words c k)
+comparison_below c k (with_constant w v q o s b h z) = rw q (below_cons word_limit w (v ∷ []) h.limit (below_cons word_limit v [] z.1 below_none))
+comparison_below c k (with_reading w q o s b h z) = rw q (below_cons word_limit w [] h.limit below_none)
 
-condition-below : (cs : List Comparison) (e : Ending) → all comparisonInRange cs ≡ true → endingInRange e ≡ true → conditionSize cs < 32 → Below wordLimit (conditionWords cs e)
-unfolding conditionWords conditionSize comparisonsSize all
-condition-below [] e r h l = below-cons wordLimit (endingWord e) [] (ending-below e h) below_none
-condition-below (c ∷ cs) e r h l =
-    let p = and-out (comparisonInRange c) (all comparisonInRange cs) r in
-    below-append wordLimit (comparisonWords c (length (conditionWords cs e))) (conditionWords cs e)
-    (comparison-below c (length (conditionWords cs e)) (written c (length (conditionWords cs e)) p.0 (omega (arith, condition-length cs e)))) (condition-below cs e p.1 h (omega arith))
+condition_below : (cs : List Comparison) (e : Ending) → all comparison_in_range cs ≡ true → ending_in_range e ≡ true → condition_size cs < 32 → Below word_limit (condition_words cs e)
+unfolding condition_words condition_size comparisons_size all
+condition_below [] e r h l = below_cons word_limit (ending_word e) [] (ending_below e h) below_none
+condition_below (c ∷ cs) e r h l =
+    let p = and_out (comparison_in_range c) (all comparison_in_range cs) r in
+    below_append word_limit (comparison_words c (length (condition_words cs e))) (condition_words cs e)
+    (comparison_below c (length (condition_words cs e)) (written c (length (condition_words cs e)) p.0 (omega (arith, condition_length cs e)))) (condition_below cs e p.1 h (omega arith))
 
-parts_below : (ts : List Test) (cs : List Comparison) (e : Ending) → all testInRange ts ≡ true → all comparisonInRange cs ≡ true → endingInRange e ≡ true → length ts + conditionSize cs < 32 → Below wordLimit (partWords ts cs e)
-unfolding partWords all
-parts_below [] cs e t r h l = condition-below cs e r h (omega arith)
+parts_below : (ts : List Test) (cs : List Comparison) (e : Ending) → all test_in_range ts ≡ true → all comparison_in_range cs ≡ true → ending_in_range e ≡ true → length ts + condition_size cs < 32 → Below word_limit (part_words ts cs e)
+unfolding part_words all
+parts_below [] cs e t r h l = condition_below cs e r h (omega arith)
 parts_below (x ∷ xs) cs e t r h l =
-    let p = and-out (testInRange x) (all testInRange xs) t in
-    below-cons wordLimit (testWord x (length (partWords xs cs e))) (partWords xs cs e)
-    (test_below x (length (partWords xs cs e)) (ltb-true (testNumber x) 64 p.0) (omega (arith, part_length xs cs e))) (parts_below xs cs e p.1 r h (omega arith))
+    let p = and_out (test_in_range x) (all test_in_range xs) t in
+    below_cons word_limit (test_word x (length (part_words xs cs e))) (part_words xs cs e)
+    (test_below x (length (part_words xs cs e)) (ltb-true (test_number x) 64 p.0) (omega (arith, part_length xs cs e))) (parts_below xs cs e p.1 r h (omega arith))
 
-line-below : (l : PolicyLine) → valid l ≡ true → Below wordLimit (lineWords l)
-unfolding lineWords
-line-below l v =
-    let h = valid-out l v in
-    let a = h.few-tests in
-    let b = h.few-comparisons in
-    parts_below (headsOf l) (comparisonsOf l) (endingOf l) h.tests h.comparisons h.ending (omega (arith, condition-size-limit (comparisonsOf l)))
+line_below : (l : PolicyLine) → valid l ≡ true → Below word_limit (line_words l)
+unfolding line_words
+line_below l v =
+    let h = valid_out l v in
+    let a = h.few_tests in
+    let b = h.few_comparisons in
+    parts_below (heads_of l) (comparisons_of l) (ending_of l) h.tests h.comparisons h.ending (omega (arith, condition_size_limit (comparisons_of l)))
 
-pub lines-below : (ls : List PolicyLine) → all valid ls ≡ true → Below wordLimit (linesWords ls)
-unfolding linesWords all
-lines-below [] v = below_none
-lines-below (l ∷ ls) v =
-    let p = and-out (valid l) (all valid ls) v in
-    below-append wordLimit (lineWords l) (linesWords ls) (line-below l p.0) (lines-below ls p.1)
+pub lines_below : (ls : List PolicyLine) → all valid ls ≡ true → Below word_limit (lines_words ls)
+unfolding lines_words all
+lines_below [] v = below_none
+lines_below (l ∷ ls) v =
+    let p = and_out (valid l) (all valid ls) v in
+    below_append word_limit (line_words l) (lines_words ls) (line_below l p.0) (lines_below ls p.1)
 
 -- ---- the parts of an image
 
@@ -82,15 +76,15 @@ module _ (h : ℕ) (rules constraints checks : List ℕ) (P N : ℕ) (p : length
   abbrev image : List ℕ
   image = (h ∷ rules ++ constraints) ++ checks
 
-  pub rules-between : between 1 (1 + P) image ≡ rules
+  pub rules_between : between 1 (1 + P) image ≡ rules
   unfolding between
-  rules-between =
+  rules_between =
       let s : 1 + P ≡ suc P = omega arith in
       ap (λ (k : ℕ). drop 1 (take k image)) s ∙ ap (take P) (append_assoc rules constraints checks) ∙ take_at rules (constraints ++ checks) P p
 
-  pub constraints-between : between (1 + P) (1 + P + N) image ≡ constraints
+  pub constraints_between : between (1 + P) (1 + P + N) image ≡ constraints
   unfolding between
-  constraints-between =
+  constraints_between =
       let s : 1 + P ≡ suc P = omega arith in
       let t : 1 + P + N ≡ suc (P + N) = omega arith in
       let m : length (rules ++ constraints) ≡ P + N = omega (arith, length-append rules constraints) in
@@ -102,13 +96,13 @@ first_of : (ws : List ℕ) → 0 < length ws → ws ≡ get_or ws 0 0 ∷ drop 1
 first_of ws h = drop-cons ws 0 0 h
 
 module _ (ws : List ℕ) (P N : ℕ) (size : length ws ≡ 1 + P + N + 1) where
-  pub rules-size : length (between 1 (1 + P) ws) ≡ P
+  pub rules_size : length (between 1 (1 + P) ws) ≡ P
   unfolding between
-  rules-size = omega (arith, length-drop 1 (take (1 + P) ws), length-take (1 + P) ws)
+  rules_size = omega (arith, length-drop 1 (take (1 + P) ws), length-take (1 + P) ws)
 
-  pub constraints-size : length (between (1 + P) (1 + P + N) ws) ≡ N
+  pub constraints_size : length (between (1 + P) (1 + P + N) ws) ≡ N
   unfolding between
-  constraints-size = omega (arith, length-drop (1 + P) (take (1 + P + N) ws), length-take (1 + P + N) ws)
+  constraints_size = omega (arith, length-drop (1 + P) (take (1 + P + N) ws), length-take (1 + P + N) ws)
 
   last_of : drop (1 + P + N) ws ≡ get_or ws (1 + P + N) 0 ∷ []
   last_of =
@@ -127,5 +121,5 @@ module _ (ws : List ℕ) (P N : ℕ) (size : length ws ≡ 1 + P + N + 1) where
       sym (take-append-drop (1 + P) (take (1 + P + N) ws))
       ∙ ap (λ (x : List ℕ). x ++ drop (1 + P) (take (1 + P + N) ws)) (take-take (1 + P) (1 + P + N) ws (omega arith) ∙ head_of)
 
-  pub parts-of : ws ≡ (get_or ws 0 0 ∷ between 1 (1 + P) ws ++ between (1 + P) (1 + P + N) ws) ++ get_or ws (1 + P + N) 0 ∷ []
-  parts-of = sym (take-append-drop (1 + P + N) ws) ∙ ap₂ (λ (x y : List ℕ). x ++ y) body_of last_of
+  pub parts_of : ws ≡ (get_or ws 0 0 ∷ between 1 (1 + P) ws ++ between (1 + P) (1 + P + N) ws) ++ get_or ws (1 + P + N) 0 ∷ []
+  parts_of = sym (take-append-drop (1 + P + N) ws) ∙ ap₂ (λ (x y : List ℕ). x ++ y) body_of last_of

@@ -1,8 +1,8 @@
 -- The notions of the statements about images: what is an image, what the loader says of it, and how it refuses.
 use Rattle.std.specs.Prelude.{ℕ, ◌+◌, ◌≤◌, ◌<◌, true, List, ◌++◌, ◌⊎◌, ◌≡◌, length, set}
 use Rattle.std.proofs.Math.Option.{some}
-use Rattle.policy.specs.Fault.{faultNumber, refusal}
-use Rattle.policy.specs.Limits.{valid, ruleLimit, constraintLimit, Acceptable}
+use Rattle.policy.specs.Fault.{fault_number, refusal}
+use Rattle.policy.specs.Limits.{valid, rule_limit, constraint_limit, Acceptable}
 use Rattle.policy.specs.Line.{PolicyLine}
 use Rattle.policy.specs.List.{all}
 use Rattle.policy.specs.Policy.{Policy}
@@ -10,11 +10,11 @@ use Rattle.policy.specs.declared.fault.Fault.{Fault}
 use Rattle.policy.specs.declared.fault.Refusal.{Refusal}
 use Rattle.policy.specs.declared.fault.Source.{Source}
 use Rattle.word.specs.Word.{words_of, bytes_of, between}
-use Rattle.image.specs.Check.{formByte, ruleCount, constraintCount, wellSized, countsFit, sumsToZero}
-use Rattle.layout.specs.Layout.{lineWords, linesWords, knownForm, ruleWords, constraintWords, image_of}
-use Rattle.decode.specs.Decode.{inPart}
-use Rattle.image.specs.Lines.{whole, ruleLines}
-use Rattle.image.specs.Load.{refusalIn}
+use Rattle.image.specs.Check.{form_byte, rule_count, constraint_count, well_sized, counts_fit, sums_to_zero}
+use Rattle.layout.specs.Layout.{line_words, lines_words, known_form, rule_part_words, constraint_part_words, image_of}
+use Rattle.decode.specs.Decode.{in_part}
+use Rattle.image.specs.Lines.{whole, rule_lines}
+use Rattle.image.specs.Load.{refusal_in}
 use Rattle.policy.specs.declared.line.Part.{Part}
 use Rattle.image.specs.declared.load.Contents.{Contents}
 use Rattle.image.specs.declared.load.Loaded.{Loaded}
@@ -25,13 +25,13 @@ use Rattle.image.specs.declared.load.Loaded.{Loaded}
 pub record IsImage (bytes : List ℕ) : Type 0 where
   pub form : ℕ
   pub policy : Policy
-  pub known : knownForm form ≡ true
+  pub known : known_form form ≡ true
   pub acceptable : Acceptable policy
   pub same : image_of form policy ≡ bytes
 
 -- what stands in the image of a policy
-abbrev pub contentsOf : ℕ → Policy → Contents
-contentsOf form p = record { form = form; rule_words = length (ruleWords p); constraint_words = length (constraintWords p); rules = length p.rules; constraints = length p.constraints }
+abbrev pub contents_of : ℕ → Policy → Contents
+contents_of form p = record { form = form; rule_words = length (rule_part_words p); constraint_words = length (constraint_part_words p); rules = length p.rules; constraints = length p.constraints }
 
 -- the bytes with the value v for the word i
 abbrev pub changed : List ℕ → ℕ → ℕ → List ℕ
@@ -41,40 +41,40 @@ changed bytes i v = bytes_of (set (words_of bytes) i v)
 
 -- the bytes pass the checks 7 to 10
 pub record Checked (bytes : List ℕ) : Type 0 where
-  pub size : wellSized (length bytes) ≡ true
-  pub form : knownForm (formByte (words_of bytes)) ≡ true
-  pub count : countsFit (words_of bytes) ≡ true
-  pub check : sumsToZero (words_of bytes) ≡ true
+  pub size : well_sized (length bytes) ≡ true
+  pub form : known_form (form_byte (words_of bytes)) ≡ true
+  pub count : counts_fit (words_of bytes) ≡ true
+  pub check : sums_to_zero (words_of bytes) ≡ true
 
 -- refused under one of the faults 7 to 10, at location 0
 pub record RefusedEarly (answer : Loaded) : Type 0 where
   pub fault : Fault
-  pub refused : refusalIn answer ≡ some (refusal fault 0)
-  pub from : 7 ≤ faultNumber fault
-  pub upto : faultNumber fault ≤ 10
+  pub refused : refusal_in answer ≡ some (refusal fault 0)
+  pub from : 7 ≤ fault_number fault
+  pub upto : fault_number fault ≤ 10
 
 -- a refusal of so many words, in no text: one of the faults 7 to 10 at location 0, or fault 11 at one of the words behind word 0
 pub data RefusalOf (words : ℕ) (r : Refusal) : Type 0 where
-  ofChecks : r.source ≡ Source.Neither → 7 ≤ faultNumber r.fault → faultNumber r.fault ≤ 10 → r.location ≡ 0 → RefusalOf words r
-  ofBody : r.source ≡ Source.Neither → faultNumber r.fault ≡ 11 → 1 ≤ r.location → r.location < words → RefusalOf words r
+  of_checks : r.source ≡ Source.Neither → 7 ≤ fault_number r.fault → fault_number r.fault ≤ 10 → r.location ≡ 0 → RefusalOf words r
+  of_body : r.source ≡ Source.Neither → fault_number r.fault ≡ 11 → 1 ≤ r.location → r.location < words → RefusalOf words r
 
 -- a location in a part at which no line fits, with the whole lines before it: `ws` are the words of the part, of which the
 -- first has the index `from`, and there is room for so many lines
 pub record NoLineAt (part : Part) (room from : ℕ) (ws : List ℕ) (location : ℕ) : Type 0 where
   pub before : List PolicyLine
-  pub kind : all (inPart part) before ≡ true
+  pub kind : all (in_part part) before ≡ true
   pub sound : all valid before ≡ true
   pub few : length before ≤ room
   pub rest : List ℕ
-  pub words : ws ≡ linesWords before ++ rest
-  pub located : location ≡ from + length (linesWords before)
+  pub words : ws ≡ lines_words before ++ rest
+  pub located : location ≡ from + length (lines_words before)
   -- the part goes on
   pub more : 0 < length rest
-  pub none-fits : (length before ≡ room) ⊎ ((l : PolicyLine) (tail : List ℕ) → inPart part l ≡ true → valid l ≡ true → ¬ (rest ≡ lineWords l ++ tail))
+  pub none_fits : (length before ≡ room) ⊎ ((l : PolicyLine) (tail : List ℕ) → in_part part l ≡ true → valid l ≡ true → ¬ (rest ≡ line_words l ++ tail))
 
 -- document 01, fault 11: its location is the first line start at which no line fits, in the rule part or, where all of that is
 -- lines, in the constraint part
 pub data FirstFault (ws : List ℕ) (location : ℕ) : Type 0 where
-  inRules : NoLineAt Part.Rules ruleLimit 1 (between 1 (1 + ruleCount ws) ws) location → FirstFault ws location
-  inConstraints : (rules : List PolicyLine) → ruleLines ws ≡ whole rules
-      → NoLineAt Part.Constraints constraintLimit (1 + ruleCount ws) (between (1 + ruleCount ws) (1 + ruleCount ws + constraintCount ws) ws) location → FirstFault ws location
+  in_rules : NoLineAt Part.Rules rule_limit 1 (between 1 (1 + rule_count ws) ws) location → FirstFault ws location
+  in_constraints : (rules : List PolicyLine) → rule_lines ws ≡ whole rules
+      → NoLineAt Part.Constraints constraint_limit (1 + rule_count ws) (between (1 + rule_count ws) (1 + rule_count ws + constraint_count ws) ws) location → FirstFault ws location

@@ -7,7 +7,7 @@ use Rattle.policy.specs.declared.comparison.Operand.{Operand}
 use Rattle.policy.specs.declared.comparison.Relation.{Relation}
 use Rattle.word.specs.Word.{words_of}
 use Rattle.layout.specs.Layout.{image_of}
-use Rattle.image.specs.Held.{policyIn}
+use Rattle.image.specs.Held.{policy_in}
 use Rattle.image.specs.Load.{load}
 use Rattle.image.specs.declared.load.Loaded.{Loaded}
 
@@ -57,5 +57,5 @@ images =
     }
     ∷ []
 
-unfoldable pub imageFor : Policy → Image
-imageFor p = record { words = words_of (image_of 1 p); answer = load (image_of 1 p); holds = policyIn (image_of 1 p) }
+unfoldable pub image_for : Policy → Image
+image_for p = record { words = words_of (image_of 1 p); answer = load (image_of 1 p); holds = policy_in (image_of 1 p) }

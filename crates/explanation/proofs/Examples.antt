@@ -1,27 +1,26 @@
 -- Each row of the table of examples is as document 02's L6 says.
-use mathlib.Core.List.{map}
-use mathlib.Core.Option.{or_else}
-use mathlib.Core.Path.{◌≡◌, refl}
+use Rattle.std.proofs.Common.{map, ◌≡◌, refl}
+use Rattle.std.proofs.Math.Option.{or_else}
 use Rattle.policy.specs.List.{all, any}
 use Rattle.policy.specs.Set.{has, insert, below}
-use Rattle.policy.specs.Epoch.{valueIn, readingValue}
-use Rattle.policy.specs.Comparison.{eqZ, relationHolds, operandValue, comparisonHolds, missingHolds, valuesRelate}
-use Rattle.policy.specs.Line.{headsOf, comparisonsOf, endingOf}
-use Rattle.policy.specs.Limits.{isReadingValue, testNumber, operandInRange, comparisonInRange, endingInRange, in_range, crowded, repeats, repeated}
-use Rattle.pdl.specs.Greedy.{tryNext, keptBelow, greedy}
-use Rattle.pdl.specs.Yield.{literalHolds, ruleHolds, propose, proposals, constraintHolds, conflict, resolve, accepted, cancelled}
-use Rattle.lexer.specs.Byte.{bytes, sameBytes, is, hexValue}
-use Rattle.lexer.specs.Number.{decimalFrom, is_empty, number_of, positive, negative, decimalOf, patternOf, hexadecimalOf, constant_of}
-use Rattle.lexer.specs.Lines.{prepend, pieces, lines_of, nonEmpty, tokensOf, takeWhile}
-use Rattle.lexer.specs.Token.{named, literalOf, actionOf, reading_of, relationOf, operandOf, both, comparisonOf}
-use Rattle.syntax.specs.Grammar.{comparisonsFrom, conditionFrom, joined, ruleAfter, constraintAfter, after, lineFrom}
-use Rattle.syntax.specs.Judge.{judgeLine, isComment, tokensAnswer, lineAnswer}
-use Rattle.rule_text.specs.Text.{advance, readLine, readBehind, inText, readText, readSite, readTexts}
-use Rattle.epoch_line.specs.Epoch.{toLeft, atEquals, assignmentOf, item_of, items_of, itemInRange, givenBy, addItem, judgeEpoch, readEpoch}
-use Rattle.explanation.specs.Part.{trimStart, keepByte, trimEnd, trim, shownAt, orLater, firstFrom, orSite, firstShown, part_at, partIn}
-use Rattle.explanation.specs.Why.{proposedBy, cancelledBy, reasonFor, onAction, onEpoch, onTexts, explained}
-use Rattle.explanation.specs.Examples.{Example, explanations, saidIn, said_of}
+use Rattle.policy.specs.Epoch.{reading_value}
+use Rattle.policy.specs.Comparison.{eq_z, relation_holds, operand_value, comparison_holds, missing_holds, values_relate}
+use Rattle.policy.specs.Line.{heads_of, comparisons_of, ending_of}
+use Rattle.policy.specs.Limits.{is_reading_value, test_number, operand_in_range, comparison_in_range, ending_in_range, in_range, crowded, repeats, repeated}
+use Rattle.pdl.specs.Greedy.{try_next, kept_below, greedy}
+use Rattle.pdl.specs.Yield.{literal_holds, rule_holds, propose, proposals, constraint_holds, conflict, resolve, accepted, cancelled}
+use Rattle.lexer.specs.Byte.{bytes, bytes_equal, is, hex_value}
+use Rattle.lexer.specs.Number.{decimal_from, is_empty, number_of, positive, negative, decimal_of, pattern_of, hexadecimal_of, constant_of}
+use Rattle.lexer.specs.Lines.{prepend, pieces, lines_of, non_empty, tokens_of, take_leading}
+use Rattle.lexer.specs.Token.{named, literal_of, action_of, reading_of, relation_of, operand_of, both, comparison_of}
+use Rattle.syntax.specs.Grammar.{comparisons_from, condition_from, joined, rule_after, constraint_after, after, line_from}
+use Rattle.syntax.specs.Judge.{judge_line, is_comment, tokens_answer, line_answer}
+use Rattle.rule_text.specs.Text.{advance, read_line, read_text_behind, in_text, read_text, read_site, read_texts}
+use Rattle.epoch_line.specs.Epoch.{to_left, at_equals, assignment_of, item_of, items_of, item_in_range, given_by, add_item, judge_epoch, read_epoch}
+use Rattle.explanation.specs.Part.{trim_start, keep_byte, trim_end, trim, shown_at, or_later, first_from, or_site, first_shown, part_at, part_in}
+use Rattle.explanation.specs.Why.{proposed_by, cancelled_by, reason_for, on_action, on_epoch, on_both_texts, explained}
+use Rattle.explanation.specs.Examples.{Example, explanations, said_in, said_of}
 
-pub explanations-hold : map said_of explanations ≡ map (λ (x : Example). x.said) explanations
-unfolding all any has insert below valueIn readingValue missingHolds valuesRelate eqZ relationHolds operandValue comparisonHolds headsOf comparisonsOf endingOf isReadingValue testNumber operandInRange comparisonInRange endingInRange in_range crowded repeats repeated tryNext keptBelow greedy literalHolds ruleHolds propose proposals constraintHolds conflict resolve accepted cancelled bytes sameBytes is decimalFrom is_empty number_of positive negative hexValue decimalOf patternOf hexadecimalOf constant_of prepend pieces lines_of nonEmpty tokensOf takeWhile named literalOf actionOf reading_of relationOf or_else operandOf both comparisonOf comparisonsFrom conditionFrom joined ruleAfter constraintAfter after lineFrom judgeLine isComment tokensAnswer lineAnswer advance readLine readBehind inText readText readSite readTexts toLeft atEquals assignmentOf item_of items_of itemInRange givenBy addItem judgeEpoch readEpoch trimStart keepByte trimEnd trim shownAt orLater firstFrom orSite firstShown part_at partIn proposedBy cancelledBy reasonFor onAction onEpoch onTexts explained explanations saidIn said_of
-explanations-hold = refl
+pub explanations_hold : map said_of explanations ≡ map (λ (x : Example). x.said) explanations
+unfolding all any has insert below reading_value missing_holds values_relate eq_z relation_holds operand_value comparison_holds heads_of comparisons_of ending_of is_reading_value test_number operand_in_range comparison_in_range ending_in_range in_range crowded repeats repeated try_next kept_below greedy literal_holds rule_holds propose proposals constraint_holds conflict resolve accepted cancelled bytes bytes_equal is decimal_from is_empty number_of positive negative hex_value decimal_of pattern_of hexadecimal_of constant_of prepend pieces lines_of non_empty tokens_of take_leading named literal_of action_of reading_of relation_of or_else operand_of both comparison_of comparisons_from condition_from joined rule_after constraint_after after line_from judge_line is_comment tokens_answer line_answer advance read_line read_text_behind in_text read_text read_site read_texts to_left at_equals assignment_of item_of items_of item_in_range given_by add_item judge_epoch read_epoch trim_start keep_byte trim_end trim shown_at or_later first_from or_site first_shown part_at part_in proposed_by cancelled_by reason_for on_action on_epoch on_both_texts explained explanations said_in said_of
+explanations_hold = refl

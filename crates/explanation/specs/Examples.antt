@@ -1,9 +1,9 @@
 -- Document 02, L6: what is said of an action, one row each: two texts, an epoch line and the action's number.
 use Rattle.std.specs.Prelude.{ℕ, List, [], ◌∷◌}
 use Prim.Native.String.{String}
-use Rattle.policy.specs.Fault.{faultNumber, sourceNumber}
+use Rattle.policy.specs.Fault.{fault_number, source_number}
 use Rattle.lexer.specs.Byte.{bytes}
-use Rattle.explanation.specs.Part.{shownPart}
+use Rattle.explanation.specs.Part.{shown_part}
 use Rattle.explanation.specs.Why.{explained}
 use Rattle.explanation.specs.declared.why.Explained.{Explained}
 use Rattle.explanation.specs.declared.why.Outcome.{Outcome}
@@ -30,8 +30,8 @@ accepted text part = because Outcome.Accepted text (bytes part)
 abbrev cancelled : ℕ → String → Said
 cancelled text part = because Outcome.Cancelled text (bytes part)
 
-abbrev notProposed : Said
-notProposed = because Outcome.NotProposed 0 []
+abbrev not_proposed : Said
+not_proposed = because Outcome.NotProposed 0 []
 
 -- document 01's worked text, its second line from the site
 abbrev worked : String
@@ -44,10 +44,10 @@ unfoldable pub explanations : List Example
 explanations =
     row worked "E3 causes A4\n" "E1 E3 R0=41" 3 (accepted 1 "E1 & !E2 causes A3 if R0 > 40")
     ∷ row worked "E3 causes A4\n" "E1 E3 R0=41" 4 (cancelled 1 "never A3 & A4")
-    ∷ row worked "E3 causes A4\n" "E1 E3 R0=41" 5 notProposed
-    ∷ row worked "E3 causes A4\n" "E1 E3 R0=40" 3 notProposed
+    ∷ row worked "E3 causes A4\n" "E1 E3 R0=41" 5 not_proposed
+    ∷ row worked "E3 causes A4\n" "E1 E3 R0=40" 3 not_proposed
     ∷ row worked "E3 causes A4\n" "E1 E3 R0=40" 4 (accepted 2 "E3 causes A4")
-    ∷ row "" "" "E1" 63 notProposed
+    ∷ row "" "" "E1" 63 not_proposed
     -- spaces at both ends go, those inside stay; the last line lacks its end
     ∷ row "\n# maker\n   E1  causes A1  \nE1 causes A2 " "  never A1  &  A2  " "E1" 1 (accepted 1 "E1  causes A1")
     ∷ row "\n# maker\n   E1  causes A1  \nE1 causes A2 " "  never A1  &  A2  " "E1" 2 (cancelled 2 "never A1  &  A2")
@@ -72,9 +72,9 @@ explanations =
 
 -- ---- what the definitions say of a row
 
-unfoldable pub saidIn : List ℕ → List ℕ → Explained → Said
-saidIn maker site (Explained.Refused r) = refused (faultNumber r.fault) (sourceNumber r.source) r.location
-saidIn maker site (Explained.Because why) = because why.outcome (sourceNumber why.shown.source) (shownPart maker site why.shown)
+unfoldable pub said_in : List ℕ → List ℕ → Explained → Said
+said_in maker site (Explained.Refused r) = refused (fault_number r.fault) (source_number r.source) r.location
+said_in maker site (Explained.Because why) = because why.outcome (source_number why.shown.source) (shown_part maker site why.shown)
 
 unfoldable pub said_of : Example → Said
-said_of x = saidIn (bytes x.maker) (bytes x.site) (explained (bytes x.maker) (bytes x.site) (bytes x.line) x.action)
+said_of x = said_in (bytes x.maker) (bytes x.site) (explained (bytes x.maker) (bytes x.site) (bytes x.line) x.action)

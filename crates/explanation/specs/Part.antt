@@ -4,36 +4,36 @@ use Rattle.std.specs.Prelude.{ℕ, ◌+◌, ◌-◌, Bool, cond, List, [], ◌�
 use Rattle.std.proofs.Math.Option.{Option, none, some}
 use Rattle.policy.specs.Line.{PolicyLine}
 use Rattle.policy.specs.declared.fault.Source.{Source}
-use Rattle.lexer.specs.Byte.{isSpace}
-use Rattle.lexer.specs.Lines.{lines_of, takeWhile}
-use Rattle.syntax.specs.Judge.{LineAnswer, skipped, refused, accepted, lineAnswer}
+use Rattle.lexer.specs.Byte.{is_space}
+use Rattle.lexer.specs.Lines.{lines_of, take_leading}
+use Rattle.syntax.specs.Judge.{LineAnswer, skipped, refused, accepted, line_answer}
 use Rattle.explanation.specs.declared.part.Shown.{Shown}
 
 -- ---- trimmed of spaces
 
 -- at the start
-unfoldable pub trimStart : List ℕ → List ℕ
-trimStart s = drop (length (takeWhile isSpace s)) s
+unfoldable pub trim_start : List ℕ → List ℕ
+trim_start s = drop (length (take_leading is_space s)) s
 
 -- a byte before what is left: a space counts only where something is
-unfoldable pub keepByte : ℕ → List ℕ → List ℕ
-keepByte b [] = cond (isSpace b) [] (b ∷ [])
-keepByte b (c ∷ s) = b ∷ c ∷ s
+unfoldable pub keep_byte : ℕ → List ℕ → List ℕ
+keep_byte b [] = cond (is_space b) [] (b ∷ [])
+keep_byte b (c ∷ s) = b ∷ c ∷ s
 
 -- at the end
-unfoldable pub trimEnd : List ℕ → List ℕ
-trimEnd [] = []
-trimEnd (b ∷ s) = keepByte b (trimEnd s)
+unfoldable pub trim_end : List ℕ → List ℕ
+trim_end [] = []
+trim_end (b ∷ s) = keep_byte b (trim_end s)
 
 -- at both
 unfoldable pub trim : List ℕ → List ℕ
-trim s = trimEnd (trimStart s)
+trim s = trim_end (trim_start s)
 
 -- ---- where a line stands
 
 -- what is shown of the line that starts at a position of a text
-unfoldable pub shownAt : Source → ℕ → List ℕ → Shown
-shownAt source at line = record { source = source; start = at + length (takeWhile isSpace line); length = length (trim line) }
+unfoldable pub shown_at : Source → ℕ → List ℕ → Shown
+shown_at source at line = record { source = source; start = at + length (take_leading is_space line); length = length (trim line) }
 
 -- nothing is shown
 abbrev pub nothing : Shown
@@ -43,24 +43,24 @@ nothing = record { source = Source.Neither; start = 0; length = 0 }
 
 module _ (test : PolicyLine → Bool) (source : Source) where
   -- a line that starts at a position, and what is shown of those behind it; from a line that is refused on, nothing is
-  unfoldable pub orLater : LineAnswer → ℕ → List ℕ → Option Shown → Option Shown
-  orLater skipped at line later = later
-  orLater (refused f) at line later = none
-  orLater (accepted l) at line later = cond (test l) (some (shownAt source at line)) later
+  unfoldable pub or_later : LineAnswer → ℕ → List ℕ → Option Shown → Option Shown
+  or_later skipped at line later = later
+  or_later (refused f) at line later = none
+  or_later (accepted l) at line later = cond (test l) (some (shown_at source at line)) later
 
   -- of lines, the first of which starts at a position
-  unfoldable pub firstFrom : ℕ → List (List ℕ) → Option Shown
-  firstFrom at [] = none
-  firstFrom at (line ∷ lines) = orLater (lineAnswer line) at line (firstFrom (at + length line + 1) lines)
+  unfoldable pub first_from : ℕ → List (List ℕ) → Option Shown
+  first_from at [] = none
+  first_from at (line ∷ lines) = or_later (line_answer line) at line (first_from (at + length line + 1) lines)
 
 -- in the joint order: the maker's lines before the site's
-unfoldable pub orSite : Option Shown → Option Shown → Shown
-orSite (some shown) site = shown
-orSite none (some shown) = shown
-orSite none none = nothing
+unfoldable pub or_site : Option Shown → Option Shown → Shown
+or_site (some shown) site = shown
+or_site none (some shown) = shown
+or_site none none = nothing
 
-unfoldable pub firstShown : (PolicyLine → Bool) → List ℕ → List ℕ → Shown
-firstShown test maker site = orSite (firstFrom test Source.Maker 0 (lines_of maker)) (firstFrom test Source.Site 0 (lines_of site))
+unfoldable pub first_shown : (PolicyLine → Bool) → List ℕ → List ℕ → Shown
+first_shown test maker site = or_site (first_from test Source.Maker 0 (lines_of maker)) (first_from test Source.Site 0 (lines_of site))
 
 -- ---- the bytes that are shown
 
@@ -68,10 +68,10 @@ firstShown test maker site = orSite (firstFrom test Source.Maker 0 (lines_of mak
 unfoldable pub part_at : List ℕ → ℕ → ℕ → List ℕ
 part_at text start count = cond (ltb (length text) start) [] (cond (ltb (length text - start) count) [] (take count (drop start text)))
 
-unfoldable pub partIn : List ℕ → List ℕ → Source → ℕ → ℕ → List ℕ
-partIn maker site Source.Neither start count = []
-partIn maker site Source.Maker start count = part_at maker start count
-partIn maker site Source.Site start count = part_at site start count
+unfoldable pub part_in : List ℕ → List ℕ → Source → ℕ → ℕ → List ℕ
+part_in maker site Source.Neither start count = []
+part_in maker site Source.Maker start count = part_at maker start count
+part_in maker site Source.Site start count = part_at site start count
 
-abbrev pub shownPart : List ℕ → List ℕ → Shown → List ℕ
-shownPart maker site s = partIn maker site s.source s.start s.length
+abbrev pub shown_part : List ℕ → List ℕ → Shown → List ℕ
+shown_part maker site s = part_in maker site s.source s.start s.length

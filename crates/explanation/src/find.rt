@@ -1,9 +1,9 @@
 // The first line of a text that tells why. A line is judged by running its words, as the engine runs those of an image.
 ghost use Rattle.std.specs.Prelude.{◌≡◌, ◌+◌, ◌-◌, ◌≤◌, length, take, drop};
-ghost use Rattle.lexer.specs.Lines.{lines_of, restOfLine};
-ghost use Rattle.layout.specs.Steps.Value.{valueWords};
-ghost use Rattle.explanation.specs.Part.{trimEnd, shownAt, firstFrom};
-ghost use Rattle.explanation.specs.Steps.Sought.{Writable, tells, soughtBy, searchOf};
+ghost use Rattle.lexer.specs.Lines.{lines_of, rest_of_line};
+ghost use Rattle.layout.specs.Steps.Value.{value_words};
+ghost use Rattle.explanation.specs.Part.{trim_end, shown_at, first_from};
+ghost use Rattle.explanation.specs.Steps.Sought.{Writable, tells, sought_by, search_of};
 
 use crate::part::Shown;
 use layout::put_line;
@@ -14,7 +14,7 @@ use run::{run_constraints, run_rules};
 use syntax::{LineStatus, read_line};
 
 // Which lines are sought: rules that propose the action on these events, or constraints that hold on the set.
-#[derive(Drop)]
+#[derive(Clone, Copy)]
 pub struct Sought {
     pub part: Part,
     pub action: Action,
@@ -28,8 +28,8 @@ const LINE_SIZE: usize = 68;
 
 // Whether a line is sought.
 fn told(line: Line, sought: Sought, values: &[i32]) -> bool
-    requires { Writable (valueWords line) }
-    ensures { result ≡ tells sought.part line.ending sought values.now (valueWords line) }
+    requires { Writable (value_words line) }
+    ensures { result ≡ tells sought.part line.ending sought values.now (value_words line) }
 {
     let mut words = [0u8; LINE_SIZE];
     let count = put_line(&mut words, 0, line);
@@ -58,7 +58,7 @@ fn told(line: Line, sought: Sought, values: &[i32]) -> bool
 fn trimmed_end(text: &[u8], start: usize, end: usize) -> usize
     requires ordered { start ≤ end }
     requires inside { end ≤ length text.now }
-    ensures { result ≡ start + length (trimEnd (take (end - start) (drop start text.now))) }
+    ensures { result ≡ start + length (trim_end (take (end - start) (drop start text.now))) }
 {
     let mut i = end;
     while start < i {
@@ -73,7 +73,7 @@ fn trimmed_end(text: &[u8], start: usize, end: usize) -> usize
 // What is shown of the line that starts at a position.
 fn shown_at(text: &[u8], source: Source, at: usize) -> Shown
     requires { at ≤ length text.now }
-    ensures { result ≡ shownAt source at (restOfLine text.now at) }
+    ensures { result ≡ shown_at source at (rest_of_line text.now at) }
 {
     let start = skip_spaces(text, at);
     let end = trimmed_end(text, start, line_end(text, start));
@@ -84,7 +84,7 @@ fn shown_at(text: &[u8], source: Source, at: usize) -> Shown
     }
 }
 
-#[derive(Drop)]
+#[derive(Clone, Copy)]
 pub enum Search {
     Found(Shown),
     Absent,
@@ -92,7 +92,7 @@ pub enum Search {
 
 // The first line that is sought. A text that is refused at a line has none from there on.
 pub(crate) fn find(text: &[u8], source: Source, sought: Sought, values: &[i32]) -> Search
-    ensures { result ≡ searchOf (firstFrom (soughtBy sought values.now) source 0 (lines_of text.now)) }
+    ensures { result ≡ search_of (first_from (sought_by sought values.now) source 0 (lines_of text.now)) }
 {
     let mut at = 0;
     while at < text.len() {

@@ -1,11 +1,11 @@
 // The part of a text that is shown.
 ghost use Rattle.std.specs.Prelude.{◌≡◌};
-ghost use Rattle.explanation.specs.Part.{part_at, shownPart};
+ghost use Rattle.explanation.specs.Part.{part_at, shown_part};
 
 use policy::Source;
 
 // Where the part that is shown stands: in which text, from which byte on, and how many bytes it has.
-#[derive(Drop)]
+#[derive(Clone, Copy)]
 pub struct Shown {
     pub source: Source,
     pub start: usize,
@@ -27,7 +27,7 @@ fn part_at<'a>(text: &'a [u8], start: usize, count: usize) -> &'a [u8]
 
 // The bytes that are shown: a part of the text that they stand in.
 pub fn part_of<'t>(maker: &'t [u8], site: &'t [u8], shown: Shown) -> &'t [u8]
-    ensures { result.now ≡ shownPart maker.now site.now shown }
+    ensures { result.now ≡ shown_part maker.now site.now shown }
 {
     let source = shown.source;
     match source {

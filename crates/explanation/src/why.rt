@@ -1,9 +1,9 @@
 // What became of an action, and the line that says why.
 ghost use Rattle.std.specs.Prelude.{◌≡◌, length};
-ghost use Rattle.explanation.specs.Part.{nothing, firstShown};
-ghost use Rattle.explanation.specs.Why.{reasonFor, explained, partShown};
-ghost use Rattle.explanation.specs.Steps.On.{epochOf, explainedOn};
-ghost use Rattle.explanation.specs.Steps.Sought.{soughtBy};
+ghost use Rattle.explanation.specs.Part.{nothing, first_shown};
+ghost use Rattle.explanation.specs.Why.{reason_for, explained, part_shown};
+ghost use Rattle.explanation.specs.Steps.On.{epoch_of, explained_on};
+ghost use Rattle.explanation.specs.Steps.Sought.{sought_by};
 
 use crate::find::{Search, Sought, find};
 use crate::part::{Shown, part_of};
@@ -13,7 +13,7 @@ use image::IMAGE_SIZE;
 use monitor::{Decision, decide};
 use policy::{Action, ActionCheck, ActionSet, Fault, Mode, Part, Refusal, Source};
 
-#[derive(Drop)]
+#[derive(Clone, Copy)]
 pub enum Outcome {
     NotProposed,
     Accepted,
@@ -21,13 +21,13 @@ pub enum Outcome {
 }
 
 // What became of an action, and what is shown for it.
-#[derive(Drop)]
+#[derive(Clone, Copy)]
 pub struct Reason {
     pub outcome: Outcome,
     pub shown: Shown,
 }
 
-#[derive(Drop)]
+#[derive(Clone, Copy)]
 pub enum Explained {
     Refused(Refusal),
     Because(Reason),
@@ -45,7 +45,7 @@ fn no_part() -> Shown
 
 // The first line of both texts that is sought, the maker's lines before the site's.
 fn first_shown(maker: &[u8], site: &[u8], sought: Sought, values: &[i32]) -> Shown
-    ensures { result ≡ firstShown (soughtBy sought values.now) maker.now site.now }
+    ensures { result ≡ first_shown (sought_by sought values.now) maker.now site.now }
 {
     let first = find(maker, Source::Maker, sought, values);
     match first {
@@ -69,7 +69,7 @@ fn reason_for(
     line: &[u8],
     action: Action,
 ) -> Reason
-    ensures { result ≡ reasonFor maker.now site.now accepted cancelled (epochOf line.now) action }
+    ensures { result ≡ reason_for maker.now site.now accepted cancelled (epoch_of line.now) action }
 {
     let epoch = read_epoch(line);
     let events = epoch.events;
@@ -110,7 +110,7 @@ fn reason_for(
 // The explanation of an action by the texts, from what is decided on an image. Where the image is that of the texts, it is that of
 // `explain`, which compiles them each time.
 pub fn explain_on(image: &[u8], maker: &[u8], site: &[u8], line: &[u8], number: u32) -> Explained
-    ensures { result ≡ explainedOn maker.now site.now line.now number image.now }
+    ensures { result ≡ explained_on maker.now site.now line.now number image.now }
 {
     let decision = decide(image, line, Mode::Actions);
     match decision {
@@ -150,7 +150,7 @@ pub fn explain(maker: &[u8], site: &[u8], line: &[u8], number: u32) -> Explained
 // The bytes that are shown, out of the text that they stand in: none where nothing is shown. They live as long as the texts, whatever
 // becomes of the line.
 pub fn explanation<'t, 'e>(maker: &'t [u8], site: &'t [u8], line: &'e [u8], number: u32) -> &'t [u8]
-    ensures { result.now ≡ partShown maker.now site.now (explained maker.now site.now line.now number) }
+    ensures { result.now ≡ part_shown maker.now site.now (explained maker.now site.now line.now number) }
 {
     let answer = explain(maker, site, line, number);
     match answer {

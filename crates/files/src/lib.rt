@@ -1,76 +1,62 @@
-// The rule texts that a program reads, whole, from its standard input or from the files that its arguments name.
-ghost use Rattle.io.specs.Counts.{IsPrefixLen};
+// The files that a program's arguments name, and what is said of a failure.
+#![tactic(auto)]
 
-use libc::PATH_MAX;
-use stream::Input;
+use std::fs::File;
+use std::io;
+use std::io::Read;
 
-// Bytes of a text that are kept: one over its limit, which tells that it is too long.
-pub const TEXT_SIZE: usize = 32769;
+/// A file that is opened when it is first read: what is read before it is read to its end before it is opened. It is closed at its end:
+/// a program without a standard input would otherwise read the file in its place.
+#[derive(Drop)]
+pub struct Named<'n> {
+    rt: HostRuntime,
+    name: &'n str,
+    file: Option<File>,
+    ended: bool,
+}
 
-// Reads to the end of what the descriptor is open on, so that whoever writes it is not cut off. A text over its length is one byte
-// over it here, however long it is.
-pub fn read_all(fd: i32, text: &mut [u8; TEXT_SIZE]) -> Input
-    ensures { IsPrefixLen result.size text.new }
-{
-    let mut chunk = io::large_buffer();
-    let mut size = 0;
-    let mut turns = u64::MAX;
-    while 0 < turns {
-        let input = stream::read_from(fd, &mut chunk);
-        let n = input.size;
-        if n == 0 {
-            return Input {
-                size,
-                failed: input.failed,
-            };
+impl<'n> Named<'n> {
+    pub fn new(rt: HostRuntime, name: &'n str) -> Named<'n> {
+        Named {
+            rt,
+            name,
+            file: None,
+            ended: false,
         }
-        size = output::put_bytes(text, size, &chunk[..n]);
-        turns -= 1;
     }
-    Input { size, failed: true }
 }
 
-// The longest message before the system's words: a program's name, a colon, a space and a path.
-const MESSAGE_SIZE: usize = 4128;
-
-// Says on standard error which file of a program failed, and how.
-fn say_failed(program: &[u8], name: &[u8]) {
-    let mut message = [0u8; MESSAGE_SIZE];
-    let colon = output::put_bytes(&mut message, 0, program);
-    let start = output::put_bytes(&mut message, colon, b": ");
-    let end = output::put_bytes(&mut message, start, name);
-    os::fail(&message[..end]);
-}
-
-// The name that an argument is. One that is too long is cut, and no file has it.
-fn name_of(index: usize, name: &mut [u8]) -> usize
-    ensures { IsPrefixLen result name.new }
-{
-    let got = os::arg(index, name);
-    if os::errno() == 0 {
-        return got;
-    }
-    name.len()
-}
-
-// Reads the file that an argument of the program names. Where it can't be opened or read, that is said on standard error.
-pub fn read_argument(program: &[u8], index: usize, text: &mut [u8; TEXT_SIZE]) -> Input
-    ensures { IsPrefixLen result.size text.new }
-{
-    let mut name = [0u8; PATH_MAX];
-    let size = name_of(index, &mut name);
-    let fd = os::open_read(&name[..size]);
-    if fd < 0 {
-        say_failed(program, &name[..size]);
-        return Input {
-            size: 0,
-            failed: true,
+impl<'n> Read for Named<'n> {
+    fn read(&mut self, buffer: &mut [u8]) -> io::Result<usize> {
+        let mut file = match self.file.take() {
+            Some(file) => file,
+            None if self.ended => return Ok(0),
+            None => File::open(&self.rt, self.name)?,
         };
+        let got = file.read(buffer);
+        match got {
+            Ok(0) if 0 < buffer.len() => self.ended = true,
+            _ => self.file = Some(file),
+        }
+        got
     }
-    let input = read_all(fd, text);
-    if input.failed {
-        say_failed(program, &name[..size]);
+}
+
+/// The system's words for an error, without its number.
+fn words_of(text: &str) -> &str {
+    match text.split_once(" (os error ") {
+        Some((words, _)) => words,
+        None => text,
     }
-    libc::close(fd);
-    input
+}
+
+/// Says on standard error what of a program failed, and how.
+pub fn say(rt: HostRuntime, program: &str, what: &str, error: &io::Error) {
+    let _ = match error.to_string(rt.alloc()) {
+        Ok(text) => {
+            let words = words_of(text.as_str());
+            eprintln!(rt; "{program}: {what}: {words}")
+        }
+        Err(_) => eprintln!(rt; "{program}: {what}: {error}"),
+    };
 }

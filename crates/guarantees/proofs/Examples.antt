@@ -1,34 +1,33 @@
 -- Each row of the table of examples is as document 01 says.
-use mathlib.Core.List.{map}
-use mathlib.Core.Option.{or_else}
-use mathlib.Core.Path.{◌≡◌, refl}
+use Rattle.std.proofs.Common.{map, ◌≡◌, refl}
+use Rattle.std.proofs.Math.Option.{or_else}
 use Rattle.policy.specs.List.{all, any}
 use Rattle.policy.specs.Set.{has, insert, below}
-use Rattle.policy.specs.Epoch.{valueIn, readingValue}
-use Rattle.policy.specs.Comparison.{eqZ, relationHolds, operandValue, comparisonHolds, missingHolds, valuesRelate}
-use Rattle.policy.specs.Line.{headsOf, comparisonsOf, endingOf, constantCount}
-use Rattle.policy.specs.Limits.{isReadingValue, testNumber, operandInRange, comparisonInRange, endingInRange, in_range, crowded, repeats, repeated, valid}
-use Rattle.pdl.specs.Greedy.{tryNext, keptBelow, greedy}
-use Rattle.pdl.specs.Reduction.{clashes, keptEvents, issued, withheld, unavoidable}
-use Rattle.pdl.specs.Yield.{literalHolds, ruleHolds, propose, proposals, constraintHolds, conflict, resolve, accepted, cancelled}
-use Rattle.lexer.specs.Byte.{bytes, sameBytes, is, class_of, hexValue}
-use Rattle.lexer.specs.Number.{decimalFrom, is_empty, number_of, positive, negative, decimalOf, patternOf, hexadecimalOf, constant_of}
-use Rattle.lexer.specs.Lines.{prepend, pieces, lines_of, nonEmpty, tokensOf, takeWhile, skipWhile, restOfLine, lineEnd}
-use Rattle.lexer.specs.Token.{named, literalOf, actionOf, reading_of, relationOf, operandOf, both, comparisonOf}
-use Rattle.syntax.specs.Grammar.{comparisonsFrom, conditionFrom, joined, ruleAfter, constraintAfter, after, lineFrom}
-use Rattle.syntax.specs.Judge.{judgeLine, isComment, tokensAnswer, lineAnswer}
-use Rattle.rule_text.specs.Text.{advance, readLine, readBehind, inText, readText, policyRead, policyOf}
-use Rattle.epoch_line.specs.Epoch.{toLeft, atEquals, assignmentOf, item_of, items_of, itemInRange, givenBy, addItem, judgeEpoch, readEpoch}
-use Rattle.operation.specs.Operation.{operationFrom, relationFrom}
+use Rattle.policy.specs.Epoch.{reading_value}
+use Rattle.policy.specs.Comparison.{eq_z, relation_holds, operand_value, comparison_holds, missing_holds, values_relate}
+use Rattle.policy.specs.Line.{heads_of, comparisons_of, ending_of, constant_count}
+use Rattle.policy.specs.Limits.{is_reading_value, test_number, operand_in_range, comparison_in_range, ending_in_range, in_range, crowded, repeats, repeated, valid}
+use Rattle.pdl.specs.Greedy.{try_next, kept_below, greedy}
+use Rattle.pdl.specs.Reduction.{clashes, kept_events, issued, withheld, unavoidable}
+use Rattle.pdl.specs.Yield.{literal_holds, rule_holds, propose, proposals, constraint_holds, conflict, resolve, accepted, cancelled}
+use Rattle.lexer.specs.Byte.{bytes, bytes_equal, is, class_of, hex_value}
+use Rattle.lexer.specs.Number.{decimal_from, is_empty, number_of, positive, negative, decimal_of, pattern_of, hexadecimal_of, constant_of}
+use Rattle.lexer.specs.Lines.{prepend, pieces, lines_of, non_empty, tokens_of, take_leading, skip_while, rest_of_line, line_end}
+use Rattle.lexer.specs.Token.{named, literal_of, action_of, reading_of, relation_of, operand_of, both, comparison_of}
+use Rattle.syntax.specs.Grammar.{comparisons_from, condition_from, joined, rule_after, constraint_after, after, line_from}
+use Rattle.syntax.specs.Judge.{judge_line, is_comment, tokens_answer, line_answer}
+use Rattle.rule_text.specs.Text.{advance, read_line, read_text_behind, in_text, read_text, policy_read, policy_of}
+use Rattle.epoch_line.specs.Epoch.{to_left, at_equals, assignment_of, item_of, items_of, item_in_range, given_by, add_item, judge_epoch, read_epoch}
+use Rattle.operation.specs.Operation.{operation_from, relation_from}
 use Rattle.word.specs.Word.{words_of, bytes_of, between}
 use Rattle.operation.specs.Fields.{pack}
-use Rattle.layout.specs.Header.{packHeader}
-use Rattle.operation.specs.Parts.{testOperation, testWord, operand_word, constantWords, comparisonWord, comparisonWords, constantComparison, readingComparison, endingWord}
-use Rattle.layout.specs.Layout.{conditionWords, partWords, lineWords, linesWords, knownForm, checkCount, sum, checkWord, checkWords, headerWord, ruleWords, constraintWords, contentWords, imageWords, image_of}
-use Rattle.codegen.specs.Compile.{outputOf, compiled}
-use Rattle.guarantees.specs.Machine.{yieldIn, answer, stepIn, steps, stepsTold, machine_of, machineToldOf}
+use Rattle.layout.specs.Header.{pack_header}
+use Rattle.operation.specs.Parts.{test_operation, test_word, operand_word, constant_words, comparison_word, comparison_words, constant_comparison, reading_comparison, ending_word}
+use Rattle.layout.specs.Layout.{condition_words, part_words, line_words, lines_words, known_form, check_count, sum, check_word, check_words, header_word, rule_part_words, constraint_part_words, content_words, image_words, image_of}
+use Rattle.codegen.specs.Compile.{output_of, compiled}
+use Rattle.guarantees.specs.Machine.{yield_in, answer, step_in, steps, steps_told, machine_of, machine_told_of}
 use Rattle.guarantees.specs.Examples.{examples, computed}
 
-pub examples-hold : map computed examples ≡ examples
-unfolding all any has insert below valueIn readingValue missingHolds valuesRelate eqZ relationHolds operandValue comparisonHolds headsOf comparisonsOf endingOf constantCount isReadingValue testNumber operandInRange comparisonInRange endingInRange in_range crowded repeats repeated valid tryNext keptBelow greedy literalHolds ruleHolds propose proposals constraintHolds conflict resolve accepted cancelled bytes sameBytes is class_of decimalFrom is_empty number_of positive negative hexValue decimalOf patternOf hexadecimalOf constant_of prepend pieces lines_of nonEmpty tokensOf takeWhile skipWhile restOfLine lineEnd named literalOf actionOf reading_of relationOf or_else operandOf both comparisonOf comparisonsFrom conditionFrom joined ruleAfter constraintAfter after lineFrom judgeLine isComment tokensAnswer lineAnswer advance readLine readBehind inText readText policyRead policyOf toLeft atEquals assignmentOf item_of items_of itemInRange givenBy addItem judgeEpoch readEpoch operationFrom relationFrom words_of bytes_of between pack packHeader testOperation testWord operand_word constantWords comparisonWord comparisonWords constantComparison readingComparison endingWord conditionWords partWords lineWords linesWords knownForm checkCount sum checkWord checkWords headerWord ruleWords constraintWords contentWords imageWords image_of outputOf compiled answer stepIn steps stepsTold machine_of machineToldOf yieldIn clashes keptEvents issued withheld unavoidable examples computed
-examples-hold = refl
+pub examples_hold : map computed examples ≡ examples
+unfolding all any has insert below reading_value missing_holds values_relate eq_z relation_holds operand_value comparison_holds heads_of comparisons_of ending_of constant_count is_reading_value test_number operand_in_range comparison_in_range ending_in_range in_range crowded repeats repeated valid try_next kept_below greedy literal_holds rule_holds propose proposals constraint_holds conflict resolve accepted cancelled bytes bytes_equal is class_of decimal_from is_empty number_of positive negative hex_value decimal_of pattern_of hexadecimal_of constant_of prepend pieces lines_of non_empty tokens_of take_leading skip_while rest_of_line line_end named literal_of action_of reading_of relation_of or_else operand_of both comparison_of comparisons_from condition_from joined rule_after constraint_after after line_from judge_line is_comment tokens_answer line_answer advance read_line read_text_behind in_text read_text policy_read policy_of to_left at_equals assignment_of item_of items_of item_in_range given_by add_item judge_epoch read_epoch operation_from relation_from words_of bytes_of between pack pack_header test_operation test_word operand_word constant_words comparison_word comparison_words constant_comparison reading_comparison ending_word condition_words part_words line_words lines_words known_form check_count sum check_word check_words header_word rule_part_words constraint_part_words content_words image_words image_of output_of compiled answer step_in steps steps_told machine_of machine_told_of yield_in clashes kept_events issued withheld unavoidable examples computed
+examples_hold = refl

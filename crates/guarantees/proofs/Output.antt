@@ -1,49 +1,47 @@
 -- Demand 3 of the whole program: what the engine prints is what the reference machine says.
-use Prim.Native.Nat.{ℕ}
-use mathlib.Core.List.{List, [], ◌∷◌, ◌++◌}
-use mathlib.Core.Path.{◌≡◌, refl, ap, ap₂, ◌∙◌}
+use Rattle.std.proofs.Common.{ℕ, List, [], ◌∷◌, ◌++◌, ◌≡◌, refl, ap, ap₂, ◌∙◌}
 use Rattle.policy.specs.Limits.{Acceptable}
 use Rattle.policy.specs.Policy.{Policy}
 use Rattle.policy.specs.declared.mode.Mode.{Mode}
 use Rattle.lexer.specs.Lines.{lines_of}
 use Rattle.pdl.specs.Answer.{Answer}
-use Rattle.acceptance.proofs.Accepted.{accepted-acceptable}
-use Rattle.rule_text.specs.Text.{Progress, reading, stopped, readText}
+use Rattle.acceptance.proofs.Accepted.{accepted_acceptable}
+use Rattle.rule_text.specs.Text.{Progress, reading, stopped, read_text}
 use Rattle.layout.specs.Layout.{image_of}
-use Rattle.codegen.specs.Compile.{newestForm}
-use Rattle.monitor.specs.Decision.{decisionIn, answer_of, visitedIn}
+use Rattle.codegen.specs.Compile.{newest_form}
+use Rattle.monitor.specs.Decision.{decision_in, answer_of, visited_in}
 use Rattle.monitor.specs.declared.decision.Decision.{Decision}
-use Rattle.report.specs.Report.{refusedLine}
-use Rattle.session.specs.Printed.{Session, textOnly, withEpochs, splitAtRun, textPart, next, decisionLine, epochLines, answersTo, printedFor, printed}
-use Rattle.guarantees.specs.Output.{answerLine, answerLines, machineLines, machinePrints, fetched}
+use Rattle.report.specs.Report.{refused_line}
+use Rattle.session.specs.Printed.{Session, text_only, with_epochs, split_at_run, text_part, next, decision_line, epoch_lines, answers_to, printed_for, printed}
+use Rattle.guarantees.specs.Output.{answer_line, answer_lines, machine_lines, machine_prints, fetched}
 use Rattle.guarantees.proofs.Demand3.{same_answer}
 
-decision-line : (n : ℕ) (d : Decision) → decisionLine n d ≡ answerLine n (answer_of d) (visitedIn d)
-unfolding decisionLine answerLine refusedLine
-decision-line n (Decision.Refused r) = refl
-decision-line n (Decision.Issued actions) = refl
+decision_line_is : (n : ℕ) (d : Decision) → decision_line n d ≡ answer_line n (answer_of d) (visited_in d)
+unfolding decision_line answer_line refused_line
+decision_line_is n (Decision.Refused r) = refl
+decision_line_is n (Decision.Issued actions) = refl
 
-epoch-lines : (p : Policy) → Acceptable p → (mode : Mode) (n : ℕ) (lines : List (List ℕ)) → epochLines mode (image_of newestForm p) n lines ≡ answerLines fetched mode p n lines
-unfolding epochLines answerLines fetched
-epoch-lines p ok mode n [] = refl
-epoch-lines p ok mode n (line ∷ lines) =
+epoch_lines_is : (p : Policy) → Acceptable p → (mode : Mode) (n : ℕ) (lines : List (List ℕ)) → epoch_lines mode (image_of newest_form p) n lines ≡ answer_lines fetched mode p n lines
+unfolding epoch_lines answer_lines fetched
+epoch_lines_is p ok mode n [] = refl
+epoch_lines_is p ok mode n (line ∷ lines) =
     ap₂ (λ (x y : List ℕ). x ++ y)
-    (decision-line (next n) (decisionIn mode (image_of newestForm p) line) ∙ ap (λ (a : Answer). answerLine (next n) a (fetched mode p line)) (same_answer p ok mode line))
-    (epoch-lines p ok mode (next n) lines)
+    (decision_line_is (next n) (decision_in mode (image_of newest_form p) line) ∙ ap (λ (a : Answer). answer_line (next n) a (fetched mode p line)) (same_answer p ok mode line))
+    (epoch_lines_is p ok mode (next n) lines)
 
-text-lines : (text : List ℕ) (s : Session) → printedFor text s ≡ machineLines fetched (readText text) s
-unfolding printedFor answersTo machineLines
-text-lines text s = go (readText text) refl s
+text_lines : (text : List ℕ) (s : Session) → printed_for text s ≡ machine_lines fetched (read_text text) s
+unfolding printed_for answers_to machine_lines
+text_lines text s = go (read_text text) refl s
   where
-    go : (p : Progress) → readText text ≡ p → (x : Session) → answersTo p x ≡ machineLines fetched p x
+    go : (p : Progress) → read_text text ≡ p → (x : Session) → answers_to p x ≡ machine_lines fetched p x
     go (stopped r) e x = refl
-    go (reading n policy) e textOnly = refl
-    go (reading n policy) e (withEpochs lines mode epochs) = epoch-lines policy (accepted-acceptable text n policy e) mode 0 epochs
+    go (reading n policy) e text_only = refl
+    go (reading n policy) e (with_epochs lines mode epochs) = epoch_lines_is policy (accepted_acceptable text n policy e) mode 0 epochs
 
 -- for every input, in the mode that it picks, refused texts and refused lines included; the numbers of words are those of the decisions
 -- on the text's image
-pub output-agrees : (input : List ℕ) → printed input ≡ machinePrints fetched input
-unfolding printed machinePrints
-output-agrees input =
-    let s : Session = splitAtRun (lines_of input) in
-    text-lines (textPart input s) s
+pub output_agrees : (input : List ℕ) → printed input ≡ machine_prints fetched input
+unfolding printed machine_prints
+output_agrees input =
+    let s : Session = split_at_run (lines_of input) in
+    text_lines (text_part input s) s

@@ -1,160 +1,154 @@
 -- Document 02, L7: what holds of every decision in the second mode. It is what the image's policy yields, the kept events are a maximal
 -- reduction free of conflict, and it is refused for a conflict exactly where there is none.
-use Prim.Native.Nat.{ℕ}
-use mathlib.Core.Bool.{Bool, true, false, cond}
-use mathlib.Core.List.{List}
-use mathlib.Core.Logic.{◌↔◌, ⊎_elim}
-use mathlib.Core.Path.{◌≡◌, refl, sym, ap, ◌∙◌, subst}
-use native.Mathlib.Omega.{arith}
-use lib.ListN.{length}
+use Rattle.std.proofs.Common.{ℕ, Bool, true, false, cond, List, ◌↔◌, ⊎_elim, ◌≡◌, refl, sym, ap, ◌∙◌, subst, arith, length}
 use Rattle.policy.specs.Epoch.{Epoch}
 use Rattle.policy.specs.Fault.{refusal}
 use Rattle.policy.specs.Limits.{Acceptable}
 use Rattle.policy.specs.Policy.{Policy}
-use Rattle.policy.specs.Set.{actionsWithout}
+use Rattle.policy.specs.Set.{actions_without}
 use Rattle.policy.specs.declared.fault.Fault.{Fault}
 use Rattle.policy.specs.declared.fault.Refusal.{Refusal}
 use Rattle.policy.specs.declared.mode.Mode.{Mode}
-use Rattle.pdl.proofs.Reduction.{unavoidable-exactly, reducible-avoids, kept-maximal, issued-within, issued-satisfies, issued-with-withheld, withheld-apart, giving-back-clashes, dropped-trial, all-kept, nothing-withheld}
+use Rattle.pdl.proofs.Reduction.{unavoidable_exactly, reducible_avoids, kept_maximal, issued_within, issued_satisfies, issued_with_withheld, withheld_apart, giving_back_clashes, dropped_trial, all_kept, nothing_withheld}
 use Rattle.pdl.specs.Answer.{refuses, issues}
 use Rattle.pdl.specs.Pdl.{Reducible}
-use Rattle.pdl.specs.Reduction.{proposedWith, keptEvents, issued, withheld, unavoidable}
+use Rattle.pdl.specs.Reduction.{proposed_with, kept_events, issued, withheld, unavoidable}
 use Rattle.pdl.specs.Yield.{proposed}
-use Rattle.acceptance.proofs.Alphabet.{line-inside}
-use Rattle.epoch_line.specs.Epoch.{accepted, readEpoch}
+use Rattle.acceptance.proofs.Alphabet.{line_inside}
+use Rattle.epoch_line.specs.Epoch.{accepted, read_epoch}
 use Rattle.word.specs.Word.{Bytes, words_of}
-use Rattle.image.specs.Held.{policyIn}
+use Rattle.image.specs.Held.{policy_in}
 use Rattle.image.specs.Load.{load}
 use Rattle.image.specs.declared.load.Contents.{Contents}
 use Rattle.image.specs.declared.load.Loaded.{Loaded}
-use Rattle.layout.specs.Layout.{knownForm, image_of}
-use Rattle.exactness.proofs.Exact.{image-taken, image_holds}
-use Rattle.exactness.specs.Exact.{contentsOf}
-use Rattle.meaning.proofs.Decided.{reductionOf, events-decided-are, image_bounded}
-use Rattle.monitor.specs.Decision.{actionsOf, triedEventWords, rulesIn, constraintsIn, decidedBy, decisionIn, answer_of}
+use Rattle.layout.specs.Layout.{known_form, image_of}
+use Rattle.exactness.proofs.Exact.{image_taken, image_holds}
+use Rattle.exactness.specs.Exact.{contents_of}
+use Rattle.meaning.proofs.Decided.{reduction_of, events_decided_are, image_bounded}
+use Rattle.monitor.specs.Decision.{actions_of, tried_event_words, rules_in, constraints_in, decided_by, decision_in, answer_of}
 use Rattle.monitor.specs.declared.decision.Decision.{Decision}
-use Rattle.guarantees.proofs.Decisions.{refused-for, refused-cases, decision-faults}
-use Rattle.guarantees.specs.Machine.{yieldIn}
-use Rattle.guarantees.specs.Decisions.{RefusedIn, asFirst, forConflict, OfDecisionIn, ofEither, ofConflict, ObeysEvents}
+use Rattle.guarantees.proofs.Decisions.{refused_for, refused_cases, decision_faults}
+use Rattle.guarantees.specs.Machine.{yield_in}
+use Rattle.guarantees.specs.Decisions.{RefusedIn, as_first, for_conflict, OfDecisionIn, of_either, of_conflict, ObeysEvents}
 
 -- ---- what a policy decides in this mode
 
 module _ (p : Policy) (e : Epoch) (words : ℕ) where
-  answer-is : answer_of (reductionOf p e words) ≡ yieldIn Mode.Events p e
-  unfolding yieldIn withheld
-  answer-is = go (unavoidable p e)
+  answer_is : answer_of (reduction_of p e words) ≡ yield_in Mode.Events p e
+  unfolding yield_in withheld
+  answer_is = go (unavoidable p e)
     where
       go : (b : Bool)
-          → answer_of (cond b (Decision.Refused (refusal Fault.Unavoidable 0)) (Decision.Issued (actionsOf (proposed p.rules e) (issued p e) words)))
-          ≡ cond b (refuses (refusal Fault.Unavoidable 0)) (issues (issued p e) (actionsWithout (proposed p.rules e) (issued p e)))
+          → answer_of (cond b (Decision.Refused (refusal Fault.Unavoidable 0)) (Decision.Issued (actions_of (proposed p.rules e) (issued p e) words)))
+          ≡ cond b (refuses (refusal Fault.Unavoidable 0)) (issues (issued p e) (actions_without (proposed p.rules e) (issued p e)))
       go true = refl
       go false = refl
 
-  refuses-out : (r : Refusal) → reductionOf p e words ≡ Decision.Refused r → (unavoidable p e ≡ true) × (r ≡ refusal Fault.Unavoidable 0)
-  refuses-out r = go (unavoidable p e)
+  refuses_out : (r : Refusal) → reduction_of p e words ≡ Decision.Refused r → (unavoidable p e ≡ true) × (r ≡ refusal Fault.Unavoidable 0)
+  refuses_out r = go (unavoidable p e)
     where
-      go : (b : Bool) → cond b (Decision.Refused (refusal Fault.Unavoidable 0)) (Decision.Issued (actionsOf (proposed p.rules e) (issued p e) words)) ≡ Decision.Refused r
+      go : (b : Bool) → cond b (Decision.Refused (refusal Fault.Unavoidable 0)) (Decision.Issued (actions_of (proposed p.rules e) (issued p e) words)) ≡ Decision.Refused r
           → (b ≡ true) × (r ≡ refusal Fault.Unavoidable 0)
       go true h = let w : r ≡ refusal Fault.Unavoidable 0 = cc in (refl, w)
       go false h = let z : ◌≡◌ {A = ℕ} 0 1 = cc in absurd (omega arith)
 
-  refuses-in : unavoidable p e ≡ true → reductionOf p e words ≡ Decision.Refused (refusal Fault.Unavoidable 0)
-  refuses-in h = rw h
+  refuses_in_is : unavoidable p e ≡ true → reduction_of p e words ≡ Decision.Refused (refusal Fault.Unavoidable 0)
+  refuses_in_is h = rw h
 
-  issued-is : unavoidable p e ≡ false → yieldIn Mode.Events p e ≡ issues (issued p e) (withheld p e)
-  unfolding yieldIn
-  issued-is h = rw h
+  issued_is : unavoidable p e ≡ false → yield_in Mode.Events p e ≡ issues (issued p e) (withheld p e)
+  unfolding yield_in
+  issued_is h = rw h
 
 -- ---- an image that is taken
 
 module _ (image : List ℕ) (bounded : Bytes image) (contents : Contents) (taken : load image ≡ Loaded.Image contents) where
   abbrev P : Policy
-  P = policyIn image
+  P = policy_in image
 
-  module _ (line : List ℕ) (e : Epoch) (read : readEpoch line ≡ accepted e) where
+  module _ (line : List ℕ) (e : Epoch) (read : read_epoch line ≡ accepted e) where
     abbrev words : ℕ
-    words = triedEventWords (rulesIn contents (words_of image)) (constraintsIn contents (words_of image)) e
+    words = tried_event_words (rules_in contents (words_of image)) (constraints_in contents (words_of image)) e
 
-    decided : decisionIn Mode.Events image line ≡ reductionOf P e words
-    decided = events-decided-are image bounded contents taken line e read
+    decided : decision_in Mode.Events image line ≡ reduction_of P e words
+    decided = events_decided_are image bounded contents taken line e read
 
     -- the decision is what the policy that the image holds yields
-    pub reduces-policy : answer_of (decisionIn Mode.Events image line) ≡ yieldIn Mode.Events P e
-    reduces-policy = ap answer_of decided ∙ answer-is P e words
+    pub reduces_policy : answer_of (decision_in Mode.Events image line) ≡ yield_in Mode.Events P e
+    reduces_policy = ap answer_of decided ∙ answer_is P e words
 
     -- it is refused for a conflict exactly if no reduction of the epoch is free of conflict
-    pub conflict-exactly : (decisionIn Mode.Events image line ≡ Decision.Refused (refusal Fault.Unavoidable 0)) ↔ ¬ Reducible P.constraints (proposedWith P.rules) e
-    conflict-exactly = (
-      (λ h. (unavoidable-exactly P e).0 (refuses-out P e words (refusal Fault.Unavoidable 0) (sym decided ∙ h)).0),
-      λ h. decided ∙ refuses-in P e words ((unavoidable-exactly P e).1 h),
+    pub conflict_exactly : (decision_in Mode.Events image line ≡ Decision.Refused (refusal Fault.Unavoidable 0)) ↔ ¬ Reducible P.constraints (proposed_with P.rules) e
+    conflict_exactly = (
+      (λ h. (unavoidable_exactly P e).0 (refuses_out P e words (refusal Fault.Unavoidable 0) (sym decided ∙ h)).0),
+      λ h. decided ∙ refuses_in_is P e words ((unavoidable_exactly P e).1 h),
     )
 
     -- otherwise the kept events are a maximal such reduction, and what they propose is issued
-    pub obeys-events : Reducible P.constraints (proposedWith P.rules) e → ObeysEvents P e (keptEvents P e) (answer_of (decisionIn Mode.Events image line))
+    pub obeys_events : Reducible P.constraints (proposed_with P.rules) e → ObeysEvents P e (kept_events P e) (answer_of (decision_in Mode.Events image line))
     unfolding issued
-    obeys-events r =
-        let avoidable = reducible-avoids P e r in
-        let inside = line-inside line e read in
-        subst (ObeysEvents P e (keptEvents P e)) (sym (reduces-policy ∙ issued-is P e words avoidable)) (record {
+    obeys_events r =
+        let avoidable = reducible_avoids P e r in
+        let inside = line_inside line e read in
+        subst (ObeysEvents P e (kept_events P e)) (sym (reduces_policy ∙ issued_is P e words avoidable)) (record {
           issued = refl;
-          maximal = kept-maximal P e inside avoidable;
+          maximal = kept_maximal P e inside avoidable;
           accepts = refl;
-          within = issued-within P e;
-          satisfies = issued-satisfies P e avoidable;
-          rest = issued-with-withheld P e;
-          apart = withheld-apart P e;
-          giving-back = giving-back-clashes P e inside;
-          own-trial = dropped-trial P e inside;
-          conservative = λ clean. (all-kept P e inside clean, nothing-withheld P e inside clean);
+          within = issued_within P e;
+          satisfies = issued_satisfies P e avoidable;
+          rest = issued_with_withheld P e;
+          apart = withheld_apart P e;
+          giving_back = giving_back_clashes P e inside;
+          own_trial = dropped_trial P e inside;
+          conservative = λ clean. (all_kept P e inside clean, nothing_withheld P e inside clean);
         })
 
 -- ---- refusals in either mode
 
 -- a decision is refused exactly for what it is refused for in the first mode or, in the second, where no reduction is free of conflict
-pub refused-exactly-in : (mode : Mode) (image line : List ℕ) → Bytes image → (r : Refusal) → (decisionIn mode image line ≡ Decision.Refused r) ↔ RefusedIn mode image line r
-unfolding decidedBy
-refused-exactly-in mode image line bounded r = (λ h. ⊎_elim asFirst (λ x. epoch-case mode h x.0 x.1 x.2 x.3 x.4) (refused-cases mode image line r h), back)
+pub refused_exactly_in : (mode : Mode) (image line : List ℕ) → Bytes image → (r : Refusal) → (decision_in mode image line ≡ Decision.Refused r) ↔ RefusedIn mode image line r
+unfolding decided_by
+refused_exactly_in mode image line bounded r = (λ h. ⊎_elim as_first (λ x. epoch_case mode h x.0 x.1 x.2 x.3 x.4) (refused_cases mode image line r h), back)
   where
-    epoch-case : (m : Mode) → decisionIn m image line ≡ Decision.Refused r → (contents : Contents) → load image ≡ Loaded.Image contents → (e : Epoch) → readEpoch line ≡ accepted e
-        → decidedBy m contents (words_of image) e ≡ Decision.Refused r → RefusedIn m image line r
-    epoch-case Mode.Actions h contents t e q d = let z : ◌≡◌ {A = ℕ} 0 1 = cc in absurd (omega arith)
-    epoch-case Mode.Events h contents t e q d =
-        let w = refuses-out (policyIn image) e (words image bounded contents t line e q) r (sym (decided image bounded contents t line e q) ∙ h) in
-        forConflict refl contents t e q ((unavoidable-exactly (policyIn image) e).0 w.0) w.1
+    epoch_case : (m : Mode) → decision_in m image line ≡ Decision.Refused r → (contents : Contents) → load image ≡ Loaded.Image contents → (e : Epoch) → read_epoch line ≡ accepted e
+        → decided_by m contents (words_of image) e ≡ Decision.Refused r → RefusedIn m image line r
+    epoch_case Mode.Actions h contents t e q d = let z : ◌≡◌ {A = ℕ} 0 1 = cc in absurd (omega arith)
+    epoch_case Mode.Events h contents t e q d =
+        let w = refuses_out (policy_in image) e (words image bounded contents t line e q) r (sym (decided image bounded contents t line e q) ∙ h) in
+        for_conflict refl contents t e q ((unavoidable_exactly (policy_in image) e).0 w.0) w.1
 
-    back : RefusedIn mode image line r → decisionIn mode image line ≡ Decision.Refused r
-    back (asFirst f) = refused-for mode image line r f
-    back (forConflict m contents t e q none w) =
-        ap (λ (x : Mode). decisionIn x image line) m ∙ (conflict-exactly image bounded contents t line e q).1 none ∙ ap Decision.Refused (sym w)
+    back : RefusedIn mode image line r → decision_in mode image line ≡ Decision.Refused r
+    back (as_first f) = refused_for mode image line r f
+    back (for_conflict m contents t e q none w) =
+        ap (λ (x : Mode). decision_in x image line) m ∙ (conflict_exactly image bounded contents t line e q).1 none ∙ ap Decision.Refused (sym w)
 
 -- and under which faults, at which locations
-pub faults-in : (mode : Mode) (image line : List ℕ) → Bytes image → (r : Refusal) → decisionIn mode image line ≡ Decision.Refused r → OfDecisionIn (length (words_of image)) r
-faults-in mode image line bounded r h = go ((refused-exactly-in mode image line bounded r).0 h)
+pub faults_in : (mode : Mode) (image line : List ℕ) → Bytes image → (r : Refusal) → decision_in mode image line ≡ Decision.Refused r → OfDecisionIn (length (words_of image)) r
+faults_in mode image line bounded r h = go ((refused_exactly_in mode image line bounded r).0 h)
   where
     go : RefusedIn mode image line r → OfDecisionIn (length (words_of image)) r
-    go (asFirst f) = ofEither (decision-faults image line r (refused-for Mode.Actions image line r f))
-    go (forConflict m contents t e q none w) = ofConflict w
+    go (as_first f) = of_either (decision_faults image line r (refused_for Mode.Actions image line r f))
+    go (for_conflict m contents t e q none w) = of_conflict w
 
 -- ---- the image of a policy that an accepted text may have
 
-module _ (form : ℕ) (known : knownForm form ≡ true) (p : Policy) (ok : Acceptable p) (line : List ℕ) (e : Epoch) (read : readEpoch line ≡ accepted e) where
+module _ (form : ℕ) (known : known_form form ≡ true) (p : Policy) (ok : Acceptable p) (line : List ℕ) (e : Epoch) (read : read_epoch line ≡ accepted e) where
   abbrev image : List ℕ
   image = image_of form p
 
-  holds : policyIn image ≡ p
+  holds : policy_in image ≡ p
   holds = image_holds form known p ok
 
-  pub written-reduces : answer_of (decisionIn Mode.Events image line) ≡ yieldIn Mode.Events p e
-  written-reduces =
-      reduces-policy image (image_bounded form known p ok) (contentsOf form p) (image-taken form known p ok) line e read
-      ∙ ap (λ (x : Policy). yieldIn Mode.Events x e) holds
+  pub written_reduces : answer_of (decision_in Mode.Events image line) ≡ yield_in Mode.Events p e
+  written_reduces =
+      reduces_policy image (image_bounded form known p ok) (contents_of form p) (image_taken form known p ok) line e read
+      ∙ ap (λ (x : Policy). yield_in Mode.Events x e) holds
 
-  pub written-conflict : (decisionIn Mode.Events image line ≡ Decision.Refused (refusal Fault.Unavoidable 0)) ↔ ¬ Reducible p.constraints (proposedWith p.rules) e
-  written-conflict =
-      subst (λ (x : Policy). (decisionIn Mode.Events image line ≡ Decision.Refused (refusal Fault.Unavoidable 0)) ↔ ¬ Reducible x.constraints (proposedWith x.rules) e) holds
-      (conflict-exactly image (image_bounded form known p ok) (contentsOf form p) (image-taken form known p ok) line e read)
+  pub written_conflict : (decision_in Mode.Events image line ≡ Decision.Refused (refusal Fault.Unavoidable 0)) ↔ ¬ Reducible p.constraints (proposed_with p.rules) e
+  written_conflict =
+      subst (λ (x : Policy). (decision_in Mode.Events image line ≡ Decision.Refused (refusal Fault.Unavoidable 0)) ↔ ¬ Reducible x.constraints (proposed_with x.rules) e) holds
+      (conflict_exactly image (image_bounded form known p ok) (contents_of form p) (image_taken form known p ok) line e read)
 
-  pub written-obeys-events : Reducible p.constraints (proposedWith p.rules) e → ObeysEvents p e (keptEvents p e) (answer_of (decisionIn Mode.Events image line))
-  written-obeys-events =
-      subst (λ (x : Policy). Reducible x.constraints (proposedWith x.rules) e → ObeysEvents x e (keptEvents x e) (answer_of (decisionIn Mode.Events image line))) holds
-      (obeys-events image (image_bounded form known p ok) (contentsOf form p) (image-taken form known p ok) line e read)
+  pub written_obeys_events : Reducible p.constraints (proposed_with p.rules) e → ObeysEvents p e (kept_events p e) (answer_of (decision_in Mode.Events image line))
+  written_obeys_events =
+      subst (λ (x : Policy). Reducible x.constraints (proposed_with x.rules) e → ObeysEvents x e (kept_events x e) (answer_of (decision_in Mode.Events image line))) holds
+      (obeys_events image (image_bounded form known p ok) (contents_of form p) (image_taken form known p ok) line e read)

@@ -1,42 +1,37 @@
 -- What is shown of a line: it stands in its text, without line end and trimmed of spaces at both ends.
-use Prim.Native.Nat.{ℕ, suc, ◌+◌, ◌-◌, ◌≤◌}
-use mathlib.Core.Bool.{Bool, true, false, cond}
+use Rattle.std.proofs.Common.{ℕ, suc, ◌+◌, ◌-◌, ◌≤◌, Bool, true, false, cond, List, [], ◌∷◌, ◌++◌, append_assoc, ⊎_elim, ◌≡◌, refl, sym, ap, ◌∙◌, arith, eqb-true, eq-eqb, le-ltb, length, take, drop, length-append, length-drop, take-append-drop, drop-drop, length-take-le}
+use Rattle.std.proofs.Math.Dec.{eqb}
+use Rattle.std.proofs.Math.Seq.{drop-append_seam, drop-append-add, take-append_seam}
 use mathlib.Core.List.Memᴰ
-use mathlib.Core.List.{List, [], ◌∷◌, ◌++◌, append_assoc, Memᴰ}
-use mathlib.Core.Logic.{⊎_elim}
-use mathlib.Core.Path.{◌≡◌, refl, sym, ap, ◌∙◌}
-use native.Mathlib.Omega.{arith}
-use borrow.Author.Tests.{eqb-true, eqb-false, eq-eqb, le-ltb}
-use lib.Dec.{eqb}
-use lib.ListN.{length, take, drop, length-append, length-drop, take-append-drop}
-use lib.Seq.{drop-drop, drop-append_seam, drop-append-add, take-append_seam, length-take-le}
-use Rattle.policy.proofs.ListLaws.{all-out}
+use mathlib.Core.List.{Memᴰ}
+use borrow.Author.Tests.{eqb-false}
+use Rattle.policy.proofs.ListLaws.{all_out}
 use Rattle.policy.specs.Line.{PolicyLine}
 use Rattle.policy.specs.declared.fault.Source.{Source}
-use Rattle.lexer.proofs.RunLaws.{all-run}
-use Rattle.lexer.specs.Byte.{isSpace}
-use Rattle.lexer.specs.Lines.{prepend, pieces, lines_of, nonEmpty, tokensOf, takeWhile}
-use Rattle.syntax.specs.Judge.{skipped, accepted, tokensAnswer, lineAnswer}
-use Rattle.explanation.specs.Part.{trimStart, keepByte, trimEnd, trim, part_at}
-use Rattle.guarantees.specs.Explanations.{endedLength, Spaces, Trimmed, Straight}
+use Rattle.lexer.proofs.RunLaws.{all_run}
+use Rattle.lexer.specs.Byte.{is_space}
+use Rattle.lexer.specs.Lines.{prepend, pieces, lines_of, non_empty, tokens_of, take_leading}
+use Rattle.syntax.specs.Judge.{skipped, accepted, tokens_answer, line_answer}
+use Rattle.explanation.specs.Part.{trim_start, keep_byte, trim_end, trim, part_at}
+use Rattle.guarantees.specs.Explanations.{ended_length, Spaces, Trimmed, Straight}
 
 -- ---- what passes at the start
 
-pub while-split : (p : ℕ → Bool) (s : List ℕ) → s ≡ takeWhile p s ++ drop (length (takeWhile p s)) s
-unfolding takeWhile
-while-split p [] = refl
-while-split p (b ∷ s) = go (p b) (while-split p s)
+pub while_split : (p : ℕ → Bool) (s : List ℕ) → s ≡ take_leading p s ++ drop (length (take_leading p s)) s
+unfolding take_leading
+while_split p [] = refl
+while_split p (b ∷ s) = go (p b) (while_split p s)
   where
-    go : (x : Bool) → s ≡ takeWhile p s ++ drop (length (takeWhile p s)) s → b ∷ s ≡ cond x (b ∷ takeWhile p s) [] ++ drop (length (cond x (b ∷ takeWhile p s) [])) (b ∷ s)
+    go : (x : Bool) → s ≡ take_leading p s ++ drop (length (take_leading p s)) s → b ∷ s ≡ cond x (b ∷ take_leading p s) [] ++ drop (length (cond x (b ∷ take_leading p s) [])) (b ∷ s)
     go true h = ap (λ (t : List ℕ). b ∷ t) h
     go false h = refl
 
-pub while-stops : (p : ℕ → Bool) (s : List ℕ) (b : ℕ) (rest : List ℕ) → drop (length (takeWhile p s)) s ≡ b ∷ rest → p b ≡ false
-unfolding takeWhile
-while-stops p [] b rest e = let w : ◌≡◌ {A = ℕ} 0 1 = cc in absurd (omega arith)
-while-stops p (c ∷ s) b rest e = go (p c) refl (while-stops p s b rest) e
+pub while_stops : (p : ℕ → Bool) (s : List ℕ) (b : ℕ) (rest : List ℕ) → drop (length (take_leading p s)) s ≡ b ∷ rest → p b ≡ false
+unfolding take_leading
+while_stops p [] b rest e = let w : ◌≡◌ {A = ℕ} 0 1 = cc in absurd (omega arith)
+while_stops p (c ∷ s) b rest e = go (p c) refl (while_stops p s b rest) e
   where
-    go : (x : Bool) → p c ≡ x → (drop (length (takeWhile p s)) s ≡ b ∷ rest → p b ≡ false) → drop (length (cond x (c ∷ takeWhile p s) [])) (c ∷ s) ≡ b ∷ rest → p b ≡ false
+    go : (x : Bool) → p c ≡ x → (drop (length (take_leading p s)) s ≡ b ∷ rest → p b ≡ false) → drop (length (cond x (c ∷ take_leading p s) [])) (c ∷ s) ≡ b ∷ rest → p b ≡ false
     go true k later h = later h
     go false k later h = let w : c ≡ b = cc in ap p (sym w) ∙ k
 
@@ -57,19 +52,19 @@ one_last : (c : ℕ) (rest : List ℕ) (b : ℕ) → c ∷ [] ≡ rest ++ b ∷ 
 one_last c [] b e = cc
 one_last c (d ∷ rest) b e = let k : [] ≡ rest ++ b ∷ [] = cc in absurd (no_last rest b k)
 
-more-last : (c d : ℕ) (t rest : List ℕ) (b : ℕ) → ((rest : List ℕ) (b : ℕ) → d ∷ t ≡ rest ++ b ∷ [] → ¬ (b ≡ 32)) → c ∷ d ∷ t ≡ rest ++ b ∷ [] → ¬ (b ≡ 32)
-more-last c d t [] b h e = let w : ◌≡◌ {A = ℕ} 0 1 = cc in absurd (omega arith)
-more-last c d t (x ∷ rest) b h e = let k : d ∷ t ≡ rest ++ b ∷ [] = cc in h rest b k
+more_last : (c d : ℕ) (t rest : List ℕ) (b : ℕ) → ((rest : List ℕ) (b : ℕ) → d ∷ t ≡ rest ++ b ∷ [] → ¬ (b ≡ 32)) → c ∷ d ∷ t ≡ rest ++ b ∷ [] → ¬ (b ≡ 32)
+more_last c d t [] b h e = let w : ◌≡◌ {A = ℕ} 0 1 = cc in absurd (omega arith)
+more_last c d t (x ∷ rest) b h e = let k : d ∷ t ≡ rest ++ b ∷ [] = cc in h rest b k
 
-kept : (c : ℕ) (s t : List ℕ) → Ended s t → Ended (c ∷ s) (keepByte c t)
-unfolding keepByte
-kept c s [] r = go (isSpace c) refl
+kept : (c : ℕ) (s t : List ℕ) → Ended s t → Ended (c ∷ s) (keep_byte c t)
+unfolding keep_byte
+kept c s [] r = go (is_space c) refl
   where
     spaces : c ≡ 32 → Spaces (c ∷ s)
     spaces h b (Memᴰ.head q) = q ∙ h
     spaces h b (Memᴰ.tail m) = r.spaces b (rw r.whole at m)
 
-    go : (x : Bool) → isSpace c ≡ x → Ended (c ∷ s) (cond x [] (c ∷ []))
+    go : (x : Bool) → is_space c ≡ x → Ended (c ∷ s) (cond x [] (c ∷ []))
     go true h = record { behind = c ∷ s; whole = refl; spaces = spaces (eqb-true c 32 h); last = λ rest b e. absurd (no_last rest b e) }
     go false h =
         record {
@@ -78,42 +73,42 @@ kept c s [] r = go (isSpace c) refl
           spaces = r.spaces;
           last = λ rest b e k. eqb-false c 32 h (one_last c rest b e ∙ k);
         }
-kept c s (d ∷ t) r = record { behind = r.behind; whole = ap (λ (t : List ℕ). c ∷ t) r.whole; spaces = r.spaces; last = λ rest b. more-last c d t rest b r.last }
+kept c s (d ∷ t) r = record { behind = r.behind; whole = ap (λ (t : List ℕ). c ∷ t) r.whole; spaces = r.spaces; last = λ rest b. more_last c d t rest b r.last }
 
-pub ended : (s : List ℕ) → Ended s (trimEnd s)
-unfolding trimEnd
+pub ended : (s : List ℕ) → Ended s (trim_end s)
+unfolding trim_end
 ended [] = record { behind = []; whole = refl; spaces = λ b m. absurd (Memᴰ.not-nil m); last = λ rest b e. absurd (no_last rest b e) }
-ended (c ∷ s) = kept c s (trimEnd s) (ended s)
+ended (c ∷ s) = kept c s (trim_end s) (ended s)
 
 unfoldable pub trimming : (line : List ℕ) → Trimmed line (trim line)
-unfolding trim trimStart
+unfolding trim trim_start
 trimming line =
-    let r = ended (trimStart line) in
+    let r = ended (trim_start line) in
     record {
-      ahead = takeWhile isSpace line;
+      ahead = take_leading is_space line;
       behind = r.behind;
-      whole = while-split isSpace line ∙ ap (λ (t : List ℕ). takeWhile isSpace line ++ t) r.whole;
-      spaces-ahead = λ b m. eqb-true b 32 (all-out isSpace (takeWhile isSpace line) (all-run isSpace line) b m);
-      spaces-behind = r.spaces;
+      whole = while_split is_space line ∙ ap (λ (t : List ℕ). take_leading is_space line ++ t) r.whole;
+      spaces_ahead = λ b m. eqb-true b 32 (all_out is_space (take_leading is_space line) (all_run is_space line) b m);
+      spaces_behind = r.spaces;
       unspaced =
           record {
-            first = λ b rest e. eqb-false b 32 (while-stops isSpace line b (rest ++ r.behind) (r.whole ∙ ap (λ (t : List ℕ). t ++ r.behind) e));
+            first = λ b rest e. eqb-false b 32 (while_stops is_space line b (rest ++ r.behind) (r.whole ∙ ap (λ (t : List ℕ). t ++ r.behind) e));
             last = r.last;
           };
     }
 
 -- a line that is not skipped has more than spaces
-spaces-skipped : (s : List ℕ) → Spaces s → tokensOf s ≡ []
-unfolding tokensOf pieces nonEmpty
-spaces-skipped [] h = refl
-spaces-skipped (b ∷ s) h = rw (eq-eqb b 32 (h b (Memᴰ.head refl))) (spaces-skipped s (λ c m. h c (Memᴰ.tail m)))
+spaces_skipped : (s : List ℕ) → Spaces s → tokens_of s ≡ []
+unfolding tokens_of pieces non_empty
+spaces_skipped [] h = refl
+spaces_skipped (b ∷ s) h = rw (eq-eqb b 32 (h b (Memᴰ.head refl))) (spaces_skipped s (λ c m. h c (Memᴰ.tail m)))
 
-pub not-empty : (line part : List ℕ) (l : PolicyLine) → lineAnswer line ≡ accepted l → Trimmed line part → part ≡ [] → ⊥
-unfolding lineAnswer tokensAnswer
-not-empty line part l e t z =
+pub not_empty : (line part : List ℕ) (l : PolicyLine) → line_answer line ≡ accepted l → Trimmed line part → part ≡ [] → ⊥
+unfolding line_answer tokens_answer
+not_empty line part l e t z =
     let same : line ≡ t.ahead ++ t.behind = t.whole ∙ ap (λ (p : List ℕ). t.ahead ++ (p ++ t.behind)) z in
-    let none : tokensOf line ≡ [] = spaces-skipped line (λ b m. ⊎_elim (t.spaces-ahead b) (t.spaces-behind b) (Memᴰ.append_cases t.ahead (rw same at m))) in
-    let k : skipped ≡ accepted l = sym (ap tokensAnswer none) ∙ e in
+    let none : tokens_of line ≡ [] = spaces_skipped line (λ b m. ⊎_elim (t.spaces_ahead b) (t.spaces_behind b) (Memᴰ.append_cases t.ahead (rw same at m))) in
+    let k : skipped ≡ accepted l = sym (ap tokens_answer none) ∙ e in
     let w : ◌≡◌ {A = ℕ} 0 1 = cc in
     omega arith
 
@@ -181,26 +176,26 @@ pub record LineAt (text : List ℕ) (at : ℕ) (line : List ℕ) : Type 0 where
   pub whole : drop at text ≡ line ++ rest
   pub no_end : Memᴰ 10 line → ⊥
 
-pub line_at : (before : List (List ℕ)) (text line : List ℕ) (behind : List (List ℕ)) → lines_of text ≡ before ++ line ∷ behind → LineAt text (endedLength before) line
-unfolding lines_of endedLength pieces
+pub line_at : (before : List (List ℕ)) (text line : List ℕ) (behind : List (List ℕ)) → lines_of text ≡ before ++ line ∷ behind → LineAt text (ended_length before) line
+unfolding lines_of ended_length pieces
 line_at [] text line behind e = let c = cut text line behind e in record { rest = c.rest; inside = omega arith; whole = c.whole; no_end = c.no_end }
 line_at (l ∷ before) text line behind e = go (cut text l (before ++ line ∷ behind) e) (λ t. line_at before t line behind)
   where
-    go : Cut text l (before ++ line ∷ behind) → ((t : List ℕ) → lines_of t ≡ before ++ line ∷ behind → LineAt t (endedLength before) line) → LineAt text (length l + 1 + endedLength before) line
-    go c later = behind-it c.rest refl
+    go : Cut text l (before ++ line ∷ behind) → ((t : List ℕ) → lines_of t ≡ before ++ line ∷ behind → LineAt t (ended_length before) line) → LineAt text (length l + 1 + ended_length before) line
+    go c later = behind_it c.rest refl
       where
-        behind-it : (r : List ℕ) → c.rest ≡ r → LineAt text (length l + 1 + endedLength before) line
-        behind-it [] k =
+        behind_it : (r : List ℕ) → c.rest ≡ r → LineAt text (length l + 1 + ended_length before) line
+        behind_it [] k =
             let z : before ++ line ∷ behind ≡ [] = c.later ∙ ap (λ (s : List ℕ). pieces 10 (drop 1 s)) k in
             absurd (omega (arith, ap length z, length-append before (line ∷ behind)))
-        behind-it (b ∷ t) k =
+        behind_it (b ∷ t) k =
             let r = later t (sym (c.later ∙ ap (λ (s : List ℕ). pieces 10 (drop 1 s)) k)) in
             let same : text ≡ l ++ b ∷ t = c.whole ∙ ap (λ (s : List ℕ). l ++ s) k in
-            let n : length l + 1 + endedLength before ≡ length l + suc (endedLength before) = omega arith in
+            let n : length l + 1 + ended_length before ≡ length l + suc (ended_length before) = omega arith in
             record {
               rest = r.rest;
               inside = omega (arith, r.inside, ap length same, length-append l (b ∷ t));
-              whole = rw (n, same) (drop-append-add l (b ∷ t) (suc (endedLength before)) ∙ r.whole);
+              whole = rw (n, same) (drop-append-add l (b ∷ t) (suc (ended_length before)) ∙ r.whole);
               no_end = r.no_end;
             }
 
@@ -215,25 +210,25 @@ module _ (text : List ℕ) (at : ℕ) (line part : List ℕ) (l : LineAt text at
       sym (drop-drop (length t.ahead) at text) ∙ ap (drop (length t.ahead)) (l.whole ∙ ap (λ (s : List ℕ). s ++ l.rest) t.whole ∙ append_assoc t.ahead (part ++ t.behind) l.rest)
       ∙ drop-append_seam t.ahead (part ++ t.behind ++ l.rest) ∙ append_assoc part t.behind l.rest
 
-  start-inside : start ≤ length text
-  start-inside =
+  start_inside : start ≤ length text
+  start_inside =
       omega (arith, l.inside, length-drop at text, ap length l.whole, length-append line l.rest, ap length t.whole, length-append t.ahead (part ++ t.behind))
 
-  pub part-at : part_at text start (length part) ≡ part
+  pub part_at_is : part_at text start (length part) ≡ part
   unfolding part_at
-  part-at =
+  part_at_is =
       let k : length part ≤ length text - start = omega (arith, length-drop start text, ap length from_start, length-append part (t.behind ++ l.rest)) in
-      rw (le-ltb (length text) start start-inside, le-ltb (length text - start) (length part) k) (ap (take (length part)) from_start ∙ take-append_seam part (t.behind ++ l.rest))
+      rw (le-ltb (length text) start start_inside, le-ltb (length text - start) (length part) k) (ap (take (length part)) from_start ∙ take-append_seam part (t.behind ++ l.rest))
 
-  pub part-straight : (source : Source) → (part ≡ [] → ⊥) → Straight text (record { source = source; start = start; length = length part }) part
-  part-straight source some =
+  pub part_straight : (source : Source) → (part ≡ [] → ⊥) → Straight text (record { source = source; start = start; length = length part }) part
+  part_straight source some =
       record {
         before = take start text;
         behind = t.behind ++ l.rest;
         whole = sym (take-append-drop start text) ∙ ap (λ (s : List ℕ). take start text ++ s) from_start;
-        start = length-take-le start text start-inside;
+        start = length-take-le start text start_inside;
         long = refl;
         some = some;
         unspaced = t.unspaced;
-        no-line-end = λ m. l.no_end (rw t.whole (Memᴰ.append_right t.ahead (Memᴰ.append_left t.behind m)));
+        no_line_end = λ m. l.no_end (rw t.whole (Memᴰ.append_right t.ahead (Memᴰ.append_left t.behind m)));
       }

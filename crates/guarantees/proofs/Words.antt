@@ -1,49 +1,41 @@
 -- Document 02, L4 and L7: how many words of its image a decision fetches.
-use Prim.Native.Nat.{ℕ, ◌+◌, ◌*◌, ◌≤◌}
-use mathlib.Core.Bool.{Bool, true, false, cond, ◌&&◌}
-use mathlib.Core.List.{List}
-use mathlib.Core.Path.{◌≡◌, refl, sym, ap, ◌∙◌}
-use native.Mathlib.Nat.{mul-le-mul_right}
-use native.Mathlib.Omega.{arith}
-use borrow.Author.Tests.{leb-true}
-use lib.Dec.{leb, eqb}
-use lib.ListN.{length}
-use Rattle.policy.proofs.ListLaws.{and-out}
+use Rattle.std.proofs.Common.{ℕ, ◌+◌, ◌*◌, ◌≤◌, Bool, true, false, cond, ◌&&◌, List, ◌≡◌, refl, sym, ap, ◌∙◌, mul-le-mul_right, arith, leb-true, length}
+use Rattle.std.proofs.Math.Dec.{leb, eqb}
+use Rattle.policy.proofs.ListLaws.{and_out}
 use Rattle.policy.specs.Epoch.{Epoch}
 use Rattle.policy.specs.Fault.{refusal}
-use Rattle.policy.specs.Set.{size, allEvents, keeping}
+use Rattle.policy.specs.Set.{ActionSet, size, all_events, keeping, set_of}
 use Rattle.policy.specs.declared.fault.Fault.{Fault}
 use Rattle.policy.specs.declared.mode.Mode.{Mode}
-use Rattle.policy.specs.declared.set.ActionSet.{ActionSet}
-use Rattle.pdl.proofs.CostLaws.{trials-cost, size-limit}
-use Rattle.pdl.proofs.Monitor.{accepted-with-cancelled}
-use Rattle.epoch_line.specs.Epoch.{EpochAnswer, refused, accepted, readEpoch}
+use Rattle.pdl.proofs.CostLaws.{trials_cost_is, size_limit_is}
+use Rattle.pdl.proofs.Monitor.{accepted_with_cancelled}
+use Rattle.epoch_line.specs.Epoch.{EpochAnswer, refused, accepted, read_epoch}
 use Rattle.word.specs.Word.{Bytes, words_of, between}
-use Rattle.image.specs.Held.{policyIn}
-use Rattle.layout.specs.Layout.{checkCount}
-use Rattle.image.specs.Check.{formByte, ruleCount, constraintCount, countsFit}
+use Rattle.image.specs.Held.{policy_in}
+use Rattle.layout.specs.Layout.{check_count}
+use Rattle.image.specs.Check.{form_byte, rule_count, constraint_count, counts_fit}
 use Rattle.image.specs.Load.{load}
 use Rattle.image.specs.declared.load.Contents.{Contents}
 use Rattle.image.specs.declared.load.Loaded.{Loaded}
 use Rattle.exactness.proofs.Exact.{took}
-use Rattle.meaning.proofs.Fetched.{taken-rules-fetch, taken-trial-fetch}
-use Rattle.meaning.proofs.Taken.{taken-rules-run}
+use Rattle.meaning.proofs.Fetched.{taken_rules_fetch, taken_trial_fetch}
+use Rattle.meaning.proofs.Taken.{taken_rules_run}
 use Rattle.monitor.proofs.DecideLaws.{on_line}
-use Rattle.monitor.specs.Decision.{proposedBy, conflictBy, trialWords, triedWords, proposedWithBy, clashBy, clashWords, triedEventWords, yieldedBy, reducedBy, reductionBy, rulesIn, constraintsIn, issuedBy, decidedBy, onLine, onImage, decisionIn, decision, answer_of, visitedIn}
+use Rattle.monitor.specs.Decision.{proposed_by, conflict_by, trial_words, tried_words, proposed_with_by, clash_by, clash_words, tried_event_words, yielded_by, reduced_by, reduction_by, rules_in, constraints_in, issued_by, decided_by, on_epoch_line, on_image, decision_in, decision, answer_of, visited_in}
 use Rattle.monitor.specs.declared.decision.Decision.{Decision}
-use Rattle.guarantees.specs.Decisions.{decidedActions}
-use Rattle.guarantees.proofs.Decisions.{holds-policy}
+use Rattle.guarantees.specs.Decisions.{decided_actions}
+use Rattle.guarantees.proofs.Decisions.{holds_policy}
 
 -- a refused decision reports 0, in either mode
-pub refused-fetches-none-in : (mode : Mode) (image line : List ℕ) → (answer_of (decisionIn mode image line)).is_refused ≡ true → visitedIn (decisionIn mode image line) ≡ 0
-refused-fetches-none-in mode image line = go (decisionIn mode image line)
+pub refused_fetches_none_in : (mode : Mode) (image line : List ℕ) → (answer_of (decision_in mode image line)).is_refused ≡ true → visited_in (decision_in mode image line) ≡ 0
+refused_fetches_none_in mode image line = go (decision_in mode image line)
   where
-    go : (d : Decision) → (answer_of d).is_refused ≡ true → visitedIn d ≡ 0
+    go : (d : Decision) → (answer_of d).is_refused ≡ true → visited_in d ≡ 0
     go (Decision.Refused r) h = refl
     go (Decision.Issued actions) h = let z : ◌≡◌ {A = ℕ} 0 1 = cc in absurd (omega arith)
 
-pub refused-fetches-none : (image line : List ℕ) → (answer_of (decision image line)).is_refused ≡ true → visitedIn (decision image line) ≡ 0
-refused-fetches-none = refused-fetches-none-in Mode.Actions
+pub refused_fetches_none : (image line : List ℕ) → (answer_of (decision image line)).is_refused ≡ true → visited_in (decision image line) ≡ 0
+refused_fetches_none = refused_fetches_none_in Mode.Actions
 
 module _ (image : List ℕ) (bounded : Bytes image) (contents : Contents) (taken : load image ≡ Loaded.Image contents) where
   abbrev P : ℕ
@@ -59,95 +51,95 @@ module _ (image : List ℕ) (bounded : Bytes image) (contents : Contents) (taken
     abbrev constraints : List ℕ
     constraints = between (1 + P) (1 + P + N) (words_of image)
 
-    issued-words : (issuedBy contents (words_of image) e).visited ≤ P + size (proposedBy rules e).0 * N
-    unfolding issuedBy yieldedBy triedWords
-    issued-words =
+    issued_words : (issued_by contents (words_of image) e).visited ≤ P + size (proposed_by rules e).bits * N
+    unfolding issued_by yielded_by tried_words
+    issued_words =
         omega (
           arith,
-          taken-rules-fetch image bounded contents taken e.readings (allEvents e.events),
-          trials-cost (conflictBy constraints e.readings) (trialWords constraints e.readings) (proposedBy rules e).0 N
-              (λ s. taken-trial-fetch image bounded contents taken e.readings (record { 0 = s })),
+          taken_rules_fetch image bounded contents taken e.readings (all_events e.events),
+          trials_cost_is (conflict_by constraints e.readings) (trial_words constraints e.readings) (proposed_by rules e).bits N
+              (λ s. taken_trial_fetch image bounded contents taken e.readings (set_of s)),
         )
 
   module _ (line : List ℕ) where
     -- at most the rule words, and the constraint words once for each action that was accepted or cancelled
-    pub words-by-actions : visitedIn (decision image line) ≤ P + size (decidedActions (answer_of (decision image line))).0 * N
-    unfolding onLine decidedBy
-    words-by-actions = go (readEpoch line) refl
+    pub words_by_actions : visited_in (decision image line) ≤ P + size (decided_actions (answer_of (decision image line))).bits * N
+    unfolding on_epoch_line decided_by
+    words_by_actions = go (read_epoch line) refl
       where
-        go : (a : EpochAnswer) → readEpoch line ≡ a → visitedIn (decision image line) ≤ P + size (decidedActions (answer_of (decision image line))).0 * N
+        go : (a : EpochAnswer) → read_epoch line ≡ a → visited_in (decision image line) ≤ P + size (decided_actions (answer_of (decision image line))).bits * N
         go (refused f) q = rw (on_line Mode.Actions image line contents taken, q) (omega arith)
         go (accepted e) q =
-            let v : visitedIn (decision image line) ≡ (issuedBy contents (words_of image) e).visited = rw (on_line Mode.Actions image line contents taken, q) in
-            let s : decidedActions (answer_of (decision image line)) ≡ proposedBy (rules e) e =
-            ap decidedActions (holds-policy image bounded contents taken line e q) ∙ accepted-with-cancelled (policyIn image) e
-            ∙ sym (taken-rules-run image bounded contents taken (allEvents e.events) e.readings) in
-            omega (arith, v, issued-words e, ap (λ (x : ActionSet). size x.0 * N) s)
+            let v : visited_in (decision image line) ≡ (issued_by contents (words_of image) e).visited = rw (on_line Mode.Actions image line contents taken, q) in
+            let s : decided_actions (answer_of (decision image line)) ≡ proposed_by (rules e) e =
+            ap decided_actions (holds_policy image bounded contents taken line e q) ∙ accepted_with_cancelled (policy_in image) e
+            ∙ sym (taken_rules_run image bounded contents taken (all_events e.events) e.readings) in
+            omega (arith, v, issued_words e, ap (λ (x : ActionSet). size x.bits * N) s)
 
     -- "is at most P + 64 × N"
-    pub words-bounded : visitedIn (decision image line) ≤ P + 64 * N
-    words-bounded =
-        omega (arith, words-by-actions, mul-le-mul_right N (size-limit (decidedActions (answer_of (decision image line))).0))
+    pub words_bounded : visited_in (decision image line) ≤ P + 64 * N
+    words_bounded =
+        omega (arith, words_by_actions, mul-le-mul_right N (size_limit_is (decided_actions (answer_of (decision image line))).bits))
 
     -- ---- document 02, L7: the second mode
 
-    abbrev rulePart : List ℕ
-    rulePart = rulesIn contents (words_of image)
+    abbrev rule_part : List ℕ
+    rule_part = rules_in contents (words_of image)
 
-    abbrev constraintPart : List ℕ
-    constraintPart = constraintsIn contents (words_of image)
+    abbrev constraint_part : List ℕ
+    constraint_part = constraints_in contents (words_of image)
 
     -- a trial fetches at most the rule words and the constraint words
-    trial-words : (e : Epoch) (kept : ℕ) → clashWords rulePart constraintPart e kept ≤ P + N
-    trial-words e kept =
+    trial_words_is : (e : Epoch) (kept : ℕ) → clash_words rule_part constraint_part e kept ≤ P + N
+    trial_words_is e kept =
         omega (
           arith,
-          taken-rules-fetch image bounded contents taken e.readings (keeping e.events (record { 0 = kept })),
-          taken-trial-fetch image bounded contents taken e.readings (proposedWithBy rulePart e (record { 0 = kept })),
+          taken_rules_fetch image bounded contents taken e.readings (keeping e.events (set_of kept)),
+          taken_trial_fetch image bounded contents taken e.readings (proposed_with_by rule_part e (set_of kept)),
         )
 
     -- one trial with no event, and one for each event of the epoch
-    pub words-by-events : (e : Epoch) → readEpoch line ≡ accepted e → visitedIn (decisionIn Mode.Events image line) ≤ (P + N) + size e.events.0 * (P + N)
-    unfolding onLine decidedBy reductionBy reducedBy triedEventWords
-    words-by-events e q = rw (on_line Mode.Events image line contents taken, q) (go (clashBy rulePart constraintPart e 0))
+    pub words_by_events : (e : Epoch) → read_epoch line ≡ accepted e → visited_in (decision_in Mode.Events image line) ≤ (P + N) + size e.events.bits * (P + N)
+    unfolding on_epoch_line decided_by reduction_by reduced_by tried_event_words
+    words_by_events e q = rw (on_line Mode.Events image line contents taken, q) (go (clash_by rule_part constraint_part e 0))
       where
-        go : (b : Bool) → visitedIn (cond b (Decision.Refused (refusal Fault.Unavoidable 0)) (Decision.Issued (reducedBy rulePart constraintPart e))) ≤ (P + N) + size e.events.0 * (P + N)
+        go : (b : Bool) → visited_in (cond b (Decision.Refused (refusal Fault.Unavoidable 0)) (Decision.Issued (reduced_by rule_part constraint_part e))) ≤ (P + N) + size e.events.bits * (P + N)
         go true = omega arith
-        go false = omega (arith, trial-words e 0, trials-cost (clashBy rulePart constraintPart e) (clashWords rulePart constraintPart e) e.events.0 (P + N) (trial-words e))
+        go false = omega (arith, trial_words_is e 0, trials_cost_is (clash_by rule_part constraint_part e) (clash_words rule_part constraint_part e) e.events.bits (P + N) (trial_words_is e))
 
     -- "at most 65 × (P + N)"
-    pub events-words-bounded : visitedIn (decisionIn Mode.Events image line) ≤ 65 * (P + N)
-    unfolding onLine
-    events-words-bounded = go (readEpoch line) refl
+    pub events_words_bounded : visited_in (decision_in Mode.Events image line) ≤ 65 * (P + N)
+    unfolding on_epoch_line
+    events_words_bounded = go (read_epoch line) refl
       where
-        go : (a : EpochAnswer) → readEpoch line ≡ a → visitedIn (decisionIn Mode.Events image line) ≤ 65 * (P + N)
+        go : (a : EpochAnswer) → read_epoch line ≡ a → visited_in (decision_in Mode.Events image line) ≤ 65 * (P + N)
         go (refused f) q = rw (on_line Mode.Events image line contents taken, q) (omega arith)
-        go (accepted e) q = omega (arith, words-by-events e q, mul-le-mul_right (P + N) (size-limit e.events.0))
+        go (accepted e) q = omega (arith, words_by_events e q, mul-le-mul_right (P + N) (size_limit_is e.events.bits))
 
 -- ---- whatever the bytes and the line
 
 -- the counts of an image that is taken
 counts : (image : List ℕ) (contents : Contents) → load image ≡ Loaded.Image contents → (contents.rule_words ≤ 2176) × (contents.constraint_words ≤ 1088)
-unfolding countsFit
+unfolding counts_fit
 counts image contents q =
     let t = took image contents q in
     let ws = words_of image in
-    let fits = and-out (leb (ruleCount ws) 2176 && leb (constraintCount ws) 1088) (eqb (length ws) (1 + ruleCount ws + constraintCount ws + checkCount (formByte ws))) t.checked.count in
-    let few = and-out (leb (ruleCount ws) 2176) (leb (constraintCount ws) 1088) fits.0 in
-    (omega (arith, t.rule-words-are, leb-true (ruleCount ws) 2176 few.0), omega (arith, t.constraint-words-are, leb-true (constraintCount ws) 1088 few.1))
+    let fits = and_out (leb (rule_count ws) 2176 && leb (constraint_count ws) 1088) (eqb (length ws) (1 + rule_count ws + constraint_count ws + check_count (form_byte ws))) t.checked.count in
+    let few = and_out (leb (rule_count ws) 2176) (leb (constraint_count ws) 1088) fits.0 in
+    (omega (arith, t.rule_words_are, leb-true (rule_count ws) 2176 few.0), omega (arith, t.constraint_words_are, leb-true (constraint_count ws) 1088 few.1))
 
-pub words-limit : (image line : List ℕ) → Bytes image → visitedIn (decision image line) ≤ 71808
-unfolding decisionIn onImage
-words-limit image line bounded = go (load image) refl
+pub words_limit : (image line : List ℕ) → Bytes image → visited_in (decision image line) ≤ 71808
+unfolding decision_in on_image
+words_limit image line bounded = go (load image) refl
   where
-    go : (l : Loaded) → load image ≡ l → visitedIn (decision image line) ≤ 71808
+    go : (l : Loaded) → load image ≡ l → visited_in (decision image line) ≤ 71808
     go (Loaded.Refused r) q = rw q (omega arith)
-    go (Loaded.Image contents) q = let few = counts image contents q in omega (arith, words-bounded image bounded contents q line, few.0, few.1)
+    go (Loaded.Image contents) q = let few = counts image contents q in omega (arith, words_bounded image bounded contents q line, few.0, few.1)
 
-pub events-words-limit : (image line : List ℕ) → Bytes image → visitedIn (decisionIn Mode.Events image line) ≤ 212160
-unfolding decisionIn onImage
-events-words-limit image line bounded = go (load image) refl
+pub events_words_limit : (image line : List ℕ) → Bytes image → visited_in (decision_in Mode.Events image line) ≤ 212160
+unfolding decision_in on_image
+events_words_limit image line bounded = go (load image) refl
   where
-    go : (l : Loaded) → load image ≡ l → visitedIn (decisionIn Mode.Events image line) ≤ 212160
+    go : (l : Loaded) → load image ≡ l → visited_in (decision_in Mode.Events image line) ≤ 212160
     go (Loaded.Refused r) q = rw q (omega arith)
-    go (Loaded.Image contents) q = let few = counts image contents q in omega (arith, events-words-bounded image bounded contents q line, few.0, few.1)
+    go (Loaded.Image contents) q = let few = counts image contents q in omega (arith, events_words_bounded image bounded contents q line, few.0, few.1)

@@ -2,11 +2,11 @@
 -- `decide` and `decompile` say.
 use Rattle.std.specs.Prelude.{ℕ, List, map, ◌≡◌, take}
 use Rattle.policy.specs.Fill.{Filled}
-use Rattle.codegen.specs.Compile.{compiled, compiledTexts}
+use Rattle.codegen.specs.Compile.{compiled, compiled_texts}
 use Rattle.codegen.specs.declared.Compiled.{Compiled}
 use Rattle.decompile.specs.Decompile.{decompiled}
 use Rattle.decompile.specs.declared.Decompiled.{Decompiled}
-use Rattle.monitor.specs.Decision.{decisionIn, decision, answer_of}
+use Rattle.monitor.specs.Decision.{decision_in, decision, answer_of}
 use Rattle.pdl.specs.Answer.{Answer}
 use Rattle.word.specs.Word.{Bytes}
 use Rattle.guarantees.specs.Machine.{ToldLine}
@@ -24,7 +24,7 @@ CompilesTo text image = Writes (compiled text) image
 
 -- document 02, L6: its call on the maker's and the site's text
 abbrev pub TextsCompileTo : List ℕ → List ℕ → List ℕ → Type 0
-TextsCompileTo maker site image = Writes (compiledTexts maker site) image
+TextsCompileTo maker site image = Writes (compiled_texts maker site) image
 
 -- the decompiler's call on the image was accepted, and the text is the bytes that it wrote, no more and no fewer
 pub record DecompilesTo (image text : List ℕ) : Type 0 where
@@ -38,8 +38,8 @@ unfoldable pub answers : List ℕ → List (List ℕ) → List Answer
 answers image lines = map (λ (line : List ℕ). answer_of (decision image line)) lines
 
 -- each in its own mode (document 02, L7)
-unfoldable pub answersTold : List ℕ → List ToldLine → List Answer
-answersTold image lines = map (λ (x : ToldLine). answer_of (decisionIn x.mode image x.line)) lines
+unfoldable pub answers_told : List ℕ → List ToldLine → List Answer
+answers_told image lines = map (λ (x : ToldLine). answer_of (decision_in x.mode image x.line)) lines
 
 -- some accepted text compiles to the image
 pub record SomeText (image : List ℕ) : Type 0 where

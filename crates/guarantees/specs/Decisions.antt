@@ -3,22 +3,20 @@ use Rattle.std.specs.Prelude.{ℕ, ◌≤◌, true, false, List, ◌≡◌}
 use Rattle.policy.specs.Epoch.{Epoch}
 use Rattle.policy.specs.Fault.{refusal}
 use Rattle.policy.specs.Policy.{Policy}
-use Rattle.policy.specs.Set.{hasEvent, insertEvent, eventsBelow, noActions, hasAction, insertAction, unionActions, actionsBelow}
+use Rattle.policy.specs.Set.{ActionSet, EventSet, has_event, insert_event, events_below, no_actions, has_action, insert_action, union_actions, actions_below}
 use Rattle.policy.specs.declared.fault.Fault.{Fault}
 use Rattle.policy.specs.declared.fault.Refusal.{Refusal}
 use Rattle.policy.specs.declared.mode.Mode.{Mode}
 use Rattle.policy.specs.declared.number.Action.{Action}
 use Rattle.policy.specs.declared.number.Event.{Event}
-use Rattle.policy.specs.declared.set.ActionSet.{ActionSet}
-use Rattle.policy.specs.declared.set.EventSet.{EventSet}
 use Rattle.pdl.specs.Answer.{Answer, issues}
 use Rattle.pdl.specs.Pdl.{Satisfies, Violated, MaximalIn, MaximalReduction, Reducible, ◌⊆◌, ◌⊑◌}
-use Rattle.pdl.specs.Reduction.{proposedWith}
+use Rattle.pdl.specs.Reduction.{proposed_with}
 use Rattle.pdl.specs.Yield as Yield
 use Rattle.pdl.specs.Yield.{proposed}
-use Rattle.epoch_line.specs.Epoch.{refused, accepted, readEpoch}
+use Rattle.epoch_line.specs.Epoch.{refused, accepted, read_epoch}
 use Rattle.acceptance.specs.Refusals.{OfEpoch}
-use Rattle.image.specs.Held.{policyIn}
+use Rattle.image.specs.Held.{policy_in}
 use Rattle.image.specs.Load.{load}
 use Rattle.image.specs.declared.load.Contents.{Contents}
 use Rattle.image.specs.declared.load.Loaded.{Loaded}
@@ -28,42 +26,42 @@ use Rattle.exactness.specs.Exact.{RefusalOf}
 
 -- for what a decision is refused: the image's fault comes first, and nothing else counts
 pub data RefusedFor (image line : List ℕ) (r : Refusal) : Type 0 where
-  theImage : load image ≡ Loaded.Refused r → RefusedFor image line r
-  theLine : (contents : Contents) → load image ≡ Loaded.Image contents → (fault : Fault) → readEpoch line ≡ refused fault → r ≡ refusal fault 0
+  the_image : load image ≡ Loaded.Refused r → RefusedFor image line r
+  the_line : (contents : Contents) → load image ≡ Loaded.Image contents → (fault : Fault) → read_epoch line ≡ refused fault → r ≡ refusal fault 0
       → RefusedFor image line r
 
 -- the same in either mode: in the second also where no reduction of the epoch is free of conflict (document 02, L7)
 pub data RefusedIn (mode : Mode) (image line : List ℕ) (r : Refusal) : Type 0 where
-  asFirst : RefusedFor image line r → RefusedIn mode image line r
-  forConflict : mode ≡ Mode.Events → (contents : Contents) → load image ≡ Loaded.Image contents → (e : Epoch) → readEpoch line ≡ accepted e
-      → ¬ Reducible (policyIn image).constraints (proposedWith (policyIn image).rules) e → r ≡ refusal Fault.Unavoidable 0
+  as_first : RefusedFor image line r → RefusedIn mode image line r
+  for_conflict : mode ≡ Mode.Events → (contents : Contents) → load image ≡ Loaded.Image contents → (e : Epoch) → read_epoch line ≡ accepted e
+      → ¬ Reducible (policy_in image).constraints (proposed_with (policy_in image).rules) e → r ≡ refusal Fault.Unavoidable 0
       → RefusedIn mode image line r
 
 -- which refusals a decision has: those of an image of so many words, and those of an epoch line
 pub data OfDecision (words : ℕ) (r : Refusal) : Type 0 where
-  ofImage : RefusalOf words r → OfDecision words r
-  ofLine : OfEpoch r → OfDecision words r
+  of_image : RefusalOf words r → OfDecision words r
+  of_line : OfEpoch r → OfDecision words r
 
 -- in either mode
 pub data OfDecisionIn (words : ℕ) (r : Refusal) : Type 0 where
-  ofEither : OfDecision words r → OfDecisionIn words r
-  ofConflict : r ≡ refusal Fault.Unavoidable 0 → OfDecisionIn words r
+  of_either : OfDecision words r → OfDecisionIn words r
+  of_conflict : r ≡ refusal Fault.Unavoidable 0 → OfDecisionIn words r
 
 -- refused under one of 7 to 10, in no text, at location 0 and with empty sets
 pub record CheckFailed (a : Answer) : Type 0 where
-  pub is-refused : a.is_refused ≡ true
+  pub is_refused : a.is_refused ≡ true
   pub from : 7 ≤ a.number
   pub upto : a.number ≤ 10
   pub text : a.text ≡ 0
   pub location : a.location ≡ 0
-  pub accepts : a.accepted ≡ noActions
-  pub cancels : a.cancelled ≡ noActions
+  pub accepts : a.accepted ≡ no_actions
+  pub cancels : a.cancelled ≡ no_actions
 
 -- ---- demand 2
 
 -- what a policy yields on an epoch
-abbrev pub yieldOf : Policy → Epoch → Answer
-yieldOf p e = issues (Yield.accepted p e) (Yield.cancelled p e)
+abbrev pub yield_of : Policy → Epoch → Answer
+yield_of p e = issues (Yield.accepted p e) (Yield.cancelled p e)
 
 -- what a policy asks of an answer to an epoch
 pub record Obeys (p : Policy) (e : Epoch) (a : Answer) : Type 0 where
@@ -71,22 +69,22 @@ pub record Obeys (p : Policy) (e : Epoch) (a : Answer) : Type 0 where
   -- a maximal action cancellation: within what is proposed, with no constraint that holds, and maximal
   pub maximal : MaximalIn p.constraints e.readings (proposed p.rules e) a.accepted
   -- the cancelled actions are the others
-  pub rest : unionActions a.accepted a.cancelled ≡ proposed p.rules e
-  pub apart : (x : Action) → hasAction a.cancelled x ≡ true → hasAction a.accepted x ≡ false
+  pub rest : union_actions a.accepted a.cancelled ≡ proposed p.rules e
+  pub apart : (x : Action) → has_action a.cancelled x ≡ true → has_action a.accepted x ≡ false
   -- giving back one or more of them makes a constraint hold
-  pub giving-back : (u : ActionSet) → a.accepted ⊆ u → u ⊆ proposed p.rules e → ¬ (u ≡ a.accepted)
+  pub giving_back : (u : ActionSet) → a.accepted ⊆ u → u ⊆ proposed p.rules e → ¬ (u ≡ a.accepted)
       → Violated p.constraints e.readings u
   -- lower numbers are kept first: on the accepted actions under a cancelled one, together with it, some constraint holds
-  pub lowest-first : (x : Action) → hasAction a.cancelled x ≡ true
-      → Violated p.constraints e.readings (insertAction (actionsBelow a.accepted x) x)
+  pub lowest_first : (x : Action) → has_action a.cancelled x ≡ true
+      → Violated p.constraints e.readings (insert_action (actions_below a.accepted x) x)
   -- where nothing clashes, nothing is cancelled
-  pub conservative : Satisfies p.constraints e.readings (proposed p.rules e) → a.cancelled ≡ noActions
+  pub conservative : Satisfies p.constraints e.readings (proposed p.rules e) → a.cancelled ≡ no_actions
 
 -- ---- document 02, L4
 
 -- the actions that were proposed, of which each was tried once
-abbrev pub decidedActions : Answer → ActionSet
-decidedActions a = unionActions a.accepted a.cancelled
+abbrev pub decided_actions : Answer → ActionSet
+decided_actions a = union_actions a.accepted a.cancelled
 
 -- ---- document 02, L7: the second mode
 
@@ -94,19 +92,19 @@ decidedActions a = unionActions a.accepted a.cancelled
 pub record ObeysEvents (p : Policy) (e : Epoch) (kept : EventSet) (a : Answer) : Type 0 where
   pub issued : a.is_refused ≡ false
   -- "The kept events are a maximal conflict-free reduction of the epoch."
-  pub maximal : MaximalReduction p.constraints (proposedWith p.rules) e kept
+  pub maximal : MaximalReduction p.constraints (proposed_with p.rules) e kept
   -- what they propose is accepted
-  pub accepts : a.accepted ≡ proposedWith p.rules e kept
+  pub accepts : a.accepted ≡ proposed_with p.rules e kept
   -- every accepted action was proposed, and no constraint holds among them
   pub within : a.accepted ⊆ proposed p.rules e
   pub satisfies : Satisfies p.constraints e.readings a.accepted
   -- the cancelled actions are the others
-  pub rest : unionActions a.accepted a.cancelled ≡ proposed p.rules e
-  pub apart : (x : Action) → hasAction a.cancelled x ≡ true → hasAction a.accepted x ≡ false
+  pub rest : union_actions a.accepted a.cancelled ≡ proposed p.rules e
+  pub apart : (x : Action) → has_action a.cancelled x ≡ true → has_action a.accepted x ≡ false
   -- giving back one or more dropped events makes a constraint hold
-  pub giving-back : (u : EventSet) → kept ⊑ u → u ⊑ e.events → ¬ (u ≡ kept) → Violated p.constraints e.readings (proposedWith p.rules e u)
+  pub giving_back : (u : EventSet) → kept ⊑ u → u ⊑ e.events → ¬ (u ≡ kept) → Violated p.constraints e.readings (proposed_with p.rules e u)
   -- an event is dropped only for its own trial: the kept lower ones together with it conflict
-  pub own-trial : (x : Event) → hasEvent e.events x ≡ true → hasEvent kept x ≡ false
-      → Violated p.constraints e.readings (proposedWith p.rules e (insertEvent (eventsBelow kept x) x))
+  pub own_trial : (x : Event) → has_event e.events x ≡ true → has_event kept x ≡ false
+      → Violated p.constraints e.readings (proposed_with p.rules e (insert_event (events_below kept x) x))
   -- where nothing clashes, no event is dropped and nothing is cancelled
-  pub conservative : Satisfies p.constraints e.readings (proposed p.rules e) → (kept ≡ e.events) × (a.cancelled ≡ noActions)
+  pub conservative : Satisfies p.constraints e.readings (proposed p.rules e) → (kept ≡ e.events) × (a.cancelled ≡ no_actions)

@@ -4,24 +4,24 @@ use Rattle.std.specs.Prelude.{ℕ, true, List, [], ◌∷◌, map}
 use Prim.Native.String.{String}
 use Rattle.std.proofs.Math.Option
 use Rattle.std.proofs.Math.Option.{Option, some}
-use Rattle.policy.specs.Set.{noActions, actionsFrom}
+use Rattle.policy.specs.Set.{no_actions, actions_from}
 use Rattle.policy.specs.declared.mode.Mode.{Mode}
 use Rattle.pdl.specs.Answer.{Answer, issues}
 use Rattle.lexer.specs.Byte.{bytes}
-use Rattle.rule_text.specs.Text.{policyOf}
-use Rattle.layout.specs.Layout.{imageWords}
-use Rattle.codegen.specs.Compile.{newestForm}
-use Rattle.guarantees.specs.Machine.{machine, machineTold}
+use Rattle.rule_text.specs.Text.{policy_of}
+use Rattle.layout.specs.Layout.{image_words}
+use Rattle.codegen.specs.Compile.{newest_form}
+use Rattle.guarantees.specs.Machine.{machine, machine_told}
 
 pub record Told : Type 0 where
   pub mode : Mode
   pub line : String
 
-abbrev byActions : String → Told
-byActions line = record { mode = Mode.Actions; line = line }
+abbrev by_actions : String → Told
+by_actions line = record { mode = Mode.Actions; line = line }
 
-abbrev byEvents : String → Told
-byEvents line = record { mode = Mode.Events; line = line }
+abbrev by_events : String → Told
+by_events line = record { mode = Mode.Events; line = line }
 
 pub data Example : Type 0 where
   answers : String → List String → Option (List Answer) → Example
@@ -30,10 +30,10 @@ pub data Example : Type 0 where
   told : String → List Told → Option (List Answer) → Example
 
 abbrev decided : List ℕ → List ℕ → Answer
-decided accepted cancelled = issues (actionsFrom accepted) (actionsFrom cancelled)
+decided accepted cancelled = issues (actions_from accepted) (actions_from cancelled)
 
-abbrev refusedUnder : ℕ → Answer
-refusedUnder n = record { is_refused = true; number = n; text = 0; location = 0; accepted = noActions; cancelled = noActions }
+abbrev refused_under : ℕ → Answer
+refused_under n = record { is_refused = true; number = n; text = 0; location = 0; accepted = no_actions; cancelled = no_actions }
 
 abbrev worked : String
 worked = "E1 & !E2 causes A3 if R0 > 40\nE3 causes A4\nnever A3 & A4\n"
@@ -47,7 +47,7 @@ unfoldable pub examples : List Example
 examples =
     -- the five epochs
     answers worked ("E1 E3 R0=41" ∷ "E1 E3 R0=40" ∷ "E1 E2 E3 R0=41" ∷ "" ∷ "E64" ∷ [])
-    (some (decided (3 ∷ []) (4 ∷ []) ∷ decided (4 ∷ []) [] ∷ decided (4 ∷ []) [] ∷ decided [] [] ∷ refusedUnder 13 ∷ []))
+    (some (decided (3 ∷ []) (4 ∷ []) ∷ decided (4 ∷ []) [] ∷ decided (4 ∷ []) [] ∷ decided [] [] ∷ refused_under 13 ∷ []))
     -- the empty text: 01000000, FF000000
     ∷ words "" (some (16777216 ∷ 4278190080 ∷ []))
     -- never A1 & A2, never A2 & A3, all three proposed
@@ -60,7 +60,7 @@ examples =
     ∷ answers "E1 causes A1\nE1 causes A2\nnever A1 & A2 if R0 >= 100\n" ("E1 R0=99" ∷ "E1 R0=100" ∷ [])
     (some (decided (1 ∷ 2 ∷ []) [] ∷ decided (1 ∷ []) (2 ∷ []) ∷ []))
     -- a reading given twice; an event named twice
-    ∷ answers worked ("R0=1 R0=1" ∷ "E1 E1 R0=41" ∷ []) (some (refusedUnder 14 ∷ decided (3 ∷ []) [] ∷ []))
+    ∷ answers worked ("R0=1 R0=1" ∷ "E1 E1 R0=41" ∷ []) (some (refused_under 14 ∷ decided (3 ∷ []) [] ∷ []))
     -- the worked image, 01007003 to B9FF0FC9
     ∷ words worked
     (some (16805891 ∷ 272629764 ∷ 545259523 ∷ 805339137 ∷ 40 ∷ 1354760192 ∷ 281018369 ∷ 1358954496 ∷ 1623195650 ∷ 1627389953 ∷ 1879048192 ∷ 3120500681 ∷ []))
@@ -80,25 +80,25 @@ examples =
     -- a status word, in either form in the text and in the epoch; `0X`, nine digits, and both
     ∷ answers "E1 causes A1 if R0 = 0x8040\nE1 causes A2 if R0 = 32832\nE1 causes A3 if R0 < 0xFFFFFFFF\nnever A1 & A2 if R1 != 0x0\n"
     ("E1 R0=0x8040 R1=0" ∷ "E1 R0=32832 R1=0x00000001" ∷ "E1 R0=0x80000000" ∷ "E1 R0=0X8040" ∷ "E1 R0=0x000008040" ∷ "R0=0x000008040 R1=0x" ∷ [])
-    (some (decided (1 ∷ 2 ∷ []) [] ∷ decided (1 ∷ []) (2 ∷ []) ∷ decided (3 ∷ []) [] ∷ refusedUnder 12 ∷ refusedUnder 13 ∷ refusedUnder 12 ∷ []))
+    (some (decided (1 ∷ 2 ∷ []) [] ∷ decided (1 ∷ []) (2 ∷ []) ∷ decided (3 ∷ []) [] ∷ refused_under 12 ∷ refused_under 13 ∷ refused_under 12 ∷ []))
     -- L7: the five epochs in the second mode
-    ∷ told worked (byEvents "E1 E3 R0=41" ∷ byEvents "E1 E3 R0=40" ∷ byEvents "E1 E2 E3 R0=41" ∷ byEvents "" ∷ byEvents "E64" ∷ [])
-    (some (decided (3 ∷ []) (4 ∷ []) ∷ decided (4 ∷ []) [] ∷ decided (4 ∷ []) [] ∷ decided [] [] ∷ refusedUnder 13 ∷ []))
+    ∷ told worked (by_events "E1 E3 R0=41" ∷ by_events "E1 E3 R0=40" ∷ by_events "E1 E2 E3 R0=41" ∷ by_events "" ∷ by_events "E64" ∷ [])
+    (some (decided (3 ∷ []) (4 ∷ []) ∷ decided (4 ∷ []) [] ∷ decided (4 ∷ []) [] ∷ decided [] [] ∷ refused_under 13 ∷ []))
     -- Example 2 of source document 000: E0 a defective product, E1 an order; A0 stop, A1 mail, A2 charge. By events the order is dropped whole
-    ∷ told "E0 causes A0\nE1 causes A1\nE1 causes A2\nnever A0 & A1\n" (byActions "E0 E1" ∷ byEvents "E0 E1" ∷ byEvents "E1" ∷ [])
+    ∷ told "E0 causes A0\nE1 causes A1\nE1 causes A2\nnever A0 & A1\n" (by_actions "E0 E1" ∷ by_events "E0 E1" ∷ by_events "E1" ∷ [])
     (some (decided (0 ∷ 2 ∷ []) (1 ∷ []) ∷ decided (0 ∷ []) (1 ∷ 2 ∷ []) ∷ decided (1 ∷ 2 ∷ []) [] ∷ []))
     -- E2, a service call, is charged all the same
-    ∷ told "E0 causes A0\nE1 causes A1\nE1 causes A2\nE2 causes A2\nnever A0 & A1\n" (byEvents "E0 E1 E2" ∷ []) (some (decided (0 ∷ 2 ∷ []) (1 ∷ []) ∷ []))
+    ∷ told "E0 causes A0\nE1 causes A1\nE1 causes A2\nE2 causes A2\nnever A0 & A1\n" (by_events "E0 E1 E2" ∷ []) (some (decided (0 ∷ 2 ∷ []) (1 ∷ []) ∷ []))
     -- a dropped event is not absent
-    ∷ told "E0 causes A0\nE1 causes A1\n!E1 causes A2\nnever A0 & A1\n" (byEvents "E0 E1" ∷ byEvents "E0" ∷ [])
+    ∷ told "E0 causes A0\nE1 causes A1\n!E1 causes A2\nnever A0 & A1\n" (by_events "E0 E1" ∷ by_events "E0" ∷ [])
     (some (decided (0 ∷ []) (1 ∷ []) ∷ decided (0 ∷ 2 ∷ []) [] ∷ []))
     -- a clash of rules with negated literals alone
-    ∷ told "!E0 causes A0\n!E0 causes A1\nnever A0 & A1\n" (byEvents "" ∷ byActions "" ∷ byEvents "E0" ∷ [])
-    (some (refusedUnder 17 ∷ decided (0 ∷ []) (1 ∷ []) ∷ decided [] [] ∷ []))
+    ∷ told "!E0 causes A0\n!E0 causes A1\nnever A0 & A1\n" (by_events "" ∷ by_actions "" ∷ by_events "E0" ∷ [])
+    (some (refused_under 17 ∷ decided (0 ∷ []) (1 ∷ []) ∷ decided [] [] ∷ []))
     ∷ []
 
 -- what the definitions say of a row
 unfoldable pub computed : Example → Example
 computed (answers text lines expected) = answers text lines (machine (bytes text) (map bytes lines))
-computed (words text expected) = words text (Option.map (imageWords newestForm) (policyOf (bytes text)))
-computed (told text lines expected) = told text lines (machineTold (bytes text) (map (λ (x : Told). record { mode = x.mode; line = bytes x.line }) lines))
+computed (words text expected) = words text (Option.map (image_words newest_form) (policy_of (bytes text)))
+computed (told text lines expected) = told text lines (machine_told (bytes text) (map (λ (x : Told). record { mode = x.mode; line = bytes x.line }) lines))

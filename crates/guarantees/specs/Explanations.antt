@@ -1,27 +1,26 @@
 -- Document 02, L6: what is claimed of explanations: when there is one, what it says became of an action, which line it shows, and that
 -- what it shows stands in the text.
-use Rattle.std.specs.Prelude.{ℕ, ◌+◌, ◌<◌, ◌≤◌, true, false, ◌↔◌, ◌≡◌, length}
-use mathlib.Core.List.{List, [], ◌∷◌, ◌++◌, Memᴰ}
+use Rattle.std.specs.Prelude.{ℕ, ◌+◌, ◌<◌, ◌≤◌, true, false, ◌↔◌, ◌≡◌, length, List, [], ◌∷◌, ◌++◌}
+use mathlib.Core.List.{Memᴰ}
 use Rattle.std.proofs.Math.Option.{some}
 use Rattle.policy.specs.Epoch.{Epoch}
 use Rattle.policy.specs.Fault.{refusal}
 use Rattle.policy.specs.Line.{PolicyLine, rule, constraint}
-use Rattle.policy.specs.Number.{setLimit}
+use Rattle.policy.specs.Number.{set_limit}
 use Rattle.policy.specs.Policy.{Policy}
-use Rattle.policy.specs.Set.{allEvents, hasAction, insertAction, actionsBelow}
+use Rattle.policy.specs.Set.{ActionSet, all_events, has_action, insert_action, actions_below}
 use Rattle.policy.specs.declared.fault.Fault.{Fault}
 use Rattle.policy.specs.declared.fault.Refusal.{Refusal}
 use Rattle.policy.specs.declared.fault.Source.{Source}
 use Rattle.policy.specs.declared.number.Action.{Action}
-use Rattle.policy.specs.declared.set.ActionSet.{ActionSet}
 use Rattle.pdl.specs.Answer.{Answer}
 use Rattle.pdl.specs.Pdl.{Derives, HoldsOn}
 use Rattle.lexer.specs.Lines.{lines_of}
 use Rattle.syntax.specs.Judge as Judge
-use Rattle.syntax.specs.Judge.{lineAnswer}
-use Rattle.rule_text.specs.Text.{stopped, readTexts, policyOfTexts}
-use Rattle.epoch_line.specs.Epoch.{refused, accepted, readEpoch}
-use Rattle.explanation.specs.Part.{shownPart}
+use Rattle.syntax.specs.Judge.{line_answer}
+use Rattle.rule_text.specs.Text.{stopped, read_texts, policy_of_texts}
+use Rattle.epoch_line.specs.Epoch.{refused, accepted, read_epoch}
+use Rattle.explanation.specs.Part.{shown_part}
 use Rattle.explanation.specs.declared.part.Shown.{Shown}
 use Rattle.explanation.specs.declared.why.Outcome.{Outcome}
 
@@ -33,38 +32,38 @@ action n = record { 0 = n }
 -- the texts, the epoch line and the action's number pass all checks
 pub record Asked (maker site line : List ℕ) (n : ℕ) : Type 0 where
   pub policy : Policy
-  pub both : policyOfTexts maker site ≡ some policy
+  pub both : policy_of_texts maker site ≡ some policy
   pub epoch : Epoch
-  pub read : readEpoch line ≡ accepted epoch
-  pub number : n < setLimit
+  pub read : read_epoch line ≡ accepted epoch
+  pub number : n < set_limit
 
 -- for what one is refused: each only where those before it pass
 pub data Unexplained (maker site line : List ℕ) (n : ℕ) (r : Refusal) : Type 0 where
-  theTexts : readTexts maker site ≡ stopped r → Unexplained maker site line n r
-  theLine : (p : Policy) → policyOfTexts maker site ≡ some p → (f : Fault) → readEpoch line ≡ refused f → r ≡ refusal f 0
+  the_texts : read_texts maker site ≡ stopped r → Unexplained maker site line n r
+  the_line : (p : Policy) → policy_of_texts maker site ≡ some p → (f : Fault) → read_epoch line ≡ refused f → r ≡ refusal f 0
       → Unexplained maker site line n r
-  theAction : (p : Policy) → policyOfTexts maker site ≡ some p → (e : Epoch) → readEpoch line ≡ accepted e → setLimit ≤ n
+  the_action : (p : Policy) → policy_of_texts maker site ≡ some p → (e : Epoch) → read_epoch line ≡ accepted e → set_limit ≤ n
       → r ≡ refusal Fault.EpochRange 0 → Unexplained maker site line n r
 
 -- ---- what became of an action
 
 -- what is told is whether the answer to the epoch has the action in its sets
 pub record Told (answer : Answer) (a : Action) (outcome : Outcome) : Type 0 where
-  pub accepted : (outcome ≡ Outcome.Accepted) ↔ (hasAction answer.accepted a ≡ true)
-  pub cancelled : (outcome ≡ Outcome.Cancelled) ↔ (hasAction answer.cancelled a ≡ true)
-  pub neither : (outcome ≡ Outcome.NotProposed) ↔ ((hasAction answer.accepted a ≡ false) × (hasAction answer.cancelled a ≡ false))
+  pub accepted : (outcome ≡ Outcome.Accepted) ↔ (has_action answer.accepted a ≡ true)
+  pub cancelled : (outcome ≡ Outcome.Cancelled) ↔ (has_action answer.cancelled a ≡ true)
+  pub neither : (outcome ≡ Outcome.NotProposed) ↔ ((has_action answer.accepted a ≡ false) × (has_action answer.cancelled a ≡ false))
 
 -- ---- which line is shown
 
 -- of an accepted action: a rule that by itself derives it
 abbrev pub Proposes : Epoch → Action → PolicyLine → Type 0
-Proposes e a (rule r) = Derives (r ∷ []) (allEvents e.events) e.readings a
+Proposes e a (rule r) = Derives (r ∷ []) (all_events e.events) e.readings a
 Proposes e a (constraint c) = ⊥
 
 -- of a cancelled one: a constraint that holds on the accepted actions under it together with it
 abbrev pub Cancels : Epoch → ActionSet → Action → PolicyLine → Type 0
 Cancels e accepts a (rule r) = ⊥
-Cancels e accepts a (constraint c) = HoldsOn e.readings (insertAction (actionsBelow accepts a) a) c
+Cancels e accepts a (constraint c) = HoldsOn e.readings (insert_action (actions_below accepts a) a) c
 
 -- a line of a policy
 abbrev pub Listed : Policy → PolicyLine → Type 0
@@ -73,17 +72,17 @@ Listed p (constraint c) = Memᴰ c p.constraints
 
 -- no line of a text that is read as a line of a policy says so
 abbrev pub NoneSays : (PolicyLine → Type 0) → List (List ℕ) → Type 0
-NoneSays Says lines = (line : List ℕ) → Memᴰ line lines → (l : PolicyLine) → lineAnswer line ≡ Judge.accepted l → ¬ Says l
+NoneSays Says lines = (line : List ℕ) → Memᴰ line lines → (l : PolicyLine) → line_answer line ≡ Judge.accepted l → ¬ Says l
 
-abbrev pub textOfSource : List ℕ → List ℕ → Source → List ℕ
-textOfSource maker site Source.Neither = []
-textOfSource maker site Source.Maker = maker
-textOfSource maker site Source.Site = site
+abbrev pub text_of_source : List ℕ → List ℕ → Source → List ℕ
+text_of_source maker site Source.Neither = []
+text_of_source maker site Source.Maker = maker
+text_of_source maker site Source.Site = site
 
 -- how many bytes lines have, with their line ends
-unfoldable pub endedLength : List (List ℕ) → ℕ
-endedLength [] = 0
-endedLength (line ∷ lines) = length line + 1 + endedLength lines
+unfoldable pub ended_length : List (List ℕ) → ℕ
+ended_length [] = 0
+ended_length (line ∷ lines) = length line + 1 + ended_length lines
 
 -- no byte but spaces
 abbrev pub Spaces : List ℕ → Type 0
@@ -99,8 +98,8 @@ pub record Trimmed (line part : List ℕ) : Type 0 where
   pub ahead : List ℕ
   pub behind : List ℕ
   pub whole : line ≡ ahead ++ (part ++ behind)
-  pub spaces-ahead : Spaces ahead
-  pub spaces-behind : Spaces behind
+  pub spaces_ahead : Spaces ahead
+  pub spaces_behind : Spaces behind
   pub unspaced : Unspaced part
 
 -- "straight out of the text it came from": from its first byte on it is that part of the text, not empty and within a line
@@ -112,21 +111,21 @@ pub record Straight (text : List ℕ) (shown : Shown) (part : List ℕ) : Type 0
   pub long : length part ≡ shown.length
   pub some : ¬ (part ≡ [])
   pub unspaced : Unspaced part
-  pub no-line-end : ¬ Memᴰ 10 part
+  pub no_line_end : ¬ Memᴰ 10 part
 
 -- the first line of both texts that says so, the maker's lines before the site's, and what is shown of it
 pub record FirstLine (Says : PolicyLine → Type 0) (p : Policy) (maker site : List ℕ) (shown : Shown) : Type 0 where
   pub before : List (List ℕ)
   pub line : List ℕ
   pub behind : List (List ℕ)
-  pub stands : lines_of (textOfSource maker site shown.source) ≡ before ++ line ∷ behind
+  pub stands : lines_of (text_of_source maker site shown.source) ≡ before ++ line ∷ behind
   pub is : PolicyLine
-  pub read : lineAnswer line ≡ Judge.accepted is
+  pub read : line_answer line ≡ Judge.accepted is
   pub listed : Listed p is
   pub says : Says is
   -- no earlier line does
   pub first : NoneSays Says before
   pub makers : shown.source ≡ Source.Site → NoneSays Says (lines_of maker)
-  pub trimmed : Trimmed line (shownPart maker site shown)
-  pub at : shown.start ≡ endedLength before + length trimmed.ahead
-  pub straight : Straight (textOfSource maker site shown.source) shown (shownPart maker site shown)
+  pub trimmed : Trimmed line (shown_part maker site shown)
+  pub at : shown.start ≡ ended_length before + length trimmed.ahead
+  pub straight : Straight (text_of_source maker site shown.source) shown (shown_part maker site shown)

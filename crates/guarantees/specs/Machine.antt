@@ -11,27 +11,27 @@ use Rattle.policy.specs.declared.mode.Mode.{Mode}
 use Rattle.pdl.specs.Answer.{Answer, refuses, issues}
 use Rattle.pdl.specs.Reduction.{issued, withheld, unavoidable}
 use Rattle.pdl.specs.Yield as Yield
-use Rattle.epoch_line.specs.Epoch.{EpochAnswer, refused, accepted, readEpoch}
-use Rattle.rule_text.specs.Text.{policyOf, policyOfTexts}
+use Rattle.epoch_line.specs.Epoch.{EpochAnswer, refused, accepted, read_epoch}
+use Rattle.rule_text.specs.Text.{policy_of, policy_of_texts}
 
 -- what a policy yields on an epoch, in each mode; in the second it may be a refusal
-unfoldable pub yieldIn : Mode → Policy → Epoch → Answer
-yieldIn Mode.Actions p e = issues (Yield.accepted p e) (Yield.cancelled p e)
-yieldIn Mode.Events p e = cond (unavoidable p e) (refuses (refusal Fault.Unavoidable 0)) (issues (issued p e) (withheld p e))
+unfoldable pub yield_in : Mode → Policy → Epoch → Answer
+yield_in Mode.Actions p e = issues (Yield.accepted p e) (Yield.cancelled p e)
+yield_in Mode.Events p e = cond (unavoidable p e) (refuses (refusal Fault.Unavoidable 0)) (issues (issued p e) (withheld p e))
 
 unfoldable pub answer : Mode → Policy → EpochAnswer → Answer
 answer mode p (refused f) = refuses (refusal f 0)
-answer mode p (accepted e) = yieldIn mode p e
+answer mode p (accepted e) = yield_in mode p e
 
 -- "Its step for an epoch line"
-unfoldable pub stepIn : Mode → Policy → List ℕ → Answer
-stepIn mode p line = answer mode p (readEpoch line)
+unfoldable pub step_in : Mode → Policy → List ℕ → Answer
+step_in mode p line = answer mode p (read_epoch line)
 
 -- "It keeps nothing from one line to the next."
 module _ (p : Policy) where
   -- in the first mode
   abbrev pub step : List ℕ → Answer
-  step line = stepIn Mode.Actions p line
+  step line = step_in Mode.Actions p line
 
   unfoldable pub steps : List (List ℕ) → List Answer
   steps lines = map step lines
@@ -42,25 +42,25 @@ pub record ToldLine : Type 0 where
   pub line : List ℕ
 
 -- in the mode of each line
-unfoldable pub stepsTold : Policy → List ToldLine → List Answer
-stepsTold p lines = map (λ (x : ToldLine). stepIn x.mode p x.line) lines
+unfoldable pub steps_told : Policy → List ToldLine → List Answer
+steps_told p lines = map (λ (x : ToldLine). step_in x.mode p x.line) lines
 
 -- "From the text it has the rules and the never lines"; there are none where the text is refused
 unfoldable pub machine_of : Option Policy → List (List ℕ) → Option (List Answer)
 machine_of known lines = Option.map (λ (p : Policy). steps p lines) known
 
-unfoldable pub machineToldOf : Option Policy → List ToldLine → Option (List Answer)
-machineToldOf known lines = Option.map (λ (p : Policy). stepsTold p lines) known
+unfoldable pub machine_told_of : Option Policy → List ToldLine → Option (List Answer)
+machine_told_of known lines = Option.map (λ (p : Policy). steps_told p lines) known
 
 abbrev pub machine : List ℕ → List (List ℕ) → Option (List Answer)
-machine text lines = machine_of (policyOf text) lines
+machine text lines = machine_of (policy_of text) lines
 
-abbrev pub machineTold : List ℕ → List ToldLine → Option (List Answer)
-machineTold text lines = machineToldOf (policyOf text) lines
+abbrev pub machine_told : List ℕ → List ToldLine → Option (List Answer)
+machine_told text lines = machine_told_of (policy_of text) lines
 
 -- document 02, L6: the same from the maker's and the site's text
-abbrev pub machineOfTexts : List ℕ → List ℕ → List (List ℕ) → Option (List Answer)
-machineOfTexts maker site lines = machine_of (policyOfTexts maker site) lines
+abbrev pub machine_of_texts : List ℕ → List ℕ → List (List ℕ) → Option (List Answer)
+machine_of_texts maker site lines = machine_of (policy_of_texts maker site) lines
 
-abbrev pub machineOfTextsTold : List ℕ → List ℕ → List ToldLine → Option (List Answer)
-machineOfTextsTold maker site lines = machineToldOf (policyOfTexts maker site) lines
+abbrev pub machine_of_texts_told : List ℕ → List ℕ → List ToldLine → Option (List Answer)
+machine_of_texts_told maker site lines = machine_told_of (policy_of_texts maker site) lines

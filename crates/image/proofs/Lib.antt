@@ -1,3 +1,2 @@
 pub mod LoadLaws
 pub mod PartLaws
-pub mod WalkerLaws

@@ -1,26 +1,26 @@
 -- Document 01's faults 7 to 10: the size of an image, its form, its counts and its sum.
 use Rattle.std.specs.Prelude.{ℕ, ◌+◌, ◌%◌, Bool, ◌&&◌, List, eqb, leb, length, get_or}
-use Rattle.word.specs.Word.{wordLimit}
-use Rattle.layout.specs.Header.{form_of, ruleCountOf, constraintCountOf}
-use Rattle.layout.specs.Layout.{checkCount, ruleWordLimit, constraintWordLimit, sizeLimit, sum}
+use Rattle.word.specs.Word.{word_limit}
+use Rattle.layout.specs.Header.{form_of, rule_count_of, constraint_count_of}
+use Rattle.layout.specs.Layout.{check_count, rule_word_limit, constraint_word_limit, size_limit, sum}
 
 -- the fields of word 0
-abbrev pub formByte : List ℕ → ℕ
-formByte ws = form_of (get_or ws 0 0)
+abbrev pub form_byte : List ℕ → ℕ
+form_byte ws = form_of (get_or ws 0 0)
 
-abbrev pub ruleCount : List ℕ → ℕ
-ruleCount ws = ruleCountOf (get_or ws 0 0)
+abbrev pub rule_count : List ℕ → ℕ
+rule_count ws = rule_count_of (get_or ws 0 0)
 
-abbrev pub constraintCount : List ℕ → ℕ
-constraintCount ws = constraintCountOf (get_or ws 0 0)
+abbrev pub constraint_count : List ℕ → ℕ
+constraint_count ws = constraint_count_of (get_or ws 0 0)
 
-unfoldable pub wellSized : ℕ → Bool
-wellSized size = leb 8 size && leb size sizeLimit && eqb (size % 4) 0
+unfoldable pub well_sized : ℕ → Bool
+well_sized size = leb 8 size && leb size size_limit && eqb (size % 4) 0
 
-unfoldable pub countsFit : List ℕ → Bool
-countsFit ws =
-    leb (ruleCount ws) (ruleWordLimit (formByte ws)) && leb (constraintCount ws) (constraintWordLimit (formByte ws))
-    && eqb (length ws) (1 + ruleCount ws + constraintCount ws + checkCount (formByte ws))
+unfoldable pub counts_fit : List ℕ → Bool
+counts_fit ws =
+    leb (rule_count ws) (rule_word_limit (form_byte ws)) && leb (constraint_count ws) (constraint_word_limit (form_byte ws))
+    && eqb (length ws) (1 + rule_count ws + constraint_count ws + check_count (form_byte ws))
 
-unfoldable pub sumsToZero : List ℕ → Bool
-sumsToZero ws = eqb (sum ws % wordLimit) 0
+unfoldable pub sums_to_zero : List ℕ → Bool
+sums_to_zero ws = eqb (sum ws % word_limit) 0

@@ -3,22 +3,22 @@ use Rattle.std.specs.Prelude.{ℕ, List, [], ◌∷◌}
 use Rattle.policy.specs.Line.{PolicyLine, rule, constraint}
 use Rattle.policy.specs.Policy.{Policy, Rule, Constraint}
 use Rattle.word.specs.Word.{words_of}
-use Rattle.image.specs.Lines.{Lines, whole, fault, ruleLines, constraintLines}
+use Rattle.image.specs.Lines.{Lines, whole, fault, rule_lines, constraint_lines}
 
-unfoldable pub rulesIn : List PolicyLine → List Rule
-rulesIn [] = []
-rulesIn (rule r ∷ ls) = r ∷ rulesIn ls
-rulesIn (constraint c ∷ ls) = rulesIn ls
+unfoldable pub rules_in : List PolicyLine → List Rule
+rules_in [] = []
+rules_in (rule r ∷ ls) = r ∷ rules_in ls
+rules_in (constraint c ∷ ls) = rules_in ls
 
-unfoldable pub constraintsIn : List PolicyLine → List Constraint
-constraintsIn [] = []
-constraintsIn (rule r ∷ ls) = constraintsIn ls
-constraintsIn (constraint c ∷ ls) = c ∷ constraintsIn ls
+unfoldable pub constraints_in : List PolicyLine → List Constraint
+constraints_in [] = []
+constraints_in (rule r ∷ ls) = constraints_in ls
+constraints_in (constraint c ∷ ls) = c ∷ constraints_in ls
 
-unfoldable pub linesIn : Lines → List PolicyLine
-linesIn (whole ls) = ls
-linesIn (fault at) = []
+unfoldable pub lines_in : Lines → List PolicyLine
+lines_in (whole ls) = ls
+lines_in (fault at) = []
 
-unfoldable pub policyIn : List ℕ → Policy
-policyIn bytes =
-    record { rules = rulesIn (linesIn (ruleLines (words_of bytes))); constraints = constraintsIn (linesIn (constraintLines (words_of bytes))) }
+unfoldable pub policy_in : List ℕ → Policy
+policy_in bytes =
+    record { rules = rules_in (lines_in (rule_lines (words_of bytes))); constraints = constraints_in (lines_in (constraint_lines (words_of bytes))) }

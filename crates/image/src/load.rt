@@ -1,10 +1,10 @@
 // The loader: which bytes are an image, and where its parts stand.
 ghost use Rattle.std.specs.Prelude.{◌≡◌, ◌+◌, ◌/◌, ◌≤◌, length};
 ghost use Rattle.word.specs.Word.{words_of, between};
-ghost use Rattle.image.specs.Check.{wellSized};
-ghost use Rattle.image.specs.Lines.{lines_from, partLines};
-ghost use Rattle.image.specs.Load.{bodyAnswer, load};
-ghost use Rattle.image.specs.Steps.Part.{partAnswer};
+ghost use Rattle.image.specs.Check.{well_sized};
+ghost use Rattle.image.specs.Lines.{lines_from, part_lines};
+ghost use Rattle.image.specs.Load.{body_answer, load};
+ghost use Rattle.image.specs.Steps.Part.{part_answer};
 
 use crate::walker::Walker;
 use layout::{constraint_words_of, form_of, rule_words_of, sum_words};
@@ -21,14 +21,14 @@ const CONSTRAINT_WORD_LIMIT: usize = 1088;
 pub const IMAGE_SIZE: usize = 13064;
 
 // The lines of a part: how many there are, or the first word at which none fits.
-#[derive(Drop)]
+#[derive(Clone, Copy)]
 pub enum PartCheck {
     Lines(usize),
     Fault(usize),
 }
 
 // What stands in an image that the loader took: its form, and how many words and lines each part has.
-#[derive(Drop)]
+#[derive(Clone, Copy)]
 pub struct Contents {
     pub form: u32,
     pub rule_words: usize,
@@ -38,14 +38,14 @@ pub struct Contents {
 }
 
 // The loader's answer.
-#[derive(Drop)]
+#[derive(Clone, Copy)]
 pub enum Loaded {
     Refused(Refusal),
     Image(Contents),
 }
 
 fn well_sized(size: usize) -> bool
-    ensures { result ≡ wellSized size }
+    ensures { result ≡ well_sized size }
 {
     if size < 8 {
         return false;
@@ -59,7 +59,7 @@ fn well_sized(size: usize) -> bool
 // The lines between two words of an image, at most `limit` of them: a walker goes from line to line.
 fn part_lines(image: &[u8], part: Part, start: usize, end: usize, limit: usize) -> PartCheck
     requires { (start ≤ end) × (end ≤ length image.now / 4) }
-    ensures { result ≡ partAnswer 0 (lines_from part limit start (between start end (words_of image.now))) }
+    ensures { result ≡ part_answer 0 (lines_from part limit start (between start end (words_of image.now))) }
 {
     let mut walker = Walker::new(image, start);
     let mut count: usize = 0;
@@ -80,7 +80,7 @@ fn part_lines(image: &[u8], part: Part, start: usize, end: usize, limit: usize) 
 // The lines of both parts, which fit the image.
 fn load_body(image: &[u8], form: u32, rule_words: usize, constraint_words: usize) -> Loaded
     requires { 1 + rule_words + constraint_words ≤ length image.now / 4 }
-    ensures { result ≡ bodyAnswer form rule_words constraint_words (partLines Part.Rules 1 (1 + rule_words) (words_of image.now)) (partLines Part.Constraints (1 + rule_words) (1 + rule_words + constraint_words) (words_of image.now)) }
+    ensures { result ≡ body_answer form rule_words constraint_words (part_lines Part.Rules 1 (1 + rule_words) (words_of image.now)) (part_lines Part.Constraints (1 + rule_words) (1 + rule_words + constraint_words) (words_of image.now)) }
 {
     let middle = 1 + rule_words;
     let rules = part_lines(image, Part::Rules, 1, middle, RULE_LIMIT);

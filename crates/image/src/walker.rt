@@ -2,12 +2,12 @@
 // answered by the functions on the bytes and the index.
 ghost use Rattle.std.specs.Prelude.{◌≡◌, ◌+◌, ◌/◌, min, length};
 ghost use Rattle.word.specs.Word.{words_of, between};
-ghost use Rattle.decode.specs.Decode.{line_at, lineLength};
+ghost use Rattle.decode.specs.Decode.{line_at, line_length};
 
 use decode::line_length;
 use policy::Part;
 
-#[derive(Drop)]
+#[derive(Clone, Copy)]
 pub struct Walker<'a> {
     pub image: &'a [u8],
     pub at: usize,
@@ -37,7 +37,7 @@ impl<'a> Walker<'a> {
 
     // How many words the line has that starts here and ends before the word `end`: 0 where none does.
     pub fn line_length(self, part: Part, end: usize) -> usize
-        ensures { result ≡ lineLength (line_at part (between self.entry.at end (words_of self.entry.image.now))) }
+        ensures { result ≡ line_length (line_at part (between self.entry.at end (words_of self.entry.image.now))) }
     {
         line_length(self.image, part, self.at, end)
     }

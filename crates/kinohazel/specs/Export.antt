@@ -1,33 +1,27 @@
 -- The answers of the functions for C, as numbers: the fault's number and location (document 01: ground and place), 0 where
 -- nothing is refused.
-use Rattle.policy.specs.Fault.{faultNumber, sourceNumber}
+use Rattle.policy.specs.Fault.{fault_number, source_number}
 use Rattle.codegen.specs.declared.Compiled.{Compiled}
 use Rattle.decompile.specs.declared.Decompiled.{Decompiled}
 use Rattle.image.specs.declared.load.Loaded.{Loaded}
-use Rattle.monitor.specs.declared.decision.Decision.{Decision}
 use Rattle.kinohazel.specs.declared.Compilation.{Compilation}
 use Rattle.kinohazel.specs.declared.TextsCompilation.{TextsCompilation}
 use Rattle.kinohazel.specs.declared.TextWritten.{TextWritten}
 use Rattle.kinohazel.specs.declared.ImageCheck.{ImageCheck}
-use Rattle.kinohazel.specs.declared.EpochDecision.{EpochDecision}
 
-unfoldable pub compilationOf : Compiled → Compilation
-compilationOf (Compiled.Refused r) = record { fault = faultNumber r.fault; line = r.location; size = 0 }
-compilationOf (Compiled.Image size) = record { fault = 0; line = 0; size = size }
+unfoldable pub compilation_of : Compiled → Compilation
+compilation_of (Compiled.Refused r) = record { fault = fault_number r.fault; line = r.location; size = 0 }
+compilation_of (Compiled.Image size) = record { fault = 0; line = 0; size = size }
 
 -- with the text that the fault is in (document 02, L6)
-unfoldable pub textsCompilationOf : Compiled → TextsCompilation
-textsCompilationOf (Compiled.Refused r) = record { fault = faultNumber r.fault; text = sourceNumber r.source; line = r.location; size = 0 }
-textsCompilationOf (Compiled.Image size) = record { fault = 0; text = 0; line = 0; size = size }
+unfoldable pub texts_compilation_of : Compiled → TextsCompilation
+texts_compilation_of (Compiled.Refused r) = record { fault = fault_number r.fault; text = source_number r.source; line = r.location; size = 0 }
+texts_compilation_of (Compiled.Image size) = record { fault = 0; text = 0; line = 0; size = size }
 
-unfoldable pub textWrittenOf : Decompiled → TextWritten
-textWrittenOf (Decompiled.Refused r) = record { fault = faultNumber r.fault; word = r.location; size = 0 }
-textWrittenOf (Decompiled.Text size) = record { fault = 0; word = 0; size = size }
+unfoldable pub text_written_of : Decompiled → TextWritten
+text_written_of (Decompiled.Refused r) = record { fault = fault_number r.fault; word = r.location; size = 0 }
+text_written_of (Decompiled.Text size) = record { fault = 0; word = 0; size = size }
 
-unfoldable pub checkOf : Loaded → ImageCheck
-checkOf (Loaded.Refused r) = record { fault = faultNumber r.fault; word = r.location; rules = 0; constraints = 0 }
-checkOf (Loaded.Image contents) = record { fault = 0; word = 0; rules = contents.rules; constraints = contents.constraints }
-
-unfoldable pub decisionOf : Decision → EpochDecision
-decisionOf (Decision.Refused r) = record { fault = faultNumber r.fault; word = r.location; accepted = 0; cancelled = 0; visited = 0 }
-decisionOf (Decision.Issued actions) = record { fault = 0; word = 0; accepted = actions.accepted.0; cancelled = actions.cancelled.0; visited = actions.visited }
+unfoldable pub check_of : Loaded → ImageCheck
+check_of (Loaded.Refused r) = record { fault = fault_number r.fault; word = r.location; rules = 0; constraints = 0 }
+check_of (Loaded.Image contents) = record { fault = 0; word = 0; rules = contents.rules; constraints = contents.constraints }

@@ -1,23 +1,26 @@
 // The functions for C: compile a text or two, write the text of an image, check an image, decide an epoch. Each answers a struct of
 // numbers. Start with specs/Export.antt; include/kinohazel.h is the C side. A slice is never null, not even an empty one: the functions of
 // the header take null pointers and call these. What a controller has no use for stands in kinohazel_tools.
+#![tactic(auto)]
+
 ghost use Rattle.std.specs.Prelude.{◌≡◌};
-ghost use Rattle.policy.specs.Fault.{faultNumber, sourceNumber};
-ghost use Rattle.codegen.specs.Compile.{compiled, compiledTexts};
+ghost use Rattle.policy.specs.Fault.{fault_number, source_number};
+ghost use Rattle.codegen.specs.Compile.{compiled, compiled_texts};
 ghost use Rattle.decompile.specs.Decompile.{decompiled};
 ghost use Rattle.image.specs.Load.{load};
 ghost use Rattle.monitor.specs.Decision.{decision};
-ghost use Rattle.kinohazel.specs.Export.{compilationOf, textsCompilationOf, textWrittenOf, checkOf, decisionOf};
+ghost use Rattle.export.specs.Export.{decision_of};
+ghost use Rattle.kinohazel.specs.Export.{compilation_of, texts_compilation_of, text_written_of, check_of};
 
 use codegen::Compiled;
 use decompile::Decompiled;
+use export::{EpochDecision, epoch_decision, fault_number};
 use image::Loaded;
-use monitor::Decision;
-use policy::{Mode, Refusal, Source};
+use policy::{Mode, Source};
 
 // The fault's number, or 0; its line; how many bytes were written.
 #[repr(C)]
-#[derive(Drop)]
+#[derive(Clone, Copy)]
 pub struct Compilation {
     pub fault: u64,
     pub line: u64,
@@ -26,7 +29,7 @@ pub struct Compilation {
 
 // The fault's number, or 0; its text and its line; how many bytes were written.
 #[repr(C)]
-#[derive(Drop)]
+#[derive(Clone, Copy)]
 pub struct TextsCompilation {
     pub fault: u64,
     pub text: u64,
@@ -36,7 +39,7 @@ pub struct TextsCompilation {
 
 // The fault's number, or 0; the word at fault; how many rules and never lines the image has.
 #[repr(C)]
-#[derive(Drop)]
+#[derive(Clone, Copy)]
 pub struct ImageCheck {
     pub fault: u64,
     pub word: u64,
@@ -46,35 +49,16 @@ pub struct ImageCheck {
 
 // The fault's number, or 0; the word of the image at fault; how many bytes of text were written.
 #[repr(C)]
-#[derive(Drop)]
+#[derive(Clone, Copy)]
 pub struct TextWritten {
     pub fault: u64,
     pub word: u64,
     pub size: u64,
 }
 
-// The fault's number, or 0; the word of the image at fault; the accepted and the cancelled actions, action n as bit n; how many words
-// of the image were fetched to decide the epoch.
-#[repr(C)]
-#[derive(Drop)]
-pub struct EpochDecision {
-    pub fault: u64,
-    pub word: u64,
-    pub accepted: u64,
-    pub cancelled: u64,
-    pub visited: u64,
-}
-
-fn fault_number(refusal: Refusal) -> u64
-    ensures { result ≡ faultNumber refusal.fault }
-{
-    let fault = refusal.fault;
-    fault.number() as u64
-}
-
 #[unsafe(no_mangle)]
 pub extern "C" fn kinohazel_compile_nonnull(text: &[u8], out: &mut [u8]) -> Compilation
-    ensures answer { result ≡ compilationOf (compiled text.now out.old).answer }
+    ensures answer { result ≡ compilation_of (compiled text.now out.old).answer }
     ensures buffer { out.new ≡ (compiled text.now out.old).buffer }
 {
     let answer = codegen::compile(text, out);
@@ -93,7 +77,7 @@ pub extern "C" fn kinohazel_compile_nonnull(text: &[u8], out: &mut [u8]) -> Comp
 }
 
 fn source_number(source: Source) -> u64
-    ensures { result ≡ sourceNumber source }
+    ensures { result ≡ source_number source }
 {
     source.number() as u64
 }
@@ -104,8 +88,8 @@ pub extern "C" fn kinohazel_compile_texts_nonnull(
     site: &[u8],
     out: &mut [u8],
 ) -> TextsCompilation
-    ensures answer { result ≡ textsCompilationOf (compiledTexts maker.now site.now out.old).answer }
-    ensures buffer { out.new ≡ (compiledTexts maker.now site.now out.old).buffer }
+    ensures answer { result ≡ texts_compilation_of (compiled_texts maker.now site.now out.old).answer }
+    ensures buffer { out.new ≡ (compiled_texts maker.now site.now out.old).buffer }
 {
     let answer = codegen::compile_texts(maker, site, out);
     match answer {
@@ -129,7 +113,7 @@ pub extern "C" fn kinohazel_compile_texts_nonnull(
 
 #[unsafe(no_mangle)]
 pub extern "C" fn kinohazel_check_nonnull(image: &[u8]) -> ImageCheck
-    ensures { result ≡ checkOf (load image.now) }
+    ensures { result ≡ check_of (load image.now) }
 {
     let answer = image::load_image(image);
     match answer {
@@ -150,7 +134,7 @@ pub extern "C" fn kinohazel_check_nonnull(image: &[u8]) -> ImageCheck
 
 #[unsafe(no_mangle)]
 pub extern "C" fn kinohazel_text_nonnull(image: &[u8], out: &mut [u8]) -> TextWritten
-    ensures answer { result ≡ textWrittenOf (decompiled image.now out.old).answer }
+    ensures answer { result ≡ text_written_of (decompiled image.now out.old).answer }
     ensures buffer { out.new ≡ (decompiled image.now out.old).buffer }
 {
     let answer = decompile::decompile(image, out);
@@ -168,31 +152,9 @@ pub extern "C" fn kinohazel_text_nonnull(image: &[u8], out: &mut [u8]) -> TextWr
     }
 }
 
-// What is decided of an epoch, as numbers, in either mode.
-pub fn epoch_decision(answer: Decision) -> EpochDecision
-    ensures { result ≡ decisionOf answer }
-{
-    match answer {
-        Decision::Refused(refusal) => EpochDecision {
-            fault: fault_number(refusal),
-            word: refusal.location as u64,
-            accepted: 0,
-            cancelled: 0,
-            visited: 0,
-        },
-        Decision::Issued(actions) => EpochDecision {
-            fault: 0,
-            word: 0,
-            accepted: actions.accepted.0,
-            cancelled: actions.cancelled.0,
-            visited: actions.visited as u64,
-        },
-    }
-}
-
 #[unsafe(no_mangle)]
 pub extern "C" fn kinohazel_decide_nonnull(image: &[u8], line: &[u8]) -> EpochDecision
-    ensures { result ≡ decisionOf (decision image.now line.now) }
+    ensures { result ≡ decision_of (decision image.now line.now) }
 {
     epoch_decision(monitor::decide(image, line, Mode::Actions))
 }

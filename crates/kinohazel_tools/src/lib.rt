@@ -1,11 +1,13 @@
 // The functions for C that a programming station or a fitter's tool calls and a controller does not: explain an action. They are a
 // library of their own, which can be linked beside that of `kinohazel`: in one library a second caller of the run of an image would keep it
 // from being compiled into the decision, which is called in every scan. Start with specs/Export.antt; include/kinohazel.h is the C side.
+#![tactic(auto)]
+
 ghost use Rattle.std.specs.Prelude.{◌≡◌};
-ghost use Rattle.policy.specs.Fault.{faultNumber, sourceNumber};
-ghost use Rattle.policy.specs.Number.{checkAction};
+ghost use Rattle.policy.specs.Fault.{fault_number, source_number};
+ghost use Rattle.policy.specs.Number.{check_action};
 ghost use Rattle.explanation.specs.Why.{explained};
-ghost use Rattle.kinohazel_tools.specs.Export.{outcomeNumber, explanationOf};
+ghost use Rattle.kinohazel_tools.specs.Export.{outcome_number, explanation_of};
 
 use explanation::{Explained, Outcome};
 use policy::Source;
@@ -13,7 +15,7 @@ use policy::Source;
 // The fault's number, or 0; its text and its line; what became of the action: 1 not proposed, 2 accepted, 3 cancelled, 0 on a refusal;
 // and where the part stands that says why: in which text, from which byte on, and how many bytes it has.
 #[repr(C)]
-#[derive(Drop)]
+#[derive(Clone, Copy)]
 pub struct ActionExplanation {
     pub fault: u64,
     pub text: u64,
@@ -25,13 +27,13 @@ pub struct ActionExplanation {
 }
 
 fn source_number(source: Source) -> u64
-    ensures { result ≡ sourceNumber source }
+    ensures { result ≡ source_number source }
 {
     source.number() as u64
 }
 
 fn outcome_number(outcome: Outcome) -> u64
-    ensures { result ≡ outcomeNumber outcome }
+    ensures { result ≡ outcome_number outcome }
 {
     match outcome {
         Outcome::NotProposed => 1,
@@ -42,7 +44,7 @@ fn outcome_number(outcome: Outcome) -> u64
 
 // A number that no action has is one over the last.
 fn action_number(action: u64) -> u32
-    ensures { checkAction result ≡ checkAction action }
+    ensures { check_action result ≡ check_action action }
 {
     if action < 64 { action as u32 } else { 64 }
 }
@@ -54,7 +56,7 @@ pub extern "C" fn kinohazel_explain_nonnull(
     line: &[u8],
     action: u64,
 ) -> ActionExplanation
-    ensures { result ≡ explanationOf (explained maker.now site.now line.now action) }
+    ensures { result ≡ explanation_of (explained maker.now site.now line.now action) }
 {
     let number = action_number(action);
     let answer = explanation::explain(maker, site, line, number);

@@ -1,14 +1,14 @@
 -- Document 01, "Image": the fields of word 0: form (8 bits), number of rule words (12), number of constraint words (12).
 use Rattle.std.specs.Prelude.{ℕ, ◌+◌, ◌*◌, ◌/◌, ◌%◌, ◌^◌}
 
-unfoldable pub packHeader : ℕ → ℕ → ℕ → ℕ
-packHeader form ruleCount constraintCount = form * 2 ^ 24 + ruleCount * 2 ^ 12 + constraintCount
+unfoldable pub pack_header : ℕ → ℕ → ℕ → ℕ
+pack_header form rule_count constraint_count = form * 2 ^ 24 + rule_count * 2 ^ 12 + constraint_count
 
 abbrev pub form_of : ℕ → ℕ
 form_of w = w / 2 ^ 24 % 256
 
-abbrev pub ruleCountOf : ℕ → ℕ
-ruleCountOf w = w / 2 ^ 12 % 4096
+abbrev pub rule_count_of : ℕ → ℕ
+rule_count_of w = w / 2 ^ 12 % 4096
 
-abbrev pub constraintCountOf : ℕ → ℕ
-constraintCountOf w = w % 4096
+abbrev pub constraint_count_of : ℕ → ℕ
+constraint_count_of w = w % 4096

@@ -1,14 +1,14 @@
 // The check words of an image: what brings the sum of its words to 0 modulo 2 ^ 32.
 ghost use Rattle.std.specs.Prelude.{◌≡◌, ◌%◌, take};
-ghost use Rattle.word.specs.Word.{wordLimit, words_of};
-ghost use Rattle.layout.specs.Layout.{sum, checkWords, checkCount};
-ghost use Rattle.word.specs.Steps.Write.{fits, putWords};
+ghost use Rattle.word.specs.Word.{word_limit, words_of};
+ghost use Rattle.layout.specs.Layout.{sum, check_words, check_count};
+ghost use Rattle.word.specs.Steps.Write.{fits, put_words};
 
 use word::{at_most, put_word, word_at};
 
 // The sum of the words before the index `end`.
 pub fn sum_words(bytes: &[u8], end: usize) -> u32
-    ensures { result ≡ sum (take end (words_of bytes.now)) % wordLimit }
+    ensures { result ≡ sum (take end (words_of bytes.now)) % word_limit }
 {
     let count = at_most(end, bytes.len() / 4);
     let mut total: u32 = 0;
@@ -22,8 +22,8 @@ pub fn sum_words(bytes: &[u8], end: usize) -> u32
 
 // The check words for the words before `index`, put in there, and whether they fit.
 pub fn put_check_words(buffer: &mut [u8], form: u8, index: usize) -> bool
-    ensures answer { result ≡ fits buffer.old index (checkCount form) }
-    ensures buffer { buffer.new ≡ putWords buffer.old index (checkWords form (take index (words_of buffer.old))) }
+    ensures answer { result ≡ fits buffer.old index (check_count form) }
+    ensures buffer { buffer.new ≡ put_words buffer.old index (check_words form (take index (words_of buffer.old))) }
 {
     let total = sum_words(buffer, index);
     put_word(buffer, index, std::num::wrapping_sub_u32(0, total))

@@ -1,4 +1,6 @@
 // The layout of an image: word 0, the words of a line, the check words, and writing them. Start with specs/Layout.antt.
+#![tactic(auto)]
+
 mod checksum;
 mod line;
 mod word0;

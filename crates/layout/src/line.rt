@@ -1,10 +1,10 @@
 // Writing a line: its words into a lent buffer.
 ghost use Rattle.std.specs.Prelude.{◌≡◌, ◌+◌, ◌/◌, ◌<◌, ◌≤◌, length, take};
-ghost use Rattle.operation.specs.Parts.{comparisonWords};
-ghost use Rattle.word.specs.Steps.Write.{putWords};
-ghost use Rattle.layout.specs.Layout.{conditionWords};
-ghost use Rattle.layout.specs.Steps.Size.{operandSize, conditionSize};
-ghost use Rattle.layout.specs.Steps.Value.{headWords, testsOf, valueWords};
+ghost use Rattle.operation.specs.Parts.{comparison_words};
+ghost use Rattle.word.specs.Steps.Write.{put_words};
+ghost use Rattle.layout.specs.Layout.{condition_words};
+ghost use Rattle.layout.specs.Steps.Size.{operand_size, condition_size};
+ghost use Rattle.layout.specs.Steps.Value.{head_words, tests_of, value_words};
 
 use line_value::Line;
 use operation::{comparison_word, ending_word, test_word};
@@ -12,7 +12,7 @@ use policy::{COMPARISON_LIMIT, Comparison, Ending, HEAD_LIMIT, Head, Operand, co
 use word::{at_most, put_word};
 
 fn comparison_size(comparison: Comparison) -> usize
-    ensures { result ≡ operandSize comparison.operand }
+    ensures { result ≡ operand_size comparison.operand }
 {
     let operand = comparison.operand;
     match operand {
@@ -23,8 +23,8 @@ fn comparison_size(comparison: Comparison) -> usize
 
 // The words of one comparison, for which there is room.
 fn put_comparison(buffer: &mut [u8], index: usize, comparison: Comparison, skip: u8)
-    requires { index + operandSize comparison.operand ≤ length buffer.old / 4 }
-    ensures { buffer.new ≡ putWords buffer.old index (comparisonWords comparison skip) }
+    requires { index + operand_size comparison.operand ≤ length buffer.old / 4 }
+    ensures { buffer.new ≡ put_words buffer.old index (comparison_words comparison skip) }
 {
     let operand = comparison.operand;
     let word = comparison_word(comparison, skip);
@@ -49,9 +49,9 @@ fn put_condition(
     size: usize,
 )
     requires few { count ≤ 4 }
-    requires sized { size ≡ conditionSize (take count comparisons) }
+    requires sized { size ≡ condition_size (take count comparisons) }
     requires room { index + size ≤ length buffer.old / 4 }
-    ensures { buffer.new ≡ putWords buffer.old index (conditionWords (take count comparisons) ending) }
+    ensures { buffer.new ≡ put_words buffer.old index (condition_words (take count comparisons) ending) }
 {
     let mut at = index;
     let mut left = size;
@@ -73,7 +73,7 @@ fn put_heads(buffer: &mut [u8], index: usize, heads: [Head; HEAD_LIMIT], count: 
     requires within { count ≤ size }
     requires short { size < 33 }
     requires room { index + size ≤ length buffer.old / 4 }
-    ensures { buffer.new ≡ putWords buffer.old index (headWords (testsOf (take count heads)) size) }
+    ensures { buffer.new ≡ put_words buffer.old index (head_words (tests_of (take count heads)) size) }
 {
     let mut i = 0;
     while i < count {
@@ -87,7 +87,7 @@ fn put_heads(buffer: &mut [u8], index: usize, heads: [Head; HEAD_LIMIT], count: 
 // How many words the first `count` comparisons and the ending take.
 fn condition_size(comparisons: [Comparison; COMPARISON_LIMIT], count: usize) -> usize
     requires { count ≤ 4 }
-    ensures { result ≡ conditionSize (take count comparisons) }
+    ensures { result ≡ condition_size (take count comparisons) }
 {
     let mut size: usize = 1;
     let mut i = 0;
@@ -101,8 +101,8 @@ fn condition_size(comparisons: [Comparison; COMPARISON_LIMIT], count: usize) -> 
 
 // The words of a line put in at a word index, and how many they are. Where they do not fit, the buffer stays as it is.
 pub fn put_line(buffer: &mut [u8], index: usize, line: Line) -> usize
-    ensures answer { result ≡ length (valueWords line) }
-    ensures buffer { buffer.new ≡ putWords buffer.old index (valueWords line) }
+    ensures answer { result ≡ length (value_words line) }
+    ensures buffer { buffer.new ≡ put_words buffer.old index (value_words line) }
 {
     let heads = line.heads;
     let comparisons = line.comparisons;

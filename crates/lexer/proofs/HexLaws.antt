@@ -1,70 +1,66 @@
 -- Laws of hexadecimal digits: the loop that reads them keeps the last eight, and they are bytes of a token.
-use Prim.Native.Nat.{ℕ, zero, suc, ◌+◌, ◌*◌, ◌%◌, ◌^◌, ◌<◌, ◌≤◌}
-use mathlib.Core.Bool.{Bool, true, false}
-use mathlib.Core.List.{List, [], ◌∷◌, foldl}
-use mathlib.Core.Path.{◌≡◌, refl, ap, ◌∙◌}
-use native.Mathlib.Nat.{pow-succ', one-le-pow, mul-le-mul_left, mul-le-mul_right}
-use native.Mathlib.Omega.{arith}
-use borrow.Author.Tests.{eqb-true, ltb-true}
-use lib.Dec.{eqb}
-use lib.ListN.{length, get_or, drop}
-use Rattle.policy.proofs.ListLaws.{true-false, and-out}
+use Rattle.std.proofs.Common.{ℕ, zero, suc, ◌+◌, ◌*◌, ◌%◌, ◌^◌, ◌<◌, ◌≤◌, Bool, true, false, List, [], ◌∷◌, ◌≡◌, refl, ap, ◌∙◌, mul-le-mul_left, mul-le-mul_right, arith, eqb-true, ltb-true, length, drop}
+use Rattle.std.proofs.Math.Nat.{pow-succ', one-le-pow}
+use Rattle.std.proofs.Math.Dec.{eqb}
+use Rattle.std.proofs.Math.ListN.{get_or}
+use mathlib.Core.List.{foldl}
+use Rattle.policy.proofs.ListLaws.{true_false, and_out}
 use Rattle.policy.specs.List.{all}
-use Rattle.lexer.proofs.WhileLaws.{while-past}
-use Rattle.lexer.specs.Byte.{hexValue, isHexDigit}
-use Rattle.lexer.specs.Number.{hexNumber}
-use Rattle.lexer.specs.Steps.Scan.{inToken}
-use Rattle.lexer.specs.Lines.{takeWhile}
+use Rattle.lexer.proofs.WhileLaws.{while_past}
+use Rattle.lexer.specs.Byte.{hex_value, is_hex_digit}
+use Rattle.lexer.specs.Number.{hex_number}
+use Rattle.lexer.specs.Steps.Scan.{in_token}
+use Rattle.lexer.specs.Lines.{take_leading}
 
 -- the value of further digits, as a word
-abbrev pub hexFrom : ℕ → List ℕ → ℕ
-hexFrom v ds = foldl (λ (x d : ℕ). x * 16 + hexValue d) v ds
+abbrev pub hex_from : ℕ → List ℕ → ℕ
+hex_from v ds = foldl (λ (x d : ℕ). x * 16 + hex_value d) v ds
 
 -- only the last eight digits count in a word
-word-shift : (v w d : ℕ) → v % 2 ^ 32 ≡ w % 2 ^ 32 → (v * 16 + d) % 2 ^ 32 ≡ (w * 16 + d) % 2 ^ 32
-word-shift v w d e = omega arith
+word_shift : (v w d : ℕ) → v % 2 ^ 32 ≡ w % 2 ^ 32 → (v * 16 + d) % 2 ^ 32 ≡ (w * 16 + d) % 2 ^ 32
+word_shift v w d e = omega arith
 
-pub hex-word : (v w : ℕ) (ds : List ℕ) → v % 2 ^ 32 ≡ w % 2 ^ 32 → hexFrom v ds % 2 ^ 32 ≡ hexFrom w ds % 2 ^ 32
-hex-word v w [] e = e
-hex-word v w (d ∷ ds) e = hex-word (v * 16 + hexValue d) (w * 16 + hexValue d) ds (word-shift v w (hexValue d) e)
+pub hex_word_is : (v w : ℕ) (ds : List ℕ) → v % 2 ^ 32 ≡ w % 2 ^ 32 → hex_from v ds % 2 ^ 32 ≡ hex_from w ds % 2 ^ 32
+hex_word_is v w [] e = e
+hex_word_is v w (d ∷ ds) e = hex_word_is (v * 16 + hex_value d) (w * 16 + hex_value d) ds (word_shift v w (hex_value d) e)
 
 -- the digits from a position on, after a value
-pub hex-past : (text : List ℕ) (i v w : ℕ) → i < length text → isHexDigit (get_or text i 0) ≡ true → w ≡ v % 268435456 * 16 + hexValue (get_or text i 0)
-    → hexFrom v (takeWhile isHexDigit (drop i text)) % 2 ^ 32 ≡ hexFrom w (takeWhile isHexDigit (drop (i + 1) text)) % 2 ^ 32
-hex-past text i v w h e q =
-    ap (λ (l : List ℕ). hexFrom v l % 2 ^ 32) (while-past isHexDigit text i h e)
-    ∙ hex-word (v * 16 + hexValue (get_or text i 0)) w (takeWhile isHexDigit (drop (i + 1) text)) (omega arith)
+pub hex_past : (text : List ℕ) (i v w : ℕ) → i < length text → is_hex_digit (get_or text i 0) ≡ true → w ≡ v % 268435456 * 16 + hex_value (get_or text i 0)
+    → hex_from v (take_leading is_hex_digit (drop i text)) % 2 ^ 32 ≡ hex_from w (take_leading is_hex_digit (drop (i + 1) text)) % 2 ^ 32
+hex_past text i v w h e q =
+    ap (λ (l : List ℕ). hex_from v l % 2 ^ 32) (while_past is_hex_digit text i h e)
+    ∙ hex_word_is (v * 16 + hex_value (get_or text i 0)) w (take_leading is_hex_digit (drop (i + 1) text)) (omega arith)
 
 -- no digit is left
-pub hex-none : (v : ℕ) (l : List ℕ) → v < 4294967296 → l ≡ [] → hexFrom v l % 2 ^ 32 ≡ v
-hex-none v l h e = ap (λ (ds : List ℕ). hexFrom v ds % 2 ^ 32) e ∙ omega arith
+pub hex_none : (v : ℕ) (l : List ℕ) → v < 4294967296 → l ≡ [] → hex_from v l % 2 ^ 32 ≡ v
+hex_none v l h e = ap (λ (ds : List ℕ). hex_from v ds % 2 ^ 32) e ∙ omega arith
 
 -- so many digits are below that power of 16
-hex-below : (k v : ℕ) (ds : List ℕ) → all isHexDigit ds ≡ true → length ds ≤ k → hexFrom v ds < (v + 1) * 16 ^ k
+hex_below : (k v : ℕ) (ds : List ℕ) → all is_hex_digit ds ≡ true → length ds ≤ k → hex_from v ds < (v + 1) * 16 ^ k
 unfolding all
-hex-below k v [] e h = bounded v (16 ^ k) (one-le-pow k 16 (omega arith))
+hex_below k v [] e h = bounded v (16 ^ k) (one-le-pow k 16 (omega arith))
   where
     bounded : (v p : ℕ) → 1 ≤ p → v < (v + 1) * p
     bounded v p l = omega (arith, mul-le-mul_left (v + 1) l)
-hex-below zero v (d ∷ ds) e h = absurd (omega arith)
-hex-below (suc k) v (d ∷ ds) e h =
-    let q = and-out (isHexDigit d) (all isHexDigit ds) e in
-    rw (pow-succ' 16 k) (shifted v (hexValue d) (16 ^ k) (ltb-true (hexValue d) 16 q.0) (hex-below k (v * 16 + hexValue d) ds q.1 (omega arith)))
+hex_below zero v (d ∷ ds) e h = absurd (omega arith)
+hex_below (suc k) v (d ∷ ds) e h =
+    let q = and_out (is_hex_digit d) (all is_hex_digit ds) e in
+    rw (pow-succ' 16 k) (shifted v (hex_value d) (16 ^ k) (ltb-true (hex_value d) 16 q.0) (hex_below k (v * 16 + hex_value d) ds q.1 (omega arith)))
   where
     shifted : {n : ℕ} (v d p : ℕ) → d < 16 → n < (v * 16 + d + 1) * p → n < (v + 1) * (16 * p)
     shifted v d p l h =
         let m : v * 16 + d + 1 ≤ (v + 1) * 16 = omega arith in
         omega (arith, mul-le-mul_right p m)
 
-pub hex-bound : (k : ℕ) (ds : List ℕ) → all isHexDigit ds ≡ true → length ds ≤ k → hexNumber ds < 16 ^ k
-hex-bound k ds e h = let b = hex-below k 0 ds e h in omega arith
+pub hex_bound : (k : ℕ) (ds : List ℕ) → all is_hex_digit ds ≡ true → length ds ≤ k → hex_number ds < 16 ^ k
+hex_bound k ds e h = let b = hex_below k 0 ds e h in omega arith
 
 -- a hexadecimal digit is neither a space nor a line end
-pub hex-inside : (b : ℕ) → isHexDigit b ≡ true → inToken b ≡ true
-unfolding hexValue
-hex-inside b e = go (eqb b 32) (eqb b 10) refl refl
+pub hex_inside : (b : ℕ) → is_hex_digit b ≡ true → in_token b ≡ true
+unfolding hex_value
+hex_inside b e = go (eqb b 32) (eqb b 10) refl refl
   where
-    go : (s n : Bool) → eqb b 32 ≡ s → eqb b 10 ≡ n → inToken b ≡ true
-    go true n p q = absurd (true-false e (ap isHexDigit (eqb-true b 32 p)))
-    go false true p q = absurd (true-false e (ap isHexDigit (eqb-true b 10 q)))
+    go : (s n : Bool) → eqb b 32 ≡ s → eqb b 10 ≡ n → in_token b ≡ true
+    go true n p q = absurd (true_false e (ap is_hex_digit (eqb-true b 32 p)))
+    go false true p q = absurd (true_false e (ap is_hex_digit (eqb-true b 10 q)))
     go false false p q = rw (p, q)

@@ -11,49 +11,49 @@ unfoldable pub bytes : String → List ℕ
 bytes String.[] = []
 bytes (String.◌∷◌ c s) = code c ∷ bytes s
 
-unfoldable pub sameBytes : List ℕ → List ℕ → Bool
-sameBytes [] [] = true
-sameBytes [] (y ∷ ys) = false
-sameBytes (x ∷ xs) [] = false
-sameBytes (x ∷ xs) (y ∷ ys) = eqb x y && sameBytes xs ys
+unfoldable pub bytes_equal : List ℕ → List ℕ → Bool
+bytes_equal [] [] = true
+bytes_equal [] (y ∷ ys) = false
+bytes_equal (x ∷ xs) [] = false
+bytes_equal (x ∷ xs) (y ∷ ys) = eqb x y && bytes_equal xs ys
 
 -- the bytes are those of the keyword
 unfoldable pub is : String → List ℕ → Bool
-is keyword t = sameBytes t (bytes keyword)
+is keyword t = bytes_equal t (bytes keyword)
 
-abbrev pub isSpace : ℕ → Bool
-isSpace b = eqb b (code " ")
+abbrev pub is_space : ℕ → Bool
+is_space b = eqb b (code " ")
 
-abbrev pub isLineEnd : ℕ → Bool
-isLineEnd b = eqb b 10
+abbrev pub is_line_end : ℕ → Bool
+is_line_end b = eqb b 10
 
 -- what a token ends before
-abbrev pub endsToken : ℕ → Bool
-endsToken b = isSpace b || isLineEnd b
+abbrev pub ends_token : ℕ → Bool
+ends_token b = is_space b || is_line_end b
 
-abbrev pub isDigit : ℕ → Bool
-isDigit b = leb (code "0") b && leb b (code "9")
+abbrev pub is_digit : ℕ → Bool
+is_digit b = leb (code "0") b && leb b (code "9")
 
-abbrev pub isLetter : ℕ → Bool
-isLetter b = leb (code "A") b && leb b (code "Z") || leb (code "a") b && leb b (code "z")
+abbrev pub is_letter : ℕ → Bool
+is_letter b = leb (code "A") b && leb b (code "Z") || leb (code "a") b && leb b (code "z")
 
-abbrev pub isSign : ℕ → Bool
-isSign b = any (eqb b) (bytes "&!,=<>-#")
+abbrev pub is_sign : ℕ → Bool
+is_sign b = any (eqb b) (bytes "&!,=<>-#")
 
 unfoldable pub class_of : ℕ → Class
 class_of b =
-    cond (isSpace b) Class.Space
-    (cond (isLineEnd b) Class.LineEnd
-    (cond (isDigit b) Class.Digit
-    (cond (isLetter b) Class.Letter
-    (cond (isSign b) Class.Sign Class.Other))))
+    cond (is_space b) Class.Space
+    (cond (is_line_end b) Class.LineEnd
+    (cond (is_digit b) Class.Digit
+    (cond (is_letter b) Class.Letter
+    (cond (is_sign b) Class.Sign Class.Other))))
 
 -- the value of a hexadecimal digit of either case; 16 for any other byte
-unfoldable pub hexValue : ℕ → ℕ
-hexValue b =
-    cond (isDigit b) (b - code "0")
+unfoldable pub hex_value : ℕ → ℕ
+hex_value b =
+    cond (is_digit b) (b - code "0")
     (cond (leb (code "A") b && leb b (code "F")) (b - code "A" + 10)
     (cond (leb (code "a") b && leb b (code "f")) (b - code "a" + 10) 16))
 
-abbrev pub isHexDigit : ℕ → Bool
-isHexDigit b = ltb (hexValue b) 16
+abbrev pub is_hex_digit : ℕ → Bool
+is_hex_digit b = ltb (hex_value b) 16

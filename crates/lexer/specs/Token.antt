@@ -20,28 +20,28 @@ unfoldable pub named : ℕ → Token → Option ℕ
 named letter [] = none
 named letter (b ∷ bs) = cond (eqb b letter) (number_of bs) none
 
-abbrev pub literalAs : Bool → ℕ → Literal
-literalAs negated n = record { event = record { 0 = n }; negated = negated }
+abbrev pub literal_as : Bool → ℕ → Literal
+literal_as negated n = record { event = record { 0 = n }; negated = negated }
 
 -- `E1` or `!E1`
-unfoldable pub literalOf : Token → Option Literal
-literalOf [] = none
-literalOf (b ∷ bs) = cond (eqb b (code "!")) (map (literalAs true) (named (code "E") bs)) (map (literalAs false) (named (code "E") (b ∷ bs)))
+unfoldable pub literal_of : Token → Option Literal
+literal_of [] = none
+literal_of (b ∷ bs) = cond (eqb b (code "!")) (map (literal_as true) (named (code "E") bs)) (map (literal_as false) (named (code "E") (b ∷ bs)))
 
-abbrev actionAs : ℕ → Action
-actionAs n = record { 0 = n }
+abbrev action_as : ℕ → Action
+action_as n = record { 0 = n }
 
-unfoldable pub actionOf : Token → Option Action
-actionOf t = map actionAs (named (code "A") t)
+unfoldable pub action_of : Token → Option Action
+action_of t = map action_as (named (code "A") t)
 
-abbrev readingAs : ℕ → Reading
-readingAs n = record { 0 = n }
+abbrev reading_as : ℕ → Reading
+reading_as n = record { 0 = n }
 
 unfoldable pub reading_of : Token → Option Reading
-reading_of t = map readingAs (named (code "R") t)
+reading_of t = map reading_as (named (code "R") t)
 
-unfoldable pub relationOf : Token → Option Relation
-relationOf t =
+unfoldable pub relation_of : Token → Option Relation
+relation_of t =
     cond (is "=" t) (some Relation.Equal)
     (cond (is "!=" t) (some Relation.NotEqual)
     (cond (is "<" t) (some Relation.Less)
@@ -49,8 +49,8 @@ relationOf t =
     (cond (is ">" t) (some Relation.Greater)
     (cond (is ">=" t) (some Relation.GreaterOrEqual) none)))))
 
-unfoldable pub operandOf : Token → Option Operand
-operandOf t = or_else (map Operand.Reading (reading_of t)) (map Operand.Constant (constant_of t))
+unfoldable pub operand_of : Token → Option Operand
+operand_of t = or_else (map Operand.Reading (reading_of t)) (map Operand.Constant (constant_of t))
 
 module _ {A B C : Type 0} where
   unfoldable pub both : (A → B → C) → Option A → Option B → Option C
@@ -62,5 +62,5 @@ abbrev pub compare : Reading → Relation → Operand → Comparison
 compare reading relation operand = record { reading = reading; relation = relation; operand = operand }
 
 -- a reading, a relation and an operand
-unfoldable pub comparisonOf : Token → Token → Token → Option Comparison
-comparisonOf r relation o = both (λ (f : Operand → Comparison) (x : Operand). f x) (both compare (reading_of r) (relationOf relation)) (operandOf o)
+unfoldable pub comparison_of : Token → Token → Token → Option Comparison
+comparison_of r relation o = both (λ (f : Operand → Comparison) (x : Operand). f x) (both compare (reading_of r) (relation_of relation)) (operand_of o)

@@ -1,10 +1,10 @@
 // Byte classes.
 ghost use Rattle.std.specs.Prelude.{◌≡◌, ◌&&◌, leb};
-ghost use Rattle.lexer.specs.Byte.{class_of, isSpace, endsToken, isDigit, hexValue};
+ghost use Rattle.lexer.specs.Byte.{class_of, is_space, ends_token, is_digit, hex_value};
 
 use crate::table::entry_of;
 
-#[derive(Drop)]
+#[derive(Clone, Copy)]
 pub enum Class {
     Space,
     LineEnd,
@@ -28,7 +28,7 @@ pub fn class_of(b: u8) -> Class
 }
 
 pub(crate) fn is_space(b: u8) -> bool
-    ensures { result ≡ isSpace b }
+    ensures { result ≡ is_space b }
 {
     let class = class_of(b);
     match class {
@@ -38,7 +38,7 @@ pub(crate) fn is_space(b: u8) -> bool
 }
 
 pub fn is_digit(b: u8) -> bool
-    ensures { result ≡ isDigit b }
+    ensures { result ≡ is_digit b }
 {
     let class = class_of(b);
     match class {
@@ -49,7 +49,7 @@ pub fn is_digit(b: u8) -> bool
 
 // A space or a line end: what stands behind a token.
 pub(crate) fn ends_token(b: u8) -> bool
-    ensures { result ≡ endsToken b }
+    ensures { result ≡ ends_token b }
 {
     let class = class_of(b);
     match class {
@@ -66,7 +66,7 @@ fn within(b: u8, low: u8, high: u8) -> bool
 
 // The value of a hexadecimal digit of either case; 16 for any other byte.
 pub fn hex_value(b: u8) -> u8
-    ensures { result ≡ hexValue b }
+    ensures { result ≡ hex_value b }
 {
     if within(b, b'0', b'9') {
         b - b'0'

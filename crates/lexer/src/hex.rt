@@ -1,6 +1,6 @@
 // Hexadecimal digits.
 ghost use Rattle.std.specs.Prelude.{◌≡◌};
-ghost use Rattle.lexer.specs.Steps.Scan.{hexDigitsAt};
+ghost use Rattle.lexer.specs.Steps.Scan.{hex_digits_at};
 
 use crate::class::hex_value;
 use crate::scan::Digits;
@@ -13,7 +13,7 @@ const SEVEN_DIGITS: u32 = 0x1000_0000;
 
 // The hexadecimal digits at the position. Of more than eight the value is that of the last eight.
 pub fn hex_digits(text: &[u8], at: usize) -> Digits
-    ensures { result ≡ hexDigitsAt text.now at }
+    ensures { result ≡ hex_digits_at text.now at }
 {
     let mut i = at;
     let mut value = 0;

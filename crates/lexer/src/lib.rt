@@ -1,5 +1,7 @@
 // The tokens of rule texts and epoch lines: byte classes, keywords and numbers. Start with specs/Lines.antt (lines and tokens) and
 // specs/Token.antt (what a token is read as).
+#![tactic(auto)]
+
 mod class;
 mod hex;
 mod scan;

@@ -2,21 +2,21 @@
 // text.
 ghost use Rattle.std.specs.Prelude.{◌≡◌, true, ◌+◌, ◌*◌, ◌-◌, ◌≤◌};
 ghost use Rattle.policy.specs.List.{all};
-ghost use Rattle.lexer.specs.Byte.{bytes, isSpace, isDigit};
+ghost use Rattle.lexer.specs.Byte.{bytes, is_space, is_digit};
 ghost use Rattle.lexer.specs.Number.{is_empty};
-ghost use Rattle.lexer.specs.Steps.Scan.{tokenAt, keywordAt, inToken, clip, clipLimit, leadingDigits, digitsAt, number_at, name_at, eventAt, actionAt, readingAt};
-ghost use Rattle.lexer.specs.Lines.{skipWhile, lineEnd};
+ghost use Rattle.lexer.specs.Steps.Scan.{token_at, keyword_at, in_token, clip, clip_limit, leading_digits, digits_at, number_at, name_at, event_at, action_at, reading_at};
+ghost use Rattle.lexer.specs.Lines.{skip_while, line_end};
 
 use crate::class::{ends_token, is_digit, is_space};
 
-#[derive(Drop)]
+#[derive(Clone, Copy)]
 pub enum KeywordAt {
     // The position behind the keyword.
     Found(usize),
     Absent,
 }
 
-#[derive(Drop)]
+#[derive(Clone, Copy)]
 pub enum NumberAt {
     // The number, at most 3,000,000,000, and the position behind it.
     Number(u32, usize),
@@ -25,7 +25,7 @@ pub enum NumberAt {
 
 // The first position from `at` on that holds no space.
 pub fn skip_spaces(text: &[u8], at: usize) -> usize
-    ensures { result ≡ skipWhile isSpace text.now at }
+    ensures { result ≡ skip_while is_space text.now at }
 {
     let mut i = at;
     while i < text.len() {
@@ -40,7 +40,7 @@ pub fn skip_spaces(text: &[u8], at: usize) -> usize
 
 // Where the line of the position ends.
 pub fn line_end(text: &[u8], at: usize) -> usize
-    ensures { result ≡ lineEnd text.now at }
+    ensures { result ≡ line_end text.now at }
 {
     let mut i = at;
     while i < text.len() {
@@ -54,7 +54,7 @@ pub fn line_end(text: &[u8], at: usize) -> usize
 
 // Whether no byte of a token stands at the position.
 pub fn at_token_end(text: &[u8], at: usize) -> bool
-    ensures { result ≡ is_empty (tokenAt text.now at) }
+    ensures { result ≡ is_empty (token_at text.now at) }
 {
     if at < text.len() {
         ends_token(text[at])
@@ -65,8 +65,8 @@ pub fn at_token_end(text: &[u8], at: usize) -> bool
 
 // Whether the token at the position is the keyword, in which no token ends.
 pub(crate) fn keyword_at(text: &[u8], at: usize, keyword: &[u8]) -> KeywordAt
-    requires { all inToken keyword.now ≡ true }
-    ensures { result ≡ keywordAt text.now at keyword.now }
+    requires { all in_token keyword.now ≡ true }
+    ensures { result ≡ keyword_at text.now at keyword.now }
 {
     let mut i = at;
     let mut k = 0;
@@ -88,31 +88,31 @@ pub(crate) fn keyword_at(text: &[u8], at: usize, keyword: &[u8]) -> KeywordAt
 }
 
 pub fn ampersand_at(text: &[u8], at: usize) -> KeywordAt
-    ensures { result ≡ keywordAt text.now at (bytes "&") }
+    ensures { result ≡ keyword_at text.now at (bytes "&") }
 {
     keyword_at(text, at, b"&")
 }
 
 pub fn comma_at(text: &[u8], at: usize) -> KeywordAt
-    ensures { result ≡ keywordAt text.now at (bytes ",") }
+    ensures { result ≡ keyword_at text.now at (bytes ",") }
 {
     keyword_at(text, at, b",")
 }
 
 pub fn if_at(text: &[u8], at: usize) -> KeywordAt
-    ensures { result ≡ keywordAt text.now at (bytes "if") }
+    ensures { result ≡ keyword_at text.now at (bytes "if") }
 {
     keyword_at(text, at, b"if")
 }
 
 pub fn causes_at(text: &[u8], at: usize) -> KeywordAt
-    ensures { result ≡ keywordAt text.now at (bytes "causes") }
+    ensures { result ≡ keyword_at text.now at (bytes "causes") }
 {
     keyword_at(text, at, b"causes")
 }
 
 pub fn never_at(text: &[u8], at: usize) -> KeywordAt
-    ensures { result ≡ keywordAt text.now at (bytes "never") }
+    ensures { result ≡ keyword_at text.now at (bytes "never") }
 {
     keyword_at(text, at, b"never")
 }
@@ -125,8 +125,8 @@ const CLIP_TENTH: u32 = 300_000_000;
 
 // One digit more.
 fn shifted(value: u32, digit: u8) -> u32
-    requires value_le_clip_limit { value ≤ clipLimit }
-    requires digit_value { isDigit digit ≡ true }
+    requires value_le_clip_limit { value ≤ clip_limit }
+    requires digit_value { is_digit digit ≡ true }
     ensures { result ≡ clip (value * 10 + (digit - 48)) }
 {
     if value < CLIP_TENTH {
@@ -136,14 +136,14 @@ fn shifted(value: u32, digit: u8) -> u32
     }
 }
 
-#[derive(Drop)]
+#[derive(Clone, Copy)]
 pub struct Digits {
     pub value: u32,
     pub end: usize,
 }
 
 fn leading_digits(text: &[u8], at: usize) -> Digits
-    ensures { result ≡ leadingDigits text.now at }
+    ensures { result ≡ leading_digits text.now at }
 {
     let mut i = at;
     let mut value = 0;
@@ -161,7 +161,7 @@ fn leading_digits(text: &[u8], at: usize) -> Digits
 
 // The number that the digits at the position are: 0, or digits that do not start with 0.
 pub fn digits_at(text: &[u8], at: usize) -> NumberAt
-    ensures { result ≡ digitsAt text.now at }
+    ensures { result ≡ digits_at text.now at }
 {
     let digits = leading_digits(text, at);
     let end = digits.end;
@@ -197,7 +197,7 @@ pub fn number_at(text: &[u8], at: usize) -> NumberAt
 
 // The number of a token that is a letter and a number.
 fn name_at(text: &[u8], at: usize, letter: u8) -> NumberAt
-    requires { inToken letter ≡ true }
+    requires { in_token letter ≡ true }
     ensures { result ≡ name_at text.now at letter }
 {
     if text.len() <= at {
@@ -212,21 +212,21 @@ fn name_at(text: &[u8], at: usize, letter: u8) -> NumberAt
 
 // The number of a token that names an event.
 pub fn event_at(text: &[u8], at: usize) -> NumberAt
-    ensures { result ≡ eventAt text.now at }
+    ensures { result ≡ event_at text.now at }
 {
     name_at(text, at, b'E')
 }
 
 // The number of a token that names an action.
 pub fn action_at(text: &[u8], at: usize) -> NumberAt
-    ensures { result ≡ actionAt text.now at }
+    ensures { result ≡ action_at text.now at }
 {
     name_at(text, at, b'A')
 }
 
 // The number of a token that names a reading.
 pub fn reading_at(text: &[u8], at: usize) -> NumberAt
-    ensures { result ≡ readingAt text.now at }
+    ensures { result ≡ reading_at text.now at }
 {
     name_at(text, at, b'R')
 }

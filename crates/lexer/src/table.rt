@@ -1,7 +1,7 @@
 // The table of the classes of bytes.
 ghost use Rattle.std.specs.Prelude.{◌≡◌, ◌+◌, ◌<◌, ◌≤◌};
 ghost use Rattle.lexer.specs.Byte.{class_of};
-ghost use Rattle.lexer.specs.Steps.Table.{entry_at, classMark};
+ghost use Rattle.lexer.specs.Steps.Table.{entry_at, class_mark};
 
 // An entry for each byte, 64 to a line: `_` is a space, `n` a line end, `0` a digit, `a` a letter, `!` a sign, `.` any other.
 //
@@ -41,7 +41,7 @@ fn line_entry(classes: &[u8; 256], from: usize, low: u8) -> u8
 
 // The entry at `b`: that of the last line that starts at or before it. With `else` the back end would find no short comparisons.
 pub(crate) fn entry_of(b: u8) -> u8
-    ensures { result ≡ classMark (class_of b) }
+    ensures { result ≡ class_mark (class_of b) }
 {
     let classes = CLASSES;
     let mut entry = line_entry(&classes, 0, b);

@@ -1,81 +1,76 @@
 -- Laws of the lists that the value of a line holds: a list with one item more, and a list within its limit.
-use Prim.Native.Nat.{ℕ, suc, ◌+◌, ◌-◌, ◌≤◌, ◌<◌, min}
-use mathlib.Core.Bool.{Bool, true, false}
-use mathlib.Core.List.{List, [], ◌∷◌, ◌++◌}
-use mathlib.Core.Path.{◌≡◌, refl, sym, ap, ap₂, ◌∙◌}
-use native.Mathlib.Omega.{arith}
-use borrow.Author.Tests.{lt-ltb, le-ltb, ltb-true, ltb-false}
-use lib.Dec.{ltb}
-use lib.ListN.{length, take, set, replicate, length-append}
-use lib.Seq.{take_all, take-append-le, take-append_seam, set_at, append_snoc}
-use Rattle.line_value.specs.Steps.Push.{pushItem, pushCount}
+use Rattle.std.proofs.Common.{ℕ, suc, ◌+◌, ◌-◌, ◌≤◌, ◌<◌, min, Bool, true, false, List, [], ◌∷◌, ◌++◌, ◌≡◌, refl, sym, ap, ap₂, ◌∙◌, arith, lt-ltb, le-ltb, ltb-true, ltb-false, length, take, replicate, length-append, take_all}
+use Rattle.std.proofs.Math.Dec.{ltb}
+use Rattle.std.proofs.Math.ListN.{set}
+use Rattle.std.proofs.Math.Seq.{take-append-le, take-append_seam, set_at, append_snoc}
+use Rattle.line_value.specs.Steps.Push.{push_item, push_count}
 use Rattle.line_value.specs.Value.{padded, counted}
 
 module _ {A : Type 0} (limit : ℕ) (filler : A) (xs : List A) (x : A) where
-  length-snoc : length (xs ++ x ∷ []) ≡ length xs + 1
-  length-snoc = length-append xs (x ∷ [])
+  length_snoc : length (xs ++ x ∷ []) ≡ length xs + 1
+  length_snoc = length-append xs (x ∷ [])
 
-  padded-room : (k : ℕ) → limit - length xs ≡ suc k → length xs < limit → set (padded limit filler xs) (length xs) x ≡ padded limit filler (xs ++ x ∷ [])
+  padded_room : (k : ℕ) → limit - length xs ≡ suc k → length xs < limit → set (padded limit filler xs) (length xs) x ≡ padded limit filler (xs ++ x ∷ [])
   unfolding padded
-  padded-room k e h =
-      let room : k ≡ limit - length (xs ++ x ∷ []) = omega (arith, length-snoc) in
+  padded_room k e h =
+      let room : k ≡ limit - length (xs ++ x ∷ []) = omega (arith, length_snoc) in
       ap (λ (l : List A). set (l ++ replicate (limit - length xs) filler) (length xs) x) (take_all limit xs (omega arith))
       ∙ ap (λ (n : ℕ). set (xs ++ replicate n filler) (length xs) x) e
       ∙ set_at xs filler (replicate k filler) x (length xs) refl
       ∙ sym (append_snoc xs x (replicate k filler))
-      ∙ ap₂ (λ (l : List A) (n : ℕ). l ++ replicate n filler) (sym (take_all limit (xs ++ x ∷ []) (omega (arith, length-snoc)))) room
+      ∙ ap₂ (λ (l : List A) (n : ℕ). l ++ replicate n filler) (sym (take_all limit (xs ++ x ∷ []) (omega (arith, length_snoc)))) room
 
-  padded-full : limit ≤ length xs → padded limit filler xs ≡ padded limit filler (xs ++ x ∷ [])
+  padded_full : limit ≤ length xs → padded limit filler xs ≡ padded limit filler (xs ++ x ∷ [])
   unfolding padded
-  padded-full h =
-      let room : limit - length xs ≡ limit - length (xs ++ x ∷ []) = omega (arith, length-snoc) in
+  padded_full h =
+      let room : limit - length xs ≡ limit - length (xs ++ x ∷ []) = omega (arith, length_snoc) in
       ap₂ (λ (l : List A) (n : ℕ). l ++ replicate n filler) (sym (take-append-le limit xs (x ∷ []) h)) room
 
-  counted-room : length xs ≤ limit → counted limit xs ≡ length xs
+  counted_room : length xs ≤ limit → counted limit xs ≡ length xs
   unfolding counted
-  counted-room h = omega arith
+  counted_room h = omega arith
 
-  counted-past : limit ≤ length xs → limit ≤ counted limit xs
+  counted_past : limit ≤ length xs → limit ≤ counted limit xs
   unfolding counted
-  counted-past h = omega arith
+  counted_past h = omega arith
 
   -- with room for one more
-  pub room-counted : length xs < limit → counted limit xs < limit
+  pub room_counted : length xs < limit → counted limit xs < limit
   unfolding counted
-  room-counted h = omega arith
+  room_counted h = omega arith
 
-  pub item-more : length xs < limit → set (padded limit filler xs) (counted limit xs) x ≡ padded limit filler (xs ++ x ∷ [])
-  item-more h = rw (counted-room (omega arith)) (padded-room (limit - suc (length xs)) (omega arith) h)
+  pub item_more : length xs < limit → set (padded limit filler xs) (counted limit xs) x ≡ padded limit filler (xs ++ x ∷ [])
+  item_more h = rw (counted_room (omega arith)) (padded_room (limit - suc (length xs)) (omega arith) h)
 
-  pub count-more : length xs < limit → counted limit xs + 1 ≡ counted limit (xs ++ x ∷ [])
+  pub count_more : length xs < limit → counted limit xs + 1 ≡ counted limit (xs ++ x ∷ [])
   unfolding counted
-  count-more h = omega (arith, length-snoc)
+  count_more h = omega (arith, length_snoc)
 
   -- with room or not
-  pub push-item : pushItem limit (padded limit filler xs) (counted limit xs) x ≡ padded limit filler (xs ++ x ∷ [])
-  push-item = go (ltb (length xs) limit) refl
+  pub push_item_is : push_item limit (padded limit filler xs) (counted limit xs) x ≡ padded limit filler (xs ++ x ∷ [])
+  push_item_is = go (ltb (length xs) limit) refl
     where
-      go : (b : Bool) → ltb (length xs) limit ≡ b → pushItem limit (padded limit filler xs) (counted limit xs) x ≡ padded limit filler (xs ++ x ∷ [])
+      go : (b : Bool) → ltb (length xs) limit ≡ b → push_item limit (padded limit filler xs) (counted limit xs) x ≡ padded limit filler (xs ++ x ∷ [])
       go true e =
           let h : length xs < limit = ltb-true (length xs) limit e in
-          rw (lt-ltb (counted limit xs) limit (room-counted h)) (item-more h)
+          rw (lt-ltb (counted limit xs) limit (room_counted h)) (item_more h)
       go false e =
           let h : limit ≤ length xs = ltb-false (length xs) limit e in
-          rw (le-ltb (counted limit xs) limit (counted-past h)) (padded-full h)
+          rw (le-ltb (counted limit xs) limit (counted_past h)) (padded_full h)
 
-  pub push-count : pushCount limit (counted limit xs) ≡ counted limit (xs ++ x ∷ [])
+  pub push_count_is : push_count limit (counted limit xs) ≡ counted limit (xs ++ x ∷ [])
   unfolding counted
-  push-count = go (ltb (length xs) (suc limit)) refl
+  push_count_is = go (ltb (length xs) (suc limit)) refl
     where
-      go : (b : Bool) → ltb (length xs) (suc limit) ≡ b → pushCount limit (counted limit xs) ≡ counted limit (xs ++ x ∷ [])
+      go : (b : Bool) → ltb (length xs) (suc limit) ≡ b → push_count limit (counted limit xs) ≡ counted limit (xs ++ x ∷ [])
       go true e =
           let h : length xs < suc limit = ltb-true (length xs) (suc limit) e in
           let m : min (length xs) (suc limit) ≡ length xs = omega arith in
-          rw (m, e) (omega (arith, length-snoc))
+          rw (m, e) (omega (arith, length_snoc))
       go false e =
           let h : suc limit ≤ length xs = ltb-false (length xs) (suc limit) e in
           let m : min (length xs) (suc limit) ≡ suc limit = omega arith in
-          rw (m, le-ltb (suc limit) (suc limit) (omega arith)) (omega (arith, length-snoc))
+          rw (m, le-ltb (suc limit) (suc limit) (omega arith)) (omega (arith, length_snoc))
 
 -- ---- the value of a line that is not crowded holds all of it
 

@@ -1,7 +1,7 @@
 -- The value that holds a line: a list is cut at a limit and filled up to it, and counted to one past it.
 use Rattle.std.specs.Prelude.{ℕ, suc, ◌-◌, min, List, ◌++◌, map, pos, length, take, replicate}
-use Rattle.policy.specs.Limits.{headLimit, comparisonLimit}
-use Rattle.policy.specs.Line.{PolicyLine, headsOf, comparisonsOf, endingOf}
+use Rattle.policy.specs.Limits.{head_limit, comparison_limit}
+use Rattle.policy.specs.Line.{PolicyLine, heads_of, comparisons_of, ending_of}
 use Rattle.policy.specs.declared.comparison.Comparison.{Comparison}
 use Rattle.policy.specs.declared.comparison.Operand.{Operand}
 use Rattle.policy.specs.declared.comparison.Relation.{Relation}
@@ -17,11 +17,11 @@ module _ {A : Type 0} where
   unfoldable pub counted : ℕ → List A → ℕ
   counted limit xs = min (length xs) (suc limit)
 
-abbrev pub noHead : Head
-noHead = record { 0 = Test.Member (record { 0 = 0 }) }
+abbrev pub no_head : Head
+no_head = record { 0 = Test.Member (record { 0 = 0 }) }
 
-abbrev pub noComparison : Comparison
-noComparison = record { reading = record { 0 = 0 }; relation = Relation.Equal; operand = Operand.Constant (pos 0) }
+abbrev pub no_comparison : Comparison
+no_comparison = record { reading = record { 0 = 0 }; relation = Relation.Equal; operand = Operand.Constant (pos 0) }
 
 abbrev pub head : Test → Head
 head t = record { 0 = t }
@@ -29,12 +29,12 @@ head t = record { 0 = t }
 unfoldable pub line_of : List Test → List Comparison → Ending → Line
 line_of heads comparisons ending =
     record {
-      heads = padded headLimit noHead (map head heads);
-      head_count = counted headLimit (map head heads);
-      comparisons = padded comparisonLimit noComparison comparisons;
-      comparison_count = counted comparisonLimit comparisons;
+      heads = padded head_limit no_head (map head heads);
+      head_count = counted head_limit (map head heads);
+      comparisons = padded comparison_limit no_comparison comparisons;
+      comparison_count = counted comparison_limit comparisons;
       ending = ending;
     }
 
-unfoldable pub lineValue : PolicyLine → Line
-lineValue l = line_of (headsOf l) (comparisonsOf l) (endingOf l)
+unfoldable pub line_value : PolicyLine → Line
+line_value l = line_of (heads_of l) (comparisons_of l) (ending_of l)

@@ -1,8 +1,10 @@
 // A line of a rule text by value: a rule or a constraint, with its parts in text order.
+#![tactic(auto)]
+
 ghost use Rattle.std.specs.Prelude.{◌≡◌, [], map, ◌≤◌, take};
-ghost use Rattle.policy.specs.Limits.{headNumber};
-ghost use Rattle.policy.specs.Line.{constantCount};
-ghost use Rattle.policy.specs.Steps.Seen.{seenIn};
+ghost use Rattle.policy.specs.Limits.{head_number};
+ghost use Rattle.policy.specs.Line.{constant_count};
+ghost use Rattle.policy.specs.Steps.Seen.{seen_in};
 ghost use Rattle.line_value.specs.Value.{line_of};
 
 use policy::{
@@ -12,7 +14,7 @@ use policy::{
 
 // Up to eight heads and four comparisons. What is past the counts is filler. A count of nine or five says that there
 // were more, which are not held.
-#[derive(Drop)]
+#[derive(Clone, Copy)]
 pub struct Line {
     pub heads: [Head; HEAD_LIMIT],
     pub head_count: usize,
@@ -24,7 +26,7 @@ pub struct Line {
 impl Line {
     // Whether some event or action stands twice among the heads.
     pub fn has_repeats(self) -> bool
-        ensures { result ≡ seenIn 0 (map headNumber (take self.head_count self.heads)) }
+        ensures { result ≡ seen_in 0 (map head_number (take self.head_count self.heads)) }
     {
         let heads = self.heads;
         let count = self.head_count;
@@ -48,7 +50,7 @@ impl Line {
 
     // How many of the comparisons that the line holds have a constant.
     pub fn constants(self) -> usize
-        ensures value { result ≡ constantCount (take self.comparison_count self.comparisons) }
+        ensures value { result ≡ constant_count (take self.comparison_count self.comparisons) }
         ensures upper_bound { result ≤ 4 }
     {
         let comparisons = self.comparisons;

@@ -1,20 +1,19 @@
 -- Each row of the table of runs is as document 01 says.
-use mathlib.Core.List.{map}
-use mathlib.Core.Path.{◌≡◌, refl}
-use Rattle.policy.specs.Comparison.{comparisonHolds, relationHolds, operandValue, eqZ, missingHolds, valuesRelate}
-use Rattle.policy.specs.Epoch.{valueIn, readingValue}
-use Rattle.policy.specs.Limits.{testNumber}
-use Rattle.policy.specs.Line.{headsOf, comparisonsOf, endingOf}
+use Rattle.std.proofs.Common.{map, ◌≡◌, refl}
+use Rattle.policy.specs.Comparison.{comparison_holds, relation_holds, operand_value, eq_z, missing_holds, values_relate}
+use Rattle.policy.specs.Epoch.{reading_value}
+use Rattle.policy.specs.Limits.{test_number}
+use Rattle.policy.specs.Line.{heads_of, comparisons_of, ending_of}
 use Rattle.policy.specs.List.{any}
 use Rattle.policy.specs.Set.{has, insert}
 use Rattle.operation.specs.Fields.{pack}
-use Rattle.operation.specs.Operation.{operationFrom, relationFrom}
-use Rattle.operation.specs.Parts.{testOperation, testWord, operand_word, constantWords, comparisonWord, comparisonWords, endingWord, constantComparison, readingComparison}
-use Rattle.layout.specs.Layout.{conditionWords, partWords, lineWords, linesWords, ruleWords, constraintWords}
-use Rattle.run.specs.Run.{ran, comparisonTest, ruleTest, constraintTest, proposesAt, runRules, isNever, runConstraints}
+use Rattle.operation.specs.Operation.{operation_from, relation_from}
+use Rattle.operation.specs.Parts.{test_operation, test_word, operand_word, constant_words, comparison_word, comparison_words, ending_word, constant_comparison, reading_comparison}
+use Rattle.layout.specs.Layout.{condition_words, part_words, line_words, lines_words, rule_part_words, constraint_part_words}
+use Rattle.run.specs.Run.{ran, comparison_test, rule_test, constraint_test, proposes_at, run_rules, is_never, run_constraints}
 use Rattle.exactness.specs.Examples.{worked}
 use Rattle.meaning.specs.Examples.{runs, computed}
 
-pub runs-hold : map computed runs ≡ runs
-unfolding worked runs computed testNumber pack operationFrom relationFrom testOperation testWord operand_word constantWords comparisonWord comparisonWords endingWord constantComparison readingComparison conditionWords partWords lineWords linesWords ruleWords constraintWords headsOf comparisonsOf endingOf ran comparisonTest ruleTest constraintTest proposesAt runRules isNever runConstraints any comparisonHolds relationHolds operandValue eqZ valueIn readingValue missingHolds valuesRelate has insert
-runs-hold = refl
+pub runs_hold : map computed runs ≡ runs
+unfolding worked runs computed test_number pack operation_from relation_from test_operation test_word operand_word constant_words comparison_word comparison_words ending_word constant_comparison reading_comparison condition_words part_words line_words lines_words rule_part_words constraint_part_words heads_of comparisons_of ending_of ran comparison_test rule_test constraint_test proposes_at run_rules is_never run_constraints any comparison_holds relation_holds operand_value eq_z reading_value missing_holds values_relate has insert
+runs_hold = refl

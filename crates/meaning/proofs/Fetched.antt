@@ -1,98 +1,92 @@
 -- How many words of a taken image its parts fetch at the most: each part ends with the ending of a line, which has no constant.
-use Prim.Native.Nat.{ℕ, ◌+◌, ◌≤◌}
-use mathlib.Core.Bool.{true}
-use mathlib.Core.List.{List, [], ◌∷◌, ◌++◌, map}
-use mathlib.Core.Path.{◌≡◌, refl, ap, ◌∙◌}
-use native.Mathlib.Omega.{arith}
-use borrow.Author.Tests.{ltb-true}
-use lib.ListN.{length, take, length-take, length-drop, length-append}
-use Rattle.policy.proofs.ListLaws.{and-out}
-use Rattle.policy.proofs.ValidLaws.{valid-out}
+use Rattle.std.proofs.Common.{ℕ, ◌+◌, ◌≤◌, true, List, [], ◌∷◌, ◌++◌, map, ◌≡◌, refl, ap, ◌∙◌, arith, ltb-true, length, take, length-take, length-drop, length-append}
+use Rattle.policy.specs.Set.{ActionSet}
+use Rattle.policy.proofs.ListLaws.{and_out}
+use Rattle.policy.proofs.ValidLaws.{valid_out}
 use Rattle.policy.specs.Epoch.{Readings}
-use Rattle.policy.specs.Limits.{valid, endingInRange}
-use Rattle.policy.specs.Line.{PolicyLine, rule, constraint, headsOf, comparisonsOf, endingOf}
+use Rattle.policy.specs.Limits.{valid, ending_in_range}
+use Rattle.policy.specs.Line.{PolicyLine, rule, constraint, heads_of, comparisons_of, ending_of}
 use Rattle.policy.specs.List.{all}
 use Rattle.policy.specs.declared.comparison.Comparison.{Comparison}
 use Rattle.policy.specs.declared.line.Ending.{Ending}
 use Rattle.policy.specs.declared.line.Test.{Test}
-use Rattle.policy.specs.declared.set.ActionSet.{ActionSet}
 use Rattle.policy.specs.declared.set.Events.{Events}
 use Rattle.word.specs.Word.{Bytes, words_of, between}
-use Rattle.operation.proofs.PartsLaws.{causes-operation, never-operation}
-use Rattle.operation.specs.Fields.{operationOf}
-use Rattle.operation.specs.Parts.{testWord, comparisonWords, endingWord}
-use Rattle.layout.proofs.LayoutLaws.{condition-length, part_length, condition-size-limit}
-use Rattle.layout.specs.Layout.{conditionWords, partWords, lineWords, linesWords, ruleWords, constraintWords}
-use Rattle.image.specs.Held.{policyIn}
+use Rattle.operation.proofs.PartsLaws.{causes_operation, never_operation}
+use Rattle.operation.specs.Fields.{operation_of}
+use Rattle.operation.specs.Parts.{test_word, comparison_words, ending_word}
+use Rattle.layout.proofs.LayoutLaws.{condition_length, part_length, condition_size_limit}
+use Rattle.layout.specs.Layout.{condition_words, part_words, line_words, lines_words, rule_part_words, constraint_part_words}
+use Rattle.image.specs.Held.{policy_in}
 use Rattle.image.specs.Load.{load}
 use Rattle.image.specs.declared.load.Contents.{Contents}
 use Rattle.image.specs.declared.load.Loaded.{Loaded}
-use Rattle.exactness.proofs.Exact.{held-acceptable, taken-rules, taken-constraints}
-use Rattle.run.proofs.FetchLaws.{lastConstants, last-behind, rule-fetches, trial-fetches}
-use Rattle.run.specs.Run.{constantCount, ruleFetches, trialFetches}
+use Rattle.exactness.proofs.Exact.{held_acceptable, taken_rules, taken_constraints}
+use Rattle.run.proofs.FetchLaws.{last_constants, last_behind, rule_fetches_is, trial_fetches_is}
+use Rattle.run.specs.Run.{constant_count, rule_fetches, trial_fetches}
 
 -- ---- the last word of lines
 
-last-append : (ws vs : List ℕ) → 1 ≤ length vs → lastConstants (ws ++ vs) ≡ lastConstants vs
-last-append [] vs h = refl
-last-append (w ∷ ws) vs h = last-behind w (ws ++ vs) (omega (arith, length-append ws vs)) ∙ last-append ws vs h
+last_append : (ws vs : List ℕ) → 1 ≤ length vs → last_constants (ws ++ vs) ≡ last_constants vs
+last_append [] vs h = refl
+last_append (w ∷ ws) vs h = last_behind w (ws ++ vs) (omega (arith, length-append ws vs)) ∙ last_append ws vs h
 
-last-both : (ws vs : List ℕ) → lastConstants ws ≡ 0 → lastConstants vs ≡ 0 → lastConstants (ws ++ vs) ≡ 0
-last-both [] vs p q = q
-last-both (w ∷ []) [] p q = p
-last-both (w ∷ []) (v ∷ vs) p q = q
-last-both (w ∷ x ∷ ws) vs p q = last-both (x ∷ ws) vs p q
+last_both : (ws vs : List ℕ) → last_constants ws ≡ 0 → last_constants vs ≡ 0 → last_constants (ws ++ vs) ≡ 0
+last_both [] vs p q = q
+last_both (w ∷ []) [] p q = p
+last_both (w ∷ []) (v ∷ vs) p q = q
+last_both (w ∷ x ∷ ws) vs p q = last_both (x ∷ ws) vs p q
 
-ending-constants : (e : Ending) → endingInRange e ≡ true → constantCount (operationOf (endingWord e)) ≡ 0
-unfolding endingInRange
-ending-constants (Ending.Causes a) h = ap constantCount (causes-operation a (ltb-true a.0 64 h))
-ending-constants Ending.Never h = ap constantCount never-operation
+ending_constants : (e : Ending) → ending_in_range e ≡ true → constant_count (operation_of (ending_word e)) ≡ 0
+unfolding ending_in_range
+ending_constants (Ending.Causes a) h = ap constant_count (causes_operation a (ltb-true a.0 64 h))
+ending_constants Ending.Never h = ap constant_count never_operation
 
-module _ (e : Ending) (h : endingInRange e ≡ true) where
-  condition-last : (cs : List Comparison) → lastConstants (conditionWords cs e) ≡ 0
-  unfolding conditionWords
-  condition-last [] = ending-constants e h
-  condition-last (c ∷ cs) =
-      last-append (comparisonWords c (length (conditionWords cs e))) (conditionWords cs e) (omega (arith, condition-length cs e, (condition-size-limit cs).0)) ∙ condition-last cs
+module _ (e : Ending) (h : ending_in_range e ≡ true) where
+  condition_last : (cs : List Comparison) → last_constants (condition_words cs e) ≡ 0
+  unfolding condition_words
+  condition_last [] = ending_constants e h
+  condition_last (c ∷ cs) =
+      last_append (comparison_words c (length (condition_words cs e))) (condition_words cs e) (omega (arith, condition_length cs e, (condition_size_limit cs).0)) ∙ condition_last cs
 
-  part-last : (ts : List Test) (cs : List Comparison) → lastConstants (partWords ts cs e) ≡ 0
-  unfolding partWords
-  part-last [] cs = condition-last cs
-  part-last (t ∷ ts) cs =
-      last-behind (testWord t (length (partWords ts cs e))) (partWords ts cs e) (omega (arith, part_length ts cs e, (condition-size-limit cs).0)) ∙ part-last ts cs
+  part_last : (ts : List Test) (cs : List Comparison) → last_constants (part_words ts cs e) ≡ 0
+  unfolding part_words
+  part_last [] cs = condition_last cs
+  part_last (t ∷ ts) cs =
+      last_behind (test_word t (length (part_words ts cs e))) (part_words ts cs e) (omega (arith, part_length ts cs e, (condition_size_limit cs).0)) ∙ part_last ts cs
 
-lines-last : (ls : List PolicyLine) → all valid ls ≡ true → lastConstants (linesWords ls) ≡ 0
-unfolding linesWords lineWords all
-lines-last [] v = refl
-lines-last (l ∷ ls) v =
-    let p = and-out (valid l) (all valid ls) v in
-    last-both (lineWords l) (linesWords ls) (part-last (endingOf l) (valid-out l p.0).ending (headsOf l) (comparisonsOf l)) (lines-last ls p.1)
+lines_last : (ls : List PolicyLine) → all valid ls ≡ true → last_constants (lines_words ls) ≡ 0
+unfolding lines_words line_words all
+lines_last [] v = refl
+lines_last (l ∷ ls) v =
+    let p = and_out (valid l) (all valid ls) v in
+    last_both (line_words l) (lines_words ls) (part_last (ending_of l) (valid_out l p.0).ending (heads_of l) (comparisons_of l)) (lines_last ls p.1)
 
 -- ---- the parts of a taken image
 
 module _ (bytes : List ℕ) (bounded : Bytes bytes) (contents : Contents) (taken : load bytes ≡ Loaded.Image contents) (rs : Readings) where
   -- its rules fetch at most as many words as they have
-  pub taken-rules-fetch : (ev : Events) → ruleFetches ev rs (between 1 (1 + contents.rule_words) (words_of bytes)) ≤ contents.rule_words
-  unfolding between ruleWords
-  taken-rules-fetch ev =
-      let ok = held-acceptable bytes bounded contents taken in
-      let last : lastConstants (between 1 (1 + contents.rule_words) (words_of bytes)) ≡ 0 =
-      ap lastConstants (taken-rules bytes bounded contents taken) ∙ lines-last (map rule (policyIn bytes).rules) ok.rules-valid in
+  pub taken_rules_fetch : (ev : Events) → rule_fetches ev rs (between 1 (1 + contents.rule_words) (words_of bytes)) ≤ contents.rule_words
+  unfolding between rule_part_words
+  taken_rules_fetch ev =
+      let ok = held_acceptable bytes bounded contents taken in
+      let last : last_constants (between 1 (1 + contents.rule_words) (words_of bytes)) ≡ 0 =
+      ap last_constants (taken_rules bytes bounded contents taken) ∙ lines_last (map rule (policy_in bytes).rules) ok.rules_valid in
       omega (
         arith,
-        rule-fetches rs (between 1 (1 + contents.rule_words) (words_of bytes)) ev,
+        rule_fetches_is rs (between 1 (1 + contents.rule_words) (words_of bytes)) ev,
         length-drop 1 (take (1 + contents.rule_words) (words_of bytes)),
         length-take (1 + contents.rule_words) (words_of bytes),
       )
 
   -- and so does each trial by its constraints
-  pub taken-trial-fetch : (s : ActionSet)
-      → trialFetches rs s (between (1 + contents.rule_words) (1 + contents.rule_words + contents.constraint_words) (words_of bytes)) ≤ contents.constraint_words
-  unfolding between constraintWords
-  taken-trial-fetch s =
-      let ok = held-acceptable bytes bounded contents taken in
+  pub taken_trial_fetch : (s : ActionSet)
+      → trial_fetches rs s (between (1 + contents.rule_words) (1 + contents.rule_words + contents.constraint_words) (words_of bytes)) ≤ contents.constraint_words
+  unfolding between constraint_part_words
+  taken_trial_fetch s =
+      let ok = held_acceptable bytes bounded contents taken in
       let middle = 1 + contents.rule_words in
       let end = 1 + contents.rule_words + contents.constraint_words in
-      let last : lastConstants (between middle end (words_of bytes)) ≡ 0 =
-      ap lastConstants (taken-constraints bytes bounded contents taken) ∙ lines-last (map constraint (policyIn bytes).constraints) ok.constraints-valid in
-      omega (arith, trial-fetches rs (between middle end (words_of bytes)) s, length-drop middle (take end (words_of bytes)), length-take end (words_of bytes))
+      let last : last_constants (between middle end (words_of bytes)) ≡ 0 =
+      ap last_constants (taken_constraints bytes bounded contents taken) ∙ lines_last (map constraint (policy_in bytes).constraints) ok.constraints_valid in
+      omega (arith, trial_fetches_is rs (between middle end (words_of bytes)) s, length-drop middle (take end (words_of bytes)), length-take end (words_of bytes))

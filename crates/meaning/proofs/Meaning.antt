@@ -1,21 +1,17 @@
 -- What the words of a policy do when they are run is what the policy yields.
-use Prim.Native.Nat.{ℕ, suc, ◌+◌, ◌<◌}
-use mathlib.Core.Bool.{Bool, true, false, not, cond, ◌&&◌, ◌||◌, and_assoc}
-use mathlib.Core.List.{List, [], ◌∷◌, ◌++◌, map, foldl}
-use mathlib.Core.Path.{◌≡◌, refl, sym, ap, ◌∙◌}
-use native.Mathlib.Omega.{arith}
-use borrow.Author.Tests.{ltb-true}
-use lib.ListN.{length, drop, get_or, length-map}
-use lib.Seq.{drop_at}
-use Rattle.policy.proofs.ListLaws.{and-out}
-use Rattle.policy.specs.Comparison.{comparisonHolds}
+use Rattle.std.proofs.Common.{ℕ, suc, ◌+◌, ◌<◌, Bool, true, false, not, cond, ◌&&◌, ◌||◌, List, [], ◌∷◌, ◌++◌, map, ◌≡◌, refl, sym, ap, ◌∙◌, arith, ltb-true, length, drop, drop_at}
+use Rattle.std.proofs.Math.Bool.{and_assoc}
+use Rattle.std.proofs.Math.ListN.{get_or, length-map}
+use mathlib.Core.List.{foldl}
+use Rattle.policy.proofs.ListLaws.{and_out}
+use Rattle.policy.specs.Comparison.{comparison_holds}
 use Rattle.policy.specs.Epoch.{Readings}
-use Rattle.policy.specs.Limits.{valid, testNumber, comparisonInRange, endingInRange}
-use Rattle.policy.specs.Line.{rule, constraint, headsOf, comparisonsOf, endingOf}
+use Rattle.policy.specs.Limits.{valid, test_number, comparison_in_range, ending_in_range}
+use Rattle.policy.specs.Line.{rule, constraint, heads_of, comparisons_of, ending_of}
 use Rattle.policy.specs.List.{all, any}
 use Rattle.policy.specs.Policy.{Policy, Rule, Constraint}
-use Rattle.policy.specs.Set.{hasEvent, hasAction, insertAction, noActions}
-use Rattle.pdl.specs.Yield.{literalHolds, ruleHolds, propose, proposals, constraintHolds, conflict}
+use Rattle.policy.specs.Set.{ActionSet, has_event, has_action, insert_action, no_actions}
+use Rattle.pdl.specs.Yield.{literal_holds, rule_holds, propose, proposals, constraint_holds, conflict}
 use Rattle.policy.specs.declared.comparison.Comparison.{Comparison}
 use Rattle.policy.specs.declared.comparison.Literal.{Literal}
 use Rattle.policy.specs.declared.line.Ending.{Ending}
@@ -23,74 +19,73 @@ use Rattle.policy.specs.declared.line.Part.{Part}
 use Rattle.policy.specs.declared.line.Test.{Test}
 use Rattle.policy.specs.declared.number.Action.{Action}
 use Rattle.policy.specs.declared.number.Event.{Event}
-use Rattle.policy.specs.declared.set.ActionSet.{ActionSet}
 use Rattle.policy.specs.declared.set.Events.{Events}
-use Rattle.operation.proofs.PartsLaws.{Written, withConstant, withReading, written, literalOperation, literal-operation, literal-event, member-operation, member-action, test-skip, causes-operation, causes-action, never-operation}
-use Rattle.layout.proofs.LayoutLaws.{condition-length, part_length, condition-size-limit}
-use Rattle.run.proofs.RunLaws.{ran-pass}
-use Rattle.policy.proofs.ValidLaws.{valid-out, testInRange}
-use Rattle.layout.specs.Layout.{conditionWords, partWords, lineWords, linesWords, ruleWords, constraintWords}
-use Rattle.layout.specs.Steps.Size.{comparisonsSize, conditionSize}
-use Rattle.operation.specs.Parts.{testWord, comparisonWords, endingWord, eventFrom, constantComparison, readingComparison}
+use Rattle.operation.proofs.PartsLaws.{Written, with_constant, with_reading, written, literal_operation, literal_operation_is, literal_event, member_operation, member_action, test_skip, causes_operation, causes_action, never_operation}
+use Rattle.layout.proofs.LayoutLaws.{condition_length, part_length, condition_size_limit}
+use Rattle.run.proofs.RunLaws.{ran_pass}
+use Rattle.policy.proofs.ValidLaws.{valid_out, test_in_range}
+use Rattle.layout.specs.Layout.{condition_words, part_words, line_words, lines_words, rule_part_words, constraint_part_words}
+use Rattle.layout.specs.Steps.Size.{comparisons_size, condition_size}
+use Rattle.operation.specs.Parts.{test_word, comparison_words, ending_word, event_from, constant_comparison, reading_comparison}
 use Rattle.operation.specs.declared.operation.Operation.{Operation}
-use Rattle.run.specs.Run.{constantCount, passes, ran, comparisonTest, ruleTest, constraintTest, proposesAt, proposing, runRules, isNever, endsConstraint, runConstraints}
-use Rattle.operation.specs.Fields.{skipOf, operationOf}
+use Rattle.run.specs.Run.{constant_count, passes, ran, comparison_test, rule_test, constraint_test, proposes_at, proposing, run_rules, is_never, ends_constraint, run_constraints}
+use Rattle.operation.specs.Fields.{skip_of, operation_of}
 
 -- a test that fails passes over `skip` further words
 abbrev passed : Bool → ℕ → ℕ
-passed holds w = cond holds 0 (skipOf w)
+passed holds w = cond holds 0 (skip_of w)
 
 -- ---- a line, for any way of running that tests comparisons by operations 3 and 4
 
 module _ {A : Type 0} (run : ℕ → List ℕ → A) (pass : (n : ℕ) (ws : List ℕ) → run n ws ≡ run 0 (drop n ws)) (holds : Comparison → Bool)
-    (constant : (w k : ℕ) (ws : List ℕ) → operationOf w ≡ Operation.AgainstConstant → run 0 (w ∷ k ∷ ws) ≡ run (passed (holds (constantComparison w k)) w) ws)
-    (reading : (w : ℕ) (ws : List ℕ) → operationOf w ≡ Operation.AgainstReading → run 0 (w ∷ ws) ≡ run (passed (holds (readingComparison w)) w) ws)
-    (ending : Ending) (final : List ℕ → A) (ends : (ws : List ℕ) → run 0 (endingWord ending ∷ ws) ≡ final ws) where
+    (constant : (w k : ℕ) (ws : List ℕ) → operation_of w ≡ Operation.AgainstConstant → run 0 (w ∷ k ∷ ws) ≡ run (passed (holds (constant_comparison w k)) w) ws)
+    (reading : (w : ℕ) (ws : List ℕ) → operation_of w ≡ Operation.AgainstReading → run 0 (w ∷ ws) ≡ run (passed (holds (reading_comparison w)) w) ws)
+    (ending : Ending) (final : List ℕ → A) (ends : (ws : List ℕ) → run 0 (ending_word ending ∷ ws) ≡ final ws) where
   -- a test before the rest of its line: the line goes on where it holds, and is left where it fails
-  after_test : (holds' : Bool) (w : ℕ) (tail rest : List ℕ) (others : Bool) → skipOf w ≡ length tail → run 0 (tail ++ rest) ≡ cond others (final rest) (run 0 rest)
+  after_test : (holds' : Bool) (w : ℕ) (tail rest : List ℕ) (others : Bool) → skip_of w ≡ length tail → run 0 (tail ++ rest) ≡ cond others (final rest) (run 0 rest)
       → run (passed holds' w) (tail ++ rest) ≡ cond (holds' && others) (final rest) (run 0 rest)
   after_test true w tail rest others e h = h
-  after_test false w tail rest others e h = pass (skipOf w) (tail ++ rest) ∙ ap (run 0) (drop_at tail rest (skipOf w) (sym e))
+  after_test false w tail rest others e h = pass (skip_of w) (tail ++ rest) ∙ ap (run 0) (drop_at tail rest (skip_of w) (sym e))
 
-  condition-run : (cs : List Comparison) (rest : List ℕ) → all comparisonInRange cs ≡ true → conditionSize cs < 32 → run 0 (conditionWords cs ending ++ rest) ≡ cond (all holds cs) (final rest) (run 0 rest)
-  unfolding conditionWords conditionSize comparisonsSize all
-  condition-run [] rest r l = ends rest
-  condition-run (c ∷ cs) rest r l = go (condition-run cs rest p.1 (omega arith)) (written c (length tail) p.0 (omega (arith, condition-length cs ending)))
+  condition_run : (cs : List Comparison) (rest : List ℕ) → all comparison_in_range cs ≡ true → condition_size cs < 32 → run 0 (condition_words cs ending ++ rest) ≡ cond (all holds cs) (final rest) (run 0 rest)
+  unfolding condition_words condition_size comparisons_size all
+  condition_run [] rest r l = ends rest
+  condition_run (c ∷ cs) rest r l = go (condition_run cs rest p.1 (omega arith)) (written c (length tail) p.0 (omega (arith, condition_length cs ending)))
     where
       tail : List ℕ
-      tail = conditionWords cs ending
+      tail = condition_words cs ending
 
-      p : (comparisonInRange c ≡ true) × (all comparisonInRange cs ≡ true)
-      p = and-out (comparisonInRange c) (all comparisonInRange cs) r
+      p : (comparison_in_range c ≡ true) × (all comparison_in_range cs ≡ true)
+      p = and_out (comparison_in_range c) (all comparison_in_range cs) r
 
-      go : run 0 (tail ++ rest) ≡ cond (all holds cs) (final rest) (run 0 rest) → Written c (length tail) → run 0 (comparisonWords c (length tail) ++ tail ++ rest) ≡ cond (holds c && all holds cs) (final rest) (run 0 rest)
-      go later (withConstant w v e o s b _ _) =
+      go : run 0 (tail ++ rest) ≡ cond (all holds cs) (final rest) (run 0 rest) → Written c (length tail) → run 0 (comparison_words c (length tail) ++ tail ++ rest) ≡ cond (holds c && all holds cs) (final rest) (run 0 rest)
+      go later (with_constant w v e o s b _ _) =
           ap (λ (ws : List ℕ). run 0 (ws ++ tail ++ rest)) e ∙ constant w v (tail ++ rest) o ∙ ap (λ (x : Comparison). run (passed (holds x) w) (tail ++ rest)) b
           ∙ after_test (holds c) w tail rest (all holds cs) s later
-      go later (withReading w e o s b _ _) =
+      go later (with_reading w e o s b _ _) =
           ap (λ (ws : List ℕ). run 0 (ws ++ tail ++ rest)) e ∙ reading w (tail ++ rest) o ∙ ap (λ (x : Comparison). run (passed (holds x) w) (tail ++ rest)) b
           ∙ after_test (holds c) w tail rest (all holds cs) s later
 
   module _ {X : Type 0} (wrap : X → Test) (test : X → Bool)
-      (head : (x : X) (k : ℕ) (ws : List ℕ) → testNumber (wrap x) < 64 → k < 32 → run 0 (testWord (wrap x) k ∷ ws) ≡ run (passed (test x) (testWord (wrap x) k)) ws)
+      (head : (x : X) (k : ℕ) (ws : List ℕ) → test_number (wrap x) < 64 → k < 32 → run 0 (test_word (wrap x) k ∷ ws) ≡ run (passed (test x) (test_word (wrap x) k)) ws)
       (cs : List Comparison) where
-    heads-run : (xs : List X) (rest : List ℕ) → all testInRange (map wrap xs) ≡ true → all comparisonInRange cs ≡ true → length xs + conditionSize cs < 32
-        → run 0 (partWords (map wrap xs) cs ending ++ rest) ≡ cond (all test xs && all holds cs) (final rest) (run 0 rest)
-    unfolding partWords all
-    heads-run [] rest t r l = condition-run cs rest r (omega arith)
-    heads-run (x ∷ xs) rest t r l =
+    heads_run : (xs : List X) (rest : List ℕ) → all test_in_range (map wrap xs) ≡ true → all comparison_in_range cs ≡ true → length xs + condition_size cs < 32
+        → run 0 (part_words (map wrap xs) cs ending ++ rest) ≡ cond (all test xs && all holds cs) (final rest) (run 0 rest)
+    unfolding part_words all
+    heads_run [] rest t r l = condition_run cs rest r (omega arith)
+    heads_run (x ∷ xs) rest t r l =
         head x (length tail) (tail ++ rest) n k
-        ∙ after_test (test x) (testWord (wrap x) (length tail)) tail rest (all test xs && all holds cs) (test-skip (wrap x) (length tail) n k) (heads-run xs rest p.1 r (omega arith))
+        ∙ after_test (test x) (test_word (wrap x) (length tail)) tail rest (all test xs && all holds cs) (test_skip (wrap x) (length tail) n k) (heads_run xs rest p.1 r (omega arith))
         ∙ ap (λ (b : Bool). cond b (final rest) (run 0 rest)) (sym (and_assoc (test x) (all test xs) (all holds cs)))
       where
         tail : List ℕ
-        tail = partWords (map wrap xs) cs ending
+        tail = part_words (map wrap xs) cs ending
 
-        p : (testInRange (wrap x) ≡ true) × (all testInRange (map wrap xs) ≡ true)
-        p = and-out (testInRange (wrap x)) (all testInRange (map wrap xs)) t
+        p : (test_in_range (wrap x) ≡ true) × (all test_in_range (map wrap xs) ≡ true)
+        p = and_out (test_in_range (wrap x)) (all test_in_range (map wrap xs)) t
 
-        n : testNumber (wrap x) < 64
-        n = ltb-true (testNumber (wrap x)) 64 p.0
+        n : test_number (wrap x) < 64
+        n = ltb-true (test_number (wrap x)) 64 p.0
 
         k : length tail < 32
         k = omega (arith, part_length (map wrap xs) cs ending, length-map xs wrap)
@@ -104,165 +99,165 @@ none_more : (n : ℕ) → 0 + n ≡ n
 none_more n = omega arith
 
 module _ (test : Operation → ℕ → ℕ → Bool) where
-  ran-head : (w : ℕ) (ws : List ℕ) (op : Operation) → operationOf w ≡ op → ran test 0 (w ∷ ws) ≡ w ∷ ran test (passes (test op w (get_or ws 0 0)) op w) ws
+  ran_head : (w : ℕ) (ws : List ℕ) (op : Operation) → operation_of w ≡ op → ran test 0 (w ∷ ws) ≡ w ∷ ran test (passes (test op w (get_or ws 0 0)) op w) ws
   unfolding ran
-  ran-head w ws op o = ap (λ (x : Operation). w ∷ ran test (passes (test x w (get_or ws 0 0)) x w) ws) o
+  ran_head w ws op o = ap (λ (x : Operation). w ∷ ran test (passes (test x w (get_or ws 0 0)) x w) ws) o
 
   -- behind a comparison with a constant, which is passed over
-  ran-constant : (w k : ℕ) (ws : List ℕ) → operationOf w ≡ Operation.AgainstConstant → ran test 0 (w ∷ k ∷ ws) ≡ w ∷ ran test (passed (test Operation.AgainstConstant w k) w) ws
+  ran_constant : (w k : ℕ) (ws : List ℕ) → operation_of w ≡ Operation.AgainstConstant → ran test 0 (w ∷ k ∷ ws) ≡ w ∷ ran test (passed (test Operation.AgainstConstant w k) w) ws
   unfolding ran
-  ran-constant w k ws o = ran-head w (k ∷ ws) Operation.AgainstConstant o ∙ ap (λ (n : ℕ). w ∷ ran test n (k ∷ ws)) (one_more (passed (test Operation.AgainstConstant w k) w))
+  ran_constant w k ws o = ran_head w (k ∷ ws) Operation.AgainstConstant o ∙ ap (λ (n : ℕ). w ∷ ran test n (k ∷ ws)) (one_more (passed (test Operation.AgainstConstant w k) w))
 
   -- behind any other word
-  ran-other : (w : ℕ) (ws : List ℕ) (op : Operation) → operationOf w ≡ op → constantCount op ≡ 0 → ran test 0 (w ∷ ws) ≡ w ∷ ran test (passed (test op w (get_or ws 0 0)) w) ws
-  ran-other w ws op o z = ran-head w ws op o ∙ ap (λ (n : ℕ). w ∷ ran test n ws) (ap (λ (m : ℕ). m + passed (test op w (get_or ws 0 0)) w) z ∙ none_more (passed (test op w (get_or ws 0 0)) w))
+  ran_other : (w : ℕ) (ws : List ℕ) (op : Operation) → operation_of w ≡ op → constant_count op ≡ 0 → ran test 0 (w ∷ ws) ≡ w ∷ ran test (passed (test op w (get_or ws 0 0)) w) ws
+  ran_other w ws op o z = ran_head w ws op o ∙ ap (λ (n : ℕ). w ∷ ran test n ws) (ap (λ (m : ℕ). m + passed (test op w (get_or ws 0 0)) w) z ∙ none_more (passed (test op w (get_or ws 0 0)) w))
 
 module _ (ev : Events) (rs : Readings) where
   -- what is proposed in the end, with what is proposed so far
   abbrev more : ActionSet → ℕ → List ℕ → ActionSet
-  more s n ws = foldl proposing s (ran (ruleTest ev rs) n ws)
+  more s n ws = foldl proposing s (ran (rule_test ev rs) n ws)
 
   -- a word that proposes nothing
-  idle : (s : ActionSet) (w : ℕ) (rest : List ℕ) (op : Operation) → operationOf w ≡ op → proposesAt op w s ≡ s → foldl proposing s (w ∷ rest) ≡ foldl proposing s rest
-  idle s w rest op o e = ap (λ (x : ActionSet). foldl proposing x rest) (ap (λ (p : Operation). proposesAt p w s) o ∙ e)
+  idle : (s : ActionSet) (w : ℕ) (rest : List ℕ) (op : Operation) → operation_of w ≡ op → proposes_at op w s ≡ s → foldl proposing s (w ∷ rest) ≡ foldl proposing s rest
+  idle s w rest op o e = ap (λ (x : ActionSet). foldl proposing x rest) (ap (λ (p : Operation). proposes_at p w s) o ∙ e)
 
   -- a word other than a comparison with a constant, which proposes nothing
-  quiet : (s : ActionSet) (w : ℕ) (ws : List ℕ) (op : Operation) → operationOf w ≡ op → constantCount op ≡ 0 → proposesAt op w s ≡ s
-      → more s 0 (w ∷ ws) ≡ more s (passed (ruleTest ev rs op w (get_or ws 0 0)) w) ws
-  quiet s w ws op o z e = ap (foldl proposing s) (ran-other (ruleTest ev rs) w ws op o z) ∙ idle s w (ran (ruleTest ev rs) (passed (ruleTest ev rs op w (get_or ws 0 0)) w) ws) op o e
+  quiet : (s : ActionSet) (w : ℕ) (ws : List ℕ) (op : Operation) → operation_of w ≡ op → constant_count op ≡ 0 → proposes_at op w s ≡ s
+      → more s 0 (w ∷ ws) ≡ more s (passed (rule_test ev rs op w (get_or ws 0 0)) w) ws
+  quiet s w ws op o z e = ap (foldl proposing s) (ran_other (rule_test ev rs) w ws op o z) ∙ idle s w (ran (rule_test ev rs) (passed (rule_test ev rs op w (get_or ws 0 0)) w) ws) op o e
 
   module _ (s : ActionSet) where
-    rules-pass : (n : ℕ) (ws : List ℕ) → more s n ws ≡ more s 0 (drop n ws)
-    rules-pass n ws = ap (foldl proposing s) (ran-pass (ruleTest ev rs) n ws)
+    rules_pass : (n : ℕ) (ws : List ℕ) → more s n ws ≡ more s 0 (drop n ws)
+    rules_pass n ws = ap (foldl proposing s) (ran_pass (rule_test ev rs) n ws)
 
-    rules-constant : (w k : ℕ) (ws : List ℕ) → operationOf w ≡ Operation.AgainstConstant → more s 0 (w ∷ k ∷ ws) ≡ more s (passed (comparisonHolds Part.Rules rs (constantComparison w k)) w) ws
-    unfolding ruleTest comparisonTest proposesAt
-    rules-constant w k ws o = ap (foldl proposing s) (ran-constant (ruleTest ev rs) w k ws o) ∙ idle s w (ran (ruleTest ev rs) (passed (ruleTest ev rs Operation.AgainstConstant w k) w) ws) Operation.AgainstConstant o refl
+    rules_constant : (w k : ℕ) (ws : List ℕ) → operation_of w ≡ Operation.AgainstConstant → more s 0 (w ∷ k ∷ ws) ≡ more s (passed (comparison_holds Part.Rules rs (constant_comparison w k)) w) ws
+    unfolding rule_test comparison_test proposes_at
+    rules_constant w k ws o = ap (foldl proposing s) (ran_constant (rule_test ev rs) w k ws o) ∙ idle s w (ran (rule_test ev rs) (passed (rule_test ev rs Operation.AgainstConstant w k) w) ws) Operation.AgainstConstant o refl
 
-    rules-reading : (w : ℕ) (ws : List ℕ) → operationOf w ≡ Operation.AgainstReading → more s 0 (w ∷ ws) ≡ more s (passed (comparisonHolds Part.Rules rs (readingComparison w)) w) ws
-    unfolding ruleTest comparisonTest proposesAt
-    rules-reading w ws o = quiet s w ws Operation.AgainstReading o refl refl
+    rules_reading : (w : ℕ) (ws : List ℕ) → operation_of w ≡ Operation.AgainstReading → more s 0 (w ∷ ws) ≡ more s (passed (comparison_holds Part.Rules rs (reading_comparison w)) w) ws
+    unfolding rule_test comparison_test proposes_at
+    rules_reading w ws o = quiet s w ws Operation.AgainstReading o refl refl
 
-    rules-ends : (a : Action) → a.0 < 64 → (ws : List ℕ) → more s 0 (endingWord (Ending.Causes a) ∷ ws) ≡ more (insertAction s a) 0 ws
-    unfolding ruleTest proposesAt
-    rules-ends a h ws =
-        ap (foldl proposing s) (ran-other (ruleTest ev rs) (endingWord (Ending.Causes a)) ws Operation.Proposes (causes-operation a h) refl)
-        ∙ ap (λ (x : ActionSet). more x 0 ws) (ap (λ (p : Operation). proposesAt p (endingWord (Ending.Causes a)) s) (causes-operation a h) ∙ ap (insertAction s) (causes-action a h))
+    rules_ends : (a : Action) → a.0 < 64 → (ws : List ℕ) → more s 0 (ending_word (Ending.Causes a) ∷ ws) ≡ more (insert_action s a) 0 ws
+    unfolding rule_test proposes_at
+    rules_ends a h ws =
+        ap (foldl proposing s) (ran_other (rule_test ev rs) (ending_word (Ending.Causes a)) ws Operation.Proposes (causes_operation a h) refl)
+        ∙ ap (λ (x : ActionSet). more x 0 ws) (ap (λ (p : Operation). proposes_at p (ending_word (Ending.Causes a)) s) (causes_operation a h) ∙ ap (insert_action s) (causes_action a h))
 
-    rules-head : (l : Literal) (k : ℕ) (ws : List ℕ) → testNumber (Test.Occurs l) < 64 → k < 32
-        → more s 0 (testWord (Test.Occurs l) k ∷ ws) ≡ more s (passed (literalHolds ev l) (testWord (Test.Occurs l) k)) ws
-    unfolding literalHolds ruleTest proposesAt
-    rules-head l k ws h b = go l.negated (literal-operation l k h b)
+    rules_head : (l : Literal) (k : ℕ) (ws : List ℕ) → test_number (Test.Occurs l) < 64 → k < 32
+        → more s 0 (test_word (Test.Occurs l) k ∷ ws) ≡ more s (passed (literal_holds ev l) (test_word (Test.Occurs l) k)) ws
+    unfolding literal_holds rule_test proposes_at
+    rules_head l k ws h b = go l.negated (literal_operation_is l k h b)
       where
         w : ℕ
-        w = testWord (Test.Occurs l) k
+        w = test_word (Test.Occurs l) k
 
-        event : eventFrom w ≡ l.event
-        event = literal-event l k h b
+        event : event_from w ≡ l.event
+        event = literal_event l k h b
 
-        go : (n : Bool) → operationOf w ≡ literalOperation n → more s 0 (w ∷ ws) ≡ more s (passed (cond n (not (hasEvent ev.occurred l.event)) (hasEvent ev.present l.event)) w) ws
+        go : (n : Bool) → operation_of w ≡ literal_operation n → more s 0 (w ∷ ws) ≡ more s (passed (cond n (not (has_event ev.occurred l.event)) (has_event ev.present l.event)) w) ws
         go true o =
             quiet s w ws Operation.Absent o refl refl
-            ∙ ap (λ (x : Event). more s (passed (not (hasEvent ev.occurred x)) w) ws) event
+            ∙ ap (λ (x : Event). more s (passed (not (has_event ev.occurred x)) w) ws) event
         go false o =
             quiet s w ws Operation.Present o refl refl
-            ∙ ap (λ (x : Event). more s (passed (hasEvent ev.present x) w) ws) event
+            ∙ ap (λ (x : Event). more s (passed (has_event ev.present x) w) ws) event
 
-    rule-run : (r : Rule) (rest : List ℕ) → valid (rule r) ≡ true → more s 0 (lineWords (rule r) ++ rest) ≡ more (propose ev rs s r) 0 rest
-    unfolding lineWords headsOf comparisonsOf endingOf propose ruleHolds endingInRange
-    rule-run r rest v =
-        let h = valid-out (rule r) v in
-        let c = condition-size-limit r.comparisons in
-        heads-run (more s) rules-pass (comparisonHolds Part.Rules rs) rules-constant rules-reading (Ending.Causes r.action)
-        (more (insertAction s r.action) 0) (rules-ends r.action (ltb-true r.action.0 64 h.ending))
-        Test.Occurs (literalHolds ev) rules-head r.comparisons r.literals rest h.tests h.comparisons
-        (omega (arith, h.few-tests, h.few-comparisons, length-map r.literals Test.Occurs))
-        ∙ go (all (literalHolds ev) r.literals && all (comparisonHolds Part.Rules rs) r.comparisons)
+    rule_run : (r : Rule) (rest : List ℕ) → valid (rule r) ≡ true → more s 0 (line_words (rule r) ++ rest) ≡ more (propose ev rs s r) 0 rest
+    unfolding line_words heads_of comparisons_of ending_of propose rule_holds ending_in_range
+    rule_run r rest v =
+        let h = valid_out (rule r) v in
+        let c = condition_size_limit r.comparisons in
+        heads_run (more s) rules_pass (comparison_holds Part.Rules rs) rules_constant rules_reading (Ending.Causes r.action)
+        (more (insert_action s r.action) 0) (rules_ends r.action (ltb-true r.action.0 64 h.ending))
+        Test.Occurs (literal_holds ev) rules_head r.comparisons r.literals rest h.tests h.comparisons
+        (omega (arith, h.few_tests, h.few_comparisons, length-map r.literals Test.Occurs))
+        ∙ go (all (literal_holds ev) r.literals && all (comparison_holds Part.Rules rs) r.comparisons)
       where
-        go : (b : Bool) → cond b (more (insertAction s r.action) 0 rest) (more s 0 rest) ≡ more (cond b (insertAction s r.action) s) 0 rest
+        go : (b : Bool) → cond b (more (insert_action s r.action) 0 rest) (more s 0 rest) ≡ more (cond b (insert_action s r.action) s) 0 rest
         go true = refl
         go false = refl
 
-  rules-run-from : (rules : List Rule) (s : ActionSet) → all valid (map rule rules) ≡ true → more s 0 (linesWords (map rule rules)) ≡ foldl (propose ev rs) s rules
-  unfolding linesWords all ran
-  rules-run-from [] s v = refl
-  rules-run-from (r ∷ rest) s v =
-      let p = and-out (valid (rule r)) (all valid (map rule rest)) v in
-      rule-run s r (linesWords (map rule rest)) p.0 ∙ rules-run-from rest (propose ev rs s r) p.1
+  rules_run_from : (rules : List Rule) (s : ActionSet) → all valid (map rule rules) ≡ true → more s 0 (lines_words (map rule rules)) ≡ foldl (propose ev rs) s rules
+  unfolding lines_words all ran
+  rules_run_from [] s v = refl
+  rules_run_from (r ∷ rest) s v =
+      let p = and_out (valid (rule r)) (all valid (map rule rest)) v in
+      rule_run s r (lines_words (map rule rest)) p.0 ∙ rules_run_from rest (propose ev rs s r) p.1
 
 -- running a policy's rule words yields what its rules propose, on any events and readings
-pub rules-run : (p : Policy) → all valid (map rule p.rules) ≡ true → (ev : Events) (rs : Readings) → runRules ev rs (ruleWords p) ≡ proposals p.rules ev rs
-unfolding ruleWords proposals runRules
-rules-run p v ev rs = rules-run-from ev rs p.rules noActions v
+pub rules_run : (p : Policy) → all valid (map rule p.rules) ≡ true → (ev : Events) (rs : Readings) → run_rules ev rs (rule_part_words p) ≡ proposals p.rules ev rs
+unfolding rule_part_words proposals run_rules
+rules_run p v ev rs = rules_run_from ev rs p.rules no_actions v
 
 -- ---- constraints
 
 module _ (rs : Readings) (s : ActionSet) where
   abbrev holds : ℕ → List ℕ → Bool
-  holds n ws = any endsConstraint (ran (constraintTest rs s) n ws)
+  holds n ws = any ends_constraint (ran (constraint_test rs s) n ws)
 
-  constraints-pass : (n : ℕ) (ws : List ℕ) → holds n ws ≡ holds 0 (drop n ws)
-  constraints-pass n ws = ap (any endsConstraint) (ran-pass (constraintTest rs s) n ws)
+  constraints_pass : (n : ℕ) (ws : List ℕ) → holds n ws ≡ holds 0 (drop n ws)
+  constraints_pass n ws = ap (any ends_constraint) (ran_pass (constraint_test rs s) n ws)
 
   -- a word that ends no constraint
-  inner : (w : ℕ) (rest : List ℕ) (op : Operation) → operationOf w ≡ op → isNever op ≡ false → any endsConstraint (w ∷ rest) ≡ any endsConstraint rest
+  inner : (w : ℕ) (rest : List ℕ) (op : Operation) → operation_of w ≡ op → is_never op ≡ false → any ends_constraint (w ∷ rest) ≡ any ends_constraint rest
   unfolding any
-  inner w rest op o e = ap (λ (b : Bool). b || any endsConstraint rest) (ap isNever o ∙ e)
+  inner w rest op o e = ap (λ (b : Bool). b || any ends_constraint rest) (ap is_never o ∙ e)
 
   -- and that is no comparison with a constant
-  silent : (w : ℕ) (ws : List ℕ) (op : Operation) → operationOf w ≡ op → constantCount op ≡ 0 → isNever op ≡ false → holds 0 (w ∷ ws) ≡ holds (passed (constraintTest rs s op w (get_or ws 0 0)) w) ws
-  silent w ws op o z e = ap (any endsConstraint) (ran-other (constraintTest rs s) w ws op o z) ∙ inner w (ran (constraintTest rs s) (passed (constraintTest rs s op w (get_or ws 0 0)) w) ws) op o e
+  silent : (w : ℕ) (ws : List ℕ) (op : Operation) → operation_of w ≡ op → constant_count op ≡ 0 → is_never op ≡ false → holds 0 (w ∷ ws) ≡ holds (passed (constraint_test rs s op w (get_or ws 0 0)) w) ws
+  silent w ws op o z e = ap (any ends_constraint) (ran_other (constraint_test rs s) w ws op o z) ∙ inner w (ran (constraint_test rs s) (passed (constraint_test rs s op w (get_or ws 0 0)) w) ws) op o e
 
-  constraints-constant : (w k : ℕ) (ws : List ℕ) → operationOf w ≡ Operation.AgainstConstant → holds 0 (w ∷ k ∷ ws) ≡ holds (passed (comparisonHolds Part.Constraints rs (constantComparison w k)) w) ws
-  unfolding constraintTest comparisonTest isNever
-  constraints-constant w k ws o =
-      ap (any endsConstraint) (ran-constant (constraintTest rs s) w k ws o)
-      ∙ inner w (ran (constraintTest rs s) (passed (constraintTest rs s Operation.AgainstConstant w k) w) ws) Operation.AgainstConstant o refl
+  constraints_constant : (w k : ℕ) (ws : List ℕ) → operation_of w ≡ Operation.AgainstConstant → holds 0 (w ∷ k ∷ ws) ≡ holds (passed (comparison_holds Part.Constraints rs (constant_comparison w k)) w) ws
+  unfolding constraint_test comparison_test is_never
+  constraints_constant w k ws o =
+      ap (any ends_constraint) (ran_constant (constraint_test rs s) w k ws o)
+      ∙ inner w (ran (constraint_test rs s) (passed (constraint_test rs s Operation.AgainstConstant w k) w) ws) Operation.AgainstConstant o refl
 
-  constraints-reading : (w : ℕ) (ws : List ℕ) → operationOf w ≡ Operation.AgainstReading → holds 0 (w ∷ ws) ≡ holds (passed (comparisonHolds Part.Constraints rs (readingComparison w)) w) ws
-  unfolding constraintTest comparisonTest isNever
-  constraints-reading w ws o = silent w ws Operation.AgainstReading o refl refl
+  constraints_reading : (w : ℕ) (ws : List ℕ) → operation_of w ≡ Operation.AgainstReading → holds 0 (w ∷ ws) ≡ holds (passed (comparison_holds Part.Constraints rs (reading_comparison w)) w) ws
+  unfolding constraint_test comparison_test is_never
+  constraints_reading w ws o = silent w ws Operation.AgainstReading o refl refl
 
-  constraints-ends : (ws : List ℕ) → holds 0 (endingWord Ending.Never ∷ ws) ≡ true
-  unfolding any isNever
-  constraints-ends ws =
-      ap (any endsConstraint) (ran-other (constraintTest rs s) (endingWord Ending.Never) ws Operation.Never never-operation refl)
-      ∙ ap (λ (o : Operation). isNever o || holds (passed (constraintTest rs s Operation.Never (endingWord Ending.Never) (get_or ws 0 0)) (endingWord Ending.Never)) ws) never-operation
+  constraints_ends : (ws : List ℕ) → holds 0 (ending_word Ending.Never ∷ ws) ≡ true
+  unfolding any is_never
+  constraints_ends ws =
+      ap (any ends_constraint) (ran_other (constraint_test rs s) (ending_word Ending.Never) ws Operation.Never never_operation refl)
+      ∙ ap (λ (o : Operation). is_never o || holds (passed (constraint_test rs s Operation.Never (ending_word Ending.Never) (get_or ws 0 0)) (ending_word Ending.Never)) ws) never_operation
 
-  constraints-head : (a : Action) (k : ℕ) (ws : List ℕ) → testNumber (Test.Member a) < 64 → k < 32 → holds 0 (testWord (Test.Member a) k ∷ ws) ≡ holds (passed (hasAction s a) (testWord (Test.Member a) k)) ws
-  unfolding constraintTest isNever
-  constraints-head a k ws h b =
+  constraints_head : (a : Action) (k : ℕ) (ws : List ℕ) → test_number (Test.Member a) < 64 → k < 32 → holds 0 (test_word (Test.Member a) k ∷ ws) ≡ holds (passed (has_action s a) (test_word (Test.Member a) k)) ws
+  unfolding constraint_test is_never
+  constraints_head a k ws h b =
       silent w ws Operation.Member o refl refl
-      ∙ ap (λ (x : Action). holds (passed (hasAction s x) w) ws) (member-action a k h b)
+      ∙ ap (λ (x : Action). holds (passed (has_action s x) w) ws) (member_action a k h b)
     where
       w : ℕ
-      w = testWord (Test.Member a) k
+      w = test_word (Test.Member a) k
 
-      o : operationOf w ≡ Operation.Member
-      o = member-operation a k h b
+      o : operation_of w ≡ Operation.Member
+      o = member_operation a k h b
 
-  constraint-run : (c : Constraint) (rest : List ℕ) → valid (constraint c) ≡ true → holds 0 (lineWords (constraint c) ++ rest) ≡ constraintHolds rs s c || holds 0 rest
-  unfolding lineWords headsOf comparisonsOf endingOf constraintHolds
-  constraint-run c rest v =
-      let h = valid-out (constraint c) v in
-      let l = condition-size-limit c.comparisons in
-      heads-run holds constraints-pass (comparisonHolds Part.Constraints rs) constraints-constant constraints-reading Ending.Never (λ ws. true) constraints-ends
-      Test.Member (hasAction s) constraints-head c.comparisons c.actions rest h.tests h.comparisons
-      (omega (arith, h.few-tests, h.few-comparisons, length-map c.actions Test.Member))
-      ∙ go (all (hasAction s) c.actions && all (comparisonHolds Part.Constraints rs) c.comparisons)
+  constraint_run : (c : Constraint) (rest : List ℕ) → valid (constraint c) ≡ true → holds 0 (line_words (constraint c) ++ rest) ≡ constraint_holds rs s c || holds 0 rest
+  unfolding line_words heads_of comparisons_of ending_of constraint_holds
+  constraint_run c rest v =
+      let h = valid_out (constraint c) v in
+      let l = condition_size_limit c.comparisons in
+      heads_run holds constraints_pass (comparison_holds Part.Constraints rs) constraints_constant constraints_reading Ending.Never (λ ws. true) constraints_ends
+      Test.Member (has_action s) constraints_head c.comparisons c.actions rest h.tests h.comparisons
+      (omega (arith, h.few_tests, h.few_comparisons, length-map c.actions Test.Member))
+      ∙ go (all (has_action s) c.actions && all (comparison_holds Part.Constraints rs) c.comparisons)
     where
       go : (b : Bool) → cond b true (holds 0 rest) ≡ b || holds 0 rest
       go true = refl
       go false = refl
 
-  constraints-run-all : (cs : List Constraint) → all valid (map constraint cs) ≡ true → holds 0 (linesWords (map constraint cs)) ≡ any (constraintHolds rs s) cs
-  unfolding linesWords all any ran
-  constraints-run-all [] v = refl
-  constraints-run-all (c ∷ cs) v =
-      let p = and-out (valid (constraint c)) (all valid (map constraint cs)) v in
-      constraint-run c (linesWords (map constraint cs)) p.0 ∙ ap (λ (b : Bool). constraintHolds rs s c || b) (constraints-run-all cs p.1)
+  constraints_run_all : (cs : List Constraint) → all valid (map constraint cs) ≡ true → holds 0 (lines_words (map constraint cs)) ≡ any (constraint_holds rs s) cs
+  unfolding lines_words all any ran
+  constraints_run_all [] v = refl
+  constraints_run_all (c ∷ cs) v =
+      let p = and_out (valid (constraint c)) (all valid (map constraint cs)) v in
+      constraint_run c (lines_words (map constraint cs)) p.0 ∙ ap (λ (b : Bool). constraint_holds rs s c || b) (constraints_run_all cs p.1)
 
 -- running a policy's constraint words on a set of actions says whether some constraint holds on it
-pub constraints-run : (p : Policy) → all valid (map constraint p.constraints) ≡ true → (rs : Readings) (s : ActionSet) → runConstraints rs s (constraintWords p) ≡ conflict p.constraints rs s
-unfolding constraintWords conflict runConstraints
-constraints-run p v rs s = constraints-run-all rs s p.constraints v
+pub constraints_run : (p : Policy) → all valid (map constraint p.constraints) ≡ true → (rs : Readings) (s : ActionSet) → run_constraints rs s (constraint_part_words p) ≡ conflict p.constraints rs s
+unfolding constraint_part_words conflict run_constraints
+constraints_run p v rs s = constraints_run_all rs s p.constraints v

@@ -1,11 +1,10 @@
 -- What the words of document 01's worked example do on its epochs, one row each.
 use Rattle.std.specs.Prelude.{ℕ, Bool, true, false, List, [], ◌∷◌, ℤ, pos}
 use Rattle.policy.specs.Epoch.{Epoch}
-use Rattle.policy.specs.Set.{allEvents}
-use Rattle.policy.specs.declared.set.ActionSet.{ActionSet}
+use Rattle.policy.specs.Set.{ActionSet, all_events, set_of}
 use Rattle.exactness.specs.Examples.{worked}
-use Rattle.layout.specs.Layout.{ruleWords, constraintWords}
-use Rattle.run.specs.Run.{runRules, runConstraints}
+use Rattle.layout.specs.Layout.{rule_part_words, constraint_part_words}
+use Rattle.run.specs.Run.{run_rules, run_constraints}
 
 -- events as a set, and the value of R0
 pub record Run : Type 0 where
@@ -14,8 +13,8 @@ pub record Run : Type 0 where
   pub proposed : ℕ
   pub conflict : Bool
 
-abbrev epochOf : Run → Epoch
-epochOf x = record { events = record { 0 = x.events }; readings = record { given = record { 0 = 1 }; values = x.reading ∷ [] } }
+abbrev epoch_of : Run → Epoch
+epoch_of x = record { events = set_of x.events; readings = record { given = set_of 1; values = x.reading ∷ [] } }
 
 -- `E1 E3 R0=41` proposes A3 and A4, on which the constraint holds; the others propose A4 or nothing
 unfoldable pub runs : List Run
@@ -23,14 +22,14 @@ runs =
     record { events = 10; reading = pos 41; proposed = 24; conflict = true } ∷ record { events = 10; reading = pos 40; proposed = 16; conflict = false }
     ∷ record { events = 14; reading = pos 41; proposed = 16; conflict = false } ∷ record { events = 0; reading = pos 0; proposed = 0; conflict = false } ∷ []
 
-abbrev proposedOn : Epoch → ActionSet
-proposedOn e = runRules (allEvents e.events) e.readings (ruleWords worked)
+abbrev proposed_on : Epoch → ActionSet
+proposed_on e = run_rules (all_events e.events) e.readings (rule_part_words worked)
 
 unfoldable pub computed : Run → Run
 computed x =
     record {
       events = x.events;
       reading = x.reading;
-      proposed = (proposedOn (epochOf x)).0;
-      conflict = runConstraints (epochOf x).readings (proposedOn (epochOf x)) (constraintWords worked);
+      proposed = (proposed_on (epoch_of x)).bits;
+      conflict = run_constraints (epoch_of x).readings (proposed_on (epoch_of x)) (constraint_part_words worked);
     }

@@ -1,35 +1,34 @@
 -- Each row of the table of decisions is as document 01 says.
-use mathlib.Core.List.{map}
-use mathlib.Core.Option.{or_else}
-use mathlib.Core.Path.{◌≡◌, refl}
+use Rattle.std.proofs.Common.{map, ◌≡◌, refl}
+use Rattle.std.proofs.Math.Option.{or_else}
 use Rattle.policy.specs.List.{all, any}
 use Rattle.policy.specs.Set.{has, insert, below}
-use Rattle.policy.specs.Epoch.{valueIn, readingValue}
-use Rattle.policy.specs.Comparison.{eqZ, relationHolds, operandValue, comparisonHolds, missingHolds, valuesRelate}
-use Rattle.policy.specs.Line.{headsOf, comparisonsOf, endingOf, constantCount}
-use Rattle.policy.specs.Limits.{isReadingValue, testNumber, operandInRange, comparisonInRange, endingInRange, in_range, crowded, repeats, repeated, valid}
-use Rattle.pdl.specs.Greedy.{tryNext, keptBelow, greedy, costBelow, trialsCost}
-use Rattle.pdl.specs.Yield.{literalHolds, ruleHolds, propose, proposals, constraintHolds, conflict, resolve, accepted, cancelled}
-use Rattle.lexer.specs.Byte.{bytes, sameBytes, is, class_of, hexValue}
-use Rattle.lexer.specs.Number.{decimalFrom, is_empty, number_of, positive, negative, decimalOf, patternOf, hexadecimalOf, constant_of}
-use Rattle.lexer.specs.Lines.{prepend, pieces, lines_of, nonEmpty, tokensOf, takeWhile, skipWhile, restOfLine, lineEnd}
-use Rattle.lexer.specs.Token.{named, literalOf, actionOf, reading_of, relationOf, operandOf, both, comparisonOf}
-use Rattle.epoch_line.specs.Epoch.{toLeft, atEquals, assignmentOf, item_of, items_of, itemInRange, givenBy, addItem, judgeEpoch, readEpoch}
-use Rattle.operation.specs.Operation.{operationFrom, relationFrom}
+use Rattle.policy.specs.Epoch.{reading_value}
+use Rattle.policy.specs.Comparison.{eq_z, relation_holds, operand_value, comparison_holds, missing_holds, values_relate}
+use Rattle.policy.specs.Line.{heads_of, comparisons_of, ending_of, constant_count}
+use Rattle.policy.specs.Limits.{is_reading_value, test_number, operand_in_range, comparison_in_range, ending_in_range, in_range, crowded, repeats, repeated, valid}
+use Rattle.pdl.specs.Greedy.{try_next, kept_below, greedy, cost_below, trials_cost}
+use Rattle.pdl.specs.Yield.{literal_holds, rule_holds, propose, proposals, constraint_holds, conflict, resolve, accepted, cancelled}
+use Rattle.lexer.specs.Byte.{bytes, bytes_equal, is, class_of, hex_value}
+use Rattle.lexer.specs.Number.{decimal_from, is_empty, number_of, positive, negative, decimal_of, pattern_of, hexadecimal_of, constant_of}
+use Rattle.lexer.specs.Lines.{prepend, pieces, lines_of, non_empty, tokens_of, take_leading, skip_while, rest_of_line, line_end}
+use Rattle.lexer.specs.Token.{named, literal_of, action_of, reading_of, relation_of, operand_of, both, comparison_of}
+use Rattle.epoch_line.specs.Epoch.{to_left, at_equals, assignment_of, item_of, items_of, item_in_range, given_by, add_item, judge_epoch, read_epoch}
+use Rattle.operation.specs.Operation.{operation_from, relation_from}
 use Rattle.word.specs.Word.{words_of, bytes_of, between}
 use Rattle.operation.specs.Fields.{pack}
-use Rattle.layout.specs.Header.{packHeader}
-use Rattle.operation.specs.Parts.{testOperation, testWord, operand_word, constantWords, comparisonWord, comparisonWords, constantComparison, readingComparison, endingWord}
-use Rattle.layout.specs.Layout.{conditionWords, partWords, lineWords, linesWords, knownForm, checkCount, sum, checkWord, checkWords, headerWord, ruleWords, constraintWords, contentWords, imageWords, image_of}
-use Rattle.image.specs.Check.{wellSized, countsFit, sumsToZero}
-use Rattle.decode.specs.Decode.{addLiteral, addMember, addComparison, decodeWord, decode, isPrefix, inPart, standsAt, keepIf, line_at, lineLength}
-use Rattle.image.specs.Lines.{addLine, afterLine, lines_from, partLines}
-use Rattle.image.specs.Load.{bodyAnswer, loadWords, load}
-use Rattle.run.specs.Run.{ran, comparisonTest, ruleTest, constraintTest, proposesAt, runRules, isNever, runConstraints, fetches, up_to, ruleFetches, trialFetches}
-use Rattle.monitor.specs.Decision.{keptBy, triedWords, yieldedBy, keptEventsBy, triedEventWords, reducedBy, reductionBy, issuedBy, decidedBy, onLine, onImage, decisionIn}
-use Rattle.exactness.specs.Examples.{worked, nothing, policies, images, imageFor}
+use Rattle.layout.specs.Header.{pack_header}
+use Rattle.operation.specs.Parts.{test_operation, test_word, operand_word, constant_words, comparison_word, comparison_words, constant_comparison, reading_comparison, ending_word}
+use Rattle.layout.specs.Layout.{condition_words, part_words, line_words, lines_words, known_form, check_count, sum, check_word, check_words, header_word, rule_part_words, constraint_part_words, content_words, image_words, image_of}
+use Rattle.image.specs.Check.{well_sized, counts_fit, sums_to_zero}
+use Rattle.decode.specs.Decode.{add_literal, add_member, add_comparison, decode_word, decode, is_prefix, in_part, stands_at, keep_if, line_at, line_length}
+use Rattle.image.specs.Lines.{add_line, after_line, lines_from, part_lines}
+use Rattle.image.specs.Load.{body_answer, load_words, load}
+use Rattle.run.specs.Run.{ran, comparison_test, rule_test, constraint_test, proposes_at, run_rules, is_never, run_constraints, fetches, up_to, rule_fetches, trial_fetches}
+use Rattle.monitor.specs.Decision.{kept_by, tried_words, yielded_by, kept_events_by, tried_event_words, reduced_by, reduction_by, issued_by, decided_by, on_epoch_line, on_image, decision_in}
+use Rattle.exactness.specs.Examples.{worked, nothing, policies, images, image_for}
 use Rattle.monitor.specs.Examples.{decisions, decided}
 
-pub decisions-hold : map decided decisions ≡ decisions
-unfolding all any has insert below valueIn readingValue missingHolds valuesRelate eqZ relationHolds operandValue comparisonHolds headsOf comparisonsOf endingOf constantCount isReadingValue testNumber operandInRange comparisonInRange endingInRange in_range crowded repeats repeated valid tryNext keptBelow greedy costBelow trialsCost literalHolds ruleHolds propose proposals constraintHolds conflict resolve accepted cancelled bytes sameBytes is class_of decimalFrom is_empty number_of positive negative hexValue decimalOf patternOf hexadecimalOf constant_of prepend pieces lines_of nonEmpty tokensOf takeWhile skipWhile restOfLine lineEnd named literalOf actionOf reading_of relationOf or_else operandOf both comparisonOf toLeft atEquals assignmentOf item_of items_of itemInRange givenBy addItem judgeEpoch readEpoch operationFrom relationFrom words_of bytes_of between pack packHeader testOperation testWord operand_word constantWords comparisonWord comparisonWords constantComparison readingComparison endingWord conditionWords partWords lineWords linesWords knownForm checkCount sum checkWord checkWords headerWord ruleWords constraintWords contentWords imageWords image_of wellSized countsFit sumsToZero addLiteral addMember addComparison decodeWord decode isPrefix inPart standsAt keepIf line_at lineLength addLine afterLine lines_from partLines bodyAnswer loadWords load ran comparisonTest ruleTest constraintTest proposesAt runRules isNever runConstraints fetches up_to ruleFetches trialFetches keptBy triedWords yieldedBy keptEventsBy triedEventWords reducedBy reductionBy issuedBy decidedBy onLine onImage decisionIn worked nothing policies images imageFor decisions decided
-decisions-hold = refl
+pub decisions_hold : map decided decisions ≡ decisions
+unfolding all any has insert below reading_value missing_holds values_relate eq_z relation_holds operand_value comparison_holds heads_of comparisons_of ending_of constant_count is_reading_value test_number operand_in_range comparison_in_range ending_in_range in_range crowded repeats repeated valid try_next kept_below greedy cost_below trials_cost literal_holds rule_holds propose proposals constraint_holds conflict resolve accepted cancelled bytes bytes_equal is class_of decimal_from is_empty number_of positive negative hex_value decimal_of pattern_of hexadecimal_of constant_of prepend pieces lines_of non_empty tokens_of take_leading skip_while rest_of_line line_end named literal_of action_of reading_of relation_of or_else operand_of both comparison_of to_left at_equals assignment_of item_of items_of item_in_range given_by add_item judge_epoch read_epoch operation_from relation_from words_of bytes_of between pack pack_header test_operation test_word operand_word constant_words comparison_word comparison_words constant_comparison reading_comparison ending_word condition_words part_words line_words lines_words known_form check_count sum check_word check_words header_word rule_part_words constraint_part_words content_words image_words image_of well_sized counts_fit sums_to_zero add_literal add_member add_comparison decode_word decode is_prefix in_part stands_at keep_if line_at line_length add_line after_line lines_from part_lines body_answer load_words load ran comparison_test rule_test constraint_test proposes_at run_rules is_never run_constraints fetches up_to rule_fetches trial_fetches kept_by tried_words yielded_by kept_events_by tried_event_words reduced_by reduction_by issued_by decided_by on_epoch_line on_image decision_in worked nothing policies images image_for decisions decided
+decisions_hold = refl

@@ -3,7 +3,7 @@
 use Rattle.std.specs.Prelude.{ℕ, true, false, List, [], ◌∷◌, map, pos, set}
 use Prim.Native.String.{String}
 use Rattle.policy.specs.Policy.{Policy, Rule, Constraint}
-use Rattle.policy.specs.Set.{noActions, actionsFrom}
+use Rattle.policy.specs.Set.{no_actions, actions_from}
 use Rattle.policy.specs.declared.comparison.Operand.{Operand}
 use Rattle.policy.specs.declared.comparison.Relation.{Relation}
 use Rattle.policy.specs.declared.mode.Mode.{Mode}
@@ -12,7 +12,7 @@ use Rattle.lexer.specs.Byte.{bytes}
 use Rattle.exactness.specs.Examples.{worked}
 use Rattle.layout.specs.Layout.{image_of}
 use Rattle.word.specs.Word.{bytes_of}
-use Rattle.monitor.specs.Decision.{decisionIn, answer_of, visitedIn}
+use Rattle.monitor.specs.Decision.{decision_in, answer_of, visited_in}
 
 pub record Example : Type 0 where
   pub mode : Mode
@@ -21,31 +21,31 @@ pub record Example : Type 0 where
   pub answer : Answer
   pub visited : ℕ
 
-abbrev yieldsIn : Mode → List ℕ → String → List ℕ → List ℕ → ℕ → Example
-yieldsIn mode image line accepted cancelled visited =
-    record { mode = mode; image = image; line = line; answer = issues (actionsFrom accepted) (actionsFrom cancelled); visited = visited }
+abbrev yields_in : Mode → List ℕ → String → List ℕ → List ℕ → ℕ → Example
+yields_in mode image line accepted cancelled visited =
+    record { mode = mode; image = image; line = line; answer = issues (actions_from accepted) (actions_from cancelled); visited = visited }
 
 abbrev yields : List ℕ → String → List ℕ → List ℕ → ℕ → Example
-yields = yieldsIn Mode.Actions
+yields = yields_in Mode.Actions
 
 abbrev reduces : List ℕ → String → List ℕ → List ℕ → ℕ → Example
-reduces = yieldsIn Mode.Events
+reduces = yields_in Mode.Events
 
-abbrev refusesIn : Mode → List ℕ → String → ℕ → ℕ → Example
-refusesIn mode image line number location =
+abbrev refuses_in : Mode → List ℕ → String → ℕ → ℕ → Example
+refuses_in mode image line number location =
     record {
       mode = mode;
       image = image;
       line = line;
-      answer = record { is_refused = true; number = number; text = 0; location = location; accepted = noActions; cancelled = noActions };
+      answer = record { is_refused = true; number = number; text = 0; location = location; accepted = no_actions; cancelled = no_actions };
       visited = 0;
     }
 
-abbrev refusesWith : List ℕ → String → ℕ → ℕ → Example
-refusesWith = refusesIn Mode.Actions
+abbrev refuses_with : List ℕ → String → ℕ → ℕ → Example
+refuses_with = refuses_in Mode.Actions
 
-abbrev workedImage : List ℕ
-workedImage = image_of 1 worked
+abbrev worked_image : List ℕ
+worked_image = image_of 1 worked
 
 -- `E1 causes A7`, `never A7 if R4 > 90`
 abbrev valve : Policy
@@ -60,8 +60,8 @@ valve =
           ∷ [];
     }
 
-abbrev valveImage : List ℕ
-valveImage = image_of 1 valve
+abbrev valve_image : List ℕ
+valve_image = image_of 1 valve
 
 -- `En causes Am`
 abbrev causes : ℕ → ℕ → Rule
@@ -78,19 +78,19 @@ never actions = record { actions = map (λ (n : ℕ). record { 0 = n }) actions;
 abbrev stops : Policy
 stops = record { rules = causes 1 1 ∷ causes 1 2 ∷ causes 2 3 ∷ []; constraints = never (1 ∷ []) ∷ never (1 ∷ 2 ∷ []) ∷ never (2 ∷ []) ∷ [] }
 
-abbrev stopsImage : List ℕ
-stopsImage = image_of 1 stops
+abbrev stops_image : List ℕ
+stops_image = image_of 1 stops
 
 -- `!E0 causes A0`, `!E0 causes A1`, `never A0 & A1`
 abbrev absent : Policy
 absent = record { rules = unless 0 0 ∷ unless 0 1 ∷ []; constraints = never (0 ∷ 1 ∷ []) ∷ [] }
 
-abbrev absentImage : List ℕ
-absentImage = image_of 1 absent
+abbrev absent_image : List ℕ
+absent_image = image_of 1 absent
 
 -- with another byte at a position
 abbrev damaged : ℕ → ℕ → List ℕ
-damaged at byte = set workedImage at byte
+damaged at byte = set worked_image at byte
 
 -- 01000001 70000000 8EFFFFFF: a constraint with no action
 abbrev bodiless : List ℕ
@@ -98,44 +98,44 @@ bodiless = bytes_of (16777217 ∷ 1879048192 ∷ 2399141887 ∷ [])
 
 unfoldable pub decisions : List Example
 decisions =
-    yields workedImage "E1 E3 R0=41" (3 ∷ []) (4 ∷ []) 12
-    ∷ yields workedImage "E1 E3 R0=40" (4 ∷ []) [] 7
-    ∷ yields workedImage "E1 E2 E3 R0=41" (4 ∷ []) [] 5
-    ∷ yields workedImage "" [] [] 2
-    ∷ refusesWith workedImage "E64" 13 0
-    ∷ refusesWith workedImage "R0=1 R0=1" 14 0
-    ∷ yields workedImage "E1 E1 R0=41" (3 ∷ []) [] 8
-    ∷ refusesWith [] "E64" 7 0
-    ∷ refusesWith (damaged 0 2) "E64" 8 0
-    ∷ refusesWith (damaged 3 4) "E64" 9 0
-    ∷ refusesWith (damaged 47 0) "E64" 10 0
-    ∷ refusesWith bodiless "E64" 11 1
+    yields worked_image "E1 E3 R0=41" (3 ∷ []) (4 ∷ []) 12
+    ∷ yields worked_image "E1 E3 R0=40" (4 ∷ []) [] 7
+    ∷ yields worked_image "E1 E2 E3 R0=41" (4 ∷ []) [] 5
+    ∷ yields worked_image "" [] [] 2
+    ∷ refuses_with worked_image "E64" 13 0
+    ∷ refuses_with worked_image "R0=1 R0=1" 14 0
+    ∷ yields worked_image "E1 E1 R0=41" (3 ∷ []) [] 8
+    ∷ refuses_with [] "E64" 7 0
+    ∷ refuses_with (damaged 0 2) "E64" 8 0
+    ∷ refuses_with (damaged 3 4) "E64" 9 0
+    ∷ refuses_with (damaged 47 0) "E64" 10 0
+    ∷ refuses_with bodiless "E64" 11 1
     -- R4 under, at and over its limit, and missing
-    ∷ yields valveImage "E1 R4=89" (7 ∷ []) [] 5
-    ∷ yields valveImage "E1 R4=90" (7 ∷ []) [] 5
-    ∷ yields valveImage "E1 R4=91" [] (7 ∷ []) 6
-    ∷ yields valveImage "E1" [] (7 ∷ []) 6
+    ∷ yields valve_image "E1 R4=89" (7 ∷ []) [] 5
+    ∷ yields valve_image "E1 R4=90" (7 ∷ []) [] 5
+    ∷ yields valve_image "E1 R4=91" [] (7 ∷ []) 6
+    ∷ yields valve_image "E1" [] (7 ∷ []) 6
     -- the trial of A1 ends at the first line (2 words), that of A2, by then without A1, at the last (1 and 1 and 2); A3 has a trial
     -- only where it is proposed (1 and 1 and 1)
-    ∷ yields stopsImage "E1" [] (1 ∷ 2 ∷ []) 11
-    ∷ yields stopsImage "E2" (3 ∷ []) [] 7
-    ∷ yields stopsImage "E1 E2" (3 ∷ []) (1 ∷ 2 ∷ []) 15
+    ∷ yields stops_image "E1" [] (1 ∷ 2 ∷ []) 11
+    ∷ yields stops_image "E2" (3 ∷ []) [] 7
+    ∷ yields stops_image "E1 E2" (3 ∷ []) (1 ∷ 2 ∷ []) 15
     -- the second mode. With no event 2 rule words and 1 never word, with E1 6 and 2, with E1 and E3 7 and 3
-    ∷ reduces workedImage "E1 E3 R0=41" (3 ∷ []) (4 ∷ []) 21
-    ∷ reduces workedImage "E1 E3 R0=40" (4 ∷ []) [] 16
-    ∷ reduces workedImage "E1 E2 E3 R0=41" (4 ∷ []) [] 16
+    ∷ reduces worked_image "E1 E3 R0=41" (3 ∷ []) (4 ∷ []) 21
+    ∷ reduces worked_image "E1 E3 R0=40" (4 ∷ []) [] 16
+    ∷ reduces worked_image "E1 E2 E3 R0=41" (4 ∷ []) [] 16
     -- never words are fetched where nothing is proposed
-    ∷ reduces workedImage "" [] [] 3
-    ∷ refusesIn Mode.Events workedImage "E64" 13 0
-    ∷ refusesIn Mode.Events [] "E64" 7 0
+    ∷ reduces worked_image "" [] [] 3
+    ∷ refuses_in Mode.Events worked_image "E64" 13 0
+    ∷ refuses_in Mode.Events [] "E64" 7 0
     -- a dropped event has its trial too
-    ∷ reduces stopsImage "E1" [] (1 ∷ 2 ∷ []) 13
-    ∷ reduces stopsImage "E1 E2" (3 ∷ []) (1 ∷ 2 ∷ []) 20
+    ∷ reduces stops_image "E1" [] (1 ∷ 2 ∷ []) 13
+    ∷ reduces stops_image "E1 E2" (3 ∷ []) (1 ∷ 2 ∷ []) 20
     -- rules with negated literals alone
-    ∷ refusesIn Mode.Events absentImage "" 17 0
-    ∷ refusesIn Mode.Events absentImage "E1" 17 0
-    ∷ reduces absentImage "E0" [] [] 6
-    ∷ yields absentImage "" (0 ∷ []) (1 ∷ []) 9
+    ∷ refuses_in Mode.Events absent_image "" 17 0
+    ∷ refuses_in Mode.Events absent_image "E1" 17 0
+    ∷ reduces absent_image "E0" [] [] 6
+    ∷ yields absent_image "" (0 ∷ []) (1 ∷ []) 9
     ∷ []
 
 -- what the definitions say of a row
@@ -145,6 +145,6 @@ decided x =
       mode = x.mode;
       image = x.image;
       line = x.line;
-      answer = answer_of (decisionIn x.mode x.image (bytes x.line));
-      visited = visitedIn (decisionIn x.mode x.image (bytes x.line));
+      answer = answer_of (decision_in x.mode x.image (bytes x.line));
+      visited = visited_in (decision_in x.mode x.image (bytes x.line));
     }

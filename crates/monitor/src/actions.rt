@@ -1,7 +1,7 @@
 // The first mode: actions are cancelled (document 01).
 ghost use Rattle.std.specs.Prelude.{◌≡◌, ◌<◌};
 ghost use Rattle.word.specs.Word.{words_of, between};
-ghost use Rattle.monitor.specs.Decision.{keptBy, triedWords, issuedBy};
+ghost use Rattle.monitor.specs.Decision.{kept_by, tried_words, issued_by};
 
 use crate::decision::Actions;
 use image::Contents;
@@ -9,7 +9,7 @@ use policy::{Action, ActionSet, EventSet, ReadingSet};
 use run::{run_constraints, run_rules};
 
 // What is kept of the proposed actions, and how many words all trials fetched.
-#[derive(Drop)]
+#[derive(Clone, Copy)]
 pub struct Kept {
     pub actions: ActionSet,
     pub words: usize,
@@ -26,13 +26,13 @@ fn resolve(
     values: &[i32],
 ) -> Kept
     requires { end < 8192 }
-    ensures actions { result.actions ≡ keptBy (between start end (words_of image.now)) (record { given = given; values = values.now }) proposed }
-    ensures words { result.words ≡ triedWords (between start end (words_of image.now)) (record { given = given; values = values.now }) proposed }
+    ensures actions { result.actions ≡ kept_by (between start end (words_of image.now)) (record { given = given; values = values.now }) proposed }
+    ensures words { result.words ≡ tried_words (between start end (words_of image.now)) (record { given = given; values = values.now }) proposed }
 {
     let mut kept = ActionSet::EMPTY;
     let mut words = 0;
     // The proposed actions from n on: bit 0 is n.
-    let mut left = proposed.0;
+    let mut left = proposed.bits;
     let mut n = 0;
     while left != 0 {
         if left % 2 == 1 {
@@ -62,7 +62,7 @@ pub(crate) fn issue(
 ) -> Actions
     requires fact_1 { contents.rule_words < 4096 }
     requires fact_2 { contents.constraint_words < 4096 }
-    ensures { result ≡ issuedBy contents (words_of image.now) (record { events = events; readings = record { given = given; values = values.now } }) }
+    ensures { result ≡ issued_by contents (words_of image.now) (record { events = events; readings = record { given = given; values = values.now } }) }
 {
     let middle = 1 + contents.rule_words;
     let rules = run_rules(image, 1, middle, events.all(), given, values);

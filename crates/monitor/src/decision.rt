@@ -1,7 +1,7 @@
 // The decision on an epoch. The image is refused or run where it stands: nothing of it is copied.
 ghost use Rattle.std.specs.Prelude.{◌≡◌, ◌<◌};
 ghost use Rattle.word.specs.Word.{words_of};
-ghost use Rattle.monitor.specs.Decision.{decidedBy, decisionIn};
+ghost use Rattle.monitor.specs.Decision.{decided_by, decision_in};
 
 use crate::actions::issue;
 use crate::events::issue_events;
@@ -11,14 +11,14 @@ use policy::{ActionSet, EventSet, Mode, ReadingSet, Refusal};
 
 // What was decided: of the proposed actions, those to be executed and all others; and how many words of the image were fetched to
 // decide it.
-#[derive(Drop)]
+#[derive(Clone, Copy)]
 pub struct Actions {
     pub accepted: ActionSet,
     pub cancelled: ActionSet,
     pub visited: usize,
 }
 
-#[derive(Drop)]
+#[derive(Clone, Copy)]
 pub enum Decision {
     Refused(Refusal),
     Issued(Actions),
@@ -35,7 +35,7 @@ fn decide_epoch(
 ) -> Decision
     requires fact_1 { contents.rule_words < 4096 }
     requires fact_2 { contents.constraint_words < 4096 }
-    ensures { result ≡ decidedBy mode contents (words_of image.now) (record { events = events; readings = record { given = given; values = values.now } }) }
+    ensures { result ≡ decided_by mode contents (words_of image.now) (record { events = events; readings = record { given = given; values = values.now } }) }
 {
     match mode {
         Mode::Actions => Decision::Issued(issue(image, contents, events, given, values)),
@@ -45,7 +45,7 @@ fn decide_epoch(
 
 // The decision of an image on an epoch line, without its line end.
 pub fn decide(image: &[u8], line: &[u8], mode: Mode) -> Decision
-    ensures { result ≡ decisionIn mode image.now line.now }
+    ensures { result ≡ decision_in mode image.now line.now }
 {
     let loaded = load_image(image);
     match loaded {

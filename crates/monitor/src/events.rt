@@ -1,9 +1,9 @@
 // The second mode: events are dropped, with all that they cause (document 02, L7).
 ghost use Rattle.std.specs.Prelude.{◌≡◌, ◌<◌};
-ghost use Rattle.policy.specs.Set.{keeping, noEvents};
+ghost use Rattle.policy.specs.Set.{keeping, no_events};
 ghost use Rattle.word.specs.Word.{words_of};
-ghost use Rattle.monitor.specs.Decision.{rulesIn, constraintsIn, proposedBy, proposedWithBy, reductionBy};
-ghost use Rattle.monitor.specs.Steps.Trial.{trialOf, keptOf};
+ghost use Rattle.monitor.specs.Decision.{rules_in, constraints_in, proposed_by, proposed_with_by, reduction_by};
+ghost use Rattle.monitor.specs.Steps.Trial.{trial_of, kept_of};
 
 use crate::decision::{Actions, Decision};
 use image::Contents;
@@ -12,7 +12,7 @@ use run::{run_constraints, run_rules};
 
 // What the trial of events answers: the actions that they propose, whether a constraint holds on these, and how many words were
 // fetched.
-#[derive(Drop)]
+#[derive(Clone, Copy)]
 pub struct EventTrial {
     pub actions: ActionSet,
     pub conflict: bool,
@@ -29,7 +29,7 @@ fn try_events(
 ) -> EventTrial
     requires fact_1 { contents.rule_words < 4096 }
     requires fact_2 { contents.constraint_words < 4096 }
-    ensures { result ≡ trialOf (rulesIn contents (words_of image.now)) (constraintsIn contents (words_of image.now)) events (record { given = given; values = values.now }) }
+    ensures { result ≡ trial_of (rules_in contents (words_of image.now)) (constraints_in contents (words_of image.now)) events (record { given = given; values = values.now }) }
 {
     let middle = 1 + contents.rule_words;
     let end = middle + contents.constraint_words;
@@ -44,7 +44,7 @@ fn try_events(
 }
 
 // The events that are kept, what they propose, and how many words all trials fetched.
-#[derive(Drop)]
+#[derive(Clone, Copy)]
 pub struct KeptEvents {
     pub events: EventSet,
     pub actions: ActionSet,
@@ -63,14 +63,14 @@ fn keep_events(
 ) -> KeptEvents
     requires small_1 { contents.rule_words < 4096 }
     requires small_2 { contents.constraint_words < 4096 }
-    requires first { none ≡ trialOf (rulesIn contents (words_of image.now)) (constraintsIn contents (words_of image.now)) (keeping events noEvents) (record { given = given; values = values.now }) }
-    ensures { result ≡ keptOf (rulesIn contents (words_of image.now)) (constraintsIn contents (words_of image.now)) (record { events = events; readings = record { given = given; values = values.now } }) }
+    requires first { none ≡ trial_of (rules_in contents (words_of image.now)) (constraints_in contents (words_of image.now)) (keeping events no_events) (record { given = given; values = values.now }) }
+    ensures { result ≡ kept_of (rules_in contents (words_of image.now)) (constraints_in contents (words_of image.now)) (record { events = events; readings = record { given = given; values = values.now } }) }
 {
     let mut kept = EventSet::EMPTY;
     let mut actions = none.actions;
     let mut words = 0;
     // The events from n on: bit 0 is n.
-    let mut left = events.0;
+    let mut left = events.bits;
     let mut n = 0;
     while left != 0 {
         if left % 2 == 1 {
@@ -102,10 +102,10 @@ fn propose_all(
     values: &[i32],
 ) -> ActionSet
     requires small { contents.rule_words < 4096 }
-    requires shown { kept.actions ≡ proposedWithBy (rulesIn contents (words_of image.now)) (record { events = events; readings = record { given = given; values = values.now } }) kept.events }
-    ensures { result ≡ proposedBy (rulesIn contents (words_of image.now)) (record { events = events; readings = record { given = given; values = values.now } }) }
+    requires shown { kept.actions ≡ proposed_with_by (rules_in contents (words_of image.now)) (record { events = events; readings = record { given = given; values = values.now } }) kept.events }
+    ensures { result ≡ proposed_by (rules_in contents (words_of image.now)) (record { events = events; readings = record { given = given; values = values.now } }) }
 {
-    if kept.events.0 == events.0 {
+    if kept.events.bits == events.bits {
         return kept.actions;
     }
     let middle = 1 + contents.rule_words;
@@ -123,7 +123,7 @@ pub(crate) fn issue_events(
 ) -> Decision
     requires fact_1 { contents.rule_words < 4096 }
     requires fact_2 { contents.constraint_words < 4096 }
-    ensures { result ≡ reductionBy (rulesIn contents (words_of image.now)) (constraintsIn contents (words_of image.now)) (record { events = events; readings = record { given = given; values = values.now } }) }
+    ensures { result ≡ reduction_by (rules_in contents (words_of image.now)) (constraints_in contents (words_of image.now)) (record { events = events; readings = record { given = given; values = values.now } }) }
 {
     let none = try_events(
         image,

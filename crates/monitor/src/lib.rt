@@ -1,4 +1,6 @@
 // The monitor: what is decided on an image and an epoch line. Start with specs/Decision.antt.
+#![tactic(auto)]
+
 mod actions;
 mod decision;
 mod events;

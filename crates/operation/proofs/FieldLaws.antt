@@ -1,75 +1,73 @@
 -- Laws of the fields of a word: packing and unpacking.
-use Prim.Native.Nat.{ℕ, ◌+◌, ◌*◌, ◌/◌, ◌%◌, ◌^◌, ◌<◌}
-use mathlib.Core.Path.{◌≡◌, ap, ◌∙◌}
-use native.Mathlib.Omega.{arith}
+use Rattle.std.proofs.Common.{ℕ, ◌+◌, ◌*◌, ◌/◌, ◌%◌, ◌^◌, ◌<◌, ◌≡◌, ap, ◌∙◌, arith}
 use Rattle.word.proofs.WordLaws.{parts, lowest}
-use Rattle.word.specs.Word.{wordLimit}
-use Rattle.operation.proofs.OperationLaws.{opcode-below, operation-back, operation-there, operation-number}
-use Rattle.operation.specs.Fields.{InFields, pack, opcode_of, first_of, second_of, relationCodeOf, skipOf, operationOf}
-use Rattle.operation.specs.Operation.{opcode, operationFrom}
+use Rattle.word.specs.Word.{word_limit}
+use Rattle.operation.proofs.OperationLaws.{opcode_below, operation_back, operation_there, operation_number}
+use Rattle.operation.specs.Fields.{InFields, pack, opcode_of, first_of, second_of, relation_code_of, skip_of, operation_of}
+use Rattle.operation.specs.Operation.{opcode, operation_from}
 use Rattle.operation.specs.declared.operation.Operation.{Operation}
 
 module _ (o : Operation) (first second relation skip : ℕ) (h : InFields first second relation skip) where
   limit : opcode o < 8
-  limit = opcode-below o
+  limit = opcode_below o
 
-  pub pack-below : pack o first second relation skip < wordLimit
+  pub pack_below : pack o first second relation skip < word_limit
   unfolding pack
-  pack-below = omega (arith, limit)
+  pack_below = omega (arith, limit)
 
-  pub opcode-pack : opcode_of (pack o first second relation skip) ≡ opcode o
+  pub opcode_pack : opcode_of (pack o first second relation skip) ≡ opcode o
   unfolding pack
-  opcode-pack = omega (arith, limit)
+  opcode_pack = omega (arith, limit)
 
-  pub operation-pack : operationOf (pack o first second relation skip) ≡ o
-  operation-pack = ap operationFrom opcode-pack ∙ operation-back o
+  pub operation_pack : operation_of (pack o first second relation skip) ≡ o
+  operation_pack = ap operation_from opcode_pack ∙ operation_back o
 
-  pub first-pack : first_of (pack o first second relation skip) ≡ first
+  pub first_pack : first_of (pack o first second relation skip) ≡ first
   unfolding pack
-  first-pack = omega arith
+  first_pack = omega arith
 
-  pub second-pack : second_of (pack o first second relation skip) ≡ second
+  pub second_pack : second_of (pack o first second relation skip) ≡ second
   unfolding pack
-  second-pack = omega arith
+  second_pack = omega arith
 
-  pub relation-pack : relationCodeOf (pack o first second relation skip) ≡ relation
+  pub relation_pack : relation_code_of (pack o first second relation skip) ≡ relation
   unfolding pack
-  relation-pack = omega arith
+  relation_pack = omega arith
 
-  pub skip-pack : skipOf (pack o first second relation skip) ≡ skip
+  pub skip_pack : skip_of (pack o first second relation skip) ≡ skip
   unfolding pack
-  skip-pack = omega arith
+  skip_pack = omega arith
 
   -- below the relation, and below the first number where the second and the relation are 0
-  pub low-pack : pack o first second relation skip % 2 ^ 13 ≡ skip
+  pub low_pack : pack o first second relation skip % 2 ^ 13 ≡ skip
   unfolding pack
-  low-pack = omega arith
+  low_pack = omega arith
 
-pub head-low : (o : Operation) (first skip : ℕ) → skip < 32 → pack o first 0 0 skip % 2 ^ 22 ≡ skip
+pub head_low : (o : Operation) (first skip : ℕ) → skip < 32 → pack o first 0 0 skip % 2 ^ 22 ≡ skip
 unfolding pack
-head-low o first skip h = omega arith
+head_low o first skip h = omega arith
 
 -- a word with the number of an operation or 0, whose eight zero bits are 0, is the packing of its own fields
-fields-linear : (w o f s r k q₅ q₁₃ q₁₆ q₂₂ q₂₈ : ℕ) → w ≡ q₅ * 32 + k → q₅ ≡ q₁₃ * 256 + 0 → q₁₃ ≡ q₁₆ * 8 + r → q₁₆ ≡ q₂₂ * 64 + s → q₂₂ ≡ q₂₈ * 64 + f → q₂₈ ≡ o → o * 2 ^ 28 + f * 2 ^ 22 + s * 2 ^ 16 + r * 2 ^ 13 + k ≡ w
-fields-linear w o f s r k q₅ q₁₃ q₁₆ q₂₂ q₂₈ e₁ e₂ e₃ e₄ e₅ e₆ = omega arith
+fields_linear : (w o f s r k q₅ q₁₃ q₁₆ q₂₂ q₂₈ : ℕ) → w ≡ q₅ * 32 + k → q₅ ≡ q₁₃ * 256 + 0 → q₁₃ ≡ q₁₆ * 8 + r → q₁₆ ≡ q₂₂ * 64 + s → q₂₂ ≡ q₂₈ * 64 + f → q₂₈ ≡ o → o * 2 ^ 28 + f * 2 ^ 22 + s * 2 ^ 16 + r * 2 ^ 13 + k ≡ w
+fields_linear w o f s r k q₅ q₁₃ q₁₆ q₂₂ q₂₈ e₁ e₂ e₃ e₄ e₅ e₆ = omega arith
 
-pub pack-fields : (w : ℕ) → w < wordLimit → opcode_of w < 8 → w / 2 ^ 5 % 2 ^ 8 ≡ 0 → pack (operationOf w) (first_of w) (second_of w) (relationCodeOf w) (skipOf w) ≡ w
+pub pack_fields : (w : ℕ) → w < word_limit → opcode_of w < 8 → w / 2 ^ 5 % 2 ^ 8 ≡ 0 → pack (operation_of w) (first_of w) (second_of w) (relation_code_of w) (skip_of w) ≡ w
 unfolding pack
-pack-fields w h o z =
-    let top : w / 2 ^ 28 ≡ opcode (operationOf w) = omega (arith, operation-there (opcode_of w) o) in
+pack_fields w h o z =
+    let top : w / 2 ^ 28 ≡ opcode (operation_of w) = omega (arith, operation_there (opcode_of w) o) in
     let none : w / 2 ^ 5 ≡ w / 2 ^ 13 * 256 + 0 = omega (arith, parts w 5 8) in
-    fields-linear w (opcode (operationOf w)) (first_of w) (second_of w) (relationCodeOf w) (skipOf w) (w / 2 ^ 5) (w / 2 ^ 13) (w / 2 ^ 16) (w / 2 ^ 22) (w / 2 ^ 28) (lowest w 5) none (parts w 13 3) (parts w 16 6) (parts w 22 6) top
+    fields_linear w (opcode (operation_of w)) (first_of w) (second_of w) (relation_code_of w) (skip_of w) (w / 2 ^ 5) (w / 2 ^ 13) (w / 2 ^ 16) (w / 2 ^ 22) (w / 2 ^ 28) (lowest w 5) none (parts w 13 3) (parts w 16 6) (parts w 22 6) top
 
 -- ---- words put together again from what a scan tests
 
-module _ (o : Operation) (w : ℕ) (known : 0 < opcode o) (h : w < wordLimit) (e : operationOf w ≡ o) where
+module _ (o : Operation) (w : ℕ) (known : 0 < opcode o) (h : w < word_limit) (e : operation_of w ≡ o) where
   top : w / 2 ^ 28 ≡ opcode o
-  top = let k : w / 2 ^ 28 ≡ opcode_of w = omega arith in k ∙ operation-number (opcode_of w) o known e
+  top = let k : w / 2 ^ 28 ≡ opcode_of w = omega arith in k ∙ operation_number (opcode_of w) o known e
 
-  pub head-again : (left : ℕ) → w % 2 ^ 22 ≡ left → pack o (first_of w) 0 0 left ≡ w
+  pub head_again : (left : ℕ) → w % 2 ^ 22 ≡ left → pack o (first_of w) 0 0 left ≡ w
   unfolding pack
-  head-again left q = omega (arith, top, lowest w 22, parts w 22 6)
+  head_again left q = omega (arith, top, lowest w 22, parts w 22 6)
 
-  pub comparison-again : (low : ℕ) → w % 2 ^ 13 ≡ low → pack o (first_of w) (second_of w) (relationCodeOf w) low ≡ w
+  pub comparison_again : (low : ℕ) → w % 2 ^ 13 ≡ low → pack o (first_of w) (second_of w) (relation_code_of w) low ≡ w
   unfolding pack
-  comparison-again low q = omega (arith, top, lowest w 13, parts w 13 3, parts w 16 6, parts w 22 6)
+  comparison_again low q = omega (arith, top, lowest w 13, parts w 13 3, parts w 16 6, parts w 22 6)

@@ -1,63 +1,58 @@
 -- A comparison and its test, from the fields of its word as the functions answer them.
-use Prim.Native.Nat.{ℕ}
-use mathlib.Core.Path.{◌≡◌, refl, sym, ap, ap₂, ◌∙◌}
-use lib.IntN.{ℤ}
-use mir.Syntax.{w32}
-use mir.Val.{to_z}
-use Rattle.policy.proofs.MissingLaws.{given-counts, left-missing, right-missing}
-use Rattle.policy.specs.Comparison.{relationHolds, missingHolds, operandValue, comparisonHolds}
-use Rattle.policy.specs.Epoch.{Readings, readingValue}
+use Rattle.std.proofs.Common.{ℕ, ◌≡◌, refl, sym, ap, ap₂, ◌∙◌, ℤ, w32, to_z, Option, Some, None}
+use Rattle.policy.proofs.MissingLaws.{given_counts, left_missing, right_missing}
+use Rattle.policy.specs.Comparison.{relation_holds, missing_holds, operand_value, comparison_holds}
+use Rattle.policy.specs.Epoch.{Readings, reading_value}
 use Rattle.policy.specs.declared.comparison.Operand.{Operand}
-use Rattle.policy.specs.declared.comparison.Value.{Value}
 use Rattle.policy.specs.declared.comparison.Relation.{Relation}
 use Rattle.policy.specs.declared.line.Part.{Part}
-use Rattle.operation.specs.Fields.{first_of, second_of, relationCodeOf}
-use Rattle.operation.specs.Operation.{relationFrom}
-use Rattle.operation.specs.Parts.{constantComparison, readingComparison}
+use Rattle.operation.specs.Fields.{first_of, second_of, relation_code_of}
+use Rattle.operation.specs.Operation.{relation_from}
+use Rattle.operation.specs.Parts.{constant_comparison, reading_comparison}
 
-module _ (w f k : ℕ) (first : f ≡ first_of w) (code : k ≡ relationCodeOf w) (r : Relation) (relation : r ≡ relationFrom k) where
-  pub constant_by : (v : ℕ) (z : ℤ) → z ≡ to_z w32 v → record { reading = record { 0 = f }; relation = r; operand = Operand.Constant z } ≡ constantComparison w v
-  unfolding constantComparison
+module _ (w f k : ℕ) (first : f ≡ first_of w) (code : k ≡ relation_code_of w) (r : Relation) (relation : r ≡ relation_from k) where
+  pub constant_by : (v : ℕ) (z : ℤ) → z ≡ to_z w32 v → record { reading = record { 0 = f }; relation = r; operand = Operand.Constant z } ≡ constant_comparison w v
+  unfolding constant_comparison
   constant_by v z e = cc
 
-  pub reading-by : (s : ℕ) → s ≡ second_of w → record { reading = record { 0 = f }; relation = r; operand = Operand.Reading (record { 0 = s }) } ≡ readingComparison w
-  unfolding readingComparison
-  reading-by s e = cc
+  pub reading_by : (s : ℕ) → s ≡ second_of w → record { reading = record { 0 = f }; relation = r; operand = Operand.Reading (record { 0 = s }) } ≡ reading_comparison w
+  unfolding reading_comparison
+  reading_by s e = cc
 
 -- ---- whether the comparison holds, by the values of its readings
 
 module _ (part : Part) (rs : Readings) (w f : ℕ) (first : f ≡ first_of w) where
   -- the reading as the function has it
-  of-first : (x : Value) → readingValue rs (record { 0 = f }) ≡ x → readingValue rs (record { 0 = first_of w }) ≡ x
-  of-first x h = ap (λ (n : ℕ). readingValue rs (record { 0 = n })) (sym first) ∙ h
+  of_first : (x : Option ℤ) → reading_value rs (record { 0 = f }) ≡ x → reading_value rs (record { 0 = first_of w }) ≡ x
+  of_first x h = ap (λ (n : ℕ). reading_value rs (record { 0 = n })) (sym first) ∙ h
 
-  module _ (missing : readingValue rs (record { 0 = f }) ≡ Value.Missing) where
-    pub constant-missing : (v : ℕ) → missingHolds part ≡ comparisonHolds part rs (constantComparison w v)
-    unfolding constantComparison
-    constant-missing v = sym (left-missing rs (constantComparison w v) part (of-first Value.Missing missing))
+  module _ (missing : reading_value rs (record { 0 = f }) ≡ None) where
+    pub constant_missing : (v : ℕ) → missing_holds part ≡ comparison_holds part rs (constant_comparison w v)
+    unfolding constant_comparison
+    constant_missing v = sym (left_missing rs (constant_comparison w v) part (of_first None missing))
 
-    pub reading-missing : missingHolds part ≡ comparisonHolds part rs (readingComparison w)
-    unfolding readingComparison
-    reading-missing = sym (left-missing rs (readingComparison w) part (of-first Value.Missing missing))
+    pub reading_missing : missing_holds part ≡ comparison_holds part rs (reading_comparison w)
+    unfolding reading_comparison
+    reading_missing = sym (left_missing rs (reading_comparison w) part (of_first None missing))
 
   module _ (s : ℕ) (second : s ≡ second_of w) where
-    of-second : (x : Value) → readingValue rs (record { 0 = s }) ≡ x → operandValue rs (readingComparison w).operand ≡ x
-    unfolding operandValue readingComparison
-    of-second x h = ap (λ (n : ℕ). readingValue rs (record { 0 = n })) (sym second) ∙ h
+    of_second : (x : Option ℤ) → reading_value rs (record { 0 = s }) ≡ x → operand_value rs (reading_comparison w).operand ≡ x
+    unfolding operand_value reading_comparison
+    of_second x h = ap (λ (n : ℕ). reading_value rs (record { 0 = n })) (sym second) ∙ h
 
-    pub second-missing : readingValue rs (record { 0 = s }) ≡ Value.Missing → missingHolds part ≡ comparisonHolds part rs (readingComparison w)
-    second-missing missing = sym (right-missing rs (readingComparison w) part (of-second Value.Missing missing))
+    pub second_missing : reading_value rs (record { 0 = s }) ≡ None → missing_holds part ≡ comparison_holds part rs (reading_comparison w)
+    second_missing missing = sym (right_missing rs (reading_comparison w) part (of_second None missing))
 
-  module _ (k : ℕ) (code : k ≡ relationCodeOf w) (a : ℤ) (left : readingValue rs (record { 0 = f }) ≡ Value.Known a) where
-    pub constant-given : (v : ℕ) (z : ℤ) → z ≡ to_z w32 v → relationHolds (relationFrom k) a z ≡ comparisonHolds part rs (constantComparison w v)
-    unfolding constantComparison operandValue
-    constant-given v z e =
-        ap₂ (λ (n : ℕ) (b : ℤ). relationHolds (relationFrom n) a b) code e
-        ∙ sym (given-counts rs (constantComparison w v) part a (to_z w32 v) (of-first (Value.Known a) left) refl)
+  module _ (k : ℕ) (code : k ≡ relation_code_of w) (a : ℤ) (left : reading_value rs (record { 0 = f }) ≡ Some a) where
+    pub constant_given : (v : ℕ) (z : ℤ) → z ≡ to_z w32 v → relation_holds (relation_from k) a z ≡ comparison_holds part rs (constant_comparison w v)
+    unfolding constant_comparison operand_value
+    constant_given v z e =
+        ap₂ (λ (n : ℕ) (b : ℤ). relation_holds (relation_from n) a b) code e
+        ∙ sym (given_counts rs (constant_comparison w v) part a (to_z w32 v) (of_first (Some a) left) refl)
 
-    pub reading-given : (s : ℕ) → s ≡ second_of w → (b : ℤ) → readingValue rs (record { 0 = s }) ≡ Value.Known b
-        → relationHolds (relationFrom k) a b ≡ comparisonHolds part rs (readingComparison w)
-    unfolding readingComparison
-    reading-given s second b right =
-        ap (λ (n : ℕ). relationHolds (relationFrom n) a b) code
-        ∙ sym (given-counts rs (readingComparison w) part a b (of-first (Value.Known a) left) (of-second s second (Value.Known b) right))
+    pub reading_given : (s : ℕ) → s ≡ second_of w → (b : ℤ) → reading_value rs (record { 0 = s }) ≡ Some b
+        → relation_holds (relation_from k) a b ≡ comparison_holds part rs (reading_comparison w)
+    unfolding reading_comparison
+    reading_given s second b right =
+        ap (λ (n : ℕ). relation_holds (relation_from n) a b) code
+        ∙ sym (given_counts rs (reading_comparison w) part a b (of_first (Some a) left) (of_second s second (Some b) right))

@@ -1,112 +1,108 @@
 -- Laws of operations and relations: their numbers, both ways.
-use Prim.Native.Nat.{ℕ, zero, suc, ◌≤◌, ◌<◌}
-use mathlib.Core.Bool.{Bool, true, false}
-use mathlib.Core.Path.{◌≡◌, refl, sym, ap, ◌∙◌}
-use native.Mathlib.Omega.{arith}
-use borrow.Author.Tests.{ltb-true, ltb-false}
-use lib.Dec.{ltb}
+use Rattle.std.proofs.Common.{ℕ, zero, suc, ◌≤◌, ◌<◌, Bool, true, false, ◌≡◌, refl, sym, ap, ◌∙◌, arith, ltb-true, ltb-false}
+use Rattle.std.proofs.Math.Dec.{ltb}
 use Rattle.policy.specs.declared.comparison.Relation.{Relation}
-use Rattle.operation.specs.Operation.{opcode, operationFrom, relationCode, relationFrom}
+use Rattle.operation.specs.Operation.{opcode, operation_from, relation_code, relation_from}
 use Rattle.operation.specs.declared.operation.Operation.{Operation}
 
-pub relation-back : (r : Relation) → relationFrom (relationCode r) ≡ r
-unfolding relationFrom
-relation-back Relation.Equal = refl
-relation-back Relation.NotEqual = refl
-relation-back Relation.Less = refl
-relation-back Relation.LessOrEqual = refl
-relation-back Relation.Greater = refl
-relation-back Relation.GreaterOrEqual = refl
+pub relation_back : (r : Relation) → relation_from (relation_code r) ≡ r
+unfolding relation_from
+relation_back Relation.Equal = refl
+relation_back Relation.NotEqual = refl
+relation_back Relation.Less = refl
+relation_back Relation.LessOrEqual = refl
+relation_back Relation.Greater = refl
+relation_back Relation.GreaterOrEqual = refl
 
-pub relation-there : (n : ℕ) → n < 6 → relationCode (relationFrom n) ≡ n
-unfolding relationFrom
-relation-there zero h = refl
-relation-there (suc zero) h = refl
-relation-there (suc (suc zero)) h = refl
-relation-there (suc (suc (suc zero))) h = refl
-relation-there (suc (suc (suc (suc zero)))) h = refl
-relation-there (suc (suc (suc (suc (suc zero))))) h = refl
-relation-there (suc (suc (suc (suc (suc (suc n)))))) h = absurd (omega arith)
+pub relation_there : (n : ℕ) → n < 6 → relation_code (relation_from n) ≡ n
+unfolding relation_from
+relation_there zero h = refl
+relation_there (suc zero) h = refl
+relation_there (suc (suc zero)) h = refl
+relation_there (suc (suc (suc zero))) h = refl
+relation_there (suc (suc (suc (suc zero)))) h = refl
+relation_there (suc (suc (suc (suc (suc zero))))) h = refl
+relation_there (suc (suc (suc (suc (suc (suc n)))))) h = absurd (omega arith)
 
-pub relation-high : (n : ℕ) → 5 ≤ n → Relation.GreaterOrEqual ≡ relationFrom n
-unfolding relationFrom
-relation-high zero h = absurd (omega arith)
-relation-high (suc zero) h = absurd (omega arith)
-relation-high (suc (suc zero)) h = absurd (omega arith)
-relation-high (suc (suc (suc zero))) h = absurd (omega arith)
-relation-high (suc (suc (suc (suc zero)))) h = absurd (omega arith)
-relation-high (suc (suc (suc (suc (suc n))))) h = refl
+pub relation_high : (n : ℕ) → 5 ≤ n → Relation.GreaterOrEqual ≡ relation_from n
+unfolding relation_from
+relation_high zero h = absurd (omega arith)
+relation_high (suc zero) h = absurd (omega arith)
+relation_high (suc (suc zero)) h = absurd (omega arith)
+relation_high (suc (suc (suc zero))) h = absurd (omega arith)
+relation_high (suc (suc (suc (suc zero)))) h = absurd (omega arith)
+relation_high (suc (suc (suc (suc (suc n))))) h = refl
 
-pub relation-below : (r : Relation) → relationCode r < 6
-relation-below Relation.Equal = omega arith
-relation-below Relation.NotEqual = omega arith
-relation-below Relation.Less = omega arith
-relation-below Relation.LessOrEqual = omega arith
-relation-below Relation.Greater = omega arith
-relation-below Relation.GreaterOrEqual = omega arith
+pub relation_below : (r : Relation) → relation_code r < 6
+relation_below Relation.Equal = omega arith
+relation_below Relation.NotEqual = omega arith
+relation_below Relation.Less = omega arith
+relation_below Relation.LessOrEqual = omega arith
+relation_below Relation.Greater = omega arith
+relation_below Relation.GreaterOrEqual = omega arith
 
-pub opcode-below : (o : Operation) → opcode o < 8
-opcode-below Operation.Unknown = omega arith
-opcode-below Operation.Present = omega arith
-opcode-below Operation.Absent = omega arith
-opcode-below Operation.AgainstConstant = omega arith
-opcode-below Operation.AgainstReading = omega arith
-opcode-below Operation.Proposes = omega arith
-opcode-below Operation.Member = omega arith
-opcode-below Operation.Never = omega arith
+pub opcode_below : (o : Operation) → opcode o < 8
+opcode_below Operation.Unknown = omega arith
+opcode_below Operation.Present = omega arith
+opcode_below Operation.Absent = omega arith
+opcode_below Operation.AgainstConstant = omega arith
+opcode_below Operation.AgainstReading = omega arith
+opcode_below Operation.Proposes = omega arith
+opcode_below Operation.Member = omega arith
+opcode_below Operation.Never = omega arith
 
 -- the numbers of operations, both ways: 0 stands for no operation
-pub operation-back : (o : Operation) → operationFrom (opcode o) ≡ o
-unfolding operationFrom
-operation-back Operation.Unknown = refl
-operation-back Operation.Present = refl
-operation-back Operation.Absent = refl
-operation-back Operation.AgainstConstant = refl
-operation-back Operation.AgainstReading = refl
-operation-back Operation.Proposes = refl
-operation-back Operation.Member = refl
-operation-back Operation.Never = refl
+pub operation_back : (o : Operation) → operation_from (opcode o) ≡ o
+unfolding operation_from
+operation_back Operation.Unknown = refl
+operation_back Operation.Present = refl
+operation_back Operation.Absent = refl
+operation_back Operation.AgainstConstant = refl
+operation_back Operation.AgainstReading = refl
+operation_back Operation.Proposes = refl
+operation_back Operation.Member = refl
+operation_back Operation.Never = refl
 
-pub operation-there : (n : ℕ) → n < 8 → opcode (operationFrom n) ≡ n
-unfolding operationFrom
-operation-there zero h = refl
-operation-there (suc zero) h = refl
-operation-there (suc (suc zero)) h = refl
-operation-there (suc (suc (suc zero))) h = refl
-operation-there (suc (suc (suc (suc zero)))) h = refl
-operation-there (suc (suc (suc (suc (suc zero))))) h = refl
-operation-there (suc (suc (suc (suc (suc (suc zero)))))) h = refl
-operation-there (suc (suc (suc (suc (suc (suc (suc zero))))))) h = refl
-operation-there (suc (suc (suc (suc (suc (suc (suc (suc n)))))))) h = absurd (omega arith)
+pub operation_there : (n : ℕ) → n < 8 → opcode (operation_from n) ≡ n
+unfolding operation_from
+operation_there zero h = refl
+operation_there (suc zero) h = refl
+operation_there (suc (suc zero)) h = refl
+operation_there (suc (suc (suc zero))) h = refl
+operation_there (suc (suc (suc (suc zero)))) h = refl
+operation_there (suc (suc (suc (suc (suc zero))))) h = refl
+operation_there (suc (suc (suc (suc (suc (suc zero)))))) h = refl
+operation_there (suc (suc (suc (suc (suc (suc (suc zero))))))) h = refl
+operation_there (suc (suc (suc (suc (suc (suc (suc (suc n)))))))) h = absurd (omega arith)
 
-pub operation-high : (n : ℕ) → 8 ≤ n → operationFrom n ≡ Operation.Unknown
-unfolding operationFrom
-operation-high zero h = absurd (omega arith)
-operation-high (suc zero) h = absurd (omega arith)
-operation-high (suc (suc zero)) h = absurd (omega arith)
-operation-high (suc (suc (suc zero))) h = absurd (omega arith)
-operation-high (suc (suc (suc (suc zero)))) h = absurd (omega arith)
-operation-high (suc (suc (suc (suc (suc zero))))) h = absurd (omega arith)
-operation-high (suc (suc (suc (suc (suc (suc zero)))))) h = absurd (omega arith)
-operation-high (suc (suc (suc (suc (suc (suc (suc zero))))))) h = absurd (omega arith)
-operation-high (suc (suc (suc (suc (suc (suc (suc (suc n)))))))) h = refl
+pub operation_high : (n : ℕ) → 8 ≤ n → operation_from n ≡ Operation.Unknown
+unfolding operation_from
+operation_high zero h = absurd (omega arith)
+operation_high (suc zero) h = absurd (omega arith)
+operation_high (suc (suc zero)) h = absurd (omega arith)
+operation_high (suc (suc (suc zero))) h = absurd (omega arith)
+operation_high (suc (suc (suc (suc zero)))) h = absurd (omega arith)
+operation_high (suc (suc (suc (suc (suc zero))))) h = absurd (omega arith)
+operation_high (suc (suc (suc (suc (suc (suc zero)))))) h = absurd (omega arith)
+operation_high (suc (suc (suc (suc (suc (suc (suc zero))))))) h = absurd (omega arith)
+operation_high (suc (suc (suc (suc (suc (suc (suc (suc n)))))))) h = refl
 
 -- what has a number has no other
-pub operation-number : (n : ℕ) (o : Operation) → 0 < opcode o → operationFrom n ≡ o → n ≡ opcode o
-operation-number n o h q = go (ltb n 8) refl
+pub operation_number : (n : ℕ) (o : Operation) → 0 < opcode o → operation_from n ≡ o → n ≡ opcode o
+operation_number n o h q = go (ltb n 8) refl
   where
     go : (b : Bool) → ltb n 8 ≡ b → n ≡ opcode o
-    go true e = sym (operation-there n (ltb-true n 8 e)) ∙ ap opcode q
-    go false e = absurd (omega (arith, ap opcode (sym (operation-high n (ltb-false n 8 e)) ∙ q)))
+    go true e = sym (operation_there n (ltb-true n 8 e)) ∙ ap opcode q
+    go false e = absurd (omega (arith, ap opcode (sym (operation_high n (ltb-false n 8 e)) ∙ q)))
 
-pub operation-other : (n : ℕ) → (n ≡ 1 → ⊥) → (n ≡ 2 → ⊥) → (n ≡ 3 → ⊥) → (n ≡ 4 → ⊥) → (n ≡ 5 → ⊥) → (n ≡ 6 → ⊥) → (n ≡ 7 → ⊥) → Operation.Unknown ≡ operationFrom n
-unfolding operationFrom
-operation-other zero n₁ n₂ n₃ n₄ n₅ n₆ n₇ = refl
-operation-other (suc zero) n₁ n₂ n₃ n₄ n₅ n₆ n₇ = absurd (n₁ refl)
-operation-other (suc (suc zero)) n₁ n₂ n₃ n₄ n₅ n₆ n₇ = absurd (n₂ refl)
-operation-other (suc (suc (suc zero))) n₁ n₂ n₃ n₄ n₅ n₆ n₇ = absurd (n₃ refl)
-operation-other (suc (suc (suc (suc zero)))) n₁ n₂ n₃ n₄ n₅ n₆ n₇ = absurd (n₄ refl)
-operation-other (suc (suc (suc (suc (suc zero))))) n₁ n₂ n₃ n₄ n₅ n₆ n₇ = absurd (n₅ refl)
-operation-other (suc (suc (suc (suc (suc (suc zero)))))) n₁ n₂ n₃ n₄ n₅ n₆ n₇ = absurd (n₆ refl)
-operation-other (suc (suc (suc (suc (suc (suc (suc zero))))))) n₁ n₂ n₃ n₄ n₅ n₆ n₇ = absurd (n₇ refl)
-operation-other (suc (suc (suc (suc (suc (suc (suc (suc n)))))))) n₁ n₂ n₃ n₄ n₅ n₆ n₇ = refl
+pub operation_other : (n : ℕ) → (n ≡ 1 → ⊥) → (n ≡ 2 → ⊥) → (n ≡ 3 → ⊥) → (n ≡ 4 → ⊥) → (n ≡ 5 → ⊥) → (n ≡ 6 → ⊥) → (n ≡ 7 → ⊥) → Operation.Unknown ≡ operation_from n
+unfolding operation_from
+operation_other zero n₁ n₂ n₃ n₄ n₅ n₆ n₇ = refl
+operation_other (suc zero) n₁ n₂ n₃ n₄ n₅ n₆ n₇ = absurd (n₁ refl)
+operation_other (suc (suc zero)) n₁ n₂ n₃ n₄ n₅ n₆ n₇ = absurd (n₂ refl)
+operation_other (suc (suc (suc zero))) n₁ n₂ n₃ n₄ n₅ n₆ n₇ = absurd (n₃ refl)
+operation_other (suc (suc (suc (suc zero)))) n₁ n₂ n₃ n₄ n₅ n₆ n₇ = absurd (n₄ refl)
+operation_other (suc (suc (suc (suc (suc zero))))) n₁ n₂ n₃ n₄ n₅ n₆ n₇ = absurd (n₅ refl)
+operation_other (suc (suc (suc (suc (suc (suc zero)))))) n₁ n₂ n₃ n₄ n₅ n₆ n₇ = absurd (n₆ refl)
+operation_other (suc (suc (suc (suc (suc (suc (suc zero))))))) n₁ n₂ n₃ n₄ n₅ n₆ n₇ = absurd (n₇ refl)
+operation_other (suc (suc (suc (suc (suc (suc (suc (suc n)))))))) n₁ n₂ n₃ n₄ n₅ n₆ n₇ = refl

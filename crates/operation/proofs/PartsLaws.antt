@@ -1,18 +1,10 @@
 -- The words of the parts of a line, read back: what each word's fields say is the part that it was written from.
-use Prim.Native.Nat.{ℕ, ◌-◌, ◌%◌, ◌^◌, ◌<◌}
-use mathlib.Core.Bool.{Bool, true, cond}
-use mathlib.Core.List.{[], ◌∷◌}
-use mathlib.Core.Path.{◌≡◌, refl, sym, ap, ap₂, ◌∙◌, subst}
-use native.Mathlib.Omega.{arith}
-use borrow.Author.Tests.{ltb-true, lt-ltb}
-use lib.Dec.{ltb}
-use lib.IntN.{ℤ}
-use mir.Facts.{to_z-of_z, of_z-to_z, Fits-of_z}
-use mir.Syntax.{w32}
-use mir.Val.{SFits, of_z}
-use Rattle.policy.proofs.ConstantLaws.{reading-value, reading-limit}
-use Rattle.policy.proofs.ListLaws.{and_in, and-out}
-use Rattle.policy.specs.Limits.{isReadingValue, testNumber, operandInRange, comparisonInRange}
+use Rattle.std.proofs.Common.{ℕ, ◌-◌, ◌%◌, ◌^◌, ◌<◌, Bool, true, cond, [], ◌∷◌, ◌≡◌, refl, sym, ap, ap₂, ◌∙◌, subst, arith, ltb-true, lt-ltb, ℤ, to_z-of_z, w32, SFits, of_z}
+use Rattle.std.proofs.Math.Dec.{ltb}
+use Rattle.std.proofs.Math.Facts.{of_z-to_z, Fits-of_z}
+use Rattle.policy.proofs.ConstantLaws.{reading_value_is, reading_limit_is}
+use Rattle.policy.proofs.ListLaws.{and_in, and_out}
+use Rattle.policy.specs.Limits.{is_reading_value, test_number, operand_in_range, comparison_in_range}
 use Rattle.policy.specs.declared.comparison.Comparison.{Comparison}
 use Rattle.policy.specs.declared.comparison.Literal.{Literal}
 use Rattle.policy.specs.declared.comparison.Operand.{Operand}
@@ -21,189 +13,189 @@ use Rattle.policy.specs.declared.line.Ending.{Ending}
 use Rattle.policy.specs.declared.line.Test.{Test}
 use Rattle.policy.specs.declared.number.Action.{Action}
 use Rattle.policy.specs.declared.number.Reading.{Reading}
-use Rattle.operation.proofs.OperationLaws.{relation-back, relation-there, relation-below}
-use Rattle.operation.proofs.FieldLaws.{pack-below, operation-pack, first-pack, second-pack, relation-pack, skip-pack, low-pack, head-low, head-again, comparison-again}
-use Rattle.operation.specs.Operation.{opcode, relationCode, relationFrom}
-use Rattle.operation.specs.Parts.{testOperation, testWord, operand_word, constantWords, comparisonWord, comparisonWords, endingWord, eventFrom, actionFrom, constantComparison, readingComparison}
-use Rattle.word.specs.Word.{wordLimit}
-use Rattle.operation.specs.Fields.{InFields, pack, operationOf, first_of, second_of, relationCodeOf, skipOf}
+use Rattle.operation.proofs.OperationLaws.{relation_back, relation_there, relation_below}
+use Rattle.operation.proofs.FieldLaws.{pack_below, operation_pack, first_pack, second_pack, relation_pack, skip_pack, low_pack, head_low, head_again, comparison_again}
+use Rattle.operation.specs.Operation.{opcode, relation_code, relation_from}
+use Rattle.operation.specs.Parts.{test_operation, test_word, operand_word, constant_words, comparison_word, comparison_words, ending_word, event_from, action_from, constant_comparison, reading_comparison}
+use Rattle.word.specs.Word.{word_limit}
+use Rattle.operation.specs.Fields.{InFields, pack, operation_of, first_of, second_of, relation_code_of, skip_of}
 use Rattle.operation.specs.declared.operation.Operation.{Operation}
 
 -- ---- heads
 
-module _ (t : Test) (k : ℕ) (h : testNumber t < 64) (l : k < 32) where
-  test_fields : InFields (testNumber t) 0 0 k
-  test_fields = record { first_below = h; second_below = omega arith; relation-below = omega arith; skip_below = l }
+module _ (t : Test) (k : ℕ) (h : test_number t < 64) (l : k < 32) where
+  test_fields : InFields (test_number t) 0 0 k
+  test_fields = record { first_below = h; second_below = omega arith; relation_below = omega arith; skip_below = l }
 
-  pub test_below : testWord t k < wordLimit
-  unfolding testWord
-  test_below = pack-below (testOperation t) (testNumber t) 0 0 k test_fields
+  pub test_below : test_word t k < word_limit
+  unfolding test_word
+  test_below = pack_below (test_operation t) (test_number t) 0 0 k test_fields
 
-  pub test-skip : skipOf (testWord t k) ≡ k
-  unfolding testWord
-  test-skip = skip-pack (testOperation t) (testNumber t) 0 0 k test_fields
+  pub test_skip : skip_of (test_word t k) ≡ k
+  unfolding test_word
+  test_skip = skip_pack (test_operation t) (test_number t) 0 0 k test_fields
 
-  pub test-first : first_of (testWord t k) ≡ testNumber t
-  unfolding testWord
-  test-first = first-pack (testOperation t) (testNumber t) 0 0 k test_fields
+  pub test_first : first_of (test_word t k) ≡ test_number t
+  unfolding test_word
+  test_first = first_pack (test_operation t) (test_number t) 0 0 k test_fields
 
-  pub test_low : testWord t k % 2 ^ 22 ≡ k
-  unfolding testWord
-  test_low = head-low (testOperation t) (testNumber t) k l
+  pub test_low : test_word t k % 2 ^ 22 ≡ k
+  unfolding test_word
+  test_low = head_low (test_operation t) (test_number t) k l
 
-  pub test-operation : operationOf (testWord t k) ≡ testOperation t
-  unfolding testWord
-  test-operation = operation-pack (testOperation t) (testNumber t) 0 0 k test_fields
+  pub test_operation_is : operation_of (test_word t k) ≡ test_operation t
+  unfolding test_word
+  test_operation_is = operation_pack (test_operation t) (test_number t) 0 0 k test_fields
 
 -- present or absent
-abbrev pub literalOperation : Bool → Operation
-literalOperation negated = cond negated Operation.Absent Operation.Present
+abbrev pub literal_operation : Bool → Operation
+literal_operation negated = cond negated Operation.Absent Operation.Present
 
-pub literal-operation : (l : Literal) (k : ℕ) → testNumber (Test.Occurs l) < 64 → k < 32 → operationOf (testWord (Test.Occurs l) k) ≡ literalOperation l.negated
-unfolding testOperation
-literal-operation l k h b = test-operation (Test.Occurs l) k h b
+pub literal_operation_is : (l : Literal) (k : ℕ) → test_number (Test.Occurs l) < 64 → k < 32 → operation_of (test_word (Test.Occurs l) k) ≡ literal_operation l.negated
+unfolding test_operation
+literal_operation_is l k h b = test_operation_is (Test.Occurs l) k h b
 
-pub literal-event : (l : Literal) (k : ℕ) → testNumber (Test.Occurs l) < 64 → k < 32 → eventFrom (testWord (Test.Occurs l) k) ≡ l.event
-unfolding testNumber
-literal-event l k h b = λ i. record { 0 = test-first (Test.Occurs l) k h b i }
+pub literal_event : (l : Literal) (k : ℕ) → test_number (Test.Occurs l) < 64 → k < 32 → event_from (test_word (Test.Occurs l) k) ≡ l.event
+unfolding test_number
+literal_event l k h b = λ i. record { 0 = test_first (Test.Occurs l) k h b i }
 
-pub member-operation : (a : Action) (k : ℕ) → testNumber (Test.Member a) < 64 → k < 32 → operationOf (testWord (Test.Member a) k) ≡ Operation.Member
-unfolding testOperation
-member-operation a k h b = test-operation (Test.Member a) k h b
+pub member_operation : (a : Action) (k : ℕ) → test_number (Test.Member a) < 64 → k < 32 → operation_of (test_word (Test.Member a) k) ≡ Operation.Member
+unfolding test_operation
+member_operation a k h b = test_operation_is (Test.Member a) k h b
 
-pub member-action : (a : Action) (k : ℕ) → testNumber (Test.Member a) < 64 → k < 32 → actionFrom (testWord (Test.Member a) k) ≡ a
-unfolding testNumber
-member-action a k h b = λ i. record { 0 = test-first (Test.Member a) k h b i }
+pub member_action : (a : Action) (k : ℕ) → test_number (Test.Member a) < 64 → k < 32 → action_from (test_word (Test.Member a) k) ≡ a
+unfolding test_number
+member_action a k h b = λ i. record { 0 = test_first (Test.Member a) k h b i }
 
 -- ---- comparisons
 
 -- the fields of a word that compares, with its skip
 pub record Compares (o : Operation) (w k : ℕ) : Type 0 where
-  pub limit : w < wordLimit
-  pub operation : operationOf w ≡ o
+  pub limit : w < word_limit
+  pub operation : operation_of w ≡ o
   pub first : first_of w < 16
-  pub relation : relationCodeOf w < 6
+  pub relation : relation_code_of w < 6
   pub low : w % 2 ^ 13 ≡ k
 
 -- how a comparison is written: with its constant behind it, or in one word
 pub data Written (c : Comparison) (k : ℕ) : Type 0 where
-  withConstant : (w v : ℕ) → comparisonWords c k ≡ w ∷ v ∷ [] → operationOf w ≡ Operation.AgainstConstant → skipOf w ≡ k → constantComparison w v ≡ c → Compares Operation.AgainstConstant w k → (second_of w ≡ 0) × (v < wordLimit) → Written c k
-  withReading : (w : ℕ) → comparisonWords c k ≡ w ∷ [] → operationOf w ≡ Operation.AgainstReading → skipOf w ≡ k → readingComparison w ≡ c → Compares Operation.AgainstReading w k → second_of w < 16 → Written c k
+  with_constant : (w v : ℕ) → comparison_words c k ≡ w ∷ v ∷ [] → operation_of w ≡ Operation.AgainstConstant → skip_of w ≡ k → constant_comparison w v ≡ c → Compares Operation.AgainstConstant w k → (second_of w ≡ 0) × (v < word_limit) → Written c k
+  with_reading : (w : ℕ) → comparison_words c k ≡ w ∷ [] → operation_of w ≡ Operation.AgainstReading → skip_of w ≡ k → reading_comparison w ≡ c → Compares Operation.AgainstReading w k → second_of w < 16 → Written c k
 
 module _ (reading : Reading) (relation : Relation) (k : ℕ) (h : reading.0 < 16) (l : k < 32) where
-  constant-fields : InFields reading.0 0 (relationCode relation) k
-  constant-fields = let r = relation-below relation in record { first_below = omega arith; second_below = omega arith; relation-below = omega arith; skip_below = l }
+  constant_fields : InFields reading.0 0 (relation_code relation) k
+  constant_fields = let r = relation_below relation in record { first_below = omega arith; second_below = omega arith; relation_below = omega arith; skip_below = l }
 
-  constant-written : (v : ℤ) → isReadingValue v ≡ true → Written (record { reading = reading; relation = relation; operand = Operand.Constant v }) k
-  unfolding comparisonWords comparisonWord operand_word constantWords constantComparison
-  constant-written v i =
-      withConstant (pack Operation.AgainstConstant reading.0 0 (relationCode relation) k) (of_z w32 v) refl (operation-pack Operation.AgainstConstant reading.0 0 (relationCode relation) k constant-fields)
-      (skip-pack Operation.AgainstConstant reading.0 0 (relationCode relation) k constant-fields)
-      (λ j. record { reading = record { 0 = first-pack Operation.AgainstConstant reading.0 0 (relationCode relation) k constant-fields j }; relation = back j; operand = Operand.Constant (to_z-of_z f j) })
+  constant_written : (v : ℤ) → is_reading_value v ≡ true → Written (record { reading = reading; relation = relation; operand = Operand.Constant v }) k
+  unfolding comparison_words comparison_word operand_word constant_words constant_comparison
+  constant_written v i =
+      with_constant (pack Operation.AgainstConstant reading.0 0 (relation_code relation) k) (of_z w32 v) refl (operation_pack Operation.AgainstConstant reading.0 0 (relation_code relation) k constant_fields)
+      (skip_pack Operation.AgainstConstant reading.0 0 (relation_code relation) k constant_fields)
+      (λ j. record { reading = record { 0 = first_pack Operation.AgainstConstant reading.0 0 (relation_code relation) k constant_fields j }; relation = back j; operand = Operand.Constant (to_z-of_z f j) })
       (record {
-        limit = pack-below Operation.AgainstConstant reading.0 0 (relationCode relation) k constant-fields;
-        operation = operation-pack Operation.AgainstConstant reading.0 0 (relationCode relation) k constant-fields;
-        first = omega (arith, first-pack Operation.AgainstConstant reading.0 0 (relationCode relation) k constant-fields);
-        relation = omega (arith, relation-pack Operation.AgainstConstant reading.0 0 (relationCode relation) k constant-fields, relation-below relation);
-        low = low-pack Operation.AgainstConstant reading.0 0 (relationCode relation) k constant-fields;
+        limit = pack_below Operation.AgainstConstant reading.0 0 (relation_code relation) k constant_fields;
+        operation = operation_pack Operation.AgainstConstant reading.0 0 (relation_code relation) k constant_fields;
+        first = omega (arith, first_pack Operation.AgainstConstant reading.0 0 (relation_code relation) k constant_fields);
+        relation = omega (arith, relation_pack Operation.AgainstConstant reading.0 0 (relation_code relation) k constant_fields, relation_below relation);
+        low = low_pack Operation.AgainstConstant reading.0 0 (relation_code relation) k constant_fields;
       })
-      (second-pack Operation.AgainstConstant reading.0 0 (relationCode relation) k constant-fields, (Fits-of_z f).fits)
+      (second_pack Operation.AgainstConstant reading.0 0 (relation_code relation) k constant_fields, (Fits-of_z f).fits)
     where
       f : SFits w32 v
-      f = reading-value v i
+      f = reading_value_is v i
 
-      back : relationFrom (relationCodeOf (pack Operation.AgainstConstant reading.0 0 (relationCode relation) k)) ≡ relation
-      back = ap relationFrom (relation-pack Operation.AgainstConstant reading.0 0 (relationCode relation) k constant-fields) ∙ relation-back relation
+      back : relation_from (relation_code_of (pack Operation.AgainstConstant reading.0 0 (relation_code relation) k)) ≡ relation
+      back = ap relation_from (relation_pack Operation.AgainstConstant reading.0 0 (relation_code relation) k constant_fields) ∙ relation_back relation
 
   module _ (other : Reading) (o : other.0 < 16) where
-    reading-fields : InFields reading.0 other.0 (relationCode relation) k
-    reading-fields = let r = relation-below relation in record { first_below = omega arith; second_below = omega arith; relation-below = omega arith; skip_below = l }
+    reading_fields : InFields reading.0 other.0 (relation_code relation) k
+    reading_fields = let r = relation_below relation in record { first_below = omega arith; second_below = omega arith; relation_below = omega arith; skip_below = l }
 
-    reading-written : Written (record { reading = reading; relation = relation; operand = Operand.Reading other }) k
-    unfolding comparisonWords comparisonWord operand_word constantWords readingComparison
-    reading-written =
-        withReading (pack Operation.AgainstReading reading.0 other.0 (relationCode relation) k) refl (operation-pack Operation.AgainstReading reading.0 other.0 (relationCode relation) k reading-fields)
-        (skip-pack Operation.AgainstReading reading.0 other.0 (relationCode relation) k reading-fields)
-        (λ j. record { reading = record { 0 = first-pack Operation.AgainstReading reading.0 other.0 (relationCode relation) k reading-fields j }; relation = back j; operand = Operand.Reading (record { 0 = second-pack Operation.AgainstReading reading.0 other.0 (relationCode relation) k reading-fields j }) })
+    reading_written : Written (record { reading = reading; relation = relation; operand = Operand.Reading other }) k
+    unfolding comparison_words comparison_word operand_word constant_words reading_comparison
+    reading_written =
+        with_reading (pack Operation.AgainstReading reading.0 other.0 (relation_code relation) k) refl (operation_pack Operation.AgainstReading reading.0 other.0 (relation_code relation) k reading_fields)
+        (skip_pack Operation.AgainstReading reading.0 other.0 (relation_code relation) k reading_fields)
+        (λ j. record { reading = record { 0 = first_pack Operation.AgainstReading reading.0 other.0 (relation_code relation) k reading_fields j }; relation = back j; operand = Operand.Reading (record { 0 = second_pack Operation.AgainstReading reading.0 other.0 (relation_code relation) k reading_fields j }) })
         (record {
-          limit = pack-below Operation.AgainstReading reading.0 other.0 (relationCode relation) k reading-fields;
-          operation = operation-pack Operation.AgainstReading reading.0 other.0 (relationCode relation) k reading-fields;
-          first = omega (arith, first-pack Operation.AgainstReading reading.0 other.0 (relationCode relation) k reading-fields);
-          relation = omega (arith, relation-pack Operation.AgainstReading reading.0 other.0 (relationCode relation) k reading-fields, relation-below relation);
-          low = low-pack Operation.AgainstReading reading.0 other.0 (relationCode relation) k reading-fields;
+          limit = pack_below Operation.AgainstReading reading.0 other.0 (relation_code relation) k reading_fields;
+          operation = operation_pack Operation.AgainstReading reading.0 other.0 (relation_code relation) k reading_fields;
+          first = omega (arith, first_pack Operation.AgainstReading reading.0 other.0 (relation_code relation) k reading_fields);
+          relation = omega (arith, relation_pack Operation.AgainstReading reading.0 other.0 (relation_code relation) k reading_fields, relation_below relation);
+          low = low_pack Operation.AgainstReading reading.0 other.0 (relation_code relation) k reading_fields;
         })
-        (omega (arith, second-pack Operation.AgainstReading reading.0 other.0 (relationCode relation) k reading-fields))
+        (omega (arith, second_pack Operation.AgainstReading reading.0 other.0 (relation_code relation) k reading_fields))
       where
-        back : relationFrom (relationCodeOf (pack Operation.AgainstReading reading.0 other.0 (relationCode relation) k)) ≡ relation
-        back = ap relationFrom (relation-pack Operation.AgainstReading reading.0 other.0 (relationCode relation) k reading-fields) ∙ relation-back relation
+        back : relation_from (relation_code_of (pack Operation.AgainstReading reading.0 other.0 (relation_code relation) k)) ≡ relation
+        back = ap relation_from (relation_pack Operation.AgainstReading reading.0 other.0 (relation_code relation) k reading_fields) ∙ relation_back relation
 
-pub written : (c : Comparison) (k : ℕ) → comparisonInRange c ≡ true → k < 32 → Written c k
-unfolding comparisonInRange operandInRange
+pub written : (c : Comparison) (k : ℕ) → comparison_in_range c ≡ true → k < 32 → Written c k
+unfolding comparison_in_range operand_in_range
 written c k e l =
-    let p = and-out (ltb c.reading.0 16) (operandInRange c.operand) e in
+    let p = and_out (ltb c.reading.0 16) (operand_in_range c.operand) e in
     go c.operand refl (ltb-true c.reading.0 16 p.0) p.1
   where
-    go : (o : Operand) → c.operand ≡ o → c.reading.0 < 16 → operandInRange c.operand ≡ true → Written c k
+    go : (o : Operand) → c.operand ≡ o → c.reading.0 < 16 → operand_in_range c.operand ≡ true → Written c k
     go (Operand.Constant v) q h i =
         subst (λ (x : Comparison). Written x k) (λ j. record { reading = c.reading; relation = c.relation; operand = sym q j })
-        (constant-written c.reading c.relation k h l v (sym (ap operandInRange q) ∙ i))
+        (constant_written c.reading c.relation k h l v (sym (ap operand_in_range q) ∙ i))
     go (Operand.Reading o) q h i =
         subst (λ (x : Comparison). Written x k) (λ j. record { reading = c.reading; relation = c.relation; operand = sym q j })
-        (reading-written c.reading c.relation k h l o (ltb-true o.0 16 (sym (ap operandInRange q) ∙ i)))
+        (reading_written c.reading c.relation k h l o (ltb-true o.0 16 (sym (ap operand_in_range q) ∙ i)))
 
 -- ---- endings
 
 module _ (a : Action) (h : a.0 < 64) where
-  causes-fields : InFields a.0 0 0 0
-  causes-fields = record { first_below = h; second_below = omega arith; relation-below = omega arith; skip_below = omega arith }
+  causes_fields : InFields a.0 0 0 0
+  causes_fields = record { first_below = h; second_below = omega arith; relation_below = omega arith; skip_below = omega arith }
 
-  pub causes-operation : operationOf (endingWord (Ending.Causes a)) ≡ Operation.Proposes
-  unfolding endingWord
-  causes-operation = operation-pack Operation.Proposes a.0 0 0 0 causes-fields
+  pub causes_operation : operation_of (ending_word (Ending.Causes a)) ≡ Operation.Proposes
+  unfolding ending_word
+  causes_operation = operation_pack Operation.Proposes a.0 0 0 0 causes_fields
 
-  pub causes-action : actionFrom (endingWord (Ending.Causes a)) ≡ a
-  unfolding endingWord
-  causes-action = λ i. record { 0 = first-pack Operation.Proposes a.0 0 0 0 causes-fields i }
+  pub causes_action : action_from (ending_word (Ending.Causes a)) ≡ a
+  unfolding ending_word
+  causes_action = λ i. record { 0 = first_pack Operation.Proposes a.0 0 0 0 causes_fields i }
 
-  pub causes-below : endingWord (Ending.Causes a) < wordLimit
-  unfolding endingWord
-  causes-below = pack-below Operation.Proposes a.0 0 0 0 causes-fields
+  pub causes_below : ending_word (Ending.Causes a) < word_limit
+  unfolding ending_word
+  causes_below = pack_below Operation.Proposes a.0 0 0 0 causes_fields
 
-never-fields : InFields 0 0 0 0
-never-fields = record { first_below = omega arith; second_below = omega arith; relation-below = omega arith; skip_below = omega arith }
+never_fields : InFields 0 0 0 0
+never_fields = record { first_below = omega arith; second_below = omega arith; relation_below = omega arith; skip_below = omega arith }
 
-pub never-operation : operationOf (endingWord Ending.Never) ≡ Operation.Never
-unfolding endingWord
-never-operation = operation-pack Operation.Never 0 0 0 0 never-fields
+pub never_operation : operation_of (ending_word Ending.Never) ≡ Operation.Never
+unfolding ending_word
+never_operation = operation_pack Operation.Never 0 0 0 0 never_fields
 
-pub never-below : endingWord Ending.Never < wordLimit
-unfolding endingWord
-never-below = pack-below Operation.Never 0 0 0 0 never-fields
+pub never_below : ending_word Ending.Never < word_limit
+unfolding ending_word
+never_below = pack_below Operation.Never 0 0 0 0 never_fields
 
 -- ---- parts made of words, written again
 
-pub test-again : (t : Test) (w k : ℕ) → 0 < opcode (testOperation t) → w < wordLimit → w % 2 ^ 22 ≡ k → operationOf w ≡ testOperation t → testNumber t ≡ first_of w → testWord t k ≡ w
-unfolding testWord
-test-again t w k o h e p q = ap (λ (y : ℕ). pack (testOperation t) y 0 0 k) q ∙ head-again (testOperation t) w o h p k e
+pub test_again : (t : Test) (w k : ℕ) → 0 < opcode (test_operation t) → w < word_limit → w % 2 ^ 22 ≡ k → operation_of w ≡ test_operation t → test_number t ≡ first_of w → test_word t k ≡ w
+unfolding test_word
+test_again t w k o h e p q = ap (λ (y : ℕ). pack (test_operation t) y 0 0 k) q ∙ head_again (test_operation t) w o h p k e
 
-pub constant-in-range : (w v k : ℕ) → Compares Operation.AgainstConstant w k → v < wordLimit → comparisonInRange (constantComparison w v) ≡ true
-unfolding comparisonInRange operandInRange constantComparison
-constant-in-range w v k h l = and_in (lt-ltb (first_of w) 16 h.first) (reading-limit v l)
+pub constant_in_range : (w v k : ℕ) → Compares Operation.AgainstConstant w k → v < word_limit → comparison_in_range (constant_comparison w v) ≡ true
+unfolding comparison_in_range operand_in_range constant_comparison
+constant_in_range w v k h l = and_in (lt-ltb (first_of w) 16 h.first) (reading_limit_is v l)
 
-pub constant-again : (w v k : ℕ) → Compares Operation.AgainstConstant w k → second_of w ≡ 0 → v < wordLimit → comparisonWords (constantComparison w v) k ≡ w ∷ v ∷ []
-unfolding comparisonWords comparisonWord operand_word constantWords constantComparison
-constant-again w v k h z l =
-    let e : pack Operation.AgainstConstant (first_of w) 0 (relationCode (relationFrom (relationCodeOf w))) k ≡ w =
-    ap₂ (λ (s r : ℕ). pack Operation.AgainstConstant (first_of w) s r k) (sym z) (relation-there (relationCodeOf w) h.relation)
-    ∙ comparison-again Operation.AgainstConstant w (omega arith) h.limit h.operation k h.low in
+pub constant_again : (w v k : ℕ) → Compares Operation.AgainstConstant w k → second_of w ≡ 0 → v < word_limit → comparison_words (constant_comparison w v) k ≡ w ∷ v ∷ []
+unfolding comparison_words comparison_word operand_word constant_words constant_comparison
+constant_again w v k h z l =
+    let e : pack Operation.AgainstConstant (first_of w) 0 (relation_code (relation_from (relation_code_of w))) k ≡ w =
+    ap₂ (λ (s r : ℕ). pack Operation.AgainstConstant (first_of w) s r k) (sym z) (relation_there (relation_code_of w) h.relation)
+    ∙ comparison_again Operation.AgainstConstant w (omega arith) h.limit h.operation k h.low in
     ap₂ (λ (x y : ℕ). x ∷ y ∷ []) e (of_z-to_z {w = w32} {n = v} (record { fits = l }))
 
-pub reading-in-range : (w k : ℕ) → Compares Operation.AgainstReading w k → second_of w < 16 → comparisonInRange (readingComparison w) ≡ true
-unfolding comparisonInRange operandInRange readingComparison
-reading-in-range w k h l = and_in (lt-ltb (first_of w) 16 h.first) (lt-ltb (second_of w) 16 l)
+pub reading_in_range : (w k : ℕ) → Compares Operation.AgainstReading w k → second_of w < 16 → comparison_in_range (reading_comparison w) ≡ true
+unfolding comparison_in_range operand_in_range reading_comparison
+reading_in_range w k h l = and_in (lt-ltb (first_of w) 16 h.first) (lt-ltb (second_of w) 16 l)
 
-pub reading-again : (w k : ℕ) → Compares Operation.AgainstReading w k → comparisonWords (readingComparison w) k ≡ w ∷ []
-unfolding comparisonWords comparisonWord operand_word constantWords readingComparison
-reading-again w k h =
+pub reading_again : (w k : ℕ) → Compares Operation.AgainstReading w k → comparison_words (reading_comparison w) k ≡ w ∷ []
+unfolding comparison_words comparison_word operand_word constant_words reading_comparison
+reading_again w k h =
     ap (λ (x : ℕ). x ∷ [])
-    (ap (λ (r : ℕ). pack Operation.AgainstReading (first_of w) (second_of w) r k) (relation-there (relationCodeOf w) h.relation) ∙ comparison-again Operation.AgainstReading w (omega arith) h.limit h.operation k h.low)
+    (ap (λ (r : ℕ). pack Operation.AgainstReading (first_of w) (second_of w) r k) (relation_there (relation_code_of w) h.relation) ∙ comparison_again Operation.AgainstReading w (omega arith) h.limit h.operation k h.low)

@@ -18,31 +18,31 @@ opcode Operation.Member = 6
 opcode Operation.Never = 7
 opcode Operation.Unknown = 0
 
-unfoldable pub operationFrom : ℕ → Operation
-operationFrom zero = Operation.Unknown
-operationFrom (suc zero) = Operation.Present
-operationFrom (suc (suc zero)) = Operation.Absent
-operationFrom (suc (suc (suc zero))) = Operation.AgainstConstant
-operationFrom (suc (suc (suc (suc zero)))) = Operation.AgainstReading
-operationFrom (suc (suc (suc (suc (suc zero))))) = Operation.Proposes
-operationFrom (suc (suc (suc (suc (suc (suc zero)))))) = Operation.Member
-operationFrom (suc (suc (suc (suc (suc (suc (suc zero))))))) = Operation.Never
-operationFrom (suc (suc (suc (suc (suc (suc (suc (suc n)))))))) = Operation.Unknown
+unfoldable pub operation_from : ℕ → Operation
+operation_from zero = Operation.Unknown
+operation_from (suc zero) = Operation.Present
+operation_from (suc (suc zero)) = Operation.Absent
+operation_from (suc (suc (suc zero))) = Operation.AgainstConstant
+operation_from (suc (suc (suc (suc zero)))) = Operation.AgainstReading
+operation_from (suc (suc (suc (suc (suc zero))))) = Operation.Proposes
+operation_from (suc (suc (suc (suc (suc (suc zero)))))) = Operation.Member
+operation_from (suc (suc (suc (suc (suc (suc (suc zero))))))) = Operation.Never
+operation_from (suc (suc (suc (suc (suc (suc (suc (suc n)))))))) = Operation.Unknown
 
 -- "Relations: = 0, != 1, < 2, <= 3, > 4, >= 5."
-abbrev pub relationCode : Relation → ℕ
-relationCode Relation.Equal = 0
-relationCode Relation.NotEqual = 1
-relationCode Relation.Less = 2
-relationCode Relation.LessOrEqual = 3
-relationCode Relation.Greater = 4
-relationCode Relation.GreaterOrEqual = 5
+abbrev pub relation_code : Relation → ℕ
+relation_code Relation.Equal = 0
+relation_code Relation.NotEqual = 1
+relation_code Relation.Less = 2
+relation_code Relation.LessOrEqual = 3
+relation_code Relation.Greater = 4
+relation_code Relation.GreaterOrEqual = 5
 
 -- 6 and 7, which no taken image has, are read as >=
-unfoldable pub relationFrom : ℕ → Relation
-relationFrom zero = Relation.Equal
-relationFrom (suc zero) = Relation.NotEqual
-relationFrom (suc (suc zero)) = Relation.Less
-relationFrom (suc (suc (suc zero))) = Relation.LessOrEqual
-relationFrom (suc (suc (suc (suc zero)))) = Relation.Greater
-relationFrom (suc (suc (suc (suc (suc n))))) = Relation.GreaterOrEqual
+unfoldable pub relation_from : ℕ → Relation
+relation_from zero = Relation.Equal
+relation_from (suc zero) = Relation.NotEqual
+relation_from (suc (suc zero)) = Relation.Less
+relation_from (suc (suc (suc zero))) = Relation.LessOrEqual
+relation_from (suc (suc (suc (suc zero)))) = Relation.Greater
+relation_from (suc (suc (suc (suc (suc n))))) = Relation.GreaterOrEqual

@@ -3,33 +3,33 @@
 use Rattle.std.specs.Prelude.{ℕ, cond, List, [], ◌∷◌}
 use Rattle.std.specs.Int.{w32}
 use Rattle.std.proofs.Common.{of_z, to_z}
-use Rattle.policy.specs.Limits.{testNumber}
+use Rattle.policy.specs.Limits.{test_number}
 use Rattle.policy.specs.declared.comparison.Comparison.{Comparison}
 use Rattle.policy.specs.declared.comparison.Operand.{Operand}
 use Rattle.policy.specs.declared.line.Ending.{Ending}
 use Rattle.policy.specs.declared.line.Test.{Test}
 use Rattle.policy.specs.declared.number.Action.{Action}
 use Rattle.policy.specs.declared.number.Event.{Event}
-use Rattle.operation.specs.Operation.{relationCode, relationFrom}
-use Rattle.operation.specs.Fields.{pack, first_of, second_of, relationCodeOf}
+use Rattle.operation.specs.Operation.{relation_code, relation_from}
+use Rattle.operation.specs.Fields.{pack, first_of, second_of, relation_code_of}
 use Rattle.operation.specs.declared.operation.Operation.{Operation}
 
 -- ---- heads
 
 -- the event present or absent, the action in the set
-unfoldable pub testOperation : Test → Operation
-testOperation (Test.Occurs l) = cond l.negated Operation.Absent Operation.Present
-testOperation (Test.Member a) = Operation.Member
+unfoldable pub test_operation : Test → Operation
+test_operation (Test.Occurs l) = cond l.negated Operation.Absent Operation.Present
+test_operation (Test.Member a) = Operation.Member
 
 -- the skip of a word is the number of words that follow it in its line
-unfoldable pub testWord : Test → ℕ → ℕ
-testWord t skip = pack (testOperation t) (testNumber t) 0 0 skip
+unfoldable pub test_word : Test → ℕ → ℕ
+test_word t skip = pack (test_operation t) (test_number t) 0 0 skip
 
-abbrev pub eventFrom : ℕ → Event
-eventFrom w = record { 0 = first_of w }
+abbrev pub event_from : ℕ → Event
+event_from w = record { 0 = first_of w }
 
-abbrev pub actionFrom : ℕ → Action
-actionFrom w = record { 0 = first_of w }
+abbrev pub action_from : ℕ → Action
+action_from w = record { 0 = first_of w }
 
 -- ---- comparisons
 
@@ -39,27 +39,27 @@ operand_word reading relation (Operand.Constant k) skip = pack Operation.Against
 operand_word reading relation (Operand.Reading r) skip = pack Operation.AgainstReading reading r.0 relation skip
 
 -- the word behind it: a constant in two's complement
-unfoldable pub constantWords : Operand → List ℕ
-constantWords (Operand.Constant k) = of_z w32 k ∷ []
-constantWords (Operand.Reading r) = []
+unfoldable pub constant_words : Operand → List ℕ
+constant_words (Operand.Constant k) = of_z w32 k ∷ []
+constant_words (Operand.Reading r) = []
 
-unfoldable pub comparisonWord : Comparison → ℕ → ℕ
-comparisonWord c skip = operand_word c.reading.0 (relationCode c.relation) c.operand skip
+unfoldable pub comparison_word : Comparison → ℕ → ℕ
+comparison_word c skip = operand_word c.reading.0 (relation_code c.relation) c.operand skip
 
 -- the skip does not count the comparison's own constant word
-unfoldable pub comparisonWords : Comparison → ℕ → List ℕ
-comparisonWords c skip = comparisonWord c skip ∷ constantWords c.operand
+unfoldable pub comparison_words : Comparison → ℕ → List ℕ
+comparison_words c skip = comparison_word c skip ∷ constant_words c.operand
 
 -- a comparison with a constant, from its word and the constant word
-unfoldable pub constantComparison : ℕ → ℕ → Comparison
-constantComparison w k = record { reading = record { 0 = first_of w }; relation = relationFrom (relationCodeOf w); operand = Operand.Constant (to_z w32 k) }
+unfoldable pub constant_comparison : ℕ → ℕ → Comparison
+constant_comparison w k = record { reading = record { 0 = first_of w }; relation = relation_from (relation_code_of w); operand = Operand.Constant (to_z w32 k) }
 
 -- a comparison with a reading
-unfoldable pub readingComparison : ℕ → Comparison
-readingComparison w = record { reading = record { 0 = first_of w }; relation = relationFrom (relationCodeOf w); operand = Operand.Reading (record { 0 = second_of w }) }
+unfoldable pub reading_comparison : ℕ → Comparison
+reading_comparison w = record { reading = record { 0 = first_of w }; relation = relation_from (relation_code_of w); operand = Operand.Reading (record { 0 = second_of w }) }
 
 -- ---- endings
 
-unfoldable pub endingWord : Ending → ℕ
-endingWord (Ending.Causes a) = pack Operation.Proposes a.0 0 0 0
-endingWord Ending.Never = pack Operation.Never 0 0 0 0
+unfoldable pub ending_word : Ending → ℕ
+ending_word (Ending.Causes a) = pack Operation.Proposes a.0 0 0 0
+ending_word Ending.Never = pack Operation.Never 0 0 0 0

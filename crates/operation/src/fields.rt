@@ -1,6 +1,6 @@
 // The fields of a word.
 ghost use Rattle.std.specs.Prelude.{◌≡◌};
-ghost use Rattle.operation.specs.Fields.{opcode_of, first_of, second_of, relationCodeOf, skipOf};
+ghost use Rattle.operation.specs.Fields.{opcode_of, first_of, second_of, relation_code_of, skip_of};
 
 pub fn opcode(word: u32) -> u32
     ensures { result ≡ opcode_of word }
@@ -21,13 +21,13 @@ pub fn second(word: u32) -> u32
 }
 
 pub fn relation_code_of(word: u32) -> u32
-    ensures { result ≡ relationCodeOf word }
+    ensures { result ≡ relation_code_of word }
 {
     (word >> 13) % 8
 }
 
 pub fn skip(word: u32) -> u32
-    ensures { result ≡ skipOf word }
+    ensures { result ≡ skip_of word }
 {
     word % 32
 }

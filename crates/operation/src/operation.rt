@@ -1,18 +1,18 @@
 // What the fields of a word stand for, both ways: operations, relations, constants, and the words of the parts of a line.
 ghost use Rattle.std.specs.Prelude.{◌≡◌, ◌<◌};
-ghost use Rattle.policy.specs.Comparison.{relationHolds, comparisonHolds};
-ghost use Rattle.operation.specs.Operation.{opcode, relationCode, relationFrom};
-ghost use Rattle.operation.specs.Fields.{pack, operationOf};
-ghost use Rattle.operation.specs.Parts.{testWord, comparisonWord, endingWord, constantComparison, readingComparison};
+ghost use Rattle.policy.specs.Comparison.{relation_holds, comparison_holds};
+ghost use Rattle.operation.specs.Operation.{opcode, relation_code, relation_from};
+ghost use Rattle.operation.specs.Fields.{pack, operation_of};
+ghost use Rattle.operation.specs.Parts.{test_word, comparison_word, ending_word, constant_comparison, reading_comparison};
 
 use crate::fields::{first, opcode, relation_code_of, second};
 use policy::{
-    Comparison, Ending, Operand, Part, Reading, ReadingSet, Relation, Test, Value, constant_from,
+    Comparison, Ending, Operand, Part, Reading, ReadingSet, Relation, Test, constant_from,
 };
 
 // The operations of document 01, in the order of their numbers, and one for all numbers that are none. It comes last: with it
 // first, a decision took up to 7% more instructions.
-#[derive(Drop)]
+#[derive(Clone, Copy)]
 pub enum Operation {
     Present,
     Absent,
@@ -27,7 +27,7 @@ pub enum Operation {
 impl Operation {
     // The operation of a word.
     pub fn of(word: u32) -> Operation
-        ensures { result ≡ operationOf word }
+        ensures { result ≡ operation_of word }
     {
         match opcode(word) {
             1 => Operation::Present,
@@ -59,7 +59,7 @@ impl Operation {
 
 // 6 and 7 are read as >=.
 fn relation_from(code: u32) -> Relation
-    ensures { result ≡ relationFrom code }
+    ensures { result ≡ relation_from code }
 {
     match code {
         0 => Relation::Equal,
@@ -72,7 +72,7 @@ fn relation_from(code: u32) -> Relation
 }
 
 fn relation_code(relation: Relation) -> u32
-    ensures { result ≡ relationCode relation }
+    ensures { result ≡ relation_code relation }
 {
     match relation {
         Relation::Equal => 0,
@@ -97,7 +97,7 @@ fn pack_word(operation: Operation, first: u8, second: u8, relation: u32, skip: u
 
 // The word of a head.
 pub fn test_word(test: Test, skip: u8) -> u32
-    ensures { result ≡ testWord test skip }
+    ensures { result ≡ test_word test skip }
 {
     match test {
         Test::Occurs(literal) => {
@@ -113,7 +113,7 @@ pub fn test_word(test: Test, skip: u8) -> u32
 
 // The first word of a comparison; a constant stands in a second one.
 pub fn comparison_word(comparison: Comparison, skip: u8) -> u32
-    ensures { result ≡ comparisonWord comparison skip }
+    ensures { result ≡ comparison_word comparison skip }
 {
     let operand = comparison.operand;
     let reading = comparison.reading;
@@ -128,7 +128,7 @@ pub fn comparison_word(comparison: Comparison, skip: u8) -> u32
 }
 
 pub fn ending_word(ending: Ending) -> u32
-    ensures { result ≡ endingWord ending }
+    ensures { result ≡ ending_word ending }
 {
     match ending {
         Ending::Causes(action) => pack_word(Operation::Proposes, action.0, 0, 0, 0),
@@ -138,7 +138,7 @@ pub fn ending_word(ending: Ending) -> u32
 
 // A comparison with a constant, from its word and the constant word behind it.
 pub fn constant_comparison(word: u32, constant: u32) -> Comparison
-    ensures { result ≡ constantComparison word constant }
+    ensures { result ≡ constant_comparison word constant }
 {
     Comparison {
         reading: Reading(first(word) as u8),
@@ -149,7 +149,7 @@ pub fn constant_comparison(word: u32, constant: u32) -> Comparison
 
 // A comparison with a reading.
 pub fn reading_comparison(word: u32) -> Comparison
-    ensures { result ≡ readingComparison word }
+    ensures { result ≡ reading_comparison word }
 {
     Comparison {
         reading: Reading(first(word) as u8),
@@ -161,7 +161,7 @@ pub fn reading_comparison(word: u32) -> Comparison
 // What the relation of that number says of two values. Each number has its own test, so that none is turned into a relation
 // first.
 fn relation_holds(code: u32, left: i32, right: i32) -> bool
-    ensures { result ≡ relationHolds (relationFrom code) left right }
+    ensures { result ≡ relation_holds (relation_from code) left right }
 {
     match code {
         0 => Relation::Equal.holds(left, right),
@@ -181,9 +181,9 @@ pub fn constant_holds(
     given: ReadingSet,
     values: &[i32],
 ) -> bool
-    ensures { result ≡ comparisonHolds part (record { given = given; values = values.now }) (constantComparison word constant) }
+    ensures { result ≡ comparison_holds part (record { given = given; values = values.now }) (constant_comparison word constant) }
 {
-    let Value::Known(left) = Reading(first(word) as u8).value(given, values) else {
+    let Some(left) = Reading(first(word) as u8).value(given, values) else {
         return part.missing_holds();
     };
     relation_holds(relation_code_of(word), left, constant_from(constant))
@@ -191,12 +191,12 @@ pub fn constant_holds(
 
 // The same for a comparison with a reading.
 pub fn reading_holds(part: Part, word: u32, given: ReadingSet, values: &[i32]) -> bool
-    ensures { result ≡ comparisonHolds part (record { given = given; values = values.now }) (readingComparison word) }
+    ensures { result ≡ comparison_holds part (record { given = given; values = values.now }) (reading_comparison word) }
 {
-    let Value::Known(left) = Reading(first(word) as u8).value(given, values) else {
+    let Some(left) = Reading(first(word) as u8).value(given, values) else {
         return part.missing_holds();
     };
-    let Value::Known(right) = Reading(second(word) as u8).value(given, values) else {
+    let Some(right) = Reading(second(word) as u8).value(given, values) else {
         return part.missing_holds();
     };
     relation_holds(relation_code_of(word), left, right)

@@ -1,9 +1,8 @@
 -- Each row of the table of examples is computed.
-use mathlib.Core.List.{map}
-use mathlib.Core.Path.{◌≡◌, refl}
-use Rattle.output.specs.Examples.{examples, computedDigits, expected}
-use Rattle.output.specs.Number.{digits, decimal, hexDigit, hexDigits}
+use Rattle.std.proofs.Common.{map, ◌≡◌, refl}
+use Rattle.output.specs.Examples.{examples, computed_digits, expected}
+use Rattle.output.specs.Number.{digits, decimal, hex_digit, hex_digits}
 
-pub numbers-hold : map computedDigits examples ≡ map expected examples
-unfolding examples computedDigits expected digits decimal hexDigit hexDigits
-numbers-hold = refl
+pub numbers_hold : map computed_digits examples ≡ map expected examples
+unfolding examples computed_digits expected digits decimal hex_digit hex_digits
+numbers_hold = refl

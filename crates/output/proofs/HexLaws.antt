@@ -1,54 +1,49 @@
--- Laws of the hexadecimal digits of a word: their value is the word; and the loop that appends them.
-use Prim.Native.Nat.{ℕ, zero, suc, ◌+◌, ◌-◌, ◌*◌, ◌/◌, ◌%◌, ◌^◌, ◌<◌}
-use mathlib.Core.Bool.{Bool, true, false}
-use mathlib.Core.List.{List, [], ◌∷◌, foldl}
-use mathlib.Core.Path.{◌≡◌, refl, ◌∙◌}
-use native.Mathlib.Omega.{arith}
-use borrow.Author.Tests.{lt-ltb, le-ltb, ltb-true, ltb-false}
-use lib.Dec.{ltb}
-use lib.Pow.{pow-add, mod-pow-add}
-use Rattle.output.specs.Number.{hexDigit, hexDigits, hexWord, valueIn, hexDigitValue}
-use Rattle.output.proofs.AppendLaws.{Put, Left, left-turn}
+-- Laws of the hexadecimal digits of a word: their value is the word; and the loop that puts them.
+use Rattle.std.proofs.Common.{ℕ, zero, suc, ◌+◌, ◌-◌, ◌*◌, ◌/◌, ◌%◌, ◌^◌, ◌≤◌, ◌<◌, Bool, true, false, [], ◌∷◌, ◌≡◌, refl, ◌∙◌, arith, lt-ltb, le-ltb, ltb-true, ltb-false, pow-add}
+use Rattle.std.proofs.Math.Dec.{ltb}
+use Rattle.std.proofs.Math.Pow.{mod-pow-add}
+use mathlib.Core.List.{foldl}
+use Rattle.output.specs.Number.{hex_digit, hex_digits, hex_word, value_in_base, hex_digit_value}
 
 -- ---- the digits are those of the word
 
-digit_value : (d : ℕ) → d < 16 → hexDigitValue (hexDigit d) ≡ d
-unfolding hexDigitValue hexDigit
+digit_value : (d : ℕ) → d < 16 → hex_digit_value (hex_digit d) ≡ d
+unfolding hex_digit_value hex_digit
 digit_value d h = go (ltb d 10) refl
   where
-    go : (b : Bool) → ltb d 10 ≡ b → hexDigitValue (hexDigit d) ≡ d
+    go : (b : Bool) → ltb d 10 ≡ b → hex_digit_value (hex_digit d) ≡ d
     go true e = let l : d < 10 = ltb-true d 10 e in rw (e, lt-ltb (48 + d) 65 (omega arith)) (omega arith)
     go false e = rw (e, le-ltb (65 + (d - 10)) 65 (omega arith)) (omega (arith, ltb-false d 10 e))
 
 digits_value : (k v w : ℕ)
-    → foldl (λ (x b : ℕ). x * 16 + hexDigitValue b) v (hexDigits k w) ≡ v * 2 ^ (4 * k) + w % 2 ^ (4 * k)
-unfolding hexDigits
+    → foldl (λ (x b : ℕ). x * 16 + hex_digit_value b) v (hex_digits k w) ≡ v * 2 ^ (4 * k) + w % 2 ^ (4 * k)
+unfolding hex_digits
 digits_value zero v w = omega arith
 digits_value (suc k) v w =
     let d = w / 2 ^ (4 * k) % 16 in
     let e : 4 * suc k ≡ 4 + 4 * k = omega arith in
-    digits_value k (v * 16 + hexDigitValue (hexDigit d)) w
+    digits_value k (v * 16 + hex_digit_value (hex_digit d)) w
     ∙ rw (digit_value d (omega arith)) (rw (e, mod-pow-add w 4 (4 * k), pow-add 2 4 (4 * k)) (shifted v d (2 ^ (4 * k)) (w % 2 ^ (4 * k))))
   where
     shifted : (v d p m : ℕ) → (v * 16 + d) * p + m ≡ v * (16 * p) + (d * p + m)
     shifted v d p m = omega arith
 
-pub word_value : (w : ℕ) → w < 2 ^ 32 → valueIn 16 hexDigitValue (hexWord w) ≡ w
+pub word_value : (w : ℕ) → w < 2 ^ 32 → value_in_base 16 hex_digit_value (hex_word w) ≡ w
 word_value w h = digits_value 8 0 w ∙ omega arith
 
--- ---- the loop: the last k digits are left to append
+-- ---- the loop that puts the digits, one place after another
 
-pub digits-none : (k w : ℕ) → k ≡ 0 → hexDigits k w ≡ []
-unfolding hexDigits
-digits-none k w e = rw e
+digits_none : (k w : ℕ) → k ≡ 0 → hex_digits k w ≡ []
+unfolding hex_digits
+digits_none k w e = rw e
 
-module _ {buffer : List ℕ} {at : ℕ} {all out : List ℕ} {end : ℕ} (word : ℕ) where
-  pub left-digit : (k : ℕ) → 0 < k → Left buffer at all out end (hexDigits k word)
-      → (b : ℕ) → b ≡ hexDigit (word / 2 ^ (4 * (k - 1)) % 16)
-      → (after : List ℕ) (next : ℕ) → Put out end (b ∷ []) after next
-      → Left buffer at all after next (hexDigits (k - 1) word)
-  unfolding hexDigits
-  left-digit zero h l b e after next p = absurd (omega arith)
-  left-digit (suc k) h l b e after next p =
-      let w : suc k - 1 ≡ k = omega arith in
-      rw w (left-turn (hexDigit (word / 2 ^ (4 * k) % 16) ∷ []) (hexDigits k word) after next l (rw (e, w) at p))
+-- the digit at a place of a word, before those of the next
+pub digit_next : (place w : ℕ) → place < 8 → hex_digits (8 - place) w ≡ hex_digit (w / 2 ^ (28 - 4 * place) % 16) ∷ hex_digits (8 - (place + 1)) w
+unfolding hex_digits
+digit_next place w h =
+    let e : 8 - place ≡ suc (8 - (place + 1)) = omega arith in
+    let f : 28 - 4 * place ≡ 4 * (8 - (place + 1)) = omega arith in
+    rw (e, f)
+
+pub digits_over : (place w : ℕ) → 8 ≤ place → hex_digits (8 - place) w ≡ []
+digits_over place w h = digits_none (8 - place) w (omega arith)

@@ -1,7 +1,7 @@
 -- Numbers and the characters that they are written by, one row each.
 use Prim.Native.Char.{Char, code}
 use Rattle.std.specs.Prelude.{ℕ, List, [], ◌∷◌, map}
-use Rattle.output.specs.Number.{decimal, hexWord}
+use Rattle.output.specs.Number.{decimal, hex_word}
 
 pub record Example : Type 0 where
   pub number : List ℕ
@@ -18,15 +18,15 @@ examples =
     ∷ row (decimal 100) ("1" ∷ "0" ∷ "0" ∷ [])
     ∷ row (decimal 4294967295) ("4" ∷ "2" ∷ "9" ∷ "4" ∷ "9" ∷ "6" ∷ "7" ∷ "2" ∷ "9" ∷ "5" ∷ [])
     ∷ row (decimal 18446744073709551615) ("1" ∷ "8" ∷ "4" ∷ "4" ∷ "6" ∷ "7" ∷ "4" ∷ "4" ∷ "0" ∷ "7" ∷ "3" ∷ "7" ∷ "0" ∷ "9" ∷ "5" ∷ "5" ∷ "1" ∷ "6" ∷ "1" ∷ "5" ∷ [])
-    ∷ row (hexWord 0) ("0" ∷ "0" ∷ "0" ∷ "0" ∷ "0" ∷ "0" ∷ "0" ∷ "0" ∷ [])
-    ∷ row (hexWord 40) ("0" ∷ "0" ∷ "0" ∷ "0" ∷ "0" ∷ "0" ∷ "2" ∷ "8" ∷ [])
-    ∷ row (hexWord 19088743) ("0" ∷ "1" ∷ "2" ∷ "3" ∷ "4" ∷ "5" ∷ "6" ∷ "7" ∷ [])
-    ∷ row (hexWord 2309737967) ("8" ∷ "9" ∷ "A" ∷ "B" ∷ "C" ∷ "D" ∷ "E" ∷ "F" ∷ [])
-    ∷ row (hexWord 4294967295) ("F" ∷ "F" ∷ "F" ∷ "F" ∷ "F" ∷ "F" ∷ "F" ∷ "F" ∷ [])
+    ∷ row (hex_word 0) ("0" ∷ "0" ∷ "0" ∷ "0" ∷ "0" ∷ "0" ∷ "0" ∷ "0" ∷ [])
+    ∷ row (hex_word 40) ("0" ∷ "0" ∷ "0" ∷ "0" ∷ "0" ∷ "0" ∷ "2" ∷ "8" ∷ [])
+    ∷ row (hex_word 19088743) ("0" ∷ "1" ∷ "2" ∷ "3" ∷ "4" ∷ "5" ∷ "6" ∷ "7" ∷ [])
+    ∷ row (hex_word 2309737967) ("8" ∷ "9" ∷ "A" ∷ "B" ∷ "C" ∷ "D" ∷ "E" ∷ "F" ∷ [])
+    ∷ row (hex_word 4294967295) ("F" ∷ "F" ∷ "F" ∷ "F" ∷ "F" ∷ "F" ∷ "F" ∷ "F" ∷ [])
     ∷ []
 
-unfoldable pub computedDigits : Example → List ℕ
-computedDigits x = x.number
+unfoldable pub computed_digits : Example → List ℕ
+computed_digits x = x.number
 
 unfoldable pub expected : Example → List ℕ
 expected x = map code x.characters

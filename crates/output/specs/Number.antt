@@ -1,7 +1,7 @@
 -- Numbers in decimal and in hexadecimal digits.
 use Prim.Native.Char.{code}
-use Rattle.std.specs.Prelude.{ℕ, zero, suc, ◌+◌, ◌*◌, ◌-◌, ◌/◌, ◌%◌, ◌^◌, Bool, true, false, cond, ltb}
-use mathlib.Core.List.{List, [], ◌∷◌, ◌++◌, foldl}
+use Rattle.std.specs.Prelude.{ℕ, zero, suc, ◌+◌, ◌*◌, ◌-◌, ◌/◌, ◌%◌, ◌^◌, ℤ, pos, negsuc, Bool, true, false, cond, ltb, List, [], ◌∷◌, ◌++◌}
+use mathlib.Core.List.{foldl}
 
 -- ---- decimal
 
@@ -17,27 +17,32 @@ digits (suc k) false n = digits k (ltb (n / 10) 10) (n / 10) ++ digit (n % 10) �
 unfoldable pub decimal : ℕ → List ℕ
 decimal n = digits n (ltb n 10) n
 
+-- with a minus where it is below zero
+unfoldable pub integer : ℤ → List ℕ
+integer (pos n) = decimal n
+integer (negsuc n) = code "-" ∷ decimal (suc n)
+
 -- ---- hexadecimal
 
-unfoldable pub hexDigit : ℕ → ℕ
-hexDigit d = cond (ltb d 10) (code "0" + d) (code "A" + (d - 10))
+unfoldable pub hex_digit : ℕ → ℕ
+hex_digit d = cond (ltb d 10) (code "0" + d) (code "A" + (d - 10))
 
 -- the last k hexadecimal digits, the most significant first
-unfoldable pub hexDigits : ℕ → ℕ → List ℕ
-hexDigits zero w = []
-hexDigits (suc k) w = hexDigit (w / 2 ^ (4 * k) % 16) ∷ hexDigits k w
+unfoldable pub hex_digits : ℕ → ℕ → List ℕ
+hex_digits zero w = []
+hex_digits (suc k) w = hex_digit (w / 2 ^ (4 * k) % 16) ∷ hex_digits k w
 
 -- a word of 32 bits
-abbrev pub hexWord : ℕ → List ℕ
-hexWord w = hexDigits 8 w
+abbrev pub hex_word : ℕ → List ℕ
+hex_word w = hex_digits 8 w
 
 -- ---- the value of digits of a base, which the laws of proofs/DecimalLaws.antt and HexLaws.antt show to be the number
 
-abbrev pub valueIn : ℕ → (ℕ → ℕ) → List ℕ → ℕ
-valueIn base value ds = foldl (λ (v d : ℕ). v * base + value d) 0 ds
+abbrev pub value_in_base : ℕ → (ℕ → ℕ) → List ℕ → ℕ
+value_in_base base value ds = foldl (λ (v d : ℕ). v * base + value d) 0 ds
 
-abbrev pub digitValue : ℕ → ℕ
-digitValue b = b - code "0"
+abbrev pub digit_value : ℕ → ℕ
+digit_value b = b - code "0"
 
-unfoldable pub hexDigitValue : ℕ → ℕ
-hexDigitValue b = cond (ltb b (code "A")) (b - code "0") (10 + (b - code "A"))
+unfoldable pub hex_digit_value : ℕ → ℕ
+hex_digit_value b = cond (ltb b (code "A")) (b - code "0") (10 + (b - code "A"))

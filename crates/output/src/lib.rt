@@ -1,8 +1,13 @@
-// Bytes, decimal numbers and hexadecimal numbers put into a lent buffer: every function appends its bytes at a position and answers
-// the position behind them. What has no room is dropped, and the position stops at the buffer's end. Start with
-// specs/Number.antt.
-mod buffer;
-mod number;
+// What is printed goes into a sink: a counter of bytes, or a page, which is a lent buffer. Numbers are put here, in decimal and in
+// hexadecimal. Start with specs/Number.antt and specs/Sink.antt.
+#![tactic(auto)]
 
-pub use buffer::{at_most, put_byte, put_bytes};
-pub use number::{put_decimal, put_hex_word};
+mod counter;
+mod digits;
+mod page;
+mod sink;
+
+pub use counter::Counter;
+pub use digits::{put_hexadecimal, put_integer, put_number};
+pub use page::Page;
+pub use sink::Sink;

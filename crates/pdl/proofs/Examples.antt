@@ -1,19 +1,18 @@
 -- Each row of the tables of examples is as documents 01 and 02 say.
-use mathlib.Core.List.{map}
-use mathlib.Core.Path.{◌≡◌, refl}
-use Rattle.policy.specs.Comparison.{comparisonHolds, relationHolds, operandValue, missingHolds, valuesRelate}
-use Rattle.policy.specs.Epoch.{valueIn, readingValue}
-use Rattle.pdl.specs.Examples.{examples, yielded, expected, reductions, reducedOf, expectedReduced}
-use Rattle.pdl.specs.Greedy.{greedy, keptBelow, tryNext}
+use Rattle.std.proofs.Common.{map, ◌≡◌, refl}
+use Rattle.policy.specs.Comparison.{comparison_holds, relation_holds, operand_value, missing_holds, values_relate}
+use Rattle.policy.specs.Epoch.{reading_value}
+use Rattle.pdl.specs.Examples.{examples, yielded, expected, reductions, reduced_of, expected_reduced}
+use Rattle.pdl.specs.Greedy.{greedy, kept_below, try_next}
 use Rattle.policy.specs.List.{all, any}
 use Rattle.policy.specs.Set.{has, insert}
-use Rattle.pdl.specs.Reduction.{clashes, keptEvents, issued, withheld}
-use Rattle.pdl.specs.Yield.{literalHolds, ruleHolds, propose, proposals, constraintHolds, conflict, resolve, accepted, cancelled}
+use Rattle.pdl.specs.Reduction.{clashes, kept_events, issued, withheld}
+use Rattle.pdl.specs.Yield.{literal_holds, rule_holds, propose, proposals, constraint_holds, conflict, resolve, accepted, cancelled}
 
-pub examples-hold : map yielded examples ≡ map expected examples
-unfolding examples yielded expected has insert valueIn readingValue missingHolds valuesRelate relationHolds operandValue comparisonHolds literalHolds ruleHolds propose proposals constraintHolds conflict resolve accepted cancelled greedy keptBelow tryNext all any
-examples-hold = refl
+pub examples_hold : map yielded examples ≡ map expected examples
+unfolding examples yielded expected has insert reading_value missing_holds values_relate relation_holds operand_value comparison_holds literal_holds rule_holds propose proposals constraint_holds conflict resolve accepted cancelled greedy kept_below try_next all any
+examples_hold = refl
 
-pub reductions-hold : map reducedOf reductions ≡ map expectedReduced reductions
-unfolding reductions reducedOf expectedReduced has insert literalHolds ruleHolds propose proposals constraintHolds conflict clashes keptEvents issued withheld greedy keptBelow tryNext all any
-reductions-hold = refl
+pub reductions_hold : map reduced_of reductions ≡ map expected_reduced reductions
+unfolding reductions reduced_of expected_reduced has insert literal_holds rule_holds propose proposals constraint_holds conflict clashes kept_events issued withheld greedy kept_below try_next all any
+reductions_hold = refl

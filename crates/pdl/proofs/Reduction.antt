@@ -1,144 +1,139 @@
 -- The events that are kept are a maximal reduction free of conflict (source document 000, Definitions 10 and 11.5), lower numbers kept
 -- first; and an epoch has no such reduction exactly where a constraint holds already with no event kept.
-use Prim.Native.Nat.{ℕ}
-use mathlib.Core.Bool.{Bool, true, false}
-use mathlib.Core.Logic.{◌↔◌}
-use mathlib.Core.Path.{◌≡◌, refl, sym, ap}
-use Rattle.policy.proofs.ListLaws.{true-false, not-true-is, not-false-is}
-use Rattle.policy.proofs.SetLaws.{has-empty, has-limit}
+use Rattle.std.proofs.Common.{ℕ, Bool, true, false, ◌↔◌, ◌≡◌, refl, sym, ap}
+use Rattle.policy.proofs.ListLaws.{true_false, not_true_is, not_false_is}
+use Rattle.policy.proofs.SetLaws.{has_empty, has_limit}
 use Rattle.policy.specs.Epoch.{Epoch, InAlphabet}
 use Rattle.policy.specs.Policy.{Policy}
-use Rattle.policy.specs.Set.{hasEvent, noEvents, insertEvent, eventsBelow, hasAction, noActions, unionActions}
+use Rattle.policy.specs.Set.{ActionSet, EventSet, has_event, no_events, insert_event, events_below, has_action, no_actions, union_actions, set_of}
 use Rattle.policy.specs.declared.number.Action.{Action}
 use Rattle.policy.specs.declared.number.Event.{Event}
-use Rattle.policy.specs.declared.set.ActionSet.{ActionSet}
-use Rattle.policy.specs.declared.set.EventSet.{EventSet}
-use Rattle.pdl.proofs.GreedyLaws.{Monotone, greedy-dropped, greedy-within, greedy-good, greedy-maximal}
-use Rattle.pdl.proofs.Others.{others_apart, with-others, no-others}
-use Rattle.pdl.proofs.Proposals.{more-proposed}
-use Rattle.pdl.proofs.Resolution.{satisfied, no-conflict, conflict-out, conflict-more}
+use Rattle.pdl.proofs.GreedyLaws.{Monotone, greedy_dropped, greedy_within, greedy_good, greedy_maximal}
+use Rattle.pdl.proofs.Others.{others_apart, with_others, no_others}
+use Rattle.pdl.proofs.Proposals.{more_proposed}
+use Rattle.pdl.proofs.Resolution.{satisfied, no_conflict, conflict_out, conflict_more}
 use Rattle.pdl.specs.Pdl.{Violated, Satisfies, ConsistentReduction, MaximalReduction, Reducible, EventCancellation, MaximalEventCancellation, ◌⊆◌, ◌⊑◌}
-use Rattle.pdl.specs.Reduction.{proposedWith, clashes, keptEvents, issued, withheld, unavoidable}
+use Rattle.pdl.specs.Reduction.{proposed_with, clashes, kept_events, issued, withheld, unavoidable}
 use Rattle.pdl.specs.Yield.{proposed}
 
 module _ (p : Policy) (e : Epoch) where
   abbrev Reduces : EventSet → Type 0
-  Reduces = ConsistentReduction p.constraints (proposedWith p.rules) e
+  Reduces = ConsistentReduction p.constraints (proposed_with p.rules) e
 
   abbrev bad : ℕ → Bool
-  bad kept = clashes p e (record { 0 = kept })
+  bad kept = clashes p e (set_of kept)
 
   -- ---- trials
 
-  more-clashes : (s t : EventSet) → s ⊑ t → clashes p e s ≡ true → clashes p e t ≡ true
+  more_clashes : (s t : EventSet) → s ⊑ t → clashes p e s ≡ true → clashes p e t ≡ true
   unfolding clashes
-  more-clashes s t h =
-      conflict-more p.constraints e.readings (proposedWith p.rules e s) (proposedWith p.rules e t) (more-proposed p.rules s t e.events e.readings h)
+  more_clashes s t h =
+      conflict_more p.constraints e.readings (proposed_with p.rules e s) (proposed_with p.rules e t) (more_proposed p.rules s t e.events e.readings h)
 
-  bad-monotone : Monotone bad
-  bad-monotone s t h = more-clashes (record { 0 = s }) (record { 0 = t }) (λ x. h x.0)
+  bad_monotone : Monotone bad
+  bad_monotone s t h = more_clashes (set_of s) (set_of t) (λ x. h x.0)
 
-  consistent : (kept : EventSet) → clashes p e kept ≡ false → Satisfies p.constraints e.readings (proposedWith p.rules e kept)
+  consistent : (kept : EventSet) → clashes p e kept ≡ false → Satisfies p.constraints e.readings (proposed_with p.rules e kept)
   unfolding clashes
-  consistent kept = satisfied p.constraints e.readings (proposedWith p.rules e kept)
+  consistent kept = satisfied p.constraints e.readings (proposed_with p.rules e kept)
 
-  no-clash : (kept : EventSet) → Reduces kept → clashes p e kept ≡ false
+  no_clash : (kept : EventSet) → Reduces kept → clashes p e kept ≡ false
   unfolding clashes
-  no-clash kept r = no-conflict p.constraints e.readings (proposedWith p.rules e kept) r.consistent
+  no_clash kept r = no_conflict p.constraints e.readings (proposed_with p.rules e kept) r.consistent
 
-  violated : (kept : EventSet) → clashes p e kept ≡ true → Violated p.constraints e.readings (proposedWith p.rules e kept)
+  violated : (kept : EventSet) → clashes p e kept ≡ true → Violated p.constraints e.readings (proposed_with p.rules e kept)
   unfolding clashes
-  violated kept = conflict-out p.constraints e.readings (proposedWith p.rules e kept)
+  violated kept = conflict_out p.constraints e.readings (proposed_with p.rules e kept)
 
-  none_within : (t : EventSet) → noEvents ⊑ t
-  none_within t x h = absurd (true-false h (has-empty x.0))
+  none_within : (t : EventSet) → no_events ⊑ t
+  none_within t x h = absurd (true_false h (has_empty x.0))
 
   -- ---- when an epoch cannot be reduced
 
   -- exactly where a constraint holds with no event kept
-  pub unavoidable-exactly : (unavoidable p e ≡ true) ↔ ¬ Reducible p.constraints (proposedWith p.rules) e
+  pub unavoidable_exactly : (unavoidable p e ≡ true) ↔ ¬ Reducible p.constraints (proposed_with p.rules) e
   unfolding unavoidable
-  unavoidable-exactly = (
-    (λ h r. true-false (more-clashes noEvents r.kept (none_within r.kept) h) (no-clash r.kept r.reduction)),
-    λ h. not-false-is (clashes p e noEvents) (λ q. h (record { kept = noEvents; reduction = record { within = none_within e.events; consistent = consistent noEvents q } })),
+  unavoidable_exactly = (
+    (λ h r. true_false (more_clashes no_events r.kept (none_within r.kept) h) (no_clash r.kept r.reduction)),
+    λ h. not_false_is (clashes p e no_events) (λ q. h (record { kept = no_events; reduction = record { within = none_within e.events; consistent = consistent no_events q } })),
   )
 
-  pub reducible-avoids : Reducible p.constraints (proposedWith p.rules) e → unavoidable p e ≡ false
-  reducible-avoids r = not-true-is (unavoidable p e) (λ h. unavoidable-exactly.0 h r)
+  pub reducible_avoids : Reducible p.constraints (proposed_with p.rules) e → unavoidable p e ≡ false
+  reducible_avoids r = not_true_is (unavoidable p e) (λ h. unavoidable_exactly.0 h r)
 
   -- ---- what is kept
 
-  pub kept-within : keptEvents p e ⊑ e.events
-  unfolding keptEvents
-  kept-within x h = greedy-within bad e.events.0 x.0 h
+  pub kept_within : kept_events p e ⊑ e.events
+  unfolding kept_events
+  kept_within x h = greedy_within bad e.events.bits x.0 h
 
-  pub issued-within : issued p e ⊆ proposed p.rules e
+  pub issued_within : issued p e ⊆ proposed p.rules e
   unfolding issued
-  issued-within = more-proposed p.rules (keptEvents p e) e.events e.events e.readings kept-within
+  issued_within = more_proposed p.rules (kept_events p e) e.events e.events e.readings kept_within
 
-  pub issued-with-withheld : unionActions (issued p e) (withheld p e) ≡ proposed p.rules e
+  pub issued_with_withheld : union_actions (issued p e) (withheld p e) ≡ proposed p.rules e
   unfolding withheld
-  issued-with-withheld = with-others (proposed p.rules e) (issued p e) issued-within
+  issued_with_withheld = with_others (proposed p.rules e) (issued p e) issued_within
 
-  pub withheld-apart : (a : Action) → hasAction (withheld p e) a ≡ true → hasAction (issued p e) a ≡ false
+  pub withheld_apart : (a : Action) → has_action (withheld p e) a ≡ true → has_action (issued p e) a ≡ false
   unfolding withheld
-  withheld-apart = others_apart (proposed p.rules e) (issued p e)
+  withheld_apart = others_apart (proposed p.rules e) (issued p e)
 
   module _ (avoidable : unavoidable p e ≡ false) where
-    kept-good : clashes p e (keptEvents p e) ≡ false
-    unfolding keptEvents unavoidable
-    kept-good = greedy-good bad e.events.0 avoidable
+    kept_good : clashes p e (kept_events p e) ≡ false
+    unfolding kept_events unavoidable
+    kept_good = greedy_good bad e.events.bits avoidable
 
-    pub kept-reduces : Reduces (keptEvents p e)
-    kept-reduces = record { within = kept-within; consistent = consistent (keptEvents p e) kept-good }
+    pub kept_reduces : Reduces (kept_events p e)
+    kept_reduces = record { within = kept_within; consistent = consistent (kept_events p e) kept_good }
 
     -- no constraint holds on what is issued
-    pub issued-satisfies : Satisfies p.constraints e.readings (issued p e)
+    pub issued_satisfies : Satisfies p.constraints e.readings (issued p e)
     unfolding issued
-    issued-satisfies = consistent (keptEvents p e) kept-good
+    issued_satisfies = consistent (kept_events p e) kept_good
 
   -- ---- of an epoch with the events E0 to E63
 
   module _ (inside : InAlphabet e) where
-    maximal : (u : EventSet) → keptEvents p e ⊑ u → u ⊑ e.events → clashes p e u ≡ false → u ≡ keptEvents p e
-    unfolding keptEvents
-    maximal u h k good = λ i. record { 0 = greedy-maximal bad e.events.0 bad-monotone inside u.0 (λ n. h (record { 0 = n })) (λ n. k (record { 0 = n })) good i }
+    maximal : (u : EventSet) → kept_events p e ⊑ u → u ⊑ e.events → clashes p e u ≡ false → u ≡ kept_events p e
+    unfolding kept_events
+    maximal u h k good = ap set_of (greedy_maximal bad e.events.bits bad_monotone inside u.bits (λ n. h (record { 0 = n })) (λ n. k (record { 0 = n })) good)
 
-    pub kept-maximal : unavoidable p e ≡ false → MaximalReduction p.constraints (proposedWith p.rules) e (keptEvents p e)
-    kept-maximal avoidable = record { reduction = kept-reduces avoidable; maximal = λ u h r. maximal u h r.within (no-clash u r) }
+    pub kept_maximal : unavoidable p e ≡ false → MaximalReduction p.constraints (proposed_with p.rules) e (kept_events p e)
+    kept_maximal avoidable = record { reduction = kept_reduces avoidable; maximal = λ u h r. maximal u h r.within (no_clash u r) }
 
     -- giving back one or more dropped events makes a constraint hold
-    pub giving-back-clashes : (u : EventSet) → keptEvents p e ⊑ u → u ⊑ e.events → ¬ (u ≡ keptEvents p e)
-        → Violated p.constraints e.readings (proposedWith p.rules e u)
-    giving-back-clashes u h k other = violated u (not-false-is (clashes p e u) (λ q. other (maximal u h k q)))
+    pub giving_back_clashes : (u : EventSet) → kept_events p e ⊑ u → u ⊑ e.events → ¬ (u ≡ kept_events p e)
+        → Violated p.constraints e.readings (proposed_with p.rules e u)
+    giving_back_clashes u h k other = violated u (not_false_is (clashes p e u) (λ q. other (maximal u h k q)))
 
     -- an event is dropped only for its own trial: on what the lower kept ones propose together with it some constraint holds
-    pub dropped-trial : (x : Event) → hasEvent e.events x ≡ true → hasEvent (keptEvents p e) x ≡ false
-        → Violated p.constraints e.readings (proposedWith p.rules e (insertEvent (eventsBelow (keptEvents p e) x) x))
-    unfolding keptEvents
-    dropped-trial x h k =
-        violated (insertEvent (eventsBelow (keptEvents p e) x) x)
-        (greedy-dropped bad e.events.0 x.0 (has-limit e.events.0 inside x.0 h) h k)
+    pub dropped_trial : (x : Event) → has_event e.events x ≡ true → has_event (kept_events p e) x ≡ false
+        → Violated p.constraints e.readings (proposed_with p.rules e (insert_event (events_below (kept_events p e) x) x))
+    unfolding kept_events
+    dropped_trial x h k =
+        violated (insert_event (events_below (kept_events p e) x) x)
+        (greedy_dropped bad e.events.bits x.0 (has_limit e.events.bits inside x.0 h) h k)
 
     -- where nothing clashes, no event is dropped
     module _ (clean : Satisfies p.constraints e.readings (proposed p.rules e)) where
-      pub all-kept : keptEvents p e ≡ e.events
+      pub all_kept : kept_events p e ≡ e.events
       unfolding clashes
-      all-kept = sym (maximal e.events kept-within (λ x h. h) (no-conflict p.constraints e.readings (proposed p.rules e) clean))
+      all_kept = sym (maximal e.events kept_within (λ x h. h) (no_conflict p.constraints e.readings (proposed p.rules e) clean))
 
-      pub nothing-withheld : withheld p e ≡ noActions
+      pub nothing_withheld : withheld p e ≡ no_actions
       unfolding withheld issued
-      nothing-withheld = no-others (proposed p.rules e) (issued p e) (ap (proposedWith p.rules e) all-kept)
+      nothing_withheld = no_others (proposed p.rules e) (issued p e) (ap (proposed_with p.rules e) all_kept)
 
-      pub clean-reducible : Reducible p.constraints (proposedWith p.rules) e
-      clean-reducible = record { kept = e.events; reduction = record { within = λ x h. h; consistent = clean } }
+      pub clean_reducible : Reducible p.constraints (proposed_with p.rules) e
+      clean_reducible = record { kept = e.events; reduction = record { within = λ x h. h; consistent = clean } }
 
 -- Definition 11.4
-pub event-cancellation : (p : Policy) → EventCancellation p.constraints (proposedWith p.rules) (issued p)
+pub event_cancellation : (p : Policy) → EventCancellation p.constraints (proposed_with p.rules) (issued p)
 unfolding issued
-event-cancellation p e inside r = record { kept = keptEvents p e; reduction = kept-reduces p e (reducible-avoids p e r); same = refl }
+event_cancellation p e inside r = record { kept = kept_events p e; reduction = kept_reduces p e (reducible_avoids p e r); same = refl }
 
 -- Definition 11.5
-pub maximal-event-cancellation : (p : Policy) → MaximalEventCancellation p.constraints (proposedWith p.rules) (issued p)
+pub maximal_event_cancellation : (p : Policy) → MaximalEventCancellation p.constraints (proposed_with p.rules) (issued p)
 unfolding issued
-maximal-event-cancellation p e inside r = record { kept = keptEvents p e; reduction = kept-maximal p e inside (reducible-avoids p e r); same = refl }
+maximal_event_cancellation p e inside r = record { kept = kept_events p e; reduction = kept_maximal p e inside (reducible_avoids p e r); same = refl }

@@ -1,10 +1,9 @@
 -- What is told of an epoch line, in document 01's terms: whether it is refused, if it is under which number and at which place, which
 -- also says which text (document 02, L6), and both sets.
 use Rattle.std.specs.Prelude.{ℕ, Bool, true, false}
-use Rattle.policy.specs.Fault.{faultNumber, sourceNumber}
-use Rattle.policy.specs.Set.{noActions}
+use Rattle.policy.specs.Fault.{fault_number, source_number}
+use Rattle.policy.specs.Set.{ActionSet, no_actions}
 use Rattle.policy.specs.declared.fault.Refusal.{Refusal}
-use Rattle.policy.specs.declared.set.ActionSet.{ActionSet}
 
 pub record Answer : Type 0 where
   pub is_refused : Bool
@@ -16,7 +15,7 @@ pub record Answer : Type 0 where
 
 -- "Sets and returned parts are empty"
 abbrev pub refuses : Refusal → Answer
-refuses r = record { is_refused = true; number = faultNumber r.fault; text = sourceNumber r.source; location = r.location; accepted = noActions; cancelled = noActions }
+refuses r = record { is_refused = true; number = fault_number r.fault; text = source_number r.source; location = r.location; accepted = no_actions; cancelled = no_actions }
 
 abbrev pub issues : ActionSet → ActionSet → Answer
 issues accepted cancelled = record { is_refused = false; number = 0; text = 0; location = 0; accepted = accepted; cancelled = cancelled }

@@ -1,23 +1,21 @@
 -- Definitions 5 to 11 of source document 000, in its own terms, for ground rules and an epoch that carries readings.
-use Rattle.std.specs.Prelude.{Bool, true, false, ◌↔◌, ◌≡◌, ◌<◌}
-use mathlib.Core.List.{List, [], ◌∷◌, Memᴰ}
-use Rattle.policy.specs.Comparison.{comparisonHolds}
+use Rattle.std.specs.Prelude.{Bool, true, false, ◌↔◌, ◌≡◌, ◌<◌, List, [], ◌∷◌}
+use mathlib.Core.List.{Memᴰ}
+use Rattle.policy.specs.Comparison.{comparison_holds}
 use Rattle.policy.specs.Epoch.{Epoch, Readings, InAlphabet}
-use Rattle.policy.specs.Number.{setLimit}
+use Rattle.policy.specs.Number.{set_limit}
 use Rattle.policy.specs.Policy.{Rule, Constraint}
-use Rattle.policy.specs.Set.{hasEvent, allEvents, keeping, hasAction}
+use Rattle.policy.specs.Set.{ActionSet, EventSet, has_event, all_events, keeping, has_action}
 use Rattle.policy.specs.declared.comparison.Comparison.{Comparison}
 use Rattle.policy.specs.declared.comparison.Literal.{Literal}
 use Rattle.policy.specs.declared.line.Part.{Part}
 use Rattle.policy.specs.declared.number.Action.{Action}
 use Rattle.policy.specs.declared.number.Event.{Event}
-use Rattle.policy.specs.declared.set.ActionSet.{ActionSet}
-use Rattle.policy.specs.declared.set.EventSet.{EventSet}
 use Rattle.policy.specs.declared.set.Events.{Events}
 
 -- the condition of a rule or of a constraint: the conjunction of its comparisons (Definition 4)
 abbrev pub Condition : Part → Readings → List Comparison → Type 0
-Condition part rs cs = (c : Comparison) → Memᴰ c cs → comparisonHolds part rs c ≡ true
+Condition part rs cs = (c : Comparison) → Memᴰ c cs → comparison_holds part rs c ≡ true
 
 -- Definition 5: an event occurs in the epoch if it is a member, and `!e` occurs if `e` is not. Where events of the epoch are left
 -- out, membership is taken from those that are present, and absence from all that occurred.
@@ -26,7 +24,7 @@ OccursAs false present occurred = present
 OccursAs true present occurred = ¬ occurred
 
 abbrev pub Occurs : Events → Literal → Type 0
-Occurs ev l = OccursAs l.negated (hasEvent ev.present l.event ≡ true) (hasEvent ev.occurred l.event ≡ true)
+Occurs ev l = OccursAs l.negated (has_event ev.present l.event ≡ true) (has_event ev.occurred l.event ≡ true)
 
 -- some rule has the action, and all its literals and comparisons hold
 pub record Derives (rules : List Rule) (ev : Events) (rs : Readings) (a : Action) : Type 0 where
@@ -52,11 +50,11 @@ Entails rules ev rs a = (I : Interpretation) → Model rules ev rs I → I.exec 
 
 -- Definition 6: the transducer that the rules define
 abbrev pub DefinedBy : List Rule → (Epoch → ActionSet) → Type 1
-DefinedBy rules π = (e : Epoch) (a : Action) → a.0 < setLimit → (hasAction (π e) a ≡ true) ↔ Entails rules (allEvents e.events) e.readings a
+DefinedBy rules π = (e : Epoch) (a : Action) → a.0 < set_limit → (has_action (π e) a ≡ true) ↔ Entails rules (all_events e.events) e.readings a
 
 -- Definitions 7 and 8: a set satisfies a constraint if not all its actions are in the set while its condition holds
 pub record HoldsOn (rs : Readings) (s : ActionSet) (c : Constraint) : Type 0 where
-  pub members : (a : Action) → Memᴰ a c.actions → hasAction s a ≡ true
+  pub members : (a : Action) → Memᴰ a c.actions → has_action s a ≡ true
   pub condition : Condition Part.Constraints rs c.comparisons
 
 -- some constraint holds on the set
@@ -69,12 +67,12 @@ abbrev pub Satisfies : List Constraint → Readings → ActionSet → Type 0
 Satisfies constraints rs s = (c : Constraint) → Memᴰ c constraints → ¬ HoldsOn rs s c
 
 -- a constraint with one action
-abbrev pub ofOneAction : Action → List Comparison → Constraint
-ofOneAction a cs = record { actions = a ∷ []; comparisons = cs }
+abbrev pub of_one_action : Action → List Comparison → Constraint
+of_one_action a cs = record { actions = a ∷ []; comparisons = cs }
 
 -- and with no comparison
 abbrev pub lone : Action → Constraint
-lone a = ofOneAction a []
+lone a = of_one_action a []
 
 -- each constraint has at least one action, as every line of a text has
 abbrev pub NameActions : List Constraint → Type 0
@@ -86,7 +84,7 @@ Monitor constraints ω = (e : Epoch) → Satisfies constraints e.readings (ω e)
 
 infix 4 ◌⊆◌
 abbrev pub ◌⊆◌ : ActionSet → ActionSet → Type 0
-s ⊆ t = (a : Action) → hasAction s a ≡ true → hasAction t a ≡ true
+s ⊆ t = (a : Action) → has_action s a ≡ true → has_action t a ≡ true
 
 -- Definition 10: the output of the rules satisfies the constraints
 abbrev pub Consistent : List Constraint → (Epoch → ActionSet) → Epoch → Type 0
@@ -115,11 +113,11 @@ MaximalActionCancellation constraints π ω = (e : Epoch) → MaximalIn constrai
 
 infix 4 ◌⊑◌
 abbrev pub ◌⊑◌ : EventSet → EventSet → Type 0
-s ⊑ t = (x : Event) → hasEvent s x ≡ true → hasEvent t x ≡ true
+s ⊑ t = (x : Event) → has_event s x ≡ true → has_event t x ≡ true
 
 -- Definition 6 where only some of the epoch's events are kept
 abbrev pub DefinedOnKept : List Rule → (Epoch → EventSet → ActionSet) → Type 1
-DefinedOnKept rules π = (e : Epoch) (kept : EventSet) (a : Action) → a.0 < setLimit → (hasAction (π e kept) a ≡ true) ↔ Entails rules (keeping e.events kept) e.readings a
+DefinedOnKept rules π = (e : Epoch) (kept : EventSet) (a : Action) → a.0 < set_limit → (has_action (π e kept) a ≡ true) ↔ Entails rules (keeping e.events kept) e.readings a
 
 module _ (constraints : List Constraint) (π : Epoch → EventSet → ActionSet) where
   -- Definition 10: a consistent reduction

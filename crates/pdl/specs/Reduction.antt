@@ -3,33 +3,31 @@
 use Rattle.std.specs.Prelude.{ℕ, Bool, List}
 use Rattle.policy.specs.Epoch.{Epoch}
 use Rattle.policy.specs.Policy.{Policy, Rule}
-use Rattle.policy.specs.Set.{keeping, noEvents, actionsWithout}
-use Rattle.policy.specs.declared.set.ActionSet.{ActionSet}
-use Rattle.policy.specs.declared.set.EventSet.{EventSet}
+use Rattle.policy.specs.Set.{ActionSet, EventSet, keeping, no_events, actions_without, set_of}
 use Rattle.pdl.specs.Greedy.{greedy}
 use Rattle.pdl.specs.Yield.{proposals, proposed, conflict}
 
 -- what the rules propose where these of the epoch's events are kept: "absence is taken from the full epoch"
-abbrev pub proposedWith : List Rule → Epoch → EventSet → ActionSet
-proposedWith rules e kept = proposals rules (keeping e.events kept) e.readings
+abbrev pub proposed_with : List Rule → Epoch → EventSet → ActionSet
+proposed_with rules e kept = proposals rules (keeping e.events kept) e.readings
 
 module _ (p : Policy) (e : Epoch) where
   -- whether a constraint holds on it
   unfoldable pub clashes : EventSet → Bool
-  clashes kept = conflict p.constraints e.readings (proposedWith p.rules e kept)
+  clashes kept = conflict p.constraints e.readings (proposed_with p.rules e kept)
 
   -- "try events by rising number, keeping each unless the actions then proposed make a never line hold"
-  unfoldable pub keptEvents : EventSet
-  keptEvents = record { 0 = greedy (λ (kept : ℕ). clashes (record { 0 = kept })) e.events.0 }
+  unfoldable pub kept_events : EventSet
+  kept_events = set_of (greedy (λ (kept : ℕ). clashes (set_of kept)) e.events.bits)
 
   -- "issue what the kept events propose"
   unfoldable pub issued : ActionSet
-  issued = proposedWith p.rules e keptEvents
+  issued = proposed_with p.rules e kept_events
 
   -- "Cancelled is what the full epoch proposes and isn't issued."
   unfoldable pub withheld : ActionSet
-  withheld = actionsWithout (proposed p.rules e) issued
+  withheld = actions_without (proposed p.rules e) issued
 
   -- fault 17: already with no event kept
   unfoldable pub unavoidable : Bool
-  unavoidable = clashes noEvents
+  unavoidable = clashes no_events

@@ -1,19 +1,17 @@
 -- Each fault has a number of its own.
-use Prim.Native.Nat.{ℕ}
-use mathlib.Core.List.{List, [], ◌∷◌}
-use mathlib.Core.Path.{◌≡◌, refl, sym, ap, ◌∙◌}
-use lib.ListN.{get_or}
-use Rattle.policy.specs.Fault.{faultNumber}
+use Rattle.std.proofs.Common.{ℕ, List, [], ◌∷◌, ◌≡◌, refl, sym, ap, ◌∙◌}
+use Rattle.std.proofs.Math.ListN.{get_or}
+use Rattle.policy.specs.Fault.{fault_number}
 use Rattle.policy.specs.declared.fault.Fault.{Fault}
 use Rattle.policy.specs.declared.fault.Fault.TheVariants.{TooLong, Syntax, OutOfRange, TooManyParts, TooManyLines, Duplicate, ImageSize, ImageForm, ImageCount, ImageSum, ImageBody, EpochSyntax, EpochRange, DuplicateReading, BufferTooSmall, Unavoidable}
 
 -- the faults by their numbers; no fault has number 0 or 16
-abbrev byNumber : List Fault
-byNumber =
+abbrev by_number : List Fault
+by_number =
     TooLong ∷ TooLong ∷ Syntax ∷ OutOfRange ∷ TooManyParts ∷ TooManyLines ∷ Duplicate ∷ ImageSize ∷ ImageForm ∷ ImageCount ∷ ImageSum ∷ ImageBody
     ∷ EpochSyntax ∷ EpochRange ∷ DuplicateReading ∷ BufferTooSmall ∷ TooLong ∷ Unavoidable ∷ []
 
-found : (f : Fault) → get_or byNumber (faultNumber f) TooLong ≡ f
+found : (f : Fault) → get_or by_number (fault_number f) TooLong ≡ f
 found TooLong = refl
 found Syntax = refl
 found OutOfRange = refl
@@ -31,5 +29,5 @@ found DuplicateReading = refl
 found BufferTooSmall = refl
 found Unavoidable = refl
 
-pub fault-number-distinct : (f g : Fault) → faultNumber f ≡ faultNumber g → f ≡ g
-fault-number-distinct f g e = sym (found f) ∙ ap (λ (n : ℕ). get_or byNumber n TooLong) e ∙ found g
+pub fault_number_distinct : (f g : Fault) → fault_number f ≡ fault_number g → f ≡ g
+fault_number_distinct f g e = sym (found f) ∙ ap (λ (n : ℕ). get_or by_number n TooLong) e ∙ found g

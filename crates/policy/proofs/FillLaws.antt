@@ -1,14 +1,8 @@
 -- Laws of filling a lent buffer: what an answer of a size says, and that a refusal changes no byte.
-use Prim.Native.Nat.{ℕ, ◌≤◌}
-use mathlib.Core.Bool.{Bool, true, false, cond}
-use mathlib.Core.List.{List, ◌++◌}
-use mathlib.Core.Option.{Option, none, some}
-use mathlib.Core.Path.{◌≡◌, refl, sym, ap, ◌∙◌}
-use native.Mathlib.Omega.{arith}
-use borrow.Author.Tests.{leb-true}
-use lib.Dec.{leb}
-use lib.ListN.{length, take, drop}
-use lib.Seq.{take-append_seam, drop-append_seam}
+use Rattle.std.proofs.Common.{ℕ, ◌≤◌, Bool, true, false, cond, List, ◌++◌, ◌≡◌, refl, sym, ap, ◌∙◌, arith, leb-true, length, take, drop}
+use Rattle.std.proofs.Math.Option.{Option, none, some}
+use Rattle.std.proofs.Math.Dec.{leb}
+use Rattle.std.proofs.Math.Seq.{take-append_seam, drop-append_seam}
 use Rattle.policy.specs.Fault.{refusal}
 use Rattle.policy.specs.Fill.{Filled, deliver, refuse, fill}
 use Rattle.policy.specs.declared.fault.Fault.{Fault}
@@ -22,8 +16,8 @@ pub record Delivered (bytes buffer after : List ℕ) (size : ℕ) : Type 0 where
   pub behind : drop size after ≡ drop size buffer
 
 -- an answer says whether it is a refusal, and its size otherwise
-module _ {A : Type 0} (refused : Refusal → A) (written : ℕ → A) (refusalIn : A → Option Refusal) (sizeIn : A → ℕ)
-    (is-refused : (r : Refusal) → refusalIn (refused r) ≡ some r) (is-written : (n : ℕ) → refusalIn (written n) ≡ none) (sized : (n : ℕ) → sizeIn (written n) ≡ n)
+module _ {A : Type 0} (refused : Refusal → A) (written : ℕ → A) (refusal_in : A → Option Refusal) (sizeIn : A → ℕ)
+    (is_refused : (r : Refusal) → refusal_in (refused r) ≡ some r) (is-written : (n : ℕ) → refusal_in (written n) ≡ none) (sized : (n : ℕ) → sizeIn (written n) ≡ n)
     (bytes buffer : List ℕ) where
   abbrev either : Bool → Filled A
   either b = cond b (deliver refused written bytes buffer) (refuse refused written (refusal Fault.BufferTooSmall 0) buffer)
@@ -39,20 +33,20 @@ module _ {A : Type 0} (refused : Refusal → A) (written : ℕ → A) (refusalIn
             ∙ ap (λ (n : ℕ). drop n buffer) e;
       }
 
-  pub fill-delivered : (size : ℕ) → (fill refused written bytes buffer).answer ≡ written size → Delivered bytes buffer (fill refused written bytes buffer).buffer size
-  fill-delivered size e = go (leb (length bytes) (length buffer)) refl e
+  pub fill_delivered : (size : ℕ) → (fill refused written bytes buffer).answer ≡ written size → Delivered bytes buffer (fill refused written bytes buffer).buffer size
+  fill_delivered size e = go (leb (length bytes) (length buffer)) refl e
     where
       go : (b : Bool) → leb (length bytes) (length buffer) ≡ b → (either b).answer ≡ written size → Delivered bytes buffer (either b).buffer size
       go true q k = delivered (leb-true (length bytes) (length buffer) q) size (sym (sized (length bytes)) ∙ ap sizeIn k ∙ sized size)
       go false q k =
-          let z : some (refusal Fault.BufferTooSmall 0) ≡ none = sym (is-refused (refusal Fault.BufferTooSmall 0)) ∙ ap refusalIn k ∙ is-written size in
+          let z : some (refusal Fault.BufferTooSmall 0) ≡ none = sym (is_refused (refusal Fault.BufferTooSmall 0)) ∙ ap refusal_in k ∙ is-written size in
           let w : ◌≡◌ {A = ℕ} 0 1 = cc in
           absurd (omega arith)
 
-  pub fill-unchanged : (r : Refusal) → refusalIn (fill refused written bytes buffer).answer ≡ some r → (fill refused written bytes buffer).buffer ≡ buffer
-  fill-unchanged r e = go (leb (length bytes) (length buffer)) e
+  pub fill_unchanged : (r : Refusal) → refusal_in (fill refused written bytes buffer).answer ≡ some r → (fill refused written bytes buffer).buffer ≡ buffer
+  fill_unchanged r e = go (leb (length bytes) (length buffer)) e
     where
-      go : (b : Bool) → refusalIn (either b).answer ≡ some r → (either b).buffer ≡ buffer
+      go : (b : Bool) → refusal_in (either b).answer ≡ some r → (either b).buffer ≡ buffer
       go true k =
           let z : none ≡ some r = sym (is-written (length bytes)) ∙ k in
           let w : ◌≡◌ {A = ℕ} 0 1 = cc in

@@ -1,6 +1,5 @@
 -- A flag that `&&` or `||` joined from two.
-use mathlib.Core.Bool.{Bool, true, false, ◌&&◌, ◌||◌}
-use mathlib.Core.Path.{◌≡◌, refl, sym, ap, ◌∙◌}
+use Rattle.std.proofs.Common.{Bool, true, false, ◌&&◌, ◌||◌, ◌≡◌, refl, sym, ap, ◌∙◌}
 
 module _ (a b x : Bool) where
   pub and_yes : a ≡ true → x ≡ b → x ≡ a && b
@@ -16,6 +15,6 @@ module _ (a b x : Bool) where
   or_no p q = q ∙ sym (ap (λ (y : Bool). y || b) p)
 
 -- `&&` groups to the left in code and to the right in definitions
-pub and-three : (a b c : Bool) → (a && b) && c ≡ a && b && c
-and-three true b c = refl
-and-three false b c = refl
+pub and_three : (a b c : Bool) → (a && b) && c ≡ a && b && c
+and_three true b c = refl
+and_three false b c = refl

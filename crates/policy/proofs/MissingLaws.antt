@@ -1,128 +1,108 @@
--- Document 02, L2: what a comparison counts as that names a missing reading; where none is missing, the values alone count.
-use Prim.Native.Nat.{ℕ, zero, suc, ◌≤◌, ◌<◌}
-use mathlib.Core.Bool.{Bool, true, false, cond}
-use mathlib.Core.List.{List, [], ◌∷◌, Memᴰ}
-use mathlib.Core.Logic.{◌⊎◌, inl, inr, ⊎_elim}
-use mathlib.Core.Path.{◌≡◌, refl, sym, ap, ap₂, ◌∙◌}
-use native.Mathlib.Omega.{arith}
-use lib.IntN.{ℤ}
-use lib.ListN.{length, get_or}
-use Rattle.policy.proofs.ListLaws.{true-false}
-use Rattle.policy.specs.Comparison.{relationHolds, operandReadings, readingsOf, NamesMissing, missingHolds, valuesRelate, operandValue, comparisonHolds}
-use Rattle.policy.specs.Epoch.{Readings, valueIn, readingValue, SomeOf}
-use Rattle.policy.specs.Set.{hasReading}
+-- What a comparison counts as that names a missing reading; where none is missing, the values alone count.
+use Rattle.std.proofs.Common.{Bool, true, false, cond, List, ◌∷◌, ◌⊎◌, inl, inr, ⊎_elim, ◌≡◌, refl, sym, ap, ap₂, ◌∙◌, ℤ, Option, Some, None, slice_get}
+use mathlib.Core.List.{Memᴰ}
+use Rattle.policy.proofs.ListLaws.{true_false}
+use Rattle.policy.specs.Comparison.{relation_holds, operand_readings, readings_of, NamesMissing, missing_holds, values_relate, operand_value, comparison_holds}
+use Rattle.policy.specs.Epoch.{Readings, reading_value, SomeOf}
+use Rattle.policy.specs.Set.{ReadingSet, has_reading}
 use Rattle.policy.specs.declared.comparison.Comparison.{Comparison}
 use Rattle.policy.specs.declared.comparison.Operand.{Operand}
-use Rattle.policy.specs.declared.comparison.Value.{Value}
 use Rattle.policy.specs.declared.comparison.Relation.{Relation}
 use Rattle.policy.specs.declared.line.Part.{Part}
 use Rattle.policy.specs.declared.number.Reading.{Reading}
-use Rattle.policy.specs.declared.set.ReadingSet.{ReadingSet}
-
--- ---- the value in a place
-
-pub value_in : (vs : List ℤ) (n : ℕ) (d : ℤ) → n < length vs → valueIn vs n ≡ Value.Known (get_or vs n d)
-unfolding valueIn
-value_in [] n d h = absurd (omega arith)
-value_in (v ∷ vs) zero d h = refl
-value_in (v ∷ vs) (suc n) d h = value_in vs n d (omega arith)
-
-pub value-past : (vs : List ℤ) (n : ℕ) → length vs ≤ n → valueIn vs n ≡ Value.Missing
-unfolding valueIn
-value-past [] n h = refl
-value-past (v ∷ vs) zero h = absurd (omega arith)
-value-past (v ∷ vs) (suc n) h = value-past vs n (omega arith)
 
 -- ---- a reading that is not given
 
-value-missing : (rs : Readings) (r : Reading) → hasReading rs.given r ≡ false → readingValue rs r ≡ Value.Missing
-unfolding readingValue
-value-missing rs r h = rw h
+value_missing : (rs : Readings) (r : Reading) → has_reading rs.given r ≡ false → reading_value rs r ≡ None
+unfolding reading_value
+value_missing rs r h = rw h
 
 -- ---- comparisons
 
 -- a missing value on the right
-relate-missing : (missing : Bool) (relation : Relation) (left : Value) → valuesRelate missing relation left Value.Missing ≡ missing
-unfolding valuesRelate
-relate-missing missing relation (Value.Known a) = refl
-relate-missing missing relation Value.Missing = refl
+relate_missing : (missing : Bool) (relation : Relation) (left : Option ℤ) → values_relate missing relation left None ≡ missing
+unfolding values_relate
+relate_missing missing relation (Some a) = refl
+relate_missing missing relation None = refl
 
 module _ (rs : Readings) (c : Comparison) where
   module _ (part : Part) where
     -- by the relation and the values alone, in a line of either kind
-    pub given-counts : (left right : ℤ) → readingValue rs c.reading ≡ Value.Known left → operandValue rs c.operand ≡ Value.Known right
-        → comparisonHolds part rs c ≡ relationHolds c.relation left right
-    unfolding comparisonHolds valuesRelate
-    given-counts left right l r = ap₂ (valuesRelate (missingHolds part) c.relation) l r
+    pub given_counts : (left right : ℤ) → reading_value rs c.reading ≡ Some left → operand_value rs c.operand ≡ Some right
+        → comparison_holds part rs c ≡ relation_holds c.relation left right
+    unfolding comparison_holds values_relate
+    given_counts left right l r = ap₂ (values_relate (missing_holds part) c.relation) l r
 
-    pub left-missing : readingValue rs c.reading ≡ Value.Missing → comparisonHolds part rs c ≡ missingHolds part
-    unfolding comparisonHolds valuesRelate
-    left-missing h = rw h
+    pub left_missing : reading_value rs c.reading ≡ None → comparison_holds part rs c ≡ missing_holds part
+    unfolding comparison_holds values_relate
+    left_missing h = rw h
 
-    pub right-missing : operandValue rs c.operand ≡ Value.Missing → comparisonHolds part rs c ≡ missingHolds part
-    unfolding comparisonHolds
-    right-missing h = rw h (relate-missing (missingHolds part) c.relation (readingValue rs c.reading))
+    pub right_missing : operand_value rs c.operand ≡ None → comparison_holds part rs c ≡ missing_holds part
+    unfolding comparison_holds
+    right_missing h = rw h (relate_missing (missing_holds part) c.relation (reading_value rs c.reading))
 
-    operand-missing : (o : Operand) (r : Reading) → Memᴰ r (operandReadings o) → hasReading rs.given r ≡ false → operandValue rs o ≡ Value.Missing
-    unfolding operandReadings operandValue
-    operand-missing (Operand.Reading x) r (Memᴰ.head p) h = value-missing rs x (sym (ap (hasReading rs.given) p) ∙ h)
+    operand_missing : (o : Operand) (r : Reading) → Memᴰ r (operand_readings o) → has_reading rs.given r ≡ false → operand_value rs o ≡ None
+    unfolding operand_readings operand_value
+    operand_missing (Operand.Constant k) r m h = elim m [ ]
+    operand_missing (Operand.Reading x) r (Memᴰ.tail m) h = elim m [ ]
+    operand_missing (Operand.Reading x) r (Memᴰ.head p) h = value_missing rs x (sym (ap (has_reading rs.given) p) ∙ h)
 
     -- a missing reading on either side
-    missing-counts : NamesMissing rs c → comparisonHolds part rs c ≡ missingHolds part
-    unfolding readingsOf
-    missing-counts m = go m.named
+    missing_counts : NamesMissing rs c → comparison_holds part rs c ≡ missing_holds part
+    unfolding readings_of
+    missing_counts m = go m.named
       where
-        go : Memᴰ m.which (c.reading ∷ operandReadings c.operand) → comparisonHolds part rs c ≡ missingHolds part
-        go (Memᴰ.head p) = left-missing (value-missing rs c.reading (sym (ap (hasReading rs.given) p) ∙ m.missing))
-        go (Memᴰ.tail k) = right-missing (operand-missing c.operand m.which k m.missing)
+        go : Memᴰ m.which (c.reading ∷ operand_readings c.operand) → comparison_holds part rs c ≡ missing_holds part
+        go (Memᴰ.head p) = left_missing (value_missing rs c.reading (sym (ap (has_reading rs.given) p) ∙ m.missing))
+        go (Memᴰ.tail k) = right_missing (operand_missing c.operand m.which k m.missing)
 
-  pub missing-in-rule : NamesMissing rs c → comparisonHolds Part.Rules rs c ≡ false
-  unfolding missingHolds
-  missing-in-rule = missing-counts Part.Rules
+  pub missing_in_rule : NamesMissing rs c → comparison_holds Part.Rules rs c ≡ false
+  unfolding missing_holds
+  missing_in_rule = missing_counts Part.Rules
 
-  pub missing-in-constraint : NamesMissing rs c → comparisonHolds Part.Constraints rs c ≡ true
-  unfolding missingHolds
-  missing-in-constraint = missing-counts Part.Constraints
+  pub missing_in_constraint : NamesMissing rs c → comparison_holds Part.Constraints rs c ≡ true
+  unfolding missing_holds
+  missing_in_constraint = missing_counts Part.Constraints
 
 -- what stands in the place of a reading that is not given does not count
-module _ (given : ReadingSet) (vs ws : List ℤ) (same : (r : Reading) → hasReading given r ≡ true → valueIn vs r.0 ≡ valueIn ws r.0) where
-  same-value : (r : Reading) → readingValue (record { given = given; values = vs }) r ≡ readingValue (record { given = given; values = ws }) r
-  unfolding readingValue
-  same-value r = go (hasReading given r) (same r)
+module _ (given : ReadingSet) (vs ws : List ℤ) (same : (r : Reading) → has_reading given r ≡ true → slice_get vs r.0 ≡ slice_get ws r.0) where
+  same_value : (r : Reading) → reading_value (record { given = given; values = vs }) r ≡ reading_value (record { given = given; values = ws }) r
+  unfolding reading_value
+  same_value r = go (has_reading given r) (same r)
     where
-      go : (b : Bool) → (b ≡ true → valueIn vs r.0 ≡ valueIn ws r.0) → cond b (valueIn vs r.0) Value.Missing ≡ cond b (valueIn ws r.0) Value.Missing
+      go : (b : Bool) → (b ≡ true → slice_get vs r.0 ≡ slice_get ws r.0) → cond b (slice_get vs r.0) None ≡ cond b (slice_get ws r.0) None
       go true h = h refl
       go false h = refl
 
-  same_operand : (o : Operand) → operandValue (record { given = given; values = vs }) o ≡ operandValue (record { given = given; values = ws }) o
-  unfolding operandValue
+  same_operand : (o : Operand) → operand_value (record { given = given; values = vs }) o ≡ operand_value (record { given = given; values = ws }) o
+  unfolding operand_value
   same_operand (Operand.Constant k) = refl
-  same_operand (Operand.Reading r) = same-value r
+  same_operand (Operand.Reading r) = same_value r
 
-  pub ungiven-free : (part : Part) (c : Comparison) → comparisonHolds part (record { given = given; values = vs }) c ≡ comparisonHolds part (record { given = given; values = ws }) c
-  unfolding comparisonHolds
-  ungiven-free part c = ap₂ (valuesRelate (missingHolds part) c.relation) (same-value c.reading) (same_operand c.operand)
+  pub ungiven_free : (part : Part) (c : Comparison) → comparison_holds part (record { given = given; values = vs }) c ≡ comparison_holds part (record { given = given; values = ws }) c
+  unfolding comparison_holds
+  ungiven_free part c = ap₂ (values_relate (missing_holds part) c.relation) (same_value c.reading) (same_operand c.operand)
 
 -- ---- fewer readings
 
-module _ (fewer all : Readings) (Some-of : SomeOf fewer all) where
-  fewer-operand : (o : Operand) → (operandValue fewer o ≡ Value.Missing) ⊎ (operandValue fewer o ≡ operandValue all o)
-  unfolding operandValue
-  fewer-operand (Operand.Constant k) = inr refl
-  fewer-operand (Operand.Reading r) = Some-of r
+module _ (fewer all : Readings) (some_of : SomeOf fewer all) where
+  fewer_operand : (o : Operand) → (operand_value fewer o ≡ None) ⊎ (operand_value fewer o ≡ operand_value all o)
+  unfolding operand_value
+  fewer_operand (Operand.Constant k) = inr refl
+  fewer_operand (Operand.Reading r) = some_of r
 
-  fewer-counts : (part : Part) (c : Comparison) → (comparisonHolds part fewer c ≡ missingHolds part) ⊎ (comparisonHolds part fewer c ≡ comparisonHolds part all c)
-  unfolding comparisonHolds
-  fewer-counts part c =
-      ⊎_elim (λ l. inl (left-missing fewer c part l))
-      (λ l. ⊎_elim (λ r. inl (right-missing fewer c part r)) (λ r. inr (ap₂ (valuesRelate (missingHolds part) c.relation) l r)) (fewer-operand c.operand))
-      (Some-of c.reading)
+  fewer_counts : (part : Part) (c : Comparison) → (comparison_holds part fewer c ≡ missing_holds part) ⊎ (comparison_holds part fewer c ≡ comparison_holds part all c)
+  unfolding comparison_holds
+  fewer_counts part c =
+      ⊎_elim (λ l. inl (left_missing fewer c part l))
+      (λ l. ⊎_elim (λ r. inl (right_missing fewer c part r)) (λ r. inr (ap₂ (values_relate (missing_holds part) c.relation) l r)) (fewer_operand c.operand))
+      (some_of c.reading)
 
   -- with fewer readings no more comparisons of rules hold, and no fewer of constraints
-  pub fewer-in-rule : (c : Comparison) → comparisonHolds Part.Rules fewer c ≡ true → comparisonHolds Part.Rules all c ≡ true
-  unfolding missingHolds
-  fewer-in-rule c h = ⊎_elim (λ e. absurd (true-false h e)) (λ e. sym e ∙ h) (fewer-counts Part.Rules c)
+  pub fewer_in_rule : (c : Comparison) → comparison_holds Part.Rules fewer c ≡ true → comparison_holds Part.Rules all c ≡ true
+  unfolding missing_holds
+  fewer_in_rule c h = ⊎_elim (λ e. absurd (true_false h e)) (λ e. sym e ∙ h) (fewer_counts Part.Rules c)
 
-  pub fewer-in-constraint : (c : Comparison) → comparisonHolds Part.Constraints all c ≡ true → comparisonHolds Part.Constraints fewer c ≡ true
-  unfolding missingHolds
-  fewer-in-constraint c h = ⊎_elim (λ e. e) (λ e. e ∙ h) (fewer-counts Part.Constraints c)
+  pub fewer_in_constraint : (c : Comparison) → comparison_holds Part.Constraints all c ≡ true → comparison_holds Part.Constraints fewer c ≡ true
+  unfolding missing_holds
+  fewer_in_constraint c h = ⊎_elim (λ e. e) (λ e. e ∙ h) (fewer_counts Part.Constraints c)

@@ -1,23 +1,19 @@
 -- Laws of sets: what is a member of each, and that two sets with the same members are equal.
-use Prim.Native.Nat.{ℕ, zero, suc, ◌+◌, ◌-◌, ◌*◌, ◌/◌, ◌%◌, ◌^◌, ◌≤◌, ◌<◌}
-use mathlib.Core.Bool.{Bool, true, false, not, ◌&&◌, ◌||◌}
-use mathlib.Core.Logic.{◌⊎◌, inl, inr, ◌≢◌}
-use mathlib.Core.Path.{◌≡◌, refl, sym, ap, ◌∙◌}
-use native.Mathlib.Nat.{one-mul, mod-eq_of_lt, mod-lt, div-eq_of_lt, lt_of_lt_of_le, add_comm, zero-lt-suc}
-use native.Mathlib.Omega.{arith}
-use borrow.Author.Tests.{lt-ltb, le-ltb, eqb-true, eqb-false, ltb-true, ltb-false}
-use lib.Arith.{bin_ind}
-use lib.Bits.{bit_and, bit_or, bit_xor, and_shr, or_shr, xor_shr, and_mod, or_mod, xor_mod, or_lt}
-use lib.Dec.{ltb, eqb, lit<}
-use lib.Pow.{shl_exact, pow_pos, pow_mono, pow-lt, pow-add, shl-shr, shr-shr, field, mod-mod-pow}
-use Rattle.policy.specs.Number.{setLimit}
+use Rattle.std.proofs.Common.{ℕ, zero, suc, ◌+◌, ◌-◌, ◌*◌, ◌/◌, ◌%◌, ◌^◌, ◌≤◌, ◌<◌, Bool, true, false, not, ◌&&◌, ◌||◌, ◌⊎◌, inl, inr, ◌≢◌, ◌≡◌, refl, sym, ap, ◌∙◌, one-mul, mod-eq_of_lt, mod-lt, lt_of_lt_of_le, add_comm, zero-lt-suc, arith, lt-ltb, le-ltb, eqb-true, ltb-true, ltb-false, bit_and, bit_or, bit_xor, lit<, shl_exact, pow_pos, pow_mono, pow-add, shr-shr}
+use Rattle.std.proofs.Math.Nat.{div-eq_of_lt}
+use Rattle.std.proofs.Math.Arith.{bin_ind}
+use Rattle.std.proofs.Math.Dec.{ltb, eqb}
+use Rattle.std.proofs.Math.Pow.{pow-lt, shl-shr, field, mod-mod-pow}
+use borrow.Author.Tests.{eqb-false}
+use lib.Bits.{and_shr, or_shr, xor_shr, and_mod, or_mod, xor_mod, or_lt}
+use Rattle.policy.specs.Number.{set_limit}
 use Rattle.policy.specs.Set.{has, insert, union, difference, below}
 
 two_pos : 0 < 2
 two_pos = zero-lt-suc 1
 
-bit-lt : (s n : ℕ) → s / 2 ^ n % 2 < 2
-bit-lt s n = mod-lt (s / 2 ^ n) two_pos
+bit_lt : (s n : ℕ) → s / 2 ^ n % 2 < 2
+bit_lt s n = mod-lt (s / 2 ^ n) two_pos
 
 -- an operation on digits, by its four values
 digitwise : (f : ℕ → ℕ → ℕ) (g : Bool → Bool → Bool) → eqb (f 0 0) 1 ≡ g false false → eqb (f 0 1) 1 ≡ g false true → eqb (f 1 0) 1 ≡ g true false → eqb (f 1 1) 1 ≡ g true true
@@ -36,72 +32,72 @@ module _ (f : ℕ → ℕ → ℕ) (g : Bool → Bool → Bool)
     (low : (a b k : ℕ) → f a b % 2 ^ k ≡ f (a % 2 ^ k) (b % 2 ^ k))
     (p : eqb (f 0 0) 1 ≡ g false false) (q : eqb (f 0 1) 1 ≡ g false true)
     (r : eqb (f 1 0) 1 ≡ g true false) (t : eqb (f 1 1) 1 ≡ g true true) where
-  bitwise-has : (a b n : ℕ) → has (f a b) n ≡ g (has a n) (has b n)
+  bitwise_has : (a b n : ℕ) → has (f a b) n ≡ g (has a n) (has b n)
   unfolding has
-  bitwise-has a b n =
+  bitwise_has a b n =
       ap (λ (x : ℕ). eqb (x % 2) 1) (shr a b n) ∙ ap (λ (x : ℕ). eqb x 1) (low (a / 2 ^ n) (b / 2 ^ n) 1)
-      ∙ digitwise f g p q r t (a / 2 ^ n % 2) (b / 2 ^ n % 2) (bit-lt a n) (bit-lt b n)
+      ∙ digitwise f g p q r t (a / 2 ^ n % 2) (b / 2 ^ n % 2) (bit_lt a n) (bit_lt b n)
 
-has-or : (s t n : ℕ) → has (bit_or s t) n ≡ has s n || has t n
-has-or = bitwise-has bit_or ◌||◌ or_shr or_mod refl refl refl refl
+has_or : (s t n : ℕ) → has (bit_or s t) n ≡ has s n || has t n
+has_or = bitwise_has bit_or ◌||◌ or_shr or_mod refl refl refl refl
 
-has-and : (s t n : ℕ) → has (bit_and s t) n ≡ has s n && has t n
-has-and = bitwise-has bit_and ◌&&◌ and_shr and_mod refl refl refl refl
+has_and : (s t n : ℕ) → has (bit_and s t) n ≡ has s n && has t n
+has_and = bitwise_has bit_and ◌&&◌ and_shr and_mod refl refl refl refl
 
 -- the bits differ
 differs : Bool → Bool → Bool
 differs true b = not b
 differs false b = b
 
-has-xor : (s t n : ℕ) → has (bit_xor s t) n ≡ differs (has s n) (has t n)
+has_xor : (s t n : ℕ) → has (bit_xor s t) n ≡ differs (has s n) (has t n)
 unfolding differs
-has-xor = bitwise-has bit_xor differs xor_shr xor_mod refl refl refl refl
+has_xor = bitwise_has bit_xor differs xor_shr xor_mod refl refl refl refl
 
-pub has-union : (s t n : ℕ) → has (union s t) n ≡ has s n || has t n
-has-union = has-or
+pub has_union : (s t n : ℕ) → has (union s t) n ≡ has s n || has t n
+has_union = has_or
 
 less : (a b : Bool) → differs a (a && b) ≡ a && not b
 unfolding differs
 less true b = refl
 less false b = refl
 
-pub has-difference : (s t n : ℕ) → has (difference s t) n ≡ has s n && not (has t n)
-has-difference s t n = has-xor s (bit_and s t) n ∙ ap (differs (has s n)) (has-and s t n) ∙ less (has s n) (has t n)
+pub has_difference : (s t n : ℕ) → has (difference s t) n ≡ has s n && not (has t n)
+has_difference s t n = has_xor s (bit_and s t) n ∙ ap (differs (has s n)) (has_and s t n) ∙ less (has s n) (has t n)
 
-zero-shr : (n : ℕ) → 0 / 2 ^ n ≡ 0
-zero-shr n = div-eq_of_lt (pow_pos n)
+zero_shr : (n : ℕ) → 0 / 2 ^ n ≡ 0
+zero_shr n = div-eq_of_lt (pow_pos n)
 
-pub has-empty : (n : ℕ) → has 0 n ≡ false
+pub has_empty : (n : ℕ) → has 0 n ≡ false
 unfolding has
-has-empty n = ap (λ (x : ℕ). eqb (x % 2) 1) (zero-shr n)
+has_empty n = ap (λ (x : ℕ). eqb (x % 2) 1) (zero_shr n)
 
 -- the set of one member
-single-same : (n : ℕ) → has (2 ^ n) n ≡ true
+single_same : (n : ℕ) → has (2 ^ n) n ≡ true
 unfolding has
-single-same n = let e : 1 * 2 ^ n ≡ 2 ^ n = omega arith in ap (λ (x : ℕ). eqb (x % 2) 1) (ap (λ (x : ℕ). x / 2 ^ n) (sym e) ∙ shl-shr 1 n)
+single_same n = let e : 1 * 2 ^ n ≡ 2 ^ n = omega arith in ap (λ (x : ℕ). eqb (x % 2) 1) (ap (λ (x : ℕ). x / 2 ^ n) (sym e) ∙ shl-shr 1 n)
 
 even_power : (k : ℕ) → 2 ^ suc k % 2 ≡ 0
 even_power k = omega arith
 
-single-lower : (k m : ℕ) → has (2 ^ (suc k + m)) m ≡ false
+single_lower : (k m : ℕ) → has (2 ^ (suc k + m)) m ≡ false
 unfolding has
-single-lower k m =
+single_lower k m =
     ap (λ (x : ℕ). eqb (x / 2 ^ m % 2) 1) (pow-add 2 (suc k) m) ∙ ap (λ (x : ℕ). eqb (x % 2) 1) (shl-shr (2 ^ suc k) m)
     ∙ ap (λ (x : ℕ). eqb x 1) (even_power k)
 
-single-higher : (n m : ℕ) → n < m → has (2 ^ n) m ≡ false
+single_higher : (n m : ℕ) → n < m → has (2 ^ n) m ≡ false
 unfolding has
-single-higher n m h = ap (λ (x : ℕ). eqb (x % 2) 1) (div-eq_of_lt (pow-lt h))
+single_higher n m h = ap (λ (x : ℕ). eqb (x % 2) 1) (div-eq_of_lt (pow-lt h))
 
-single-other : (n m : ℕ) → m ≢ n → has (2 ^ n) m ≡ false
-single-other n m h = go (ltb m n) refl
+single_other : (n m : ℕ) → m ≢ n → has (2 ^ n) m ≡ false
+single_other n m h = go (ltb m n) refl
   where
     go : (b : Bool) → ltb m n ≡ b → has (2 ^ n) m ≡ false
     go true e =
         let l : m < n = ltb-true m n e in
         let k : suc (n - suc m) + m ≡ n = omega arith in
-        ap (λ (x : ℕ). has (2 ^ x) m) (sym k) ∙ single-lower (n - suc m) m
-    go false e = let l : n ≤ m = ltb-false m n e in single-higher n m (omega arith)
+        ap (λ (x : ℕ). has (2 ^ x) m) (sym k) ∙ single_lower (n - suc m) m
+    go false e = let l : n ≤ m = ltb-false m n e in single_higher n m (omega arith)
 
 or-true : (b : Bool) → b || true ≡ true
 or-true true = refl
@@ -111,40 +107,40 @@ or-false : (b : Bool) → b || false ≡ b
 or-false true = refl
 or-false false = refl
 
-pub insert-in : (s n : ℕ) → n < setLimit → insert s n ≡ bit_or s (2 ^ n)
+pub insert_in : (s n : ℕ) → n < set_limit → insert s n ≡ bit_or s (2 ^ n)
 unfolding insert
-insert-in s n h = simp (lt-ltb n 64 h)
+insert_in s n h = simp (lt-ltb n 64 h)
 
-pub insert-out : (s n : ℕ) → setLimit ≤ n → insert s n ≡ s
+pub insert_out : (s n : ℕ) → set_limit ≤ n → insert s n ≡ s
 unfolding insert
-insert-out s n h = simp (le-ltb n 64 h)
+insert_out s n h = simp (le-ltb n 64 h)
 
-pub has-insert-same : (s n : ℕ) → n < setLimit → has (insert s n) n ≡ true
-has-insert-same s n h =
-    ap (λ (x : ℕ). has x n) (insert-in s n h) ∙ has-or s (2 ^ n) n ∙ ap (λ (b : Bool). has s n || b) (single-same n) ∙ or-true (has s n)
+pub has_insert_same : (s n : ℕ) → n < set_limit → has (insert s n) n ≡ true
+has_insert_same s n h =
+    ap (λ (x : ℕ). has x n) (insert_in s n h) ∙ has_or s (2 ^ n) n ∙ ap (λ (b : Bool). has s n || b) (single_same n) ∙ or-true (has s n)
 
-pub has-insert-other : (s n m : ℕ) → m ≢ n → has (insert s n) m ≡ has s m
-has-insert-other s n m h = go (ltb n 64) refl
+pub has_insert_other : (s n m : ℕ) → m ≢ n → has (insert s n) m ≡ has s m
+has_insert_other s n m h = go (ltb n 64) refl
   where
     go : (b : Bool) → ltb n 64 ≡ b → has (insert s n) m ≡ has s m
     go true e =
-        ap (λ (x : ℕ). has x m) (insert-in s n (ltb-true n 64 e)) ∙ has-or s (2 ^ n) m
-        ∙ ap (λ (b : Bool). has s m || b) (single-other n m h) ∙ or-false (has s m)
-    go false e = ap (λ (x : ℕ). has x m) (insert-out s n (ltb-false n 64 e))
+        ap (λ (x : ℕ). has x m) (insert_in s n (ltb-true n 64 e)) ∙ has_or s (2 ^ n) m
+        ∙ ap (λ (b : Bool). has s m || b) (single_other n m h) ∙ or-false (has s m)
+    go false e = ap (λ (x : ℕ). has x m) (insert_out s n (ltb-false n 64 e))
 
-pub has-insert-old : (s n m : ℕ) → has s m ≡ true → has (insert s n) m ≡ true
-has-insert-old s n m h = go (ltb n 64) refl
+pub has_insert_old : (s n m : ℕ) → has s m ≡ true → has (insert s n) m ≡ true
+has_insert_old s n m h = go (ltb n 64) refl
   where
     go : (b : Bool) → ltb n 64 ≡ b → has (insert s n) m ≡ true
-    go true e = ap (λ (x : ℕ). has x m) (insert-in s n (ltb-true n 64 e)) ∙ has-or s (2 ^ n) m ∙ rw h
-    go false e = ap (λ (x : ℕ). has x m) (insert-out s n (ltb-false n 64 e)) ∙ h
+    go true e = ap (λ (x : ℕ). has x m) (insert_in s n (ltb-true n 64 e)) ∙ has_or s (2 ^ n) m ∙ rw h
+    go false e = ap (λ (x : ℕ). has x m) (insert_out s n (ltb-false n 64 e)) ∙ h
 
-pub has-insert-cases : (s n m : ℕ) → has (insert s n) m ≡ true → (m ≡ n) ⊎ (has s m ≡ true)
-has-insert-cases s n m h = go (eqb m n) refl
+pub has_insert_cases : (s n m : ℕ) → has (insert s n) m ≡ true → (m ≡ n) ⊎ (has s m ≡ true)
+has_insert_cases s n m h = go (eqb m n) refl
   where
     go : (b : Bool) → eqb m n ≡ b → (m ≡ n) ⊎ (has s m ≡ true)
     go true e = inl (eqb-true m n e)
-    go false e = inr (sym (has-insert-other s n m (eqb-false m n e)) ∙ h)
+    go false e = inr (sym (has_insert_other s n m (eqb-false m n e)) ∙ h)
 
 -- ---- bounds
 
@@ -152,31 +148,31 @@ outside : (s n : ℕ) → s < 2 ^ n → has s n ≡ false
 unfolding has
 outside s n h = ap (λ (x : ℕ). eqb (x % 2) 1) (div-eq_of_lt h)
 
-pub has-past : (s n : ℕ) → s < 2 ^ 64 → setLimit ≤ n → has s n ≡ false
-has-past s n h k = outside s n (lt_of_lt_of_le h (pow_mono k))
+pub has_past : (s n : ℕ) → s < 2 ^ 64 → set_limit ≤ n → has s n ≡ false
+has_past s n h k = outside s n (lt_of_lt_of_le h (pow_mono k))
 
-pub has-limit : (s : ℕ) → s < 2 ^ 64 → (n : ℕ) → has s n ≡ true → n < setLimit
-has-limit s h n t = go (ltb n 64) refl
+pub has_limit : (s : ℕ) → s < 2 ^ 64 → (n : ℕ) → has s n ≡ true → n < set_limit
+has_limit s h n t = go (ltb n 64) refl
   where
-    go : (b : Bool) → ltb n 64 ≡ b → n < setLimit
+    go : (b : Bool) → ltb n 64 ≡ b → n < set_limit
     go true e = ltb-true n 64 e
     go false e =
-        let f : has s n ≡ false = has-past s n h (ltb-false n 64 e) in
+        let f : has s n ≡ false = has_past s n h (ltb-false n 64 e) in
         let w : ◌≡◌ {A = ℕ} 0 1 = cc in
         absurd (omega arith)
 
-pub insert-limit : (s n : ℕ) → s < 2 ^ 64 → insert s n < 2 ^ 64
-insert-limit s n h = go (ltb n 64) refl
+pub insert_limit : (s n : ℕ) → s < 2 ^ 64 → insert s n < 2 ^ 64
+insert_limit s n h = go (ltb n 64) refl
   where
     go : (b : Bool) → ltb n 64 ≡ b → insert s n < 2 ^ 64
-    go true e = rw (insert-in s n (ltb-true n 64 e)) (or_lt 64 s (2 ^ n) h (pow-lt (ltb-true n 64 e)))
-    go false e = rw (insert-out s n (ltb-false n 64 e)) h
+    go true e = rw (insert_in s n (ltb-true n 64 e)) (or_lt 64 s (2 ^ n) h (pow-lt (ltb-true n 64 e)))
+    go false e = rw (insert_out s n (ltb-false n 64 e)) h
 
 -- ---- equality
 
-bit-of : (s t n : ℕ) → has s n ≡ has t n → s / 2 ^ n % 2 ≡ t / 2 ^ n % 2
+bit_of : (s t n : ℕ) → has s n ≡ has t n → s / 2 ^ n % 2 ≡ t / 2 ^ n % 2
 unfolding has
-bit-of s t n e = go (s / 2 ^ n % 2) (t / 2 ^ n % 2) (bit-lt s n) (bit-lt t n) e
+bit_of s t n e = go (s / 2 ^ n % 2) (t / 2 ^ n % 2) (bit_lt s n) (bit_lt t n) e
   where
     clash : {a b : Bool} → a ≡ b → a ≡ true → b ≡ false → ⊥
     clash p q r = let w : ◌≡◌ {A = ℕ} 0 1 = cc in omega arith
@@ -190,22 +186,22 @@ bit-of s t n e = go (s / 2 ^ n % 2) (t / 2 ^ n % 2) (bit-lt s n) (bit-lt t n) e
     go (suc zero) (suc (suc y)) hx hy q = absurd (omega arith)
     go (suc (suc x)) y hx hy q = absurd (omega arith)
 
-has-half : (s n : ℕ) → has (s / 2) n ≡ has s (suc n)
+has_half : (s n : ℕ) → has (s / 2) n ≡ has s (suc n)
 unfolding has
-has-half s n = ap (λ (x : ℕ). eqb (x % 2) 1) (shr-shr s 1 n ∙ ap (λ (k : ℕ). s / 2 ^ k) (add_comm 1 n ∙ add-one-is n))
+has_half s n = ap (λ (x : ℕ). eqb (x % 2) 1) (shr-shr s 1 n ∙ ap (λ (k : ℕ). s / 2 ^ k) (add_comm 1 n ∙ add_one_is n))
   where
-    add-one-is : (k : ℕ) → k + 1 ≡ suc k
-    add-one-is k = omega arith
+    add_one_is : (k : ℕ) → k + 1 ≡ suc k
+    add_one_is k = omega arith
 
-odd-of : (s t : ℕ) → has s 0 ≡ has t 0 → s % 2 ≡ t % 2
-odd-of s t e = simp div-one at (bit-of s t 0 e)
+odd_of : (s t : ℕ) → has s 0 ≡ has t 0 → s % 2 ≡ t % 2
+odd_of s t e = simp div_one at (bit_of s t 0 e)
   where
-    div-one : (k : ℕ) → k / 1 ≡ k
-    div-one k = omega arith
+    div_one : (k : ℕ) → k / 1 ≡ k
+    div_one k = omega arith
 
 -- two sets with the same members are equal
-pub set-ext : (s t : ℕ) → ((n : ℕ) → has s n ≡ has t n) → s ≡ t
-set-ext = bin_ind (λ (s : ℕ). (t : ℕ) → ((n : ℕ) → has s n ≡ has t n) → s ≡ t) (λ t h. sym (none t (λ n. sym (h n) ∙ has-empty n))) (λ s below t h. step s t (below (t / 2) (λ n. has-half s n ∙ h (suc n) ∙ sym (has-half t n))) (odd-of s t (h 0)))
+pub set_ext : (s t : ℕ) → ((n : ℕ) → has s n ≡ has t n) → s ≡ t
+set_ext = bin_ind (λ (s : ℕ). (t : ℕ) → ((n : ℕ) → has s n ≡ has t n) → s ≡ t) (λ t h. sym (none t (λ n. sym (h n) ∙ has_empty n))) (λ s below t h. step s t (below (t / 2) (λ n. has_half s n ∙ h (suc n) ∙ sym (has_half t n))) (odd_of s t (h 0)))
   where
     step : (s t : ℕ) → s / 2 ≡ t / 2 → s % 2 ≡ t % 2 → s ≡ t
     step s t p q = omega arith
@@ -213,27 +209,27 @@ set-ext = bin_ind (λ (s : ℕ). (t : ℕ) → ((n : ℕ) → has s n ≡ has t 
     none : (t : ℕ) → ((n : ℕ) → has t n ≡ false) → t ≡ 0
     none =
         bin_ind (λ (t : ℕ). ((n : ℕ) → has t n ≡ false) → t ≡ 0) (λ h. refl)
-        (λ t lower h. step t 0 (lower (λ n. has-half t n ∙ h (suc n))) (odd-of t 0 (h 0 ∙ sym (has-empty 0))))
+        (λ t lower h. step t 0 (lower (λ n. has_half t n ∙ h (suc n))) (odd_of t 0 (h 0 ∙ sym (has_empty 0))))
 
 -- ---- the members under a number
 
-below-lower : (s k m : ℕ) → has (below s (suc k + m)) m ≡ has s m
+below_lower : (s k m : ℕ) → has (below s (suc k + m)) m ≡ has s m
 unfolding has below
-below-lower s k m =
+below_lower s k m =
     ap (λ (x : ℕ). eqb (x % 2) 1) (field s (suc k) m)
     ∙ ap (λ (x : ℕ). eqb x 1) (ap (λ (j : ℕ). s / 2 ^ m % 2 ^ j % 2) (one_more k) ∙ mod-mod-pow (s / 2 ^ m) k 1)
   where
     one_more : (j : ℕ) → suc j ≡ j + 1
     one_more j = omega arith
 
-pub has-below : (s n m : ℕ) → m < n → has (below s n) m ≡ has s m
-has-below s n m h =
+pub has_below : (s n m : ℕ) → m < n → has (below s n) m ≡ has s m
+has_below s n m h =
     let k : suc (n - suc m) + m ≡ n = omega arith in
-    ap (λ (x : ℕ). has (below s x) m) (sym k) ∙ below-lower s (n - suc m) m
+    ap (λ (x : ℕ). has (below s x) m) (sym k) ∙ below_lower s (n - suc m) m
 
-pub has-below-past : (s n m : ℕ) → n ≤ m → has (below s n) m ≡ false
+pub has_below_past : (s n m : ℕ) → n ≤ m → has (below s n) m ≡ false
 unfolding below
-has-below-past s n m h = outside (s % 2 ^ n) m (lt_of_lt_of_le (mod-lt s (pow_pos n)) (pow_mono h))
+has_below_past s n m h = outside (s % 2 ^ n) m (lt_of_lt_of_le (mod-lt s (pow_pos n)) (pow_mono h))
 
 -- one bit, shifted to a place that a set has
 pub bit_at : (n : ℕ) → n < 64 → 1 * 2 ^ n % 18446744073709551616 ≡ 2 ^ n

@@ -1,33 +1,25 @@
 -- A constant below zero with half of the range added, and a constant that is not below zero.
-use Prim.Native.Nat.{suc, ◌+◌, ◌-◌, ◌<◌}
-use mathlib.Core.Bool.{true, false}
-use mathlib.Core.Path.{◌≡◌, refl}
-use native.Mathlib.Omega.{arith}
-use borrow.Author.Tests.{le-ltb}
-use lib.IntN.{ℤ, pos, negsuc, ◌-ℤ◌}
+use Rattle.std.proofs.Common.{suc, ◌+◌, ◌-◌, ◌<◌, true, false, ◌≡◌, refl, arith, le-ltb, ℤ, pos, negsuc, ◌-ℤ◌, to_z-of_z, w32, SFits, of_z, to_z}
 use lib.Signed.{lt_z, mag}
-use mir.Facts.{to_z-of_z}
-use mir.Syntax.{w32}
-use mir.Val.{SFits, of_z, to_z}
-use Rattle.policy.proofs.ListLaws.{true-false}
+use Rattle.policy.proofs.ListLaws.{true_false}
 
 abbrev raised : ℤ → ℤ
 raised k = to_z w32 (of_z w32 k) -ℤ negsuc 2147483647
 
 pub record Raised (k : ℤ) : Type 0 where
-  pub in-range : SFits w32 (raised k)
+  pub numbers_in_range : SFits w32 (raised k)
   pub value : to_z w32 (of_z w32 (raised k)) ≡ pos (2147483648 - suc (mag k))
   pub small : mag k < 2147483648
   pub bits : 2147483648 - suc (mag k) + 2147483648 ≡ of_z w32 k
 
-pub below-zero : (k : ℤ) → SFits w32 k → lt_z (to_z w32 (of_z w32 k)) (pos 0) ≡ true → Raised k
-below-zero (pos n) f t = absurd (true-false (rw (to_z-of_z f) at t) (le-ltb n 0 (omega arith)))
-below-zero (negsuc n) f t =
+pub below_zero : (k : ℤ) → SFits w32 k → lt_z (to_z w32 (of_z w32 k)) (pos 0) ≡ true → Raised k
+below_zero (pos n) f t = absurd (true_false (rw (to_z-of_z f) at t) (le-ltb n 0 (omega arith)))
+below_zero (negsuc n) f t =
     let h : n < 2147483648 = f.sfits in
     let up : raised (negsuc n) ≡ pos (2147483648 - suc n) = rw (to_z-of_z f, le-ltb 2147483648 (suc n) (omega arith)) in
     let g : SFits w32 (pos (2147483648 - suc n)) = record { sfits = omega arith } in
-    record { in-range = rw up g; value = rw up (to_z-of_z g); small = h; bits = omega arith }
+    record { numbers_in_range = rw up g; value = rw up (to_z-of_z g); small = h; bits = omega arith }
 
-pub not-below-zero : (k : ℤ) → SFits w32 k → lt_z (to_z w32 (of_z w32 k)) (pos 0) ≡ false → to_z w32 (of_z w32 k) ≡ pos (of_z w32 k)
-not-below-zero (pos n) f t = to_z-of_z f
-not-below-zero (negsuc n) f t = absurd (true-false refl (rw (to_z-of_z f) at t))
+pub not_below_zero : (k : ℤ) → SFits w32 k → lt_z (to_z w32 (of_z w32 k)) (pos 0) ≡ false → to_z w32 (of_z w32 k) ≡ pos (of_z w32 k)
+not_below_zero (pos n) f t = to_z-of_z f
+not_below_zero (negsuc n) f t = absurd (true_false refl (rw (to_z-of_z f) at t))

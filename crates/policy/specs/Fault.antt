@@ -1,5 +1,4 @@
--- Document 01, "Grounds for refusing": the number of each fault, and the number and the place of an answer. Document 02, L6: a place
--- also says which text; L7: ground 17.
+-- Faults: the number of each, and of an answer the number and the location, which also says in which text it is.
 use Rattle.std.specs.Prelude.{ℕ, Bool, true, false}
 use Rattle.std.proofs.Math.Option.{Option, none, some}
 use Rattle.policy.specs.declared.fault.Fault.{Fault}
@@ -7,29 +6,29 @@ use Rattle.policy.specs.declared.fault.Fault.TheVariants.{TooLong, Syntax, OutOf
 use Rattle.policy.specs.declared.fault.Refusal.{Refusal}
 use Rattle.policy.specs.declared.fault.Source.{Source}
 
-abbrev pub faultNumber : Fault → ℕ
-faultNumber TooLong = 1
-faultNumber Syntax = 2
-faultNumber OutOfRange = 3
-faultNumber TooManyParts = 4
-faultNumber TooManyLines = 5
-faultNumber Duplicate = 6
-faultNumber ImageSize = 7
-faultNumber ImageForm = 8
-faultNumber ImageCount = 9
-faultNumber ImageSum = 10
-faultNumber ImageBody = 11
-faultNumber EpochSyntax = 12
-faultNumber EpochRange = 13
-faultNumber DuplicateReading = 14
-faultNumber BufferTooSmall = 15
-faultNumber Unavoidable = 17
+abbrev pub fault_number : Fault → ℕ
+fault_number TooLong = 1
+fault_number Syntax = 2
+fault_number OutOfRange = 3
+fault_number TooManyParts = 4
+fault_number TooManyLines = 5
+fault_number Duplicate = 6
+fault_number ImageSize = 7
+fault_number ImageForm = 8
+fault_number ImageCount = 9
+fault_number ImageSum = 10
+fault_number ImageBody = 11
+fault_number EpochSyntax = 12
+fault_number EpochRange = 13
+fault_number DuplicateReading = 14
+fault_number BufferTooSmall = 15
+fault_number Unavoidable = 17
 
--- "maker's 1, site's 2, 0 where neither alone"
-abbrev pub sourceNumber : Source → ℕ
-sourceNumber Source.Neither = 0
-sourceNumber Source.Maker = 1
-sourceNumber Source.Site = 2
+-- which text: the maker's 1, the site's 2, and 0 where the fault is in neither alone
+abbrev pub source_number : Source → ℕ
+source_number Source.Neither = 0
+source_number Source.Maker = 1
+source_number Source.Site = 2
 
 -- in neither text
 abbrev pub refusal : Fault → ℕ → Refusal
@@ -41,21 +40,21 @@ within s r = record { fault = r.fault; source = s; location = r.location }
 
 -- ---- of an answer, which may be a refusal
 
-abbrev pub isRefusal : Option Refusal → Bool
-isRefusal none = false
-isRefusal (some r) = true
+abbrev pub is_refusal : Option Refusal → Bool
+is_refusal none = false
+is_refusal (some r) = true
 
 -- the number of its fault; 0 where nothing is refused
 abbrev pub number_of : Option Refusal → ℕ
 number_of none = 0
-number_of (some r) = faultNumber r.fault
+number_of (some r) = fault_number r.fault
 
 -- the number of the text that its place is in; 0 where nothing is refused
 abbrev pub text_of : Option Refusal → ℕ
 text_of none = 0
-text_of (some r) = sourceNumber r.source
+text_of (some r) = source_number r.source
 
 -- its place; 0 where nothing is refused
-abbrev pub locationOf : Option Refusal → ℕ
-locationOf none = 0
-locationOf (some r) = r.location
+abbrev pub location_of : Option Refusal → ℕ
+location_of none = 0
+location_of (some r) = r.location

@@ -1,5 +1,5 @@
--- Filling a lent buffer (document 01): "An accepted call that fills a lent buffer writes just its output, from the start". Where the
--- output has more bytes than the buffer, the call is refused under 15; a refusal leaves the buffer as it was.
+-- Filling a lent buffer: an accepted call writes just its output, from the start. Where the output has more bytes than the buffer,
+-- the call is refused (fault 15); a refusal leaves the buffer as it was.
 use Rattle.std.specs.Prelude.{ℕ, cond, List, ◌++◌, leb, length, drop}
 use Rattle.policy.specs.Fault.{refusal}
 use Rattle.policy.specs.declared.fault.Fault.{Fault}

@@ -11,24 +11,24 @@ pub data PolicyLine : Type 0 where
   constraint : Constraint → PolicyLine
 
 -- its literals or its actions
-unfoldable pub headsOf : PolicyLine → List Test
-headsOf (rule r) = map Test.Occurs r.literals
-headsOf (constraint c) = map Test.Member c.actions
+unfoldable pub heads_of : PolicyLine → List Test
+heads_of (rule r) = map Test.Occurs r.literals
+heads_of (constraint c) = map Test.Member c.actions
 
-unfoldable pub comparisonsOf : PolicyLine → List Comparison
-comparisonsOf (rule r) = r.comparisons
-comparisonsOf (constraint c) = c.comparisons
+unfoldable pub comparisons_of : PolicyLine → List Comparison
+comparisons_of (rule r) = r.comparisons
+comparisons_of (constraint c) = c.comparisons
 
-unfoldable pub endingOf : PolicyLine → Ending
-endingOf (rule r) = Ending.Causes r.action
-endingOf (constraint c) = Ending.Never
+unfoldable pub ending_of : PolicyLine → Ending
+ending_of (rule r) = Ending.Causes r.action
+ending_of (constraint c) = Ending.Never
 
 -- 1 for a constant
-abbrev pub operandConstants : Operand → ℕ
-operandConstants (Operand.Constant k) = 1
-operandConstants (Operand.Reading r) = 0
+abbrev pub operand_constants : Operand → ℕ
+operand_constants (Operand.Constant k) = 1
+operand_constants (Operand.Reading r) = 0
 
 -- how many comparisons have a constant
-unfoldable pub constantCount : List Comparison → ℕ
-constantCount [] = 0
-constantCount (c ∷ cs) = operandConstants c.operand + constantCount cs
+unfoldable pub constant_count : List Comparison → ℕ
+constant_count [] = 0
+constant_count (c ∷ cs) = operand_constants c.operand + constant_count cs

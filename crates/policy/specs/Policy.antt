@@ -1,4 +1,4 @@
--- A policy: its rules and its constraints (document 01: never lines), each in text order.
+-- A policy: its rules and its constraints (never lines), each in text order.
 use Rattle.std.specs.Prelude.{List}
 use Rattle.policy.specs.declared.comparison.Comparison.{Comparison}
 use Rattle.policy.specs.declared.comparison.Literal.{Literal}

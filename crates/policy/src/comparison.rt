@@ -1,20 +1,21 @@
-// The parts of a rule: event literals, and comparisons of readings.
+//! The parts of a rule: event literals, and comparisons of readings.
+
 ghost use Rattle.std.specs.Prelude.{◌≡◌};
-ghost use Rattle.policy.specs.Epoch.{readingValue};
-ghost use Rattle.policy.specs.Comparison.{relationHolds};
-ghost use Rattle.policy.specs.Line.{operandConstants};
+ghost use Rattle.policy.specs.Epoch.{reading_value};
+ghost use Rattle.policy.specs.Comparison.{relation_holds};
+ghost use Rattle.policy.specs.Line.{operand_constants};
 
 use crate::number::{Event, Reading};
 use crate::set::ReadingSet;
 
-// `E1`, or `!E1` where negated.
-#[derive(Drop)]
+/// `E1`, or `!E1` where negated.
+#[derive(Clone, Copy)]
 pub struct Literal {
     pub event: Event,
     pub negated: bool,
 }
 
-#[derive(Drop)]
+#[derive(Clone, Copy)]
 pub enum Relation {
     Equal,
     NotEqual,
@@ -24,14 +25,14 @@ pub enum Relation {
     GreaterOrEqual,
 }
 
-// What a reading is compared with.
-#[derive(Drop)]
+/// What a reading is compared with.
+#[derive(Clone, Copy)]
 pub enum Operand {
     Constant(i32),
     Reading(Reading),
 }
 
-#[derive(Drop)]
+#[derive(Clone, Copy)]
 pub struct Comparison {
     pub reading: Reading,
     pub relation: Relation,
@@ -39,8 +40,9 @@ pub struct Comparison {
 }
 
 impl Relation {
+    #[tactic(auto, unfolding(crate::specs::Comparison::relation_holds), using(crate::proofs::RelationLaws::equal_bits))]
     pub fn holds(self, left: i32, right: i32) -> bool
-        ensures { result ≡ relationHolds self left right }
+        ensures { result ≡ relation_holds self left right }
     {
         match self {
             Relation::Equal => left == right,
@@ -54,9 +56,9 @@ impl Relation {
 }
 
 impl Operand {
-    // How many constants it is: 1 or 0.
+    /// How many constants it is: 1 or 0.
     pub fn constants(self) -> usize
-        ensures { result ≡ operandConstants self }
+        ensures { result ≡ operand_constants self }
     {
         match self {
             Operand::Constant(_) => 1,
@@ -65,22 +67,16 @@ impl Operand {
     }
 }
 
-// A value, or that a reading has none since the epoch does not give it.
-#[derive(Drop)]
-pub enum Value {
-    Known(i32),
-    Missing,
-}
-
 impl Reading {
-    pub fn value(self, given: ReadingSet, values: &[i32]) -> Value
-        ensures { result ≡ readingValue (record { given = given; values = values.now }) self }
+    /// Its value on an epoch; none where the epoch does not give it. The values stand by the numbers of their readings.
+    #[tactic(auto, unfolding(crate::specs::Epoch::reading_value))]
+    pub fn value(self, given: ReadingSet, values: &[i32]) -> Option<i32>
+        ensures { result ≡ reading_value (record { given = given; values = values.now }) self }
     {
-        let at = self.0 as usize;
-        if given.has(self) && at < values.len() {
-            Value::Known(values[at])
-        } else {
-            Value::Missing
+        if !given.has(self) {
+            return None;
         }
+        let value = values.get(self.0 as usize)?;
+        Some(*value)
     }
 }

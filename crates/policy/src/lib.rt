@@ -1,5 +1,7 @@
-// The vocabulary of interlock policies: what events, actions and readings are, how sets of them are held, when a
-// comparison holds, and the faults for which an input is refused.
+//! The vocabulary of interlock policies: what events, actions and readings are, how sets of them are held, when a
+//! comparison holds, and the faults for which an input is refused.
+#![tactic(auto)]
+
 mod comparison;
 mod constant;
 mod fault;
@@ -9,11 +11,11 @@ mod mode;
 mod number;
 mod set;
 
-pub use comparison::{Comparison, Literal, Operand, Relation, Value};
+pub use comparison::{Comparison, Literal, Operand, Relation};
 pub use constant::{constant_from, constant_word};
 pub use fault::{Fault, Refusal, Source};
 pub use limit::{COMPARISON_LIMIT, CONSTRAINT_LIMIT, HEAD_LIMIT, READING_LIMIT, RULE_LIMIT};
 pub use line::{Ending, Head, Part, Test};
 pub use mode::Mode;
-pub use number::{Action, ActionCheck, Event, EventCheck, Reading, ReadingCheck};
-pub use set::{ActionSet, EventSet, Events, ReadingSet, member, members_below, with_member};
+pub use number::{Action, ActionCheck, Event, EventCheck, Numbered, Reading, ReadingCheck};
+pub use set::{ActionSet, EventSet, Events, ReadingSet, Set, member, members_below, with_member};

@@ -1,16 +1,16 @@
-// How many of each there may be (document 01).
+//! How many of each there may be.
 
-// Readings of an epoch.
+/// Readings of an epoch.
 pub const READING_LIMIT: usize = 16;
 
-// Literals or actions of a line.
+/// Literals or actions of a line.
 pub const HEAD_LIMIT: usize = 8;
 
-// Comparisons of a line.
+/// Comparisons of a line.
 pub const COMPARISON_LIMIT: usize = 4;
 
-// Rules of a text.
+/// Rules of a text.
 pub const RULE_LIMIT: usize = 128;
 
-// Constraints of a text.
+/// Constraints of a text.
 pub const CONSTRAINT_LIMIT: usize = 64;

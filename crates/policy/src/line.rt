@@ -1,50 +1,50 @@
-// The two kinds of lines of a rule text, and what a line has beside its comparisons.
+//! The two kinds of lines of a rule text, and what a line has beside its comparisons.
+
 ghost use Rattle.std.specs.Prelude.{◌≡◌};
-ghost use Rattle.policy.specs.Comparison.{missingHolds};
-ghost use Rattle.policy.specs.Limits.{testNumber};
+ghost use Rattle.policy.specs.Comparison.{missing_holds};
+ghost use Rattle.policy.specs.Limits.{test_number};
 
 use crate::comparison::Literal;
 use crate::number::Action;
 
-// The two kinds of lines: the rules of a policy, and its constraints. Each stands in its own part of an image.
-#[derive(Drop)]
+/// The two kinds of lines: the rules of a policy, and its constraints. Each stands in its own part of an image.
+#[derive(Clone, Copy)]
 pub enum Part {
     Rules,
     Constraints,
 }
 
 impl Part {
-    // Whether a comparison with a missing reading counts as holding.
+    /// Whether a comparison with a missing reading counts as holding.
+    #[tactic(auto, unfolding(crate::specs::Comparison::missing_holds))]
     pub fn missing_holds(self) -> bool
-        ensures { result ≡ missingHolds self }
+        ensures { result ≡ missing_holds self }
     {
-        match self {
-            Part::Rules => false,
-            Part::Constraints => true,
-        }
+        matches!(self, Part::Constraints)
     }
 }
 
-// What stands before the condition of a line: an event literal of a rule, or an action of a constraint.
-#[derive(Drop)]
+/// What stands before the condition of a line: an event literal of a rule, or an action of a constraint.
+#[derive(Clone, Copy)]
 pub enum Test {
     Occurs(Literal),
     Member(Action),
 }
 
-#[derive(Drop)]
+#[derive(Clone, Copy)]
 pub enum Ending {
     Causes(Action),
     Never,
 }
 
-#[derive(Drop)]
+#[derive(Clone, Copy)]
 pub struct Head(pub Test);
 
 impl Test {
-    // The number of the event or the action.
+    /// The number of the event or the action.
+    #[tactic(auto, unfolding(crate::specs::Limits::test_number))]
     pub fn number(self) -> u8
-        ensures { result ≡ testNumber self }
+        ensures { result ≡ test_number self }
     {
         match self {
             Test::Occurs(literal) => literal.event.0,

@@ -1,8 +1,9 @@
-// How conflicts are resolved (source document 000): by action cancellation, or by event cancellation.
-#[derive(Drop)]
+//! How conflicts are resolved: by action cancellation, or by event cancellation (Chomicki, Lobo, Naqvi, TKDE 2003).
+
+#[derive(Clone, Copy)]
 pub enum Mode {
-    // Actions are cancelled, one by one (document 01).
+    /// Actions are cancelled, one by one.
     Actions,
-    // Events are dropped, with all that they cause (document 02, L7).
+    /// Events are dropped, with all that they cause.
     Events,
 }

@@ -1,6 +1,15 @@
-// Event, action and reading numbers. Each is a type of its own: an event cannot be handed over as an action.
-ghost use Rattle.std.specs.Prelude.{◌≡◌};
-ghost use Rattle.policy.specs.Number.{checkEvent, checkAction, checkReading};
+//! Event, action and reading numbers. Each is a type of its own: an event cannot be handed over as an action.
+
+ghost use Rattle.std.specs.Prelude.{◌≡◌, ℕ};
+ghost use Rattle.policy.specs.Number.{check_event, check_action, check_reading};
+
+/// What has a number: an event, an action or a reading.
+pub trait Numbered: Copy {
+    ghost number: { Self → ℕ };
+
+    fn number(self) -> u8
+        ensures { result ≡ number self };
+}
 
 const EVENTS: u32 = 64;
 
@@ -8,31 +17,55 @@ const ACTIONS: u32 = 64;
 
 const READINGS: u32 = 16;
 
-// E0 to E63.
-#[derive(Drop)]
+/// E0 to E63.
+#[derive(Clone, Copy)]
 pub struct Event(pub u8);
 
-// A0 to A63.
-#[derive(Drop)]
+/// A0 to A63.
+#[derive(Clone, Copy)]
 pub struct Action(pub u8);
 
-// R0 to R15.
-#[derive(Drop)]
+/// R0 to R15.
+#[derive(Clone, Copy)]
 pub struct Reading(pub u8);
 
-#[derive(Drop)]
+impl Numbered for Event {
+    ghost number = { λ e. e.0 };
+
+    fn number(self) -> u8 {
+        self.0
+    }
+}
+
+#[derive(Clone, Copy)]
 pub enum EventCheck {
     Valid(Event),
     OutOfRange,
 }
 
-#[derive(Drop)]
+impl Numbered for Action {
+    ghost number = { λ a. a.0 };
+
+    fn number(self) -> u8 {
+        self.0
+    }
+}
+
+#[derive(Clone, Copy)]
 pub enum ActionCheck {
     Valid(Action),
     OutOfRange,
 }
 
-#[derive(Drop)]
+impl Numbered for Reading {
+    ghost number = { λ r. r.0 };
+
+    fn number(self) -> u8 {
+        self.0
+    }
+}
+
+#[derive(Clone, Copy)]
 pub enum ReadingCheck {
     Valid(Reading),
     OutOfRange,
@@ -40,7 +73,7 @@ pub enum ReadingCheck {
 
 impl Event {
     pub fn new(n: u32) -> EventCheck
-        ensures { result ≡ checkEvent n }
+        ensures { result ≡ check_event n }
     {
         if n < EVENTS {
             EventCheck::Valid(Event(n as u8))
@@ -52,7 +85,7 @@ impl Event {
 
 impl Action {
     pub fn new(n: u32) -> ActionCheck
-        ensures { result ≡ checkAction n }
+        ensures { result ≡ check_action n }
     {
         if n < ACTIONS {
             ActionCheck::Valid(Action(n as u8))
@@ -64,7 +97,7 @@ impl Action {
 
 impl Reading {
     pub fn new(n: u32) -> ReadingCheck
-        ensures { result ≡ checkReading n }
+        ensures { result ≡ check_reading n }
     {
         if n < READINGS {
             ReadingCheck::Valid(Reading(n as u8))

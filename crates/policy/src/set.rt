@@ -1,105 +1,60 @@
-// Sets of events, of actions and of readings, one bit a member. Each kind is a type of its own over the same bits.
-ghost use Rattle.std.specs.Prelude.{◌≡◌};
-ghost use Rattle.policy.specs.Set.{has, insert, below, hasEvent, insertEvent, hasAction, insertAction, actionsWithout, actionsBelow, hasReading, insertReading, allEvents, keeping};
+//! Sets of events, of actions and of readings, one bit a member.
+ghost use Rattle.std.specs.Prelude.{◌≡◌, ℕ};
+ghost use Rattle.policy.specs.Set.{has, insert, difference, below, set_of, all_events, keeping};
 
-use crate::number::{Action, Event, Reading};
+use crate::number::{Action, Event, Numbered, Reading};
+use std::marker::PhantomData;
 
-#[derive(Drop)]
-pub struct EventSet(pub u64);
-
-#[derive(Drop)]
-pub struct ActionSet(pub u64);
-
-#[derive(Drop)]
-pub struct ReadingSet(pub u64);
-
-// Nothing past 63 is a member.
+/// Whether a number is in a set of bits. Nothing past 63 is a member.
+#[tactic(auto, unfolding(crate::specs::Set::has), using(crate::proofs::SetLaws::has_past))]
 pub fn member(set: u64, n: u8) -> bool
     ensures { result ≡ has set n }
 {
     if n < 64 { (set >> n) % 2 == 1 } else { false }
 }
 
-// Past 63 the set stays as it is.
+/// The set of bits with a number. Past 63 it stays as it is.
 pub fn with_member(set: u64, n: u8) -> u64
     ensures { result ≡ insert set n }
 {
     if n < 64 { set | (1 << n) } else { set }
 }
 
-// The members under n.
+/// The members under `n` of a set of bits.
 pub fn members_below(set: u64, n: u8) -> u64
     ensures { result ≡ below set n }
 {
     if n < 64 { set % (1 << n) } else { set }
 }
 
-impl EventSet {
-    pub const EMPTY: EventSet = EventSet(0);
-
-    pub fn has(self, event: Event) -> bool
-        ensures { result ≡ hasEvent self event }
-    {
-        member(self.0, event.0)
-    }
-
-    pub fn insert(self, event: Event) -> EventSet
-        ensures { result ≡ insertEvent self event }
-    {
-        EventSet(with_member(self.0, event.0))
-    }
+/// A set of events, of actions or of readings: bit n says whether the one with number n is a member. A number past 63 is no member and
+/// is not taken in.
+#[derive(Clone, Copy)]
+pub struct Set<T> {
+    pub bits: u64,
+    pub of: PhantomData<T>,
 }
 
-impl ActionSet {
-    pub const EMPTY: ActionSet = ActionSet(0);
+pub type EventSet = Set<Event>;
 
-    pub fn has(self, action: Action) -> bool
-        ensures { result ≡ hasAction self action }
-    {
-        member(self.0, action.0)
-    }
+pub type ActionSet = Set<Action>;
 
-    pub fn insert(self, action: Action) -> ActionSet
-        ensures { result ≡ insertAction self action }
-    {
-        ActionSet(with_member(self.0, action.0))
-    }
-
-    // The members that are not in `other`.
-    pub fn without(self, other: ActionSet) -> ActionSet
-        ensures { result ≡ actionsWithout self other }
-    {
-        ActionSet(self.0 ^ (self.0 & other.0))
-    }
-
-    // The members with lower numbers than the action's.
-    pub fn below(self, action: Action) -> ActionSet
-        ensures { result ≡ actionsBelow self action }
-    {
-        ActionSet(members_below(self.0, action.0))
-    }
-}
-
-// The events that the literals of a rule look at: `E1` holds where E1 is in `present`, `!E1` where it is not in `occurred`. Both are
-// the epoch's events, unless events of the epoch are left out: these occurred and are not present.
-#[derive(Drop)]
-pub struct Events {
-    pub present: EventSet,
-    pub occurred: EventSet,
-}
+pub type ReadingSet = Set<Reading>;
 
 impl EventSet {
-    // All events of an epoch, none left out.
+    pub const EMPTY: EventSet = Set {
+        bits: 0,
+        of: PhantomData,
+    };
+
+    /// All events of an epoch, none left out.
     pub fn all(self) -> Events
-        ensures { result ≡ allEvents self }
+        ensures { result ≡ all_events self }
     {
-        Events {
-            present: self,
-            occurred: self,
-        }
+        self.keeping(self)
     }
 
-    // Those of an epoch's events that are kept; the others are dropped.
+    /// Those of an epoch's events that are kept; the others are dropped.
     pub fn keeping(self, kept: EventSet) -> Events
         ensures { result ≡ keeping self kept }
     {
@@ -110,18 +65,64 @@ impl EventSet {
     }
 }
 
+impl ActionSet {
+    pub const EMPTY: ActionSet = Set {
+        bits: 0,
+        of: PhantomData,
+    };
+}
+
 impl ReadingSet {
-    pub const EMPTY: ReadingSet = ReadingSet(0);
+    pub const EMPTY: ReadingSet = Set {
+        bits: 0,
+        of: PhantomData,
+    };
+}
 
-    pub fn has(self, reading: Reading) -> bool
-        ensures { result ≡ hasReading self reading }
+impl<T> Set<T> {
+    /// The set of these bits.
+    pub fn of(bits: u64) -> Self
+        ensures { result ≡ set_of bits }
     {
-        member(self.0, reading.0)
+        Set {
+            bits,
+            of: PhantomData,
+        }
+    }
+}
+
+impl<T: Numbered> Set<T> {
+    pub fn has(self, x: T) -> bool
+        ensures { result ≡ has self.bits (T.number x) }
+    {
+        member(self.bits, x.number())
     }
 
-    pub fn insert(self, reading: Reading) -> ReadingSet
-        ensures { result ≡ insertReading self reading }
+    pub fn insert(self, x: T) -> Self
+        ensures { result ≡ set_of (insert self.bits (T.number x)) }
     {
-        ReadingSet(with_member(self.0, reading.0))
+        Set::of(with_member(self.bits, x.number()))
     }
+
+    /// The members that are not in `other`.
+    pub fn without(self, other: Self) -> Self
+        ensures { result ≡ set_of (difference self.bits other.bits) }
+    {
+        Set::of(self.bits ^ (self.bits & other.bits))
+    }
+
+    /// The members with lower numbers.
+    pub fn below(self, x: T) -> Self
+        ensures { result ≡ set_of (below self.bits (T.number x)) }
+    {
+        Set::of(members_below(self.bits, x.number()))
+    }
+}
+
+/// The events that the literals of a rule look at: `E1` holds where E1 is in `present`, `!E1` where it is not in `occurred`. Both are
+/// the epoch's events, unless events of the epoch are left out: these occurred and are not present.
+#[derive(Clone, Copy)]
+pub struct Events {
+    pub present: EventSet,
+    pub occurred: EventSet,
 }

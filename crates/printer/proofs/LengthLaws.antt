@@ -1,16 +1,10 @@
 -- Laws of lengths: the bytes of a valid line.
-use Prim.Native.Nat.{ℕ, suc, ◌+◌, ◌*◌, ◌≤◌, ◌<◌}
-use mathlib.Core.Bool.{Bool, true, false, ◌&&◌, cond}
-use mathlib.Core.List.{List, [], ◌∷◌, ◌++◌, map}
-use mathlib.Core.Path.{◌≡◌, refl, sym, ap, ◌∙◌}
-use native.Mathlib.Omega.{arith}
-use borrow.Author.Tests.{ltb-true, leb-true}
-use lib.Dec.{ltb, leb}
-use lib.IntN.{ℤ, pos, negsuc}
-use lib.ListN.{length, length-append, length-map}
-use Rattle.policy.proofs.ListLaws.{and-out}
-use Rattle.policy.specs.Limits.{valid, isReadingValue, testNumber, operandInRange, comparisonInRange, endingInRange}
-use Rattle.policy.specs.Line.{PolicyLine, rule, constraint, headsOf, comparisonsOf, endingOf}
+use Rattle.std.proofs.Common.{ℕ, suc, ◌+◌, ◌*◌, ◌≤◌, ◌<◌, Bool, true, false, ◌&&◌, cond, List, [], ◌∷◌, ◌++◌, map, ◌≡◌, refl, sym, ap, ◌∙◌, arith, ltb-true, leb-true, ℤ, pos, negsuc, length, length-append}
+use Rattle.std.proofs.Math.Dec.{ltb, leb}
+use Rattle.std.proofs.Math.ListN.{length-map}
+use Rattle.policy.proofs.ListLaws.{and_out}
+use Rattle.policy.specs.Limits.{valid, is_reading_value, test_number, operand_in_range, comparison_in_range, ending_in_range}
+use Rattle.policy.specs.Line.{PolicyLine, rule, constraint, heads_of, comparisons_of, ending_of}
 use Rattle.policy.specs.List.{all}
 use Rattle.policy.specs.declared.comparison.Comparison.{Comparison}
 use Rattle.policy.specs.declared.comparison.Literal.{Literal}
@@ -21,10 +15,10 @@ use Rattle.policy.specs.declared.number.Action.{Action}
 use Rattle.policy.specs.declared.number.Reading.{Reading}
 use Rattle.lexer.specs.Byte.{bytes}
 use Rattle.lexer.specs.Token.{Token}
-use Rattle.output.proofs.DecimalLaws.{decimal-few}
-use Rattle.policy.proofs.ValidLaws.{ValidParts, testInRange, valid-out}
+use Rattle.output.proofs.DecimalLaws.{decimal_few}
+use Rattle.policy.proofs.ValidLaws.{ValidParts, test_in_range, valid_out}
 use Rattle.output.specs.Number.{decimal}
-use Rattle.printer.specs.Printed.{constantToken, literalToken, actionToken, readingToken, relationToken, operandToken, comparisonTokens, joinedBy, headTokens, conditionTokens, lineTokens, lineBytes}
+use Rattle.printer.specs.Printed.{constant_token, literal_token, action_token, reading_token, relation_token, operand_token, comparison_tokens, joined_by, head_tokens, condition_tokens, line_tokens, line_bytes}
 
 all_map : {A B : Type 0} (p : B → Bool) (f : A → B) (xs : List A) → all p (map f xs) ≡ all (λ x. p (f x)) xs
 unfolding all
@@ -37,90 +31,90 @@ room : List Token → ℕ
 room [] = 0
 room (t ∷ ts) = length t + 1 + room ts
 
-room-append : (ts us : List Token) → room (ts ++ us) ≡ room ts + room us
+room_append : (ts us : List Token) → room (ts ++ us) ≡ room ts + room us
 unfolding room
-room-append [] us = omega arith
-room-append (t ∷ ts) us = omega (arith, room-append ts us)
+room_append [] us = omega arith
+room_append (t ∷ ts) us = omega (arith, room_append ts us)
 
-joined-short : (ts : List Token) → 0 < length ts → length (joinedBy 32 ts) + 1 ≤ room ts
-unfolding joinedBy room
-joined-short [] h = absurd (omega arith)
-joined-short (t ∷ []) h = omega arith
-joined-short (t ∷ u ∷ us) h = omega (arith, length-append t (32 ∷ joinedBy 32 (u ∷ us)), joined-short (u ∷ us) (omega arith))
+joined_short : (ts : List Token) → 0 < length ts → length (joined_by 32 ts) + 1 ≤ room ts
+unfolding joined_by room
+joined_short [] h = absurd (omega arith)
+joined_short (t ∷ []) h = omega arith
+joined_short (t ∷ u ∷ us) h = omega (arith, length-append t (32 ∷ joined_by 32 (u ∷ us)), joined_short (u ∷ us) (omega arith))
 
 -- there is one separator fewer than there are elements
 module _ {A : Type 0} (p : A → Bool) (f : A → List Token) (sep : Token) (w : ℕ) (fits : (x : A) → p x ≡ true → room (f x) ≤ w) where
-  joined-room : (xs : List A) → 0 < length xs → all p xs ≡ true → room (joinedBy sep (map f xs)) + (length sep + 1) ≤ length xs * (w + (length sep + 1))
-  unfolding joinedBy room all
-  joined-room [] n h = absurd (omega arith)
-  joined-room (x ∷ []) n h = omega (arith, fits x (and-out (p x) true h).0)
-  joined-room (x ∷ y ∷ ys) n h =
-      let r = and-out (p x) (all p (y ∷ ys)) h in
-      omega (arith, room-append (f x) (sep ∷ joinedBy sep (map f (y ∷ ys))), fits x r.0, joined-room (y ∷ ys) (omega arith) r.1)
+  joined_room : (xs : List A) → 0 < length xs → all p xs ≡ true → room (joined_by sep (map f xs)) + (length sep + 1) ≤ length xs * (w + (length sep + 1))
+  unfolding joined_by room all
+  joined_room [] n h = absurd (omega arith)
+  joined_room (x ∷ []) n h = omega (arith, fits x (and_out (p x) true h).0)
+  joined_room (x ∷ y ∷ ys) n h =
+      let r = and_out (p x) (all p (y ∷ ys)) h in
+      omega (arith, room_append (f x) (sep ∷ joined_by sep (map f (y ∷ ys))), fits x r.0, joined_room (y ∷ ys) (omega arith) r.1)
 
 -- ---- the parts of a line
 
-name-short : (n : ℕ) → n < 100 → length (decimal n) ≤ 2
-name-short n h = decimal-few n 1 (omega arith)
+name_short : (n : ℕ) → n < 100 → length (decimal n) ≤ 2
+name_short n h = decimal_few n 1 (omega arith)
 
-literal-short : (l : Literal) → testInRange (Test.Occurs l) ≡ true → length (literalToken l) ≤ 4
-unfolding literalToken bytes testNumber
-literal-short l h = go l.negated (name-short l.event.0 (omega (arith, ltb-true l.event.0 64 h)))
+literal_short : (l : Literal) → test_in_range (Test.Occurs l) ≡ true → length (literal_token l) ≤ 4
+unfolding literal_token bytes test_number
+literal_short l h = go l.negated (name_short l.event.0 (omega (arith, ltb-true l.event.0 64 h)))
   where
     go : (b : Bool) → length (decimal l.event.0) ≤ 2 → length (cond b (33 ∷ []) [] ++ 69 ∷ decimal l.event.0) ≤ 4
     go true k = omega arith
     go false k = omega arith
 
-action-short : (a : Action) → testInRange (Test.Member a) ≡ true → length (actionToken a) ≤ 3
-unfolding actionToken testNumber
-action-short a h = omega (arith, name-short a.0 (omega (arith, ltb-true a.0 64 h)))
+action_short : (a : Action) → test_in_range (Test.Member a) ≡ true → length (action_token a) ≤ 3
+unfolding action_token test_number
+action_short a h = omega (arith, name_short a.0 (omega (arith, ltb-true a.0 64 h)))
 
-reading-short : (r : Reading) → ltb r.0 16 ≡ true → length (readingToken r) ≤ 3
-unfolding readingToken
-reading-short r h = omega (arith, name-short r.0 (omega (arith, ltb-true r.0 16 h)))
+reading_short : (r : Reading) → ltb r.0 16 ≡ true → length (reading_token r) ≤ 3
+unfolding reading_token
+reading_short r h = omega (arith, name_short r.0 (omega (arith, ltb-true r.0 16 h)))
 
-relation-short : (r : Relation) → length (relationToken r) ≤ 2
-unfolding relationToken bytes
-relation-short Relation.Equal = omega arith
-relation-short Relation.NotEqual = omega arith
-relation-short Relation.Less = omega arith
-relation-short Relation.LessOrEqual = omega arith
-relation-short Relation.Greater = omega arith
-relation-short Relation.GreaterOrEqual = omega arith
+relation_short : (r : Relation) → length (relation_token r) ≤ 2
+unfolding relation_token bytes
+relation_short Relation.Equal = omega arith
+relation_short Relation.NotEqual = omega arith
+relation_short Relation.Less = omega arith
+relation_short Relation.LessOrEqual = omega arith
+relation_short Relation.Greater = omega arith
+relation_short Relation.GreaterOrEqual = omega arith
 
-constant-short : (k : ℤ) → isReadingValue k ≡ true → length (constantToken k) ≤ 11
-unfolding constantToken isReadingValue
-constant-short (pos n) h =
-    let l : n ≤ 2147483647 = leb-true n 2147483647 (and-out true (leb n 2147483647) h).1 in
-    omega (arith, decimal-few n 9 (omega arith))
-constant-short (negsuc n) h =
-    let l : n ≤ 2147483647 = leb-true n 2147483647 (and-out (leb n 2147483647) true h).0 in
-    omega (arith, decimal-few (suc n) 9 (omega arith))
+constant_short : (k : ℤ) → is_reading_value k ≡ true → length (constant_token k) ≤ 11
+unfolding constant_token is_reading_value
+constant_short (pos n) h =
+    let l : n ≤ 2147483647 = leb-true n 2147483647 (and_out true (leb n 2147483647) h).1 in
+    omega (arith, decimal_few n 9 (omega arith))
+constant_short (negsuc n) h =
+    let l : n ≤ 2147483647 = leb-true n 2147483647 (and_out (leb n 2147483647) true h).0 in
+    omega (arith, decimal_few (suc n) 9 (omega arith))
 
-operand_short : (o : Operand) → operandInRange o ≡ true → length (operandToken o) ≤ 11
-unfolding operandToken operandInRange
-operand_short (Operand.Constant k) h = constant-short k h
-operand_short (Operand.Reading r) h = omega (arith, reading-short r h)
+operand_short : (o : Operand) → operand_in_range o ≡ true → length (operand_token o) ≤ 11
+unfolding operand_token operand_in_range
+operand_short (Operand.Constant k) h = constant_short k h
+operand_short (Operand.Reading r) h = omega (arith, reading_short r h)
 
-comparison-room : (c : Comparison) → comparisonInRange c ≡ true → room (comparisonTokens c) ≤ 19
-unfolding comparisonTokens comparisonInRange room
-comparison-room c h =
-    let r = and-out (ltb c.reading.0 16) (operandInRange c.operand) h in
-    omega (arith, reading-short c.reading r.0, relation-short c.relation, operand_short c.operand r.1)
+comparison_room : (c : Comparison) → comparison_in_range c ≡ true → room (comparison_tokens c) ≤ 19
+unfolding comparison_tokens comparison_in_range room
+comparison_room c h =
+    let r = and_out (ltb c.reading.0 16) (operand_in_range c.operand) h in
+    omega (arith, reading_short c.reading r.0, relation_short c.relation, operand_short c.operand r.1)
 
-condition-room : (cs : List Comparison) → all comparisonInRange cs ≡ true → length cs ≤ 4 → room (conditionTokens cs) ≤ 85
-unfolding conditionTokens room bytes
-condition-room [] h k = omega arith
-condition-room (c ∷ cs) h k = omega (arith, joined-room comparisonInRange comparisonTokens (bytes ",") 19 comparison-room (c ∷ cs) (omega arith) h)
+condition_room : (cs : List Comparison) → all comparison_in_range cs ≡ true → length cs ≤ 4 → room (condition_tokens cs) ≤ 85
+unfolding condition_tokens room bytes
+condition_room [] h k = omega arith
+condition_room (c ∷ cs) h k = omega (arith, joined_room comparison_in_range comparison_tokens (bytes ",") 19 comparison_room (c ∷ cs) (omega arith) h)
 
 -- eight literals or actions
-module _ {A : Type 0} (token : A → Token) (test : A → Test) (w : ℕ) (short : (x : A) → testInRange (test x) ≡ true → length (token x) ≤ w) where
-  heads-room : (xs : List A) → 0 < length (map test xs) → all testInRange (map test xs) ≡ true → length (map test xs) ≤ 8 → room (headTokens token xs) + 2 ≤ length xs * (w + 3)
-  unfolding headTokens bytes room
-  heads-room xs n h k =
-      let one : (x : A) → testInRange (test x) ≡ true → room (token x ∷ []) ≤ w + 1 = λ x q. omega (arith, short x q) in
+module _ {A : Type 0} (token : A → Token) (test : A → Test) (w : ℕ) (short : (x : A) → test_in_range (test x) ≡ true → length (token x) ≤ w) where
+  heads_room : (xs : List A) → 0 < length (map test xs) → all test_in_range (map test xs) ≡ true → length (map test xs) ≤ 8 → room (head_tokens token xs) + 2 ≤ length xs * (w + 3)
+  unfolding head_tokens bytes room
+  heads_room xs n h k =
+      let one : (x : A) → test_in_range (test x) ≡ true → room (token x ∷ []) ≤ w + 1 = λ x q. omega (arith, short x q) in
       let e : w + 1 + 2 ≡ w + 3 = omega arith in
-      rw (← e) (joined-room (λ x. testInRange (test x)) (λ x. token x ∷ []) (bytes "&") (w + 1) one xs (omega (arith, length-map xs test)) (sym (all_map testInRange test xs) ∙ h))
+      rw (← e) (joined_room (λ x. test_in_range (test x)) (λ x. token x ∷ []) (bytes "&") (w + 1) one xs (omega (arith, length-map xs test)) (sym (all_map test_in_range test xs) ∙ h))
 
 -- ---- the line
 
@@ -129,29 +123,29 @@ abbrev pub widest : PolicyLine → ℕ
 widest (rule r) = 150
 widest (constraint c) = 137
 
-line-room : (l : PolicyLine) → ValidParts (headsOf l) (comparisonsOf l) (endingOf l) → room (lineTokens l) ≤ widest l
-unfolding lineTokens headsOf comparisonsOf endingOf endingInRange testNumber room bytes
-line-room (rule r) v =
-    let heads = heads-room literalToken Test.Occurs 4 literal-short r.literals v.some v.tests v.few-tests in
-    let condition = condition-room r.comparisons v.comparisons v.few-comparisons in
-    let few = v.few-tests in
+line_room : (l : PolicyLine) → ValidParts (heads_of l) (comparisons_of l) (ending_of l) → room (line_tokens l) ≤ widest l
+unfolding line_tokens heads_of comparisons_of ending_of ending_in_range test_number room bytes
+line_room (rule r) v =
+    let heads = heads_room literal_token Test.Occurs 4 literal_short r.literals v.some v.tests v.few_tests in
+    let condition = condition_room r.comparisons v.comparisons v.few_comparisons in
+    let few = v.few_tests in
     omega (
       arith,
       length-map r.literals Test.Occurs,
-      action-short r.action v.ending,
-      room-append (headTokens literalToken r.literals) (bytes "causes" ∷ actionToken r.action ∷ conditionTokens r.comparisons),
+      action_short r.action v.ending,
+      room_append (head_tokens literal_token r.literals) (bytes "causes" ∷ action_token r.action ∷ condition_tokens r.comparisons),
     )
-line-room (constraint c) v =
-    let heads = heads-room actionToken Test.Member 3 action-short c.actions v.some v.tests v.few-tests in
-    let condition = condition-room c.comparisons v.comparisons v.few-comparisons in
-    let few = v.few-tests in
-    omega (arith, length-map c.actions Test.Member, room-append (headTokens actionToken c.actions) (conditionTokens c.comparisons))
+line_room (constraint c) v =
+    let heads = heads_room action_token Test.Member 3 action_short c.actions v.some v.tests v.few_tests in
+    let condition = condition_room c.comparisons v.comparisons v.few_comparisons in
+    let few = v.few_tests in
+    omega (arith, length-map c.actions Test.Member, room_append (head_tokens action_token c.actions) (condition_tokens c.comparisons))
 
-some-tokens : (l : PolicyLine) → 0 < length (lineTokens l)
-unfolding lineTokens
-some-tokens (rule r) = omega (arith, length-append (headTokens literalToken r.literals) (bytes "causes" ∷ actionToken r.action ∷ conditionTokens r.comparisons))
-some-tokens (constraint c) = omega arith
+some_tokens : (l : PolicyLine) → 0 < length (line_tokens l)
+unfolding line_tokens
+some_tokens (rule r) = omega (arith, length-append (head_tokens literal_token r.literals) (bytes "causes" ∷ action_token r.action ∷ condition_tokens r.comparisons))
+some_tokens (constraint c) = omega arith
 
-pub line-length : (l : PolicyLine) → valid l ≡ true → length (lineBytes l) + 1 ≤ widest l
-unfolding lineBytes
-line-length l v = omega (arith, joined-short (lineTokens l) (some-tokens l), line-room l (valid-out l v))
+pub line_length_is : (l : PolicyLine) → valid l ≡ true → length (line_bytes l) + 1 ≤ widest l
+unfolding line_bytes
+line_length_is l v = omega (arith, joined_short (line_tokens l) (some_tokens l), line_room l (valid_out l v))

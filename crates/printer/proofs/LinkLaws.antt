@@ -1,42 +1,52 @@
--- A loop that appends the texts of the first elements of an array, with what stands before each.
-use Prim.Native.Nat.{ℕ, ◌+◌, ◌≤◌, ◌<◌}
-use mathlib.Core.Bool.{false, cond}
-use mathlib.Core.List.{List, [], ◌∷◌, ◌++◌, append_assoc}
-use mathlib.Core.Path.{◌≡◌}
-use native.Mathlib.Omega.{arith}
-use borrow.Author.Tests.{ne_eqb}
-use lib.Dec.{eqb}
-use lib.ListN.{length, take, drop, get_or}
-use Rattle.policy.proofs.SeenLaws.{part-past, part-counted, part-ended}
-use Rattle.output.proofs.AppendLaws.{Put, Left, left-turn}
+-- The texts of the elements of a list, with what stands before each, one element at a time.
+use Rattle.std.proofs.Common.{◌≡◌, ℕ, suc, ◌+◌, ◌-◌, ◌≤◌, ◌<◌, List, [], ◌∷◌, ◌++◌, length, take, drop, get_or, refl, sym, ap, ◌∙◌, drop-cons, drop_of_length-le, arith}
+use Rattle.std.proofs.lemmas.List.{take_rest}
+use Rattle.output.specs.Sink.{fed, fed-none}
+use Rattle.output.proofs.SinkLaws.{fed_then}
 use Rattle.printer.specs.Steps.Value.{linked}
 
-module _ {A : Type 0} (text : A → List ℕ) (first next : List ℕ) (xs : List A) (count : ℕ) where
-  -- what stands before the element i
-  abbrev lead : ℕ → List ℕ
-  lead i = cond (eqb i 0) first next
-
-  -- the texts from the element i on
-  abbrev pub linkedFrom : ℕ → List ℕ
-  linkedFrom i = linked text (lead i) next (drop i (take count xs))
-
-  here : (i : ℕ) (d : A) → i < count → i < length xs → linkedFrom i ≡ (lead i ++ text (get_or xs i d)) ++ linkedFrom (i + 1)
+module _ {A : Type 0} (text : A → List ℕ) where
+  pub linked_over : (first next : List ℕ) (xs : List A) (i : ℕ) → length xs ≤ i → linked text first next (drop i xs) ≡ []
   unfolding linked
-  here i d h k =
-      let later : eqb (i + 1) 0 ≡ false = ne_eqb (i + 1) 0 (λ e. omega arith) in
-      rw (part-past xs count i d h k, later) (simp append_assoc)
+  linked_over first next xs i h = rw (drop_of_length-le xs {i = i} h)
 
-  module _ (tail : List ℕ) {buffer : List ℕ} {at : ℕ} {all out : List ℕ} {end i : ℕ} (l : Left buffer at all out end (linkedFrom i ++ tail)) where
-    pub link-turn : (d : A) → i < count → i < length xs → (after : List ℕ) (position : ℕ) → Put out end (lead i ++ text (get_or xs i d)) after position
-        → Left buffer at all after position (linkedFrom (i + 1) ++ tail)
-    link-turn d h k after position p =
-        left-turn (lead i ++ text (get_or xs i d)) (linkedFrom (i + 1) ++ tail) after position
-        (rw (here i d h k, append_assoc (lead i ++ text (get_or xs i d)) (linkedFrom (i + 1)) tail) at l) p
+  pub linked_next : (next : List ℕ) (xs : List A) (i : ℕ) (d : A) → i < length xs
+      → linked text next next (drop i xs) ≡ next ++ text (get_or xs i d) ++ linked text next next (drop (i + 1) xs)
+  unfolding linked
+  linked_next next xs i d h =
+      let e : i + 1 ≡ suc i = omega arith in
+      rw (drop-cons xs i d h, e)
 
-    pub link-counted : count ≤ i → Left buffer at all out end tail
-    unfolding linked
-    link-counted h = rw (part-counted xs count i h) at l
+  pub linked_empty : (first next : List ℕ) (xs : List A) → length xs ≤ 0 → linked text first next xs ≡ []
+  unfolding linked
+  linked_empty first next [] h = refl
+  linked_empty first next (x ∷ xs) h = absurd (omega arith)
 
-    pub link-ended : length xs ≤ i → Left buffer at all out end tail
-    unfolding linked
-    link-ended h = rw (part-ended xs count i h) at l
+  pub linked_first : (first next : List ℕ) (xs : List A) (d : A) → 1 ≤ length xs
+      → linked text first next xs ≡ first ++ text (get_or xs 0 d) ++ linked text next next (take (length xs - 1) (drop 1 xs))
+  unfolding linked
+  linked_first first next [] d h = absurd (omega arith)
+  linked_first first next (x ∷ xs) d h = rw (take_rest (x ∷ xs) 1)
+
+-- ---- into a sink
+
+module _ {A : Type 0} (text : A → List ℕ) {S : Type 0} (taken : S → ℕ → S) where
+  pub put_over : (first next : List ℕ) (xs : List A) (i : ℕ) (sink : S) → length xs ≤ i → sink ≡ fed taken sink (linked text first next (drop i xs))
+  put_over first next xs i sink h = sym (ap (fed taken sink) (linked_over text first next xs i h) ∙ fed-none taken sink)
+
+  module _ (sink : S) {between after : S} where
+    pub put_first : (first next : List ℕ) (xs : List A) (d : A) → 1 ≤ length xs → between ≡ fed taken sink first
+        → after ≡ fed taken between (text (get_or xs 0 d))
+        → fed taken after (linked text next next (take (length xs - 1) (drop 1 xs))) ≡ fed taken sink (linked text first next xs)
+    put_first first next xs d h e f =
+        let rest : List ℕ = linked text next next (take (length xs - 1) (drop 1 xs)) in
+        fed_then taken sink (first ++ text (get_or xs 0 d)) rest (fed_then taken sink first (text (get_or xs 0 d)) e f) refl
+        ∙ ap (fed taken sink) (sym (linked_first text first next xs d h))
+
+    pub put_next : (next : List ℕ) (xs : List A) (i : ℕ) (d : A) → i < length xs → between ≡ fed taken sink next
+        → after ≡ fed taken between (text (get_or xs i d))
+        → fed taken after (linked text next next (drop (i + 1) xs)) ≡ fed taken sink (linked text next next (drop i xs))
+    put_next next xs i d h e f =
+        let rest : List ℕ = linked text next next (drop (i + 1) xs) in
+        fed_then taken sink (next ++ text (get_or xs i d)) rest (fed_then taken sink next (text (get_or xs i d)) e f) refl
+        ∙ ap (fed taken sink) (sym (linked_next text next xs i d h))

@@ -1,56 +1,50 @@
 -- The text of an acceptable policy: it is within the limit, reading it back yields the policy, and no other policy has it.
-use Prim.Native.Nat.{ℕ, suc, ◌+◌, ◌*◌, ◌≤◌, ◌<◌}
-use mathlib.Core.Bool.{true}
-use mathlib.Core.List.{List, [], ◌∷◌, ◌++◌, map, foldl, foldl-append, map-append, append_assoc, append-nil}
-use mathlib.Core.Logic.{◌↔◌}
-use mathlib.Core.Option.{some}
-use mathlib.Core.Path.{◌≡◌, refl, sym, ap, ◌∙◌}
-use native.Mathlib.Omega.{arith}
-use borrow.Author.Tests.{lt-ltb, le-ltb}
-use lib.ListN.{length, length-append}
-use lib.Seq.{append_snoc}
-use Rattle.policy.proofs.ListLaws.{and-out}
-use Rattle.policy.specs.Limits.{valid, ruleLimit, constraintLimit, Acceptable}
+use Rattle.std.proofs.Common.{ℕ, suc, ◌+◌, ◌*◌, ◌≤◌, ◌<◌, true, List, [], ◌∷◌, ◌++◌, map, append_assoc, append-nil, ◌↔◌, ◌≡◌, refl, sym, ap, ◌∙◌, arith, lt-ltb, le-ltb, length, length-append}
+use Rattle.std.proofs.Math.Option.{some}
+use Rattle.std.proofs.Math.Seq.{append_snoc}
+use mathlib.Core.List.{foldl, foldl-append, map-append}
+use Rattle.policy.proofs.ListLaws.{and_out}
+use Rattle.policy.specs.Limits.{valid, rule_limit, constraint_limit, Acceptable}
 use Rattle.policy.specs.Line.{PolicyLine, rule, constraint}
 use Rattle.policy.specs.List.{all}
 use Rattle.policy.specs.declared.fault.Source.{Source}
 use Rattle.policy.specs.Policy.{Policy, Rule, Constraint}
-use Rattle.acceptance.proofs.Accepted.{accepted-acceptable}
+use Rattle.acceptance.proofs.Accepted.{accepted_acceptable}
 use Rattle.syntax.specs.Judge.{accepted}
-use Rattle.rule_text.specs.Text.{Progress, reading, advance, readLine, emptyPolicy, textLimit, readBehind, inText, readText, policyRead, policyOf}
-use Rattle.printer.proofs.LengthLaws.{widest, line-length}
+use Rattle.rule_text.specs.Text.{Progress, reading, advance, read_line, empty_policy, text_limit, read_text_behind, in_text, read_text, policy_read, policy_of}
+use Rattle.printer.proofs.LengthLaws.{widest, line_length_is}
 use Rattle.printer.proofs.ParseLaws.{line_read}
-use Rattle.printer.proofs.SplitLaws.{text-lines, ascii, lines-ascii}
-use Rattle.printer.specs.Printed.{lineBytes, linesText, policyLines, longestText, text_of}
+use Rattle.printer.proofs.SplitLaws.{text_lines, ascii, lines_ascii}
+use Rattle.printer.specs.Printed.{line_bytes, lines_text, policy_lines, longest_text, text_of}
 
 -- ---- the length
 
-lines-length : {A : Type 0} (line : A → PolicyLine) (w : ℕ) → ((x : A) → widest (line x) ≡ w) → (xs : List A) → all valid (map line xs) ≡ true
-    → length (linesText (map line xs)) ≤ length xs * w
-unfolding linesText all
-lines-length line w width [] h = omega arith
-lines-length line w width (x ∷ xs) h =
-    let r = and-out (valid (line x)) (all valid (map line xs)) h in
-    omega (arith, width x, length-append (lineBytes (line x)) (10 ∷ linesText (map line xs)), line-length (line x) r.0, lines-length line w width xs r.1)
+lines_length : {A : Type 0} (line : A → PolicyLine) (w : ℕ) → ((x : A) → widest (line x) ≡ w) → (xs : List A) → all valid (map line xs) ≡ true
+    → length (lines_text (map line xs)) ≤ length xs * w
+unfolding lines_text all
+lines_length line w width [] h = omega arith
+lines_length line w width (x ∷ xs) h =
+    let r = and_out (valid (line x)) (all valid (map line xs)) h in
+    omega (arith, width x, length-append (line_bytes (line x)) (10 ∷ lines_text (map line xs)), line_length_is (line x) r.0, lines_length line w width xs r.1)
 
-pub lines-append : (ls ms : List PolicyLine) → linesText (ls ++ ms) ≡ linesText ls ++ linesText ms
-unfolding linesText
-lines-append [] ms = refl
-lines-append (l ∷ ls) ms = ap (λ (s : List ℕ). lineBytes l ++ 10 ∷ s) (lines-append ls ms) ∙ sym (append_assoc (lineBytes l) (10 ∷ linesText ls) (linesText ms))
+pub lines_append : (ls ms : List PolicyLine) → lines_text (ls ++ ms) ≡ lines_text ls ++ lines_text ms
+unfolding lines_text
+lines_append [] ms = refl
+lines_append (l ∷ ls) ms = ap (λ (s : List ℕ). line_bytes l ++ 10 ∷ s) (lines_append ls ms) ∙ sym (append_assoc (line_bytes l) (10 ∷ lines_text ls) (lines_text ms))
 
-pub text-length : (p : Policy) → Acceptable p → length (text_of p) ≤ longestText
+pub text_length : (p : Policy) → Acceptable p → length (text_of p) ≤ longest_text
 unfolding text_of
-text-length p a =
+text_length p a =
     let rs : List PolicyLine = map rule p.rules in
     let cs : List PolicyLine = map constraint p.constraints in
-    let few = a.few-rules in
-    let few' = a.few-constraints in
+    let few = a.few_rules in
+    let few' = a.few_constraints in
     omega (
       arith,
-      ap length (lines-append rs cs),
-      length-append (linesText rs) (linesText cs),
-      lines-length rule 150 (λ r. refl) p.rules a.rules-valid,
-      lines-length constraint 137 (λ c. refl) p.constraints a.constraints-valid,
+      ap length (lines_append rs cs),
+      length-append (lines_text rs) (lines_text cs),
+      lines_length rule 150 (λ r. refl) p.rules a.rules_valid,
+      lines_length constraint 137 (λ c. refl) p.constraints a.constraints_valid,
     )
 
 -- ---- reading it back, one part after the other
@@ -60,65 +54,65 @@ module _ {A : Type 0} (line : A → PolicyLine) (part : List A → Policy) (limi
   abbrev Adds : Type 0
   Adds = (n : ℕ) (xs : List A) (x : A) → length xs < limit → advance n (part xs) (accepted (line x)) ≡ reading (suc n) (part (xs ++ x ∷ []))
 
-  part-read : Adds → (xs read : List A) (n : ℕ) → all valid (map line xs) ≡ true → length read + length xs ≤ limit
-      → foldl readLine (reading n (part read)) (map lineBytes (map line xs)) ≡ reading (n + length xs) (part (read ++ xs))
-  unfolding all readLine
-  part-read add [] read n v h = rw (append-nil read) (ap (λ (k : ℕ). reading k (part read)) (omega arith))
-  part-read add (x ∷ xs) read n v h =
-      let r = and-out (valid (line x)) (all valid (map line xs)) v in
-      let one : readLine (reading n (part read)) (lineBytes (line x)) ≡ reading (suc n) (part (read ++ x ∷ [])) =
+  part_read : Adds → (xs read : List A) (n : ℕ) → all valid (map line xs) ≡ true → length read + length xs ≤ limit
+      → foldl read_line (reading n (part read)) (map line_bytes (map line xs)) ≡ reading (n + length xs) (part (read ++ xs))
+  unfolding all read_line
+  part_read add [] read n v h = rw (append-nil read) (ap (λ (k : ℕ). reading k (part read)) (omega arith))
+  part_read add (x ∷ xs) read n v h =
+      let r = and_out (valid (line x)) (all valid (map line xs)) v in
+      let one : read_line (reading n (part read)) (line_bytes (line x)) ≡ reading (suc n) (part (read ++ x ∷ [])) =
       ap (advance n (part read)) (line_read (line x) r.0) ∙ add n read x (omega arith) in
-      ap (λ (s : Progress). foldl readLine s (map lineBytes (map line xs))) one
-      ∙ part-read add xs (read ++ x ∷ []) (suc n) r.1 (omega (arith, length-append read (x ∷ [])))
+      ap (λ (s : Progress). foldl read_line s (map line_bytes (map line xs))) one
+      ∙ part_read add xs (read ++ x ∷ []) (suc n) r.1 (omega (arith, length-append read (x ∷ [])))
       ∙ rw (append_snoc read x xs) (ap (λ (m : ℕ). reading m (part (read ++ x ∷ xs))) (omega arith))
 
-abbrev policyWith : List Rule → List Constraint → Policy
-policyWith rs cs = record { rules = rs; constraints = cs }
+abbrev policy_with : List Rule → List Constraint → Policy
+policy_with rs cs = record { rules = rs; constraints = cs }
 
-add-rule : Adds rule (λ rs. policyWith rs []) ruleLimit
+add_rule : Adds rule (λ rs. policy_with rs []) rule_limit
 unfolding advance
-add-rule n rs r h = rw (lt-ltb (length rs) ruleLimit h)
+add_rule n rs r h = rw (lt-ltb (length rs) rule_limit h)
 
-add-constraint : (rs : List Rule) → Adds constraint (policyWith rs) constraintLimit
+add_constraint : (rs : List Rule) → Adds constraint (policy_with rs) constraint_limit
 unfolding advance
-add-constraint rs n cs c h = rw (lt-ltb (length cs) constraintLimit h)
+add_constraint rs n cs c h = rw (lt-ltb (length cs) constraint_limit h)
 
-lines-read : (p : Policy) → Acceptable p
-    → foldl readLine (reading 1 emptyPolicy) (map lineBytes (policyLines p)) ≡ reading (1 + length p.rules + length p.constraints) p
-lines-read p a =
-    let rs : List (List ℕ) = map lineBytes (map rule p.rules) in
-    let cs : List (List ℕ) = map lineBytes (map constraint p.constraints) in
-    ap (foldl readLine (reading 1 emptyPolicy)) (map-append lineBytes (map rule p.rules) (map constraint p.constraints))
-    ∙ foldl-append readLine (reading 1 emptyPolicy) rs cs
-    ∙ ap (λ (s : Progress). foldl readLine s cs)
-    (part-read rule (λ rs. policyWith rs []) ruleLimit add-rule p.rules [] 1 a.rules-valid (omega (arith, a.few-rules)))
-    ∙ part-read constraint (policyWith p.rules) constraintLimit (add-constraint p.rules) p.constraints [] (1 + length p.rules)
-    a.constraints-valid (omega (arith, a.few-constraints))
+lines_read : (p : Policy) → Acceptable p
+    → foldl read_line (reading 1 empty_policy) (map line_bytes (policy_lines p)) ≡ reading (1 + length p.rules + length p.constraints) p
+lines_read p a =
+    let rs : List (List ℕ) = map line_bytes (map rule p.rules) in
+    let cs : List (List ℕ) = map line_bytes (map constraint p.constraints) in
+    ap (foldl read_line (reading 1 empty_policy)) (map-append line_bytes (map rule p.rules) (map constraint p.constraints))
+    ∙ foldl-append read_line (reading 1 empty_policy) rs cs
+    ∙ ap (λ (s : Progress). foldl read_line s cs)
+    (part_read rule (λ rs. policy_with rs []) rule_limit add_rule p.rules [] 1 a.rules_valid (omega (arith, a.few_rules)))
+    ∙ part_read constraint (policy_with p.rules) constraint_limit (add_constraint p.rules) p.constraints [] (1 + length p.rules)
+    a.constraints_valid (omega (arith, a.few_constraints))
 
 -- the number is that of the line that would come next
-pub text-read : (p : Policy) → Acceptable p → readText (text_of p) ≡ reading (1 + length p.rules + length p.constraints) p
-unfolding readText readBehind inText text_of
-text-read p a = rw (le-ltb textLimit (length (text_of p)) (omega (arith, text-length p a)), text-lines (policyLines p)) (ap (inText Source.Maker) (lines-read p a) ∙ kept _ p)
+pub text_read_is : (p : Policy) → Acceptable p → read_text (text_of p) ≡ reading (1 + length p.rules + length p.constraints) p
+unfolding read_text read_text_behind in_text text_of
+text_read_is p a = rw (le-ltb text_limit (length (text_of p)) (omega (arith, text_length p a)), text_lines (policy_lines p)) (ap (in_text Source.Maker) (lines_read p a) ∙ kept _ p)
   where
-    kept : (n : ℕ) (q : Policy) → inText Source.Maker (reading n q) ≡ reading n q
+    kept : (n : ℕ) (q : Policy) → in_text Source.Maker (reading n q) ≡ reading n q
     kept n q = refl
 
-pub text-policy : (p : Policy) → Acceptable p → policyOf (text_of p) ≡ some p
-unfolding policyOf policyRead
-text-policy p a = rw (text-read p a)
+pub text_policy : (p : Policy) → Acceptable p → policy_of (text_of p) ≡ some p
+unfolding policy_of policy_read
+text_policy p a = rw (text_read_is p a)
 
-pub text-injective : (p q : Policy) → Acceptable p → Acceptable q → text_of p ≡ text_of q → p ≡ q
-text-injective p q a b e = same (sym (text-policy p a) ∙ ap policyOf e ∙ text-policy q b)
+pub text_injective : (p q : Policy) → Acceptable p → Acceptable q → text_of p ≡ text_of q → p ≡ q
+text_injective p q a b e = same (sym (text_policy p a) ∙ ap policy_of e ∙ text_policy q b)
   where
     same : some p ≡ some q → p ≡ q
     same k = cc
 
 -- so the acceptable policies are those of the accepted texts
-pub acceptable-texts : (p : Policy) → Acceptable p ↔ ((text : List ℕ) × (n : ℕ) × (readText text ≡ reading n p))
-acceptable-texts p =
-    (λ a. (text_of p, 1 + length p.rules + length p.constraints, text-read p a), λ r. accepted-acceptable r.0 r.1 p r.2)
+pub acceptable_texts : (p : Policy) → Acceptable p ↔ ((text : List ℕ) × (n : ℕ) × (read_text text ≡ reading n p))
+acceptable_texts p =
+    (λ a. (text_of p, 1 + length p.rules + length p.constraints, text_read_is p a), λ r. accepted_acceptable r.0 r.1 p r.2)
 
 -- it is ASCII
-pub text-ascii : (p : Policy) → all ascii (text_of p) ≡ true
+pub text_ascii : (p : Policy) → all ascii (text_of p) ≡ true
 unfolding text_of
-text-ascii p = lines-ascii (policyLines p)
+text_ascii p = lines_ascii (policy_lines p)

@@ -1,4 +1,4 @@
--- The rule text written from a policy: document 01, "Rule text", in one form of its own. The rules come first, then the
+-- The rule text written from a policy (docs/REFERENCE.md, section 2), in one form of its own. The rules come first, then the
 -- constraints, one space stands between tokens, and every line is ended.
 use Prim.Native.Char.{code}
 use Rattle.std.specs.Prelude.{ℕ, suc, cond, List, [], ◌∷◌, ◌++◌, map, ℤ, pos, negsuc}
@@ -16,75 +16,75 @@ use Rattle.output.specs.Number.{decimal}
 
 -- ---- the parts of a line
 
-unfoldable pub constantToken : ℤ → Token
-constantToken (pos n) = decimal n
-constantToken (negsuc n) = code "-" ∷ decimal (suc n)
+unfoldable pub constant_token : ℤ → Token
+constant_token (pos n) = decimal n
+constant_token (negsuc n) = code "-" ∷ decimal (suc n)
 
-unfoldable pub literalToken : Literal → Token
-literalToken l = cond l.negated (bytes "!") [] ++ code "E" ∷ decimal l.event.0
+unfoldable pub literal_token : Literal → Token
+literal_token l = cond l.negated (bytes "!") [] ++ code "E" ∷ decimal l.event.0
 
-unfoldable pub actionToken : Action → Token
-actionToken a = code "A" ∷ decimal a.0
+unfoldable pub action_token : Action → Token
+action_token a = code "A" ∷ decimal a.0
 
-unfoldable pub readingToken : Reading → Token
-readingToken r = code "R" ∷ decimal r.0
+unfoldable pub reading_token : Reading → Token
+reading_token r = code "R" ∷ decimal r.0
 
-unfoldable pub relationToken : Relation → Token
-relationToken Relation.Equal = bytes "="
-relationToken Relation.NotEqual = bytes "!="
-relationToken Relation.Less = bytes "<"
-relationToken Relation.LessOrEqual = bytes "<="
-relationToken Relation.Greater = bytes ">"
-relationToken Relation.GreaterOrEqual = bytes ">="
+unfoldable pub relation_token : Relation → Token
+relation_token Relation.Equal = bytes "="
+relation_token Relation.NotEqual = bytes "!="
+relation_token Relation.Less = bytes "<"
+relation_token Relation.LessOrEqual = bytes "<="
+relation_token Relation.Greater = bytes ">"
+relation_token Relation.GreaterOrEqual = bytes ">="
 
-unfoldable pub operandToken : Operand → Token
-operandToken (Operand.Constant k) = constantToken k
-operandToken (Operand.Reading r) = readingToken r
+unfoldable pub operand_token : Operand → Token
+operand_token (Operand.Constant k) = constant_token k
+operand_token (Operand.Reading r) = reading_token r
 
-unfoldable pub comparisonTokens : Comparison → List Token
-comparisonTokens c = readingToken c.reading ∷ relationToken c.relation ∷ operandToken c.operand ∷ []
+unfoldable pub comparison_tokens : Comparison → List Token
+comparison_tokens c = reading_token c.reading ∷ relation_token c.relation ∷ operand_token c.operand ∷ []
 
 -- ---- lines
 
 module _ {A : Type 0} where
   -- lists one after another, with one element between each two
-  unfoldable pub joinedBy : A → List (List A) → List A
-  joinedBy sep [] = []
-  joinedBy sep (x ∷ []) = x
-  joinedBy sep (x ∷ y ∷ ys) = x ++ sep ∷ joinedBy sep (y ∷ ys)
+  unfoldable pub joined_by : A → List (List A) → List A
+  joined_by sep [] = []
+  joined_by sep (x ∷ []) = x
+  joined_by sep (x ∷ y ∷ ys) = x ++ sep ∷ joined_by sep (y ∷ ys)
 
 module _ {A : Type 0} (token : A → Token) where
   abbrev alone : A → List Token
   alone x = token x ∷ []
 
   -- literals or actions
-  unfoldable pub headTokens : List A → List Token
-  headTokens xs = joinedBy (bytes "&") (map alone xs)
+  unfoldable pub head_tokens : List A → List Token
+  head_tokens xs = joined_by (bytes "&") (map alone xs)
 
-unfoldable pub conditionTokens : List Comparison → List Token
-conditionTokens [] = []
-conditionTokens (c ∷ cs) = bytes "if" ∷ joinedBy (bytes ",") (map comparisonTokens (c ∷ cs))
+unfoldable pub condition_tokens : List Comparison → List Token
+condition_tokens [] = []
+condition_tokens (c ∷ cs) = bytes "if" ∷ joined_by (bytes ",") (map comparison_tokens (c ∷ cs))
 
-unfoldable pub lineTokens : PolicyLine → List Token
-lineTokens (rule r) = headTokens literalToken r.literals ++ bytes "causes" ∷ actionToken r.action ∷ conditionTokens r.comparisons
-lineTokens (constraint c) = bytes "never" ∷ headTokens actionToken c.actions ++ conditionTokens c.comparisons
+unfoldable pub line_tokens : PolicyLine → List Token
+line_tokens (rule r) = head_tokens literal_token r.literals ++ bytes "causes" ∷ action_token r.action ∷ condition_tokens r.comparisons
+line_tokens (constraint c) = bytes "never" ∷ head_tokens action_token c.actions ++ condition_tokens c.comparisons
 
 -- without its end
-unfoldable pub lineBytes : PolicyLine → List ℕ
-lineBytes l = joinedBy (code " ") (lineTokens l)
+unfoldable pub line_bytes : PolicyLine → List ℕ
+line_bytes l = joined_by (code " ") (line_tokens l)
 
 -- ---- texts
 
-unfoldable pub linesText : List PolicyLine → List ℕ
-linesText [] = []
-linesText (l ∷ ls) = lineBytes l ++ 10 ∷ linesText ls
+unfoldable pub lines_text : List PolicyLine → List ℕ
+lines_text [] = []
+lines_text (l ∷ ls) = line_bytes l ++ 10 ∷ lines_text ls
 
-abbrev pub policyLines : Policy → List PolicyLine
-policyLines p = map rule p.rules ++ map constraint p.constraints
+abbrev pub policy_lines : Policy → List PolicyLine
+policy_lines p = map rule p.rules ++ map constraint p.constraints
 
 unfoldable pub text_of : Policy → List ℕ
-text_of p = linesText (policyLines p)
+text_of p = lines_text (policy_lines p)
 
 -- the most bytes that the text of an acceptable policy has: 128 rules of 150 bytes and 64 constraints of 137, with their ends
-abbrev pub longestText : ℕ
-longestText = 27968
+abbrev pub longest_text : ℕ
+longest_text = 27968

@@ -1,5 +1,7 @@
 // Rule texts written from policies. Start with specs/Printed.antt (the text of a policy), then proofs/Printing.antt (reading
 // it back yields the policy). The functions append the text of a line to a lent buffer, as `output` does it.
+#![tactic(auto)]
+
 mod line;
 mod part;
 

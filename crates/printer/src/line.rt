@@ -1,98 +1,75 @@
 // The text of a line.
-ghost use Rattle.std.specs.Prelude.{◌≡◌, cond, [], ◌∷◌, ◌++◌};
+ghost use Rattle.std.specs.Prelude.{◌≡◌, [], take};
 ghost use Rattle.lexer.specs.Byte.{bytes};
-ghost use Rattle.output.specs.Buffer.{appended, behind};
-ghost use Rattle.printer.specs.Steps.Value.{testToken, comparisonText, headsText, conditionText, valueText};
+ghost use Rattle.output.specs.Sink.{fed};
+ghost use Rattle.printer.specs.Steps.Value.{comparison_text, head_text, linked, value_text};
 
 use crate::part::{put_comparison, put_name, put_test};
 use line_value::Line;
-use output::{at_most, put_byte, put_bytes};
-use policy::{COMPARISON_LIMIT, Comparison, Ending, HEAD_LIMIT, Test};
+use output::Sink;
+use policy::{Comparison, Ending, Head};
 
-// A literal or an action, behind `&` unless it is the first.
-fn put_next_test(out: &mut [u8], at: usize, test: Test, first: bool) -> usize
-    ensures answer { result ≡ behind out.old at (cond first [] (bytes " & ") ++ testToken test) }
-    ensures buffer { out.new ≡ appended out.old at (cond first [] (bytes " & ") ++ testToken test) }
+// Literals or actions, with `&` between each two.
+#[tactic(auto, using(crate::proofs::LinkLaws::linked_empty), unfolding(lexer::specs::Byte::bytes))]
+fn put_heads<S: Sink>(sink: &mut S, heads: &[Head])
+    ensures { sink.new ≡ fed S.taken sink.old (linked head_text [] (bytes " & ") heads.now) }
 {
-    if first {
-        put_test(out, at, test)
-    } else {
-        let start = put_bytes(out, at, b" & ");
-        put_test(out, start, test)
-    }
-}
-
-// A comparison, behind `if` or, unless it is the first, a comma.
-fn put_next_comparison(out: &mut [u8], at: usize, comparison: Comparison, first: bool) -> usize
-    ensures answer { result ≡ behind out.old at (cond first (bytes " if ") (bytes " , ") ++ comparisonText comparison) }
-    ensures buffer { out.new ≡ appended out.old at (cond first (bytes " if ") (bytes " , ") ++ comparisonText comparison) }
-{
-    if first {
-        let start = put_bytes(out, at, b" if ");
-        put_comparison(out, start, comparison)
-    } else {
-        let start = put_bytes(out, at, b" , ");
-        put_comparison(out, start, comparison)
-    }
-}
-
-fn put_heads(out: &mut [u8], at: usize, line: Line) -> usize
-    ensures answer { result ≡ behind out.old at (headsText line) }
-    ensures buffer { out.new ≡ appended out.old at (headsText line) }
-{
-    let heads = line.heads;
-    let count = line.head_count;
-    let mut end = at;
-    let mut i = 0;
-    while i < HEAD_LIMIT {
-        if count <= i {
-            return at_most(end, out.len());
+    if let [first, others @ ..] = heads {
+        put_test(sink, first.0);
+        for head in others {
+            sink.put(b" & ");
+            put_test(sink, head.0);
         }
-        let head = heads[i];
-        let test = head.0;
-        end = put_next_test(out, end, test, i == 0);
-        i += 1;
     }
-    at_most(end, out.len())
 }
 
-// The condition, if there is one, and the line's end.
-fn put_condition(out: &mut [u8], at: usize, line: Line) -> usize
-    ensures answer { result ≡ behind out.old at (conditionText line ++ 10 ∷ []) }
-    ensures buffer { out.new ≡ appended out.old at (conditionText line ++ 10 ∷ []) }
+// Comparisons behind `if`, with a comma between each two.
+#[tactic(auto, using(crate::proofs::LinkLaws::linked_empty), unfolding(lexer::specs::Byte::bytes))]
+fn put_condition<S: Sink>(sink: &mut S, comparisons: &[Comparison])
+    ensures { sink.new ≡ fed S.taken sink.old (linked comparison_text (bytes " if ") (bytes " , ") comparisons.now) }
 {
-    let comparisons = line.comparisons;
-    let count = line.comparison_count;
-    let mut end = at;
-    let mut i = 0;
-    while i < COMPARISON_LIMIT {
-        if count <= i {
-            return put_byte(out, end, b'\n');
+    if let [first, others @ ..] = comparisons {
+        sink.put(b" if ");
+        put_comparison(sink, *first);
+        for comparison in others {
+            sink.put(b" , ");
+            put_comparison(sink, *comparison);
         }
-        let comparison = comparisons[i];
-        end = put_next_comparison(out, end, comparison, i == 0);
-        i += 1;
     }
-    put_byte(out, end, b'\n')
 }
 
-// The text of a line, with its end.
-pub fn put_line(out: &mut [u8], at: usize, line: Line) -> usize
-    ensures answer { result ≡ behind out.old at (valueText line) }
-    ensures buffer { out.new ≡ appended out.old at (valueText line) }
+#[tactic(auto, using(std::proofs::lemmas::List::take_min))]
+fn heads_of(line: &Line) -> &[Head]
+    ensures { result.now ≡ take line.now.head_count line.now.heads }
 {
-    let ending = line.ending;
-    match ending {
+    let heads: &[Head] = &line.heads;
+    &heads[..line.head_count.min(heads.len())]
+}
+
+#[tactic(auto, using(std::proofs::lemmas::List::take_min))]
+fn comparisons_of(line: &Line) -> &[Comparison]
+    ensures { result.now ≡ take line.now.comparison_count line.now.comparisons }
+{
+    let comparisons: &[Comparison] = &line.comparisons;
+    &comparisons[..line.comparison_count.min(comparisons.len())]
+}
+
+/// Puts the text of a line, with its end.
+#[tactic(auto, unfolding(crate::specs::Printed::action_token, crate::specs::Steps::Value::value_text, crate::specs::Steps::Value::ending_text, crate::specs::Steps::Value::heads_text, crate::specs::Steps::Value::condition_text, lexer::specs::Byte::bytes))]
+pub fn put_line<S: Sink>(sink: &mut S, line: &Line)
+    ensures { sink.new ≡ fed S.taken sink.old (value_text line.now) }
+{
+    match line.ending {
         Ending::Causes(action) => {
-            let heads = put_heads(out, at, line);
-            let cause = put_bytes(out, heads, b" causes ");
-            let end = put_name(out, cause, b'A', action.0);
-            put_condition(out, end, line)
+            put_heads(sink, heads_of(line));
+            sink.put(b" causes ");
+            put_name(sink, b'A', action.0);
         }
         Ending::Never => {
-            let start = put_bytes(out, at, b"never ");
-            let heads = put_heads(out, start, line);
-            put_condition(out, heads, line)
+            sink.put(b"never ");
+            put_heads(sink, heads_of(line));
         }
     }
+    put_condition(sink, comparisons_of(line));
+    sink.put(b"\n");
 }

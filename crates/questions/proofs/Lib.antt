@@ -1,6 +1,8 @@
 pub mod LineLaws
 pub mod AnswerLaws
-pub mod CallLaws
 pub mod Whole
+pub mod LeftLaws
+pub mod CutLaws
+pub mod ExplainerLaws
 pub mod Room
 pub mod Examples

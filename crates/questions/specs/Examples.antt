@@ -33,8 +33,8 @@ examples =
     ∷ row "" "\nE64 causes A1" "" "refused 3 text 2 line 2\n"
     ∷ []
 
-unfoldable pub answeredTo : Example → List ℕ
-answeredTo x = answered (bytes x.maker) (bytes x.site) (bytes x.input)
+unfoldable pub answered_to : Example → List ℕ
+answered_to x = answered (bytes x.maker) (bytes x.site) (bytes x.input)
 
 unfoldable pub expected : Example → List ℕ
 expected x = bytes x.output

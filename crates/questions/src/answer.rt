@@ -2,13 +2,14 @@
 ghost use Rattle.std.specs.Prelude.{◌≡◌};
 ghost use Rattle.io.specs.Counts.{IsPrefixLen};
 ghost use Rattle.output.specs.Buffer.{appended, behind};
-ghost use Rattle.questions.specs.Answered.{noAction, outcomeLine, explainedLine};
-ghost use Rattle.questions.specs.Steps.Answer.{answerOn, questionLine};
+ghost use Rattle.questions.specs.Answered.{no_action, outcome_line, explained_line};
+ghost use Rattle.questions.specs.Steps.Answer.{answer_on, question_line};
 
 use crate::line::{Question, Token};
+use crate::page::{put_not_explained, put_not_proposed, put_shown};
 use explanation::{Explained, Outcome, Reason, explain_on, part_of};
-use output::at_most;
 use policy::Fault;
+use word::at_most;
 
 // The longest answer: a number of 20 digits, ` cancelled `, the text, a space, a part of a text's length, and the line end.
 pub const ANSWER_SIZE: usize = 32802;
@@ -18,7 +19,7 @@ const EPOCH_LIMIT: usize = 1024;
 
 // Where the first word names no action.
 fn no_action(epoch: &[u8]) -> Explained
-    ensures { result ≡ noAction epoch.now }
+    ensures { result ≡ no_action epoch.now }
 {
     if EPOCH_LIMIT < epoch.len() {
         Explained::Refused(Fault::TooLong.at(0))
@@ -28,7 +29,7 @@ fn no_action(epoch: &[u8]) -> Explained
 }
 
 fn answer(token: Token, epoch: &[u8], image: &[u8], maker: &[u8], site: &[u8]) -> Explained
-    ensures { result ≡ answerOn maker.now site.now image.now token epoch.now }
+    ensures { result ≡ answer_on maker.now site.now image.now token epoch.now }
 {
     match token {
         Token::Zero => explain_on(image, maker, site, epoch, 0),
@@ -46,21 +47,21 @@ fn put_reason<'t>(
     maker: &'t [u8],
     site: &'t [u8],
 ) -> usize
-    ensures answer { result ≡ behind out.old 0 (outcomeLine maker.now site.now number why.outcome why.shown) }
-    ensures buffer { out.new ≡ appended out.old 0 (outcomeLine maker.now site.now number why.outcome why.shown) }
+    ensures answer { result ≡ behind out.old 0 (outcome_line maker.now site.now number why.outcome why.shown) }
+    ensures buffer { out.new ≡ appended out.old 0 (outcome_line maker.now site.now number why.outcome why.shown) }
 {
     let outcome = why.outcome;
     let shown = why.shown;
     let source = shown.source;
     match outcome {
-        Outcome::NotProposed => report::put_not_proposed(out, 0, number),
+        Outcome::NotProposed => put_not_proposed(out, 0, number),
         Outcome::Accepted => {
             let part = part_of(maker, site, shown);
-            report::put_shown(out, 0, number, b" accepted ", source, part)
+            put_shown(out, 0, number, b" accepted ", source, part)
         }
         Outcome::Cancelled => {
             let part = part_of(maker, site, shown);
-            report::put_shown(out, 0, number, b" cancelled ", source, part)
+            put_shown(out, 0, number, b" cancelled ", source, part)
         }
     }
 }
@@ -76,8 +77,8 @@ pub fn put_answer<'t>(
     out: &mut [u8],
 ) -> usize
     ensures prefix_len { IsPrefixLen result out.new }
-    ensures answer { result ≡ behind out.old 0 (questionLine maker.now site.now image.now number question held.now) }
-    ensures buffer { out.new ≡ appended out.old 0 (questionLine maker.now site.now image.now number question held.now) }
+    ensures answer { result ≡ behind out.old 0 (question_line maker.now site.now image.now number question held.now) }
+    ensures buffer { out.new ≡ appended out.old 0 (question_line maker.now site.now image.now number question held.now) }
 {
     let count = at_most(question.count, held.len());
     let token = question.token;
@@ -85,7 +86,7 @@ pub fn put_answer<'t>(
     match explained {
         Explained::Refused(refusal) => {
             let fault = refusal.fault;
-            report::put_not_explained(out, 0, number, fault)
+            put_not_explained(out, 0, number, fault)
         }
         Explained::Because(why) => put_reason(out, number, why, maker, site),
     }

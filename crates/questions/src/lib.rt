@@ -1,7 +1,14 @@
 // What the explaining program prints: from two texts and all bytes of the input, which are questions, one a line, to all bytes of the
-// output. The input is taken in chunks of any size. Start with specs/Answered.antt.
+// output. The input is taken in chunks of any size. Start with specs/Answered.antt; what a whole run leaves is specs/Run.antt.
+#![tactic(auto)]
+
 mod answer;
+mod explainer;
 mod line;
+mod page;
+mod texts;
 
 pub use answer::{ANSWER_SIZE, put_answer};
+pub use explainer::answer_questions;
 pub use line::{EPOCH_HELD, Question, Taken, Token, begun, is_open, take_line};
+pub use texts::{ExplainFailure, explain_texts};

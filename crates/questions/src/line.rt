@@ -1,6 +1,6 @@
 // A question, byte by byte: the word that names the action, and the epoch line behind the first space.
 ghost use Rattle.std.specs.Prelude.{◌≡◌};
-ghost use Rattle.questions.specs.Steps.Held.{firstDigit, nextDigit, scanByte, startQuestion, isOpen, heldBy, pushed, bytesTaken, lineTaken};
+ghost use Rattle.questions.specs.Steps.Held.{first_digit, next_digit, scan_byte, start_question, is_open, held_by, pushed, bytes_taken, line_taken};
 
 use lexer::is_digit;
 
@@ -8,7 +8,7 @@ use lexer::is_digit;
 pub const EPOCH_HELD: usize = 1025;
 
 // What the bytes before the first space are so far: `A` and a number, or something else. Of a number over 63 only that is kept.
-#[derive(Drop)]
+#[derive(Clone, Copy)]
 pub enum Token {
     Empty,
     Letter,
@@ -19,7 +19,7 @@ pub enum Token {
 
 // One byte more of the word.
 fn scanned(token: Token, byte: u8) -> Token
-    ensures { result ≡ scanByte token byte }
+    ensures { result ≡ scan_byte token byte }
 {
     match token {
         Token::Empty => {
@@ -37,7 +37,7 @@ fn scanned(token: Token, byte: u8) -> Token
 }
 
 fn first_digit(byte: u8) -> Token
-    ensures { result ≡ firstDigit byte }
+    ensures { result ≡ first_digit byte }
 {
     if byte == b'0' {
         return Token::Zero;
@@ -50,7 +50,7 @@ fn first_digit(byte: u8) -> Token
 }
 
 fn next_digit(n: u32, byte: u8) -> Token
-    ensures { result ≡ nextDigit n byte }
+    ensures { result ≡ next_digit n byte }
 {
     if !is_digit(byte) {
         return Token::Other;
@@ -63,7 +63,7 @@ fn next_digit(n: u32, byte: u8) -> Token
 }
 
 // The open line: its word, whether the first space was met, and how many bytes of the epoch line are held.
-#[derive(Drop)]
+#[derive(Clone, Copy)]
 pub struct Question {
     pub token: Token,
     pub spaced: bool,
@@ -72,7 +72,7 @@ pub struct Question {
 
 // Before any byte of a line.
 pub fn begun() -> Question
-    ensures { result ≡ startQuestion }
+    ensures { result ≡ start_question }
 {
     Question {
         token: Token::Empty,
@@ -83,7 +83,7 @@ pub fn begun() -> Question
 
 // Whether the line has a byte.
 pub fn is_open(question: Question) -> bool
-    ensures { result ≡ isOpen question }
+    ensures { result ≡ is_open question }
 {
     if question.spaced {
         return true;
@@ -100,8 +100,8 @@ pub fn is_open(question: Question) -> bool
 
 // One byte more of the line.
 fn push(question: Question, byte: u8, held: &mut [u8]) -> Question
-    ensures answer { result ≡ (pushed (heldBy question held.old) byte).question }
-    ensures buffer { held.new ≡ (pushed (heldBy question held.old) byte).held }
+    ensures answer { result ≡ (pushed (held_by question held.old) byte).question }
+    ensures buffer { held.new ≡ (pushed (held_by question held.old) byte).held }
 {
     let token = question.token;
     let count = question.count;
@@ -131,7 +131,7 @@ fn push(question: Question, byte: u8, held: &mut [u8]) -> Question
 }
 
 // What was taken of a chunk: so many bytes, and whether the last of them ended the line.
-#[derive(Drop)]
+#[derive(Clone, Copy)]
 pub struct Taken {
     pub question: Question,
     pub taken: usize,
@@ -140,8 +140,8 @@ pub struct Taken {
 
 // The bytes of a chunk to the end of the line, its line end too.
 pub fn take_line(start: Question, chunk: &[u8], held: &mut [u8]) -> Taken
-    ensures answer { result ≡ lineTaken start held.old chunk.now }
-    ensures buffer { held.new ≡ (bytesTaken start held.old chunk.now).held }
+    ensures answer { result ≡ line_taken start held.old chunk.now }
+    ensures buffer { held.new ≡ (bytes_taken start held.old chunk.now).held }
 {
     let mut question = start;
     let mut i = 0;

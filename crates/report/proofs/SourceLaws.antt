@@ -1,24 +1,24 @@
 -- The texts of a refusal, by their numbers.
-use mathlib.Core.Path.{◌≡◌, sym, ap}
+use Rattle.std.proofs.Common.{◌≡◌, sym, ap}
 use Rattle.lexer.specs.Byte.{bytes}
 use Rattle.output.specs.Number.{digits, decimal}
 use Rattle.policy.specs.declared.fault.Refusal.{Refusal}
 use Rattle.policy.specs.declared.fault.Source.{Source}
-use Rattle.report.specs.Report.{locatedLine, textField, textsRefusalLine}
+use Rattle.report.specs.Report.{located_line, text_field, texts_refusal_line}
 
 module _ (r : Refusal) where
-  located : (source : Source) → r.source ≡ source → locatedLine (textField source) r ≡ textsRefusalLine r
-  unfolding textsRefusalLine
-  located source e = ap (λ (s : Source). locatedLine (textField s) r) (sym e)
+  located : (source : Source) → r.source ≡ source → located_line (text_field source) r ≡ texts_refusal_line r
+  unfolding texts_refusal_line
+  located source e = ap (λ (s : Source). located_line (text_field s) r) (sym e)
 
-  pub in-neither : r.source ≡ Source.Neither → locatedLine (bytes " text 0 line ") r ≡ textsRefusalLine r
+  pub in_neither : r.source ≡ Source.Neither → located_line (bytes " text 0 line ") r ≡ texts_refusal_line r
   unfolding bytes digits decimal
-  in-neither = located Source.Neither
+  in_neither = located Source.Neither
 
-  pub in-maker : r.source ≡ Source.Maker → locatedLine (bytes " text 1 line ") r ≡ textsRefusalLine r
+  pub in_maker : r.source ≡ Source.Maker → located_line (bytes " text 1 line ") r ≡ texts_refusal_line r
   unfolding bytes digits decimal
-  in-maker = located Source.Maker
+  in_maker = located Source.Maker
 
-  pub in-site : r.source ≡ Source.Site → locatedLine (bytes " text 2 line ") r ≡ textsRefusalLine r
+  pub in_site : r.source ≡ Source.Site → located_line (bytes " text 2 line ") r ≡ texts_refusal_line r
   unfolding bytes digits decimal
-  in-site = located Source.Site
+  in_site = located Source.Site

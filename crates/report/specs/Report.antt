@@ -1,37 +1,36 @@
--- The lines that the programs print: document 01, "The two programs", and those of the decompiler.
+-- The lines that the programs print (docs/REFERENCE.md, section 9).
 use Prim.Native.Char.{code}
 use Rattle.std.specs.Prelude.{ℕ, zero, suc, cond, List, [], ◌∷◌, ◌++◌}
 use Rattle.lexer.specs.Byte.{bytes}
-use Rattle.output.specs.Number.{decimal, hexWord}
-use Rattle.policy.specs.Fault.{faultNumber, sourceNumber}
-use Rattle.policy.specs.Number.{setLimit}
-use Rattle.policy.specs.Set.{has}
+use Rattle.output.specs.Number.{decimal, hex_word}
+use Rattle.policy.specs.Fault.{fault_number, source_number}
+use Rattle.policy.specs.Number.{set_limit}
+use Rattle.policy.specs.Set.{ActionSet, has}
 use Rattle.policy.specs.declared.fault.Fault.{Fault}
 use Rattle.policy.specs.declared.fault.Refusal.{Refusal}
 use Rattle.policy.specs.declared.fault.Source.{Source}
-use Rattle.policy.specs.declared.set.ActionSet.{ActionSet}
 
 -- ---- actions
 
 -- the members of a set among the k numbers from n on, by rising number
-unfoldable pub membersFrom : ℕ → ℕ → ℕ → List ℕ
-membersFrom zero n s = []
-membersFrom (suc k) n s = cond (has s n) (n ∷ []) [] ++ membersFrom k (suc n) s
+unfoldable pub members_from : ℕ → ℕ → ℕ → List ℕ
+members_from zero n s = []
+members_from (suc k) n s = cond (has s n) (n ∷ []) [] ++ members_from k (suc n) s
 
-unfoldable pub actionName : ℕ → List ℕ
-actionName n = code "A" ∷ decimal n
+unfoldable pub action_name : ℕ → List ℕ
+action_name n = code "A" ∷ decimal n
 
 -- each after a comma
-unfoldable pub furtherNames : List ℕ → List ℕ
-furtherNames [] = []
-furtherNames (n ∷ ns) = code "," ∷ actionName n ++ furtherNames ns
+unfoldable pub further_names : List ℕ → List ℕ
+further_names [] = []
+further_names (n ∷ ns) = code "," ∷ action_name n ++ further_names ns
 
-unfoldable pub actionNames : List ℕ → List ℕ
-actionNames [] = code "-" ∷ []
-actionNames (n ∷ ns) = actionName n ++ furtherNames ns
+unfoldable pub action_names : List ℕ → List ℕ
+action_names [] = code "-" ∷ []
+action_names (n ∷ ns) = action_name n ++ further_names ns
 
-unfoldable pub actionList : ActionSet → List ℕ
-actionList s = actionNames (membersFrom setLimit 0 s.0)
+unfoldable pub action_list : ActionSet → List ℕ
+action_list s = action_names (members_from set_limit 0 s.bits)
 
 -- ---- lines
 
@@ -40,56 +39,56 @@ newline = 10 ∷ []
 
 -- a word of the image
 unfoldable pub word_line : ℕ → List ℕ
-word_line w = hexWord w ++ newline
+word_line w = hex_word w ++ newline
 
--- a refusal, with the word that tells what its location (document 01: the place) counts
-abbrev pub locatedLine : List ℕ → Refusal → List ℕ
-locatedLine unit r = bytes "refused " ++ decimal (faultNumber r.fault) ++ unit ++ decimal r.location ++ newline
+-- a refusal, with the word that tells what its location counts
+abbrev pub located_line : List ℕ → Refusal → List ℕ
+located_line unit r = bytes "refused " ++ decimal (fault_number r.fault) ++ unit ++ decimal r.location ++ newline
 
 -- a refused text
-unfoldable pub refusalLine : Refusal → List ℕ
-refusalLine r = locatedLine (bytes " line ") r
+unfoldable pub refusal_line : Refusal → List ℕ
+refusal_line r = located_line (bytes " line ") r
 
--- document 02, L6: a refused text of two, whose place also says which
-abbrev pub textField : Source → List ℕ
-textField source = bytes " text " ++ decimal (sourceNumber source) ++ bytes " line "
+-- a refused text of two, whose location also says which
+abbrev pub text_field : Source → List ℕ
+text_field source = bytes " text " ++ decimal (source_number source) ++ bytes " line "
 
-unfoldable pub textsRefusalLine : Refusal → List ℕ
-textsRefusalLine r = locatedLine (textField r.source) r
+unfoldable pub texts_refusal_line : Refusal → List ℕ
+texts_refusal_line r = located_line (text_field r.source) r
 
 -- a refused image
-unfoldable pub imageRefusalLine : Refusal → List ℕ
-imageRefusalLine r = locatedLine (bytes " word ") r
+unfoldable pub image_refusal_line : Refusal → List ℕ
+image_refusal_line r = located_line (bytes " word ") r
 
 -- the line of that number, of what should be the words of an image, is none
-unfoldable pub notWordLine : ℕ → List ℕ
-notWordLine n = bytes "line " ++ decimal n ++ bytes " is not a word" ++ newline
+unfoldable pub not_word_line : ℕ → List ℕ
+not_word_line n = bytes "line " ++ decimal n ++ bytes " is not a word" ++ newline
 
--- document 02, L4: "Each epoch's output line, refused or not, ends in ` words W`."
-unfoldable pub wordsField : ℕ → List ℕ
-wordsField words = bytes " words " ++ decimal words ++ newline
+-- each line of an epoch, refused or not, ends in ` words W`
+unfoldable pub words_field : ℕ → List ℕ
+words_field words = bytes " words " ++ decimal words ++ newline
 
 -- the epoch of that number, decided
-unfoldable pub acceptLine : ℕ → ActionSet → ActionSet → ℕ → List ℕ
-acceptLine n accepted cancelled words =
-    decimal n ++ bytes " accept " ++ actionList accepted ++ bytes " cancel " ++ actionList cancelled ++ wordsField words
+unfoldable pub accept_line : ℕ → ActionSet → ActionSet → ℕ → List ℕ
+accept_line n accepted cancelled words =
+    decimal n ++ bytes " accept " ++ action_list accepted ++ bytes " cancel " ++ action_list cancelled ++ words_field words
 
 -- the epoch or the question of that number, refused
-abbrev pub refusedField : ℕ → Fault → List ℕ
-refusedField n fault = decimal n ++ bytes " refused " ++ decimal (faultNumber fault)
+abbrev pub refused_field : ℕ → Fault → List ℕ
+refused_field n fault = decimal n ++ bytes " refused " ++ decimal (fault_number fault)
 
--- an epoch: "A refused decision reports 0."
-unfoldable pub refusedLine : ℕ → Fault → List ℕ
-refusedLine n fault = refusedField n fault ++ wordsField 0
+-- a refused epoch fetched no word
+unfoldable pub refused_line : ℕ → Fault → List ℕ
+refused_line n fault = refused_field n fault ++ words_field 0
 
--- ---- document 02, L6: the answers to questions, each with its number
+-- ---- the answers to questions, each with its number
 
-unfoldable pub notProposedLine : ℕ → List ℕ
-notProposedLine n = decimal n ++ bytes " not proposed" ++ newline
+unfoldable pub not_proposed_line : ℕ → List ℕ
+not_proposed_line n = decimal n ++ bytes " not proposed" ++ newline
 
 -- what became of the action, the text that the part stands in, and the part
-unfoldable pub shownLine : ℕ → List ℕ → Source → List ℕ → List ℕ
-shownLine n became source part = decimal n ++ became ++ decimal (sourceNumber source) ++ bytes " " ++ part ++ newline
+unfoldable pub shown_line : ℕ → List ℕ → Source → List ℕ → List ℕ
+shown_line n became source part = decimal n ++ became ++ decimal (source_number source) ++ bytes " " ++ part ++ newline
 
-unfoldable pub notExplainedLine : ℕ → Fault → List ℕ
-notExplainedLine n fault = refusedField n fault ++ newline
+unfoldable pub not_explained_line : ℕ → Fault → List ℕ
+not_explained_line n fault = refused_field n fault ++ newline

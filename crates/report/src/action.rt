@@ -1,47 +1,41 @@
 // The actions of a set, by rising number.
 ghost use Rattle.std.specs.Prelude.{◌≡◌, cond, [], ◌∷◌, ◌++◌};
-ghost use Rattle.output.specs.Buffer.{appended, behind};
-ghost use Rattle.report.specs.Report.{actionName, actionList};
+ghost use Rattle.output.specs.Sink.{fed};
+ghost use Rattle.report.specs.Report.{action_name, action_list};
 
-use output::{put_byte, put_decimal};
-use policy::ActionSet;
+use output::{Sink, put_number};
+use policy::{Action, ActionSet};
 
-fn put_name(out: &mut [u8], at: usize, number: u64) -> usize
-    ensures answer { result ≡ behind out.old at (actionName number) }
-    ensures buffer { out.new ≡ appended out.old at (actionName number) }
+#[tactic(auto, unfolding(crate::specs::Report::action_name))]
+fn put_name<S: Sink>(sink: &mut S, number: u8)
+    ensures { sink.new ≡ fed S.taken sink.old (action_name number) }
 {
-    let end = put_byte(out, at, b'A');
-    put_decimal(out, end, number)
+    sink.put(b"A");
+    put_number(sink, u64::from(number));
 }
 
 // A comma stands before each but the first.
-fn put_member(out: &mut [u8], at: usize, number: u64, first: bool) -> usize
-    ensures answer { result ≡ behind out.old at (cond first [] (44 ∷ []) ++ actionName number) }
-    ensures buffer { out.new ≡ appended out.old at (cond first [] (44 ∷ []) ++ actionName number) }
+fn put_member<S: Sink>(sink: &mut S, number: u8, first: bool)
+    ensures { sink.new ≡ fed S.taken sink.old (cond first [] (44 ∷ []) ++ action_name number) }
 {
-    if first {
-        put_name(out, at, number)
-    } else {
-        let end = put_byte(out, at, b',');
-        put_name(out, end, number)
+    if !first {
+        sink.put(b",");
     }
+    put_name(sink, number);
 }
 
-pub fn put_actions(out: &mut [u8], at: usize, set: ActionSet) -> usize
-    ensures answer { result ≡ behind out.old at (actionList set) }
-    ensures buffer { out.new ≡ appended out.old at (actionList set) }
+/// Puts the names of the actions with commas between them, or `-` for none.
+pub fn put_actions<S: Sink>(sink: &mut S, set: ActionSet)
+    ensures { sink.new ≡ fed S.taken sink.old (action_list set) }
 {
-    let mut end = at;
     let mut first = true;
-    let mut number = 0;
-    let mut rest = set.0;
-    while 0 < rest {
-        if rest % 2 == 1 {
-            end = put_member(out, end, number, first);
+    for number in 0..64 {
+        if set.has(Action(number)) {
+            put_member(sink, number, first);
             first = false;
         }
-        number += 1;
-        rest /= 2;
     }
-    if first { put_byte(out, end, b'-') } else { end }
+    if first {
+        sink.put(b"-");
+    }
 }

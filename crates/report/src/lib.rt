@@ -1,5 +1,6 @@
-// What the programs print, put into a lent buffer as `output` does it: every function appends its bytes at a position and
-// answers the position behind them. Start with specs/Report.antt.
+// What the programs print, put into a sink of `output`. Start with specs/Report.antt.
+#![tactic(auto)]
+
 mod action;
 mod line;
 mod question;

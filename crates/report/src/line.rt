@@ -1,120 +1,114 @@
 // The lines that the programs print.
 ghost use Rattle.std.specs.Prelude.{◌≡◌};
-ghost use Rattle.output.specs.Buffer.{appended, behind};
-ghost use Rattle.report.specs.Report.{word_line, locatedLine, refusalLine, textsRefusalLine, imageRefusalLine, notWordLine, wordsField, acceptLine, refusedField, refusedLine};
+ghost use Rattle.output.specs.Sink.{fed};
+ghost use Rattle.report.specs.Report.{word_line, located_line, refusal_line, texts_refusal_line, image_refusal_line, not_word_line, words_field, accept_line, refused_field, refused_line};
 
 use crate::action::put_actions;
-use output::{put_byte, put_bytes, put_decimal, put_hex_word};
+use output::{Sink, put_hexadecimal, put_number};
 use policy::{ActionSet, Fault, Refusal, Source};
 
-// A word of the image.
-pub fn put_word_line(out: &mut [u8], at: usize, word: u32) -> usize
-    ensures answer { result ≡ behind out.old at (word_line word) }
-    ensures buffer { out.new ≡ appended out.old at (word_line word) }
+/// Puts a word of an image.
+#[tactic(auto, unfolding(crate::specs::Report::word_line))]
+pub fn put_word_line<S: Sink>(sink: &mut S, word: u32)
+    ensures { sink.new ≡ fed S.taken sink.old (word_line word) }
 {
-    let end = put_hex_word(out, at, word);
-    put_byte(out, end, b'\n')
+    put_hexadecimal(sink, word);
+    sink.put(b"\n");
 }
 
 // A refusal and where the fault is; the unit tells what the location counts.
-fn put_located(out: &mut [u8], at: usize, unit: &[u8], refusal: Refusal) -> usize
-    ensures answer { result ≡ behind out.old at (locatedLine unit.now refusal) }
-    ensures buffer { out.new ≡ appended out.old at (locatedLine unit.now refusal) }
+#[tactic(auto, unfolding(lexer::specs::Byte::bytes))]
+fn put_located<S: Sink>(sink: &mut S, unit: &[u8], refusal: Refusal)
+    ensures { sink.new ≡ fed S.taken sink.old (located_line unit.now refusal) }
 {
-    let fault = refusal.fault;
-    let number = fault.number() as u64;
-    let start = put_bytes(out, at, b"refused ");
-    let middle = put_decimal(out, start, number);
-    let location = put_bytes(out, middle, unit);
-    let end = put_decimal(out, location, refusal.location as u64);
-    put_byte(out, end, b'\n')
+    sink.put(b"refused ");
+    put_number(sink, u64::from(refusal.fault.number()));
+    sink.put(unit);
+    put_number(sink, refusal.location as u64);
+    sink.put(b"\n");
 }
 
-// A refused text.
-pub fn put_refusal(out: &mut [u8], at: usize, refusal: Refusal) -> usize
-    ensures answer { result ≡ behind out.old at (refusalLine refusal) }
-    ensures buffer { out.new ≡ appended out.old at (refusalLine refusal) }
+/// Puts the refusal of a text.
+#[tactic(auto, unfolding(crate::specs::Report::refusal_line, lexer::specs::Byte::bytes))]
+pub fn put_refusal<S: Sink>(sink: &mut S, refusal: Refusal)
+    ensures { sink.new ≡ fed S.taken sink.old (refusal_line refusal) }
 {
-    put_located(out, at, b" line ", refusal)
+    put_located(sink, b" line ", refusal);
 }
 
-// A refused text of two.
-pub fn put_texts_refusal(out: &mut [u8], at: usize, refusal: Refusal) -> usize
-    ensures answer { result ≡ behind out.old at (textsRefusalLine refusal) }
-    ensures buffer { out.new ≡ appended out.old at (textsRefusalLine refusal) }
+/// Puts the refusal of a text of two, or of both.
+pub fn put_texts_refusal<S: Sink>(sink: &mut S, refusal: Refusal)
+    ensures { sink.new ≡ fed S.taken sink.old (texts_refusal_line refusal) }
 {
-    let source = refusal.source;
-    match source {
-        Source::Neither => put_located(out, at, b" text 0 line ", refusal),
-        Source::Maker => put_located(out, at, b" text 1 line ", refusal),
-        Source::Site => put_located(out, at, b" text 2 line ", refusal),
+    match refusal.source {
+        Source::Neither => put_located(sink, b" text 0 line ", refusal),
+        Source::Maker => put_located(sink, b" text 1 line ", refusal),
+        Source::Site => put_located(sink, b" text 2 line ", refusal),
     }
 }
 
-// A refused image.
-pub fn put_image_refusal(out: &mut [u8], at: usize, refusal: Refusal) -> usize
-    ensures answer { result ≡ behind out.old at (imageRefusalLine refusal) }
-    ensures buffer { out.new ≡ appended out.old at (imageRefusalLine refusal) }
+/// Puts the refusal of an image.
+#[tactic(auto, unfolding(crate::specs::Report::image_refusal_line, lexer::specs::Byte::bytes))]
+pub fn put_image_refusal<S: Sink>(sink: &mut S, refusal: Refusal)
+    ensures { sink.new ≡ fed S.taken sink.old (image_refusal_line refusal) }
 {
-    put_located(out, at, b" word ", refusal)
+    put_located(sink, b" word ", refusal);
 }
 
-// A line that should be a word of an image and is none. Lines are numbered from 1.
-pub fn put_not_word(out: &mut [u8], at: usize, line: u64) -> usize
-    ensures answer { result ≡ behind out.old at (notWordLine line) }
-    ensures buffer { out.new ≡ appended out.old at (notWordLine line) }
+/// Puts that a line should be a word of an image and is none. Lines are numbered from 1.
+pub fn put_not_word<S: Sink>(sink: &mut S, line: u64)
+    ensures { sink.new ≡ fed S.taken sink.old (not_word_line line) }
 {
-    let start = put_bytes(out, at, b"line ");
-    let middle = put_decimal(out, start, line);
-    let end = put_bytes(out, middle, b" is not a word");
-    put_byte(out, end, b'\n')
+    sink.put(b"line ");
+    put_number(sink, line);
+    sink.put(b" is not a word");
+    sink.put(b"\n");
 }
 
 // How many words of the image an epoch fetched; the line ends.
-fn put_words(out: &mut [u8], at: usize, words: u64) -> usize
-    ensures answer { result ≡ behind out.old at (wordsField words) }
-    ensures buffer { out.new ≡ appended out.old at (wordsField words) }
+#[tactic(auto, unfolding(crate::specs::Report::words_field, lexer::specs::Byte::bytes))]
+fn put_words<S: Sink>(sink: &mut S, words: u64)
+    ensures { sink.new ≡ fed S.taken sink.old (words_field words) }
 {
-    let start = put_bytes(out, at, b" words ");
-    let end = put_decimal(out, start, words);
-    put_byte(out, end, b'\n')
+    sink.put(b" words ");
+    put_number(sink, words);
+    sink.put(b"\n");
 }
 
-// A decided epoch. Epochs are numbered from 1.
-pub fn put_accept(
-    out: &mut [u8],
-    at: usize,
+/// Puts what was decided in an epoch. Epochs are numbered from 1; `words` is how many words of the image were fetched.
+#[tactic(auto, unfolding(crate::specs::Report::accept_line, lexer::specs::Byte::bytes))]
+pub fn put_accept<S: Sink>(
+    sink: &mut S,
     number: u64,
     accepted: ActionSet,
     cancelled: ActionSet,
     words: u64,
-) -> usize
-    ensures answer { result ≡ behind out.old at (acceptLine number accepted cancelled words) }
-    ensures buffer { out.new ≡ appended out.old at (acceptLine number accepted cancelled words) }
+)
+    ensures { sink.new ≡ fed S.taken sink.old (accept_line number accepted cancelled words) }
 {
-    let start = put_decimal(out, at, number);
-    let accept = put_bytes(out, start, b" accept ");
-    let kept = put_actions(out, accept, accepted);
-    let cancel = put_bytes(out, kept, b" cancel ");
-    let end = put_actions(out, cancel, cancelled);
-    put_words(out, end, words)
+    put_number(sink, number);
+    sink.put(b" accept ");
+    put_actions(sink, accepted);
+    sink.put(b" cancel ");
+    put_actions(sink, cancelled);
+    put_words(sink, words);
 }
 
 // That the epoch or the question of the number is refused, and why.
-pub(crate) fn put_fault(out: &mut [u8], at: usize, number: u64, fault: Fault) -> usize
-    ensures answer { result ≡ behind out.old at (refusedField number fault) }
-    ensures buffer { out.new ≡ appended out.old at (refusedField number fault) }
+#[tactic(auto, unfolding(lexer::specs::Byte::bytes))]
+pub(crate) fn put_fault<S: Sink>(sink: &mut S, number: u64, fault: Fault)
+    ensures { sink.new ≡ fed S.taken sink.old (refused_field number fault) }
 {
-    let start = put_decimal(out, at, number);
-    let middle = put_bytes(out, start, b" refused ");
-    put_decimal(out, middle, fault.number() as u64)
+    put_number(sink, number);
+    sink.put(b" refused ");
+    put_number(sink, u64::from(fault.number()));
 }
 
-// A refused epoch, which fetched no word.
-pub fn put_refused(out: &mut [u8], at: usize, number: u64, fault: Fault) -> usize
-    ensures answer { result ≡ behind out.old at (refusedLine number fault) }
-    ensures buffer { out.new ≡ appended out.old at (refusedLine number fault) }
+/// Puts that an epoch is refused. It fetched no word.
+#[tactic(auto, unfolding(crate::specs::Report::refused_line))]
+pub fn put_refused<S: Sink>(sink: &mut S, number: u64, fault: Fault)
+    ensures { sink.new ≡ fed S.taken sink.old (refused_line number fault) }
 {
-    let end = put_fault(out, at, number, fault);
-    put_words(out, end, 0)
+    put_fault(sink, number, fault);
+    put_words(sink, 0);
 }

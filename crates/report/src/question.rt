@@ -1,47 +1,39 @@
 // The answers to questions about actions, each with its number, from 1.
 ghost use Rattle.std.specs.Prelude.{◌≡◌};
-ghost use Rattle.output.specs.Buffer.{appended, behind};
-ghost use Rattle.report.specs.Report.{notProposedLine, shownLine, notExplainedLine};
+ghost use Rattle.output.specs.Sink.{fed};
+ghost use Rattle.report.specs.Report.{not_proposed_line, shown_line, not_explained_line};
 
 use crate::line::put_fault;
-use output::{put_byte, put_bytes, put_decimal};
+use output::{Sink, put_number};
 use policy::{Fault, Source};
 
-pub fn put_not_proposed(out: &mut [u8], at: usize, number: u64) -> usize
-    ensures answer { result ≡ behind out.old at (notProposedLine number) }
-    ensures buffer { out.new ≡ appended out.old at (notProposedLine number) }
+/// Puts that an action was not proposed.
+pub fn put_not_proposed<S: Sink>(sink: &mut S, number: u64)
+    ensures { sink.new ≡ fed S.taken sink.old (not_proposed_line number) }
 {
-    let start = put_decimal(out, at, number);
-    let end = put_bytes(out, start, b" not proposed");
-    put_byte(out, end, b'\n')
+    put_number(sink, number);
+    sink.put(b" not proposed");
+    sink.put(b"\n");
 }
 
-// What became of the action, and the part of a text that says why.
-pub fn put_shown(
-    out: &mut [u8],
-    at: usize,
-    number: u64,
-    became: &[u8],
-    source: Source,
-    part: &[u8],
-) -> usize
-    ensures answer { result ≡ behind out.old at (shownLine number became.now source part.now) }
-    ensures buffer { out.new ≡ appended out.old at (shownLine number became.now source part.now) }
+/// Puts what became of an action, with the spaces around it, and the part of a text that says why.
+#[tactic(auto, unfolding(crate::specs::Report::shown_line, lexer::specs::Byte::bytes))]
+pub fn put_shown<S: Sink>(sink: &mut S, number: u64, became: &[u8], source: Source, part: &[u8])
+    ensures { sink.new ≡ fed S.taken sink.old (shown_line number became.now source part.now) }
 {
-    let text = source.number() as u64;
-    let start = put_decimal(out, at, number);
-    let middle = put_bytes(out, start, became);
-    let space = put_decimal(out, middle, text);
-    let shown = put_byte(out, space, b' ');
-    let end = put_bytes(out, shown, part);
-    put_byte(out, end, b'\n')
+    put_number(sink, number);
+    sink.put(became);
+    put_number(sink, u64::from(source.number()));
+    sink.put(b" ");
+    sink.put(part);
+    sink.put(b"\n");
 }
 
-// A refused question.
-pub fn put_not_explained(out: &mut [u8], at: usize, number: u64, fault: Fault) -> usize
-    ensures answer { result ≡ behind out.old at (notExplainedLine number fault) }
-    ensures buffer { out.new ≡ appended out.old at (notExplainedLine number fault) }
+/// Puts that a question is refused, and why.
+#[tactic(auto, unfolding(crate::specs::Report::not_explained_line))]
+pub fn put_not_explained<S: Sink>(sink: &mut S, number: u64, fault: Fault)
+    ensures { sink.new ≡ fed S.taken sink.old (not_explained_line number fault) }
 {
-    let end = put_fault(out, at, number, fault);
-    put_byte(out, end, b'\n')
+    put_fault(sink, number, fault);
+    sink.put(b"\n");
 }

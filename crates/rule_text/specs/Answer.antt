@@ -2,10 +2,10 @@
 -- if it is a refusal, and the counts of what was read, which are 0 in a refusal.
 use Rattle.std.specs.Prelude.{ℕ, ◌+◌, List, [], ◌∷◌, map, length}
 use Rattle.std.proofs.Math.Option.{Option, none, some}
-use Rattle.policy.specs.Line.{PolicyLine, rule, constraint, headsOf, comparisonsOf, constantCount}
+use Rattle.policy.specs.Line.{PolicyLine, rule, constraint, heads_of, comparisons_of, constant_count}
 use Rattle.policy.specs.Policy.{Policy}
 use Rattle.policy.specs.declared.fault.Refusal.{Refusal}
-use Rattle.rule_text.specs.Text.{Progress, reading, stopped, readText, readTexts}
+use Rattle.rule_text.specs.Text.{Progress, reading, stopped, read_text, read_texts}
 use Rattle.rule_text.specs.declared.LineCounts.{LineCounts}
 use Rattle.rule_text.specs.declared.TextCounts.{TextCounts}
 use Rattle.rule_text.specs.declared.TextRead.{TextRead}
@@ -15,38 +15,38 @@ total count [] = 0
 total count (l ∷ ls) = count l + total count ls
 
 -- how many lines there are, and how many literals or actions, comparisons, and constants among these they have
-unfoldable pub countsIn : List PolicyLine → LineCounts
-countsIn ls =
+unfoldable pub counts_in : List PolicyLine → LineCounts
+counts_in ls =
     record {
       lines = length ls;
-      heads = total (λ (l : PolicyLine). length (headsOf l)) ls;
-      comparisons = total (λ (l : PolicyLine). length (comparisonsOf l)) ls;
-      constants = total (λ (l : PolicyLine). constantCount (comparisonsOf l)) ls;
+      heads = total (λ (l : PolicyLine). length (heads_of l)) ls;
+      comparisons = total (λ (l : PolicyLine). length (comparisons_of l)) ls;
+      constants = total (λ (l : PolicyLine). constant_count (comparisons_of l)) ls;
     }
 
-unfoldable pub countsOf : Policy → TextCounts
-countsOf p = record { rules = countsIn (map rule p.rules); constraints = countsIn (map constraint p.constraints) }
+unfoldable pub counts_of : Policy → TextCounts
+counts_of p = record { rules = counts_in (map rule p.rules); constraints = counts_in (map constraint p.constraints) }
 
-unfoldable pub textReadOf : Progress → TextRead
-textReadOf (reading n p) = TextRead.Accepted (countsOf p)
-textReadOf (stopped r) = TextRead.Refused r
+unfoldable pub text_read_of : Progress → TextRead
+text_read_of (reading n p) = TextRead.Accepted (counts_of p)
+text_read_of (stopped r) = TextRead.Refused r
 
-unfoldable pub textRead : List ℕ → TextRead
-textRead text = textReadOf (readText text)
+unfoldable pub text_read : List ℕ → TextRead
+text_read text = text_read_of (read_text text)
 
-unfoldable pub textsRead : List ℕ → List ℕ → TextRead
-textsRead maker site = textReadOf (readTexts maker site)
+unfoldable pub texts_read : List ℕ → List ℕ → TextRead
+texts_read maker site = text_read_of (read_texts maker site)
 
-abbrev pub refusalInText : TextRead → Option Refusal
-refusalInText (TextRead.Refused r) = some r
-refusalInText (TextRead.Accepted c) = none
+abbrev pub refusal_in_text : TextRead → Option Refusal
+refusal_in_text (TextRead.Refused r) = some r
+refusal_in_text (TextRead.Accepted c) = none
 
-abbrev pub noLines : LineCounts
-noLines = record { lines = 0; heads = 0; comparisons = 0; constants = 0 }
+abbrev pub no_lines : LineCounts
+no_lines = record { lines = 0; heads = 0; comparisons = 0; constants = 0 }
 
-abbrev pub noCounts : TextCounts
-noCounts = record { rules = noLines; constraints = noLines }
+abbrev pub no_counts : TextCounts
+no_counts = record { rules = no_lines; constraints = no_lines }
 
-abbrev pub countsInText : TextRead → TextCounts
-countsInText (TextRead.Refused r) = noCounts
-countsInText (TextRead.Accepted c) = c
+abbrev pub counts_in_text : TextRead → TextCounts
+counts_in_text (TextRead.Refused r) = no_counts
+counts_in_text (TextRead.Accepted c) = c

@@ -1,9 +1,11 @@
 // Reading a whole rule text, or two texts as one. Start with specs/Text.antt.
+#![tactic(auto)]
+
 ghost use Rattle.std.specs.Prelude.{◌≡◌};
-ghost use Rattle.policy.specs.Limits.{ruleLimit};
-ghost use Rattle.rule_text.specs.Answer.{textRead, textsRead};
-ghost use Rattle.rule_text.specs.Steps.Counting.{countBehind, countRead, sourcedIn};
-ghost use Rattle.rule_text.specs.Steps.Tally.{Within, Small, Counted, withLine, talliedBy, step_of};
+ghost use Rattle.policy.specs.Limits.{rule_limit};
+ghost use Rattle.rule_text.specs.Answer.{text_read, texts_read};
+ghost use Rattle.rule_text.specs.Steps.Counting.{count_behind, count_read, sourced_in};
+ghost use Rattle.rule_text.specs.Steps.Tally.{Within, Small, Counted, with_line, tallied_by, step_of};
 
 use line_value::Line;
 use policy::{CONSTRAINT_LIMIT, Ending, Fault, RULE_LIMIT, Refusal, Source};
@@ -13,7 +15,7 @@ use syntax::{LineStatus, read_line};
 const TEXT_LIMIT: usize = 32768;
 
 // How many lines of a kind a text has, and how many literals or actions, comparisons, and constants among these they have.
-#[derive(Drop)]
+#[derive(Clone, Copy)]
 pub struct LineCounts {
     pub lines: usize,
     pub heads: usize,
@@ -21,19 +23,19 @@ pub struct LineCounts {
     pub constants: usize,
 }
 
-#[derive(Drop)]
+#[derive(Clone, Copy)]
 pub struct TextCounts {
     pub rules: LineCounts,
     pub constraints: LineCounts,
 }
 
-#[derive(Drop)]
+#[derive(Clone, Copy)]
 pub enum TextRead {
     Refused(Refusal),
     Accepted(TextCounts),
 }
 
-#[derive(Drop)]
+#[derive(Clone, Copy)]
 pub enum Tally {
     Go(TextCounts),
     Stop(Fault),
@@ -41,9 +43,9 @@ pub enum Tally {
 
 // The counts of a kind with one line more.
 fn with_line(counts: LineCounts, line: Line) -> LineCounts
-    requires within { Within ruleLimit counts }
+    requires within { Within rule_limit counts }
     requires counted { Counted line }
-    ensures { result ≡ withLine counts line }
+    ensures { result ≡ with_line counts line }
 {
     LineCounts {
         lines: counts.lines + 1,
@@ -57,7 +59,7 @@ fn with_line(counts: LineCounts, line: Line) -> LineCounts
 fn tallied(counts: TextCounts, line: Line) -> Tally
     requires small { Small counts }
     requires counted { Counted line }
-    ensures { result ≡ talliedBy counts line }
+    ensures { result ≡ tallied_by counts line }
 {
     let rules = counts.rules;
     let constraints = counts.constraints;
@@ -101,7 +103,7 @@ fn step(counts: TextCounts, status: LineStatus, line: Line) -> Tally
 // The lines of a text, counted behind those before it. A refusal names no text.
 fn read_behind(before: TextCounts, text: &[u8]) -> TextRead
     requires { Small before }
-    ensures { result ≡ countRead (countBehind before text.now) }
+    ensures { result ≡ count_read (count_behind before text.now) }
 {
     if TEXT_LIMIT < text.len() {
         return TextRead::Refused(Fault::TooLong.at(0));
@@ -130,7 +132,7 @@ fn read_behind(before: TextCounts, text: &[u8]) -> TextRead
 
 // The refusal, if it is one, in one of the texts.
 fn sourced(read: TextRead, source: Source) -> TextRead
-    ensures { result ≡ sourcedIn source read }
+    ensures { result ≡ sourced_in source read }
 {
     match read {
         TextRead::Refused(refusal) => TextRead::Refused(refusal.within(source)),
@@ -147,7 +149,7 @@ const NO_LINES: LineCounts = LineCounts {
 
 // A single text, which is the maker's.
 pub fn read_text(text: &[u8]) -> TextRead
-    ensures { result ≡ textRead text.now }
+    ensures { result ≡ text_read text.now }
 {
     let none = TextCounts {
         rules: NO_LINES,
@@ -159,7 +161,7 @@ pub fn read_text(text: &[u8]) -> TextRead
 
 // The maker's and the site's text as one: all faults of the maker's come before those of the site's.
 pub fn read_texts(maker: &[u8], site: &[u8]) -> TextRead
-    ensures { result ≡ textsRead maker.now site.now }
+    ensures { result ≡ texts_read maker.now site.now }
 {
     let first = read_text(maker);
     match first {

@@ -1,34 +1,33 @@
 -- Document 01, "Image": what words do when they are run, by their operations and skips; and document 02, L4: how many are fetched. Any
 -- words can be run.
-use Rattle.std.specs.Prelude.{ℕ, zero, suc, ◌+◌, Bool, true, false, not, cond, get_or}
-use mathlib.Core.List.{List, [], ◌∷◌, foldl}
-use Rattle.policy.specs.Comparison.{comparisonHolds}
+use Rattle.std.specs.Prelude.{ℕ, zero, suc, ◌+◌, Bool, true, false, not, cond, get_or, List, [], ◌∷◌}
+use mathlib.Core.List.{foldl}
+use Rattle.policy.specs.Comparison.{comparison_holds}
 use Rattle.policy.specs.Epoch.{Readings}
 use Rattle.policy.specs.List.{any}
-use Rattle.policy.specs.Set.{hasEvent, noActions, hasAction, insertAction}
+use Rattle.policy.specs.Set.{ActionSet, has_event, no_actions, has_action, insert_action}
 use Rattle.policy.specs.declared.line.Part.{Part}
-use Rattle.policy.specs.declared.set.ActionSet.{ActionSet}
 use Rattle.policy.specs.declared.set.Events.{Events}
-use Rattle.operation.specs.Parts.{eventFrom, actionFrom, constantComparison, readingComparison}
-use Rattle.operation.specs.Fields.{skipOf, operationOf}
+use Rattle.operation.specs.Parts.{event_from, action_from, constant_comparison, reading_comparison}
+use Rattle.operation.specs.Fields.{skip_of, operation_of}
 use Rattle.operation.specs.declared.operation.Operation.{Operation}
 
 -- ---- which words are run
 
 -- a comparison with a constant has it in the word behind
-abbrev pub constantCount : Operation → ℕ
-constantCount Operation.AgainstConstant = 1
-constantCount Operation.AgainstReading = 0
-constantCount Operation.Present = 0
-constantCount Operation.Absent = 0
-constantCount Operation.Proposes = 0
-constantCount Operation.Member = 0
-constantCount Operation.Never = 0
-constantCount Operation.Unknown = 0
+abbrev pub constant_count : Operation → ℕ
+constant_count Operation.AgainstConstant = 1
+constant_count Operation.AgainstReading = 0
+constant_count Operation.Present = 0
+constant_count Operation.Absent = 0
+constant_count Operation.Proposes = 0
+constant_count Operation.Member = 0
+constant_count Operation.Never = 0
+constant_count Operation.Unknown = 0
 
 -- how many of the words behind a word are passed over: its constant always; "a test that fails passes over `skip` further words"
 abbrev pub passes : Bool → Operation → ℕ → ℕ
-passes holds op w = constantCount op + cond holds 0 (skipOf w)
+passes holds op w = constant_count op + cond holds 0 (skip_of w)
 
 -- the words that are run, one after another, with the number of words still to pass over. Whether the test of a word holds is told
 -- by its operation, itself and the word behind it.
@@ -36,88 +35,88 @@ module _ (test : Operation → ℕ → ℕ → Bool) where
   unfoldable pub ran : ℕ → List ℕ → List ℕ
   ran n [] = []
   ran (suc n) (w ∷ ws) = ran n ws
-  ran zero (w ∷ ws) = w ∷ ran (passes (test (operationOf w) w (get_or ws 0 0)) (operationOf w) w) ws
+  ran zero (w ∷ ws) = w ∷ ran (passes (test (operation_of w) w (get_or ws 0 0)) (operation_of w) w) ws
 
 -- ---- tests
 
 -- a comparison, in either part; any other word asks for none
-unfoldable pub comparisonTest : Part → Readings → Operation → ℕ → ℕ → Bool
-comparisonTest part rs Operation.AgainstConstant w k = comparisonHolds part rs (constantComparison w k)
-comparisonTest part rs Operation.AgainstReading w k = comparisonHolds part rs (readingComparison w)
-comparisonTest part rs Operation.Present w k = true
-comparisonTest part rs Operation.Absent w k = true
-comparisonTest part rs Operation.Proposes w k = true
-comparisonTest part rs Operation.Member w k = true
-comparisonTest part rs Operation.Never w k = true
-comparisonTest part rs Operation.Unknown w k = true
+unfoldable pub comparison_test : Part → Readings → Operation → ℕ → ℕ → Bool
+comparison_test part rs Operation.AgainstConstant w k = comparison_holds part rs (constant_comparison w k)
+comparison_test part rs Operation.AgainstReading w k = comparison_holds part rs (reading_comparison w)
+comparison_test part rs Operation.Present w k = true
+comparison_test part rs Operation.Absent w k = true
+comparison_test part rs Operation.Proposes w k = true
+comparison_test part rs Operation.Member w k = true
+comparison_test part rs Operation.Never w k = true
+comparison_test part rs Operation.Unknown w k = true
 
 -- in the rule part
-unfoldable pub ruleTest : Events → Readings → Operation → ℕ → ℕ → Bool
-ruleTest ev rs Operation.Present w k = hasEvent ev.present (eventFrom w)
-ruleTest ev rs Operation.Absent w k = not (hasEvent ev.occurred (eventFrom w))
-ruleTest ev rs Operation.AgainstConstant w k = comparisonTest Part.Rules rs Operation.AgainstConstant w k
-ruleTest ev rs Operation.AgainstReading w k = comparisonTest Part.Rules rs Operation.AgainstReading w k
-ruleTest ev rs Operation.Proposes w k = true
-ruleTest ev rs Operation.Member w k = true
-ruleTest ev rs Operation.Never w k = true
-ruleTest ev rs Operation.Unknown w k = true
+unfoldable pub rule_test : Events → Readings → Operation → ℕ → ℕ → Bool
+rule_test ev rs Operation.Present w k = has_event ev.present (event_from w)
+rule_test ev rs Operation.Absent w k = not (has_event ev.occurred (event_from w))
+rule_test ev rs Operation.AgainstConstant w k = comparison_test Part.Rules rs Operation.AgainstConstant w k
+rule_test ev rs Operation.AgainstReading w k = comparison_test Part.Rules rs Operation.AgainstReading w k
+rule_test ev rs Operation.Proposes w k = true
+rule_test ev rs Operation.Member w k = true
+rule_test ev rs Operation.Never w k = true
+rule_test ev rs Operation.Unknown w k = true
 
 -- in the constraint part
-unfoldable pub constraintTest : Readings → ActionSet → Operation → ℕ → ℕ → Bool
-constraintTest rs s Operation.Member w k = hasAction s (actionFrom w)
-constraintTest rs s Operation.AgainstConstant w k = comparisonTest Part.Constraints rs Operation.AgainstConstant w k
-constraintTest rs s Operation.AgainstReading w k = comparisonTest Part.Constraints rs Operation.AgainstReading w k
-constraintTest rs s Operation.Present w k = true
-constraintTest rs s Operation.Absent w k = true
-constraintTest rs s Operation.Proposes w k = true
-constraintTest rs s Operation.Never w k = true
-constraintTest rs s Operation.Unknown w k = true
+unfoldable pub constraint_test : Readings → ActionSet → Operation → ℕ → ℕ → Bool
+constraint_test rs s Operation.Member w k = has_action s (action_from w)
+constraint_test rs s Operation.AgainstConstant w k = comparison_test Part.Constraints rs Operation.AgainstConstant w k
+constraint_test rs s Operation.AgainstReading w k = comparison_test Part.Constraints rs Operation.AgainstReading w k
+constraint_test rs s Operation.Present w k = true
+constraint_test rs s Operation.Absent w k = true
+constraint_test rs s Operation.Proposes w k = true
+constraint_test rs s Operation.Never w k = true
+constraint_test rs s Operation.Unknown w k = true
 
 -- ---- what the run of a part yields
 
-unfoldable pub proposesAt : Operation → ℕ → ActionSet → ActionSet
-proposesAt Operation.Proposes w s = insertAction s (actionFrom w)
-proposesAt Operation.Present w s = s
-proposesAt Operation.Absent w s = s
-proposesAt Operation.AgainstConstant w s = s
-proposesAt Operation.AgainstReading w s = s
-proposesAt Operation.Member w s = s
-proposesAt Operation.Never w s = s
-proposesAt Operation.Unknown w s = s
+unfoldable pub proposes_at : Operation → ℕ → ActionSet → ActionSet
+proposes_at Operation.Proposes w s = insert_action s (action_from w)
+proposes_at Operation.Present w s = s
+proposes_at Operation.Absent w s = s
+proposes_at Operation.AgainstConstant w s = s
+proposes_at Operation.AgainstReading w s = s
+proposes_at Operation.Member w s = s
+proposes_at Operation.Never w s = s
+proposes_at Operation.Unknown w s = s
 
 abbrev pub proposing : ActionSet → ℕ → ActionSet
-proposing s w = proposesAt (operationOf w) w s
+proposing s w = proposes_at (operation_of w) w s
 
 -- the actions of the words that propose one
-unfoldable pub runRules : Events → Readings → List ℕ → ActionSet
-runRules ev rs ws = foldl proposing noActions (ran (ruleTest ev rs) 0 ws)
+unfoldable pub run_rules : Events → Readings → List ℕ → ActionSet
+run_rules ev rs ws = foldl proposing no_actions (ran (rule_test ev rs) 0 ws)
 
-unfoldable pub isNever : Operation → Bool
-isNever Operation.Never = true
-isNever Operation.Present = false
-isNever Operation.Absent = false
-isNever Operation.AgainstConstant = false
-isNever Operation.AgainstReading = false
-isNever Operation.Proposes = false
-isNever Operation.Member = false
-isNever Operation.Unknown = false
+unfoldable pub is_never : Operation → Bool
+is_never Operation.Never = true
+is_never Operation.Present = false
+is_never Operation.Absent = false
+is_never Operation.AgainstConstant = false
+is_never Operation.AgainstReading = false
+is_never Operation.Proposes = false
+is_never Operation.Member = false
+is_never Operation.Unknown = false
 
-abbrev pub endsConstraint : ℕ → Bool
-endsConstraint w = isNever (operationOf w)
+abbrev pub ends_constraint : ℕ → Bool
+ends_constraint w = is_never (operation_of w)
 
 -- whether the end of some constraint is run
-unfoldable pub runConstraints : Readings → ActionSet → List ℕ → Bool
-runConstraints rs s ws = any endsConstraint (ran (constraintTest rs s) 0 ws)
+unfoldable pub run_constraints : Readings → ActionSet → List ℕ → Bool
+run_constraints rs s ws = any ends_constraint (ran (constraint_test rs s) 0 ws)
 
 -- ---- how many words are fetched (document 02, L4)
 
 -- a word that is run is fetched, and its constant with it
-abbrev pub fetchesOf : Operation → ℕ
-fetchesOf op = 1 + constantCount op
+abbrev pub fetches_of : Operation → ℕ
+fetches_of op = 1 + constant_count op
 
 unfoldable pub fetches : List ℕ → ℕ
 fetches [] = 0
-fetches (w ∷ ws) = fetchesOf (operationOf w) + fetches ws
+fetches (w ∷ ws) = fetches_of (operation_of w) + fetches ws
 
 -- the words of a list up to the first that passes a test, that one included
 unfoldable pub up_to : (ℕ → Bool) → List ℕ → List ℕ
@@ -125,9 +124,9 @@ up_to test [] = []
 up_to test (w ∷ ws) = w ∷ cond (test w) [] (up_to test ws)
 
 -- "each rule word fetched"
-unfoldable pub ruleFetches : Events → Readings → List ℕ → ℕ
-ruleFetches ev rs ws = fetches (ran (ruleTest ev rs) 0 ws)
+unfoldable pub rule_fetches : Events → Readings → List ℕ → ℕ
+rule_fetches ev rs ws = fetches (ran (rule_test ev rs) 0 ws)
 
 -- "each never word fetched" in the trial of a set: "A trial's remainder after a never line holds doesn't count."
-unfoldable pub trialFetches : Readings → ActionSet → List ℕ → ℕ
-trialFetches rs s ws = fetches (up_to endsConstraint (ran (constraintTest rs s) 0 ws))
+unfoldable pub trial_fetches : Readings → ActionSet → List ℕ → ℕ
+trial_fetches rs s ws = fetches (up_to ends_constraint (ran (constraint_test rs s) 0 ws))

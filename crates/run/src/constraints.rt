@@ -1,8 +1,8 @@
 // The constraint part of an image.
 ghost use Rattle.std.specs.Prelude.{◌≡◌, ◌/◌, ◌≤◌, ◌<◌, length};
 ghost use Rattle.word.specs.Word.{words_of, word_at, between};
-ghost use Rattle.run.specs.Run.{constraintTest, isNever, runConstraints, trialFetches};
-ghost use Rattle.run.specs.Steps.Test.{tested, isMember, left_at};
+ghost use Rattle.run.specs.Run.{constraint_test, is_never, run_constraints, trial_fetches};
+ghost use Rattle.run.specs.Steps.Test.{tested, is_member_operation, left_at};
 
 use crate::test::{Tested, against_constant, against_reading, fetches, last_of, passed};
 use operation::{Operation, first, skip};
@@ -19,7 +19,7 @@ fn test_constraint(
     values: &[i32],
 ) -> Tested
     requires { behind < length image.now / 4 }
-    ensures { result ≡ tested (constraintTest (record { given = given; values = values.now }) set operation word (word_at image.now behind)) operation behind }
+    ensures { result ≡ tested (constraint_test (record { given = given; values = values.now }) set operation word (word_at image.now behind)) operation behind }
 {
     match operation {
         Operation::Member => Tested {
@@ -40,7 +40,7 @@ fn test_constraint(
 }
 
 fn is_member(operation: Operation) -> bool
-    ensures { result ≡ isMember operation }
+    ensures { result ≡ is_member_operation operation }
 {
     match operation {
         Operation::Member => true,
@@ -49,7 +49,7 @@ fn is_member(operation: Operation) -> bool
 }
 
 fn is_never(operation: Operation) -> bool
-    ensures { result ≡ isNever operation }
+    ensures { result ≡ is_never operation }
 {
     match operation {
         Operation::Never => true,
@@ -58,7 +58,7 @@ fn is_never(operation: Operation) -> bool
 }
 
 // What the trial of a set of actions answers: whether a constraint holds on it, and how many words were fetched.
-#[derive(Drop)]
+#[derive(Clone, Copy)]
 pub struct Trial {
     pub conflict: bool,
     pub words: usize,
@@ -97,8 +97,8 @@ pub fn run_constraints(
     given: ReadingSet,
     values: &[i32],
 ) -> Trial
-    ensures conflict { result.conflict ≡ runConstraints (record { given = given; values = values.now }) set (between start end (words_of image.now)) }
-    ensures words { result.words ≡ trialFetches (record { given = given; values = values.now }) set (between start end (words_of image.now)) }
+    ensures conflict { result.conflict ≡ run_constraints (record { given = given; values = values.now }) set (between start end (words_of image.now)) }
+    ensures words { result.words ≡ trial_fetches (record { given = given; values = values.now }) set (between start end (words_of image.now)) }
 {
     let count = at_most(end, image.len() / 4);
     let last = last_of(count);

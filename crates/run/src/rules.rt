@@ -1,7 +1,7 @@
 // The rule part of an image.
 ghost use Rattle.std.specs.Prelude.{◌≡◌, ◌/◌, ◌<◌, length};
 ghost use Rattle.word.specs.Word.{words_of, word_at, between};
-ghost use Rattle.run.specs.Run.{ruleTest, proposesAt, runRules, ruleFetches};
+ghost use Rattle.run.specs.Run.{rule_test, proposes_at, run_rules, rule_fetches};
 ghost use Rattle.run.specs.Steps.Test.{tested};
 
 use crate::test::{Tested, against_constant, against_reading, fetches, last_of, passed};
@@ -19,7 +19,7 @@ fn test_rule(
     values: &[i32],
 ) -> Tested
     requires { behind < length image.now / 4 }
-    ensures { result ≡ tested (ruleTest events (record { given = given; values = values.now }) operation word (word_at image.now behind)) operation behind }
+    ensures { result ≡ tested (rule_test events (record { given = given; values = values.now }) operation word (word_at image.now behind)) operation behind }
 {
     match operation {
         Operation::Present => Tested {
@@ -43,7 +43,7 @@ fn test_rule(
 
 // The set with the action that a word proposes, if it does.
 fn with_proposal(set: ActionSet, operation: Operation, word: u32) -> ActionSet
-    ensures { result ≡ proposesAt operation word set }
+    ensures { result ≡ proposes_at operation word set }
 {
     match operation {
         Operation::Proposes => set.insert(Action(first(word) as u8)),
@@ -52,7 +52,7 @@ fn with_proposal(set: ActionSet, operation: Operation, word: u32) -> ActionSet
 }
 
 // What the run of rules answers: the actions that they propose, and how many words were fetched.
-#[derive(Drop)]
+#[derive(Clone, Copy)]
 pub struct Proposals {
     pub actions: ActionSet,
     pub words: usize,
@@ -67,8 +67,8 @@ pub fn run_rules(
     given: ReadingSet,
     values: &[i32],
 ) -> Proposals
-    ensures actions { result.actions ≡ runRules events (record { given = given; values = values.now }) (between start end (words_of image.now)) }
-    ensures words { result.words ≡ ruleFetches events (record { given = given; values = values.now }) (between start end (words_of image.now)) }
+    ensures actions { result.actions ≡ run_rules events (record { given = given; values = values.now }) (between start end (words_of image.now)) }
+    ensures words { result.words ≡ rule_fetches events (record { given = given; values = values.now }) (between start end (words_of image.now)) }
 {
     let count = at_most(end, image.len() / 4);
     let last = last_of(count);

@@ -1,11 +1,11 @@
 // The test of a word, which both runs share: whether it holds, and where the run goes on.
 ghost use Rattle.std.specs.Prelude.{cond, ◌≡◌, ◌+◌, ◌-◌, ◌/◌, ◌≤◌, ◌<◌, length};
-ghost use Rattle.operation.specs.Fields.{skipOf};
-ghost use Rattle.operation.specs.Parts.{constantComparison, readingComparison};
+ghost use Rattle.operation.specs.Fields.{skip_of};
+ghost use Rattle.operation.specs.Parts.{constant_comparison, reading_comparison};
 ghost use Rattle.operation.specs.declared.operation.Operation.{Operation};
-ghost use Rattle.policy.specs.Comparison.{comparisonHolds};
+ghost use Rattle.policy.specs.Comparison.{comparison_holds};
 ghost use Rattle.word.specs.Word.{word_at};
-ghost use Rattle.run.specs.Run.{fetchesOf};
+ghost use Rattle.run.specs.Run.{fetches_of};
 ghost use Rattle.run.specs.Steps.Test.{tested};
 
 use operation::{Operation, constant_holds, reading_holds, skip};
@@ -13,7 +13,7 @@ use policy::{Part, ReadingSet};
 use word::word_in;
 
 // Whether the test of a word holds, and the word behind it and its constant.
-#[derive(Drop)]
+#[derive(Clone, Copy)]
 pub struct Tested {
     pub holds: bool,
     pub next: usize,
@@ -37,7 +37,7 @@ pub(crate) fn against_constant(
     values: &[i32],
 ) -> Tested
     requires { behind < length image.now / 4 }
-    ensures { result ≡ tested (comparisonHolds part (record { given = given; values = values.now }) (constantComparison word (word_at image.now behind))) Operation.AgainstConstant behind }
+    ensures { result ≡ tested (comparison_holds part (record { given = given; values = values.now }) (constant_comparison word (word_at image.now behind))) Operation.AgainstConstant behind }
 {
     Tested {
         holds: constant_holds(part, word, word_in(image, behind), given, values),
@@ -53,7 +53,7 @@ pub(crate) fn against_reading(
     given: ReadingSet,
     values: &[i32],
 ) -> Tested
-    ensures { result ≡ tested (comparisonHolds part (record { given = given; values = values.now }) (readingComparison word)) Operation.AgainstReading behind }
+    ensures { result ≡ tested (comparison_holds part (record { given = given; values = values.now }) (reading_comparison word)) Operation.AgainstReading behind }
 {
     Tested {
         holds: reading_holds(part, word, given, values),
@@ -63,7 +63,7 @@ pub(crate) fn against_reading(
 
 // How many words are fetched for a word that is run: itself, and its constant.
 pub(crate) fn fetches(operation: Operation) -> usize
-    ensures { result ≡ fetchesOf operation }
+    ensures { result ≡ fetches_of operation }
 {
     match operation {
         Operation::AgainstConstant => 2,
@@ -74,7 +74,7 @@ pub(crate) fn fetches(operation: Operation) -> usize
 // Where the run goes on: a test that fails passes over `skip` further words.
 pub(crate) fn passed(test: Tested, word: u32) -> usize
     requires { test.next ≤ 0x4000_0000_0000_0000 }
-    ensures { result ≡ test.next + cond test.holds 0 (skipOf word) }
+    ensures { result ≡ test.next + cond test.holds 0 (skip_of word) }
 {
     if test.holds {
         test.next

@@ -4,27 +4,27 @@ use Rattle.policy.specs.List.{any}
 use Rattle.policy.specs.declared.fault.Refusal.{Refusal}
 use Rattle.policy.specs.declared.mode.Mode.{Mode}
 use Rattle.lexer.specs.Lines.{pieces, lines_of}
-use Rattle.rule_text.specs.Text.{Progress, readText}
+use Rattle.rule_text.specs.Text.{Progress, read_text}
 use Rattle.codegen.specs.Compile.{compiled}
 use Rattle.codegen.specs.declared.Compiled.{Compiled}
-use Rattle.monitor.specs.Decision.{decisionIn}
+use Rattle.monitor.specs.Decision.{decision_in}
 use Rattle.monitor.specs.declared.decision.Decision.{Decision}
-use Rattle.report.specs.Report.{refusalLine}
-use Rattle.output.proofs.AppendLaws.{Put, put-length}
-use Rattle.session.specs.Printed.{Session, withEpochs, next, decisionLine, epochLines, answersTo, printedFor}
-use Rattle.session.specs.Owed.{current, leftIn, owed, Fitting, Room, TracksIn}
+use Rattle.report.specs.Report.{refusal_line}
+use Rattle.output.proofs.AppendLaws.{Put, put_length}
+use Rattle.session.specs.Printed.{Session, with_epochs, next, decision_line, epoch_lines, answers_to, printed_for}
+use Rattle.session.specs.Owed.{current, left_in, owed, Fitting, Room, TracksIn}
 use Rattle.session.specs.Steps.Ended.{TextEnded, LineEnded}
 use Rattle.session.specs.declared.state.Phase.{Phase}
 use Rattle.session.specs.declared.state.State.{State}
-use Rattle.output.proofs.RoomLaws.{put-end, put-take}
-use Rattle.codegen.proofs.RoomLaws.{Read, compiled-stopped, compiled-read}
-use Rattle.report.proofs.LengthLaws.{refusal-short}
-use Rattle.session.proofs.LengthLaws.{decision-short}
+use Rattle.output.proofs.RoomLaws.{put_end, put_take}
+use Rattle.codegen.proofs.RoomLaws.{Read, compiled_stopped, compiled_read}
+use Rattle.report.proofs.LengthLaws.{refusal_short}
+use Rattle.session.proofs.LengthLaws.{decision_short}
 
 -- ---- a part of a slice
 
-pub part-from : (l : List ℕ) (start count : ℕ) → start ≤ count → count ≤ length l → take (count - start) (drop start l) ≡ drop start (take count l)
-part-from l start count h k =
+pub part_from : (l : List ℕ) (start count : ℕ) → start ≤ count → count ≤ length l → take (count - start) (drop start l) ≡ drop start (take count l)
+part_from l start count h k =
     let e : count ≡ start + (count - start) = omega arith in
     sym (ap (λ (n : ℕ). drop start (take n l)) e ∙ ap (drop start) (take-add start (count - start) l)
     ∙ drop_at (take start l) (take (count - start) (drop start l)) start (length-take-le start l (omega arith)))
@@ -33,42 +33,42 @@ part-from l start count h k =
 
 module _ (text : List ℕ) (mode : Mode) (s : State) (image out : List ℕ) (answer : Compiled) (image' : List ℕ)
     (made : answer ≡ (compiled text image).answer) (wrote : image' ≡ (compiled text image).buffer)
-    (kept : length image' ≡ length image) (long : length image ≡ 13064) (outLong : length out ≡ 65536) (room : Room s) where
-  prints-refusal : (x : Refusal) → answer ≡ Compiled.Refused x → (t : Session) → printedFor text t ≡ refusalLine x
-  unfolding printedFor answersTo
-  prints-refusal x e t = ap (λ (p : Progress). answersTo p t) (compiled-stopped text image long x (sym made ∙ e))
+    (kept : length image' ≡ length image) (long : length image ≡ 13064) (out_long : length out ≡ 65536) (room : Room s) where
+  prints_refusal : (x : Refusal) → answer ≡ Compiled.Refused x → (t : Session) → printed_for text t ≡ refusal_line x
+  unfolding printed_for answers_to
+  prints_refusal x e t = ap (λ (p : Progress). answers_to p t) (compiled_stopped text image long x (sym made ∙ e))
 
-  prints-epochs : (size : ℕ) → answer ≡ Compiled.Image size → (epochs : List (List ℕ)) → printedFor text (withEpochs [] mode epochs) ≡ epochLines mode (take size image') 0 epochs
-  unfolding printedFor answersTo
-  prints-epochs size e epochs =
-      let r : Read (readText text) (compiled text image).buffer size = compiled-read text image long size (sym made ∙ e) in
-      ap (λ (p : Progress). answersTo p (withEpochs [] mode epochs)) r.read
-      ∙ ap (λ (bytes : List ℕ). epochLines mode bytes 0 epochs) (sym (ap (take size) wrote ∙ r.image))
+  prints_epochs : (size : ℕ) → answer ≡ Compiled.Image size → (epochs : List (List ℕ)) → printed_for text (with_epochs [] mode epochs) ≡ epoch_lines mode (take size image') 0 epochs
+  unfolding printed_for answers_to
+  prints_epochs size e epochs =
+      let r : Read (read_text text) (compiled text image).buffer size = compiled_read text image long size (sym made ∙ e) in
+      ap (λ (p : Progress). answers_to p (with_epochs [] mode epochs)) r.read
+      ∙ ap (λ (bytes : List ℕ). epoch_lines mode bytes 0 epochs) (sym (ap (take size) wrote ∙ r.image))
 
   size_small : (size : ℕ) → answer ≡ Compiled.Image size → size ≤ 13064
-  size_small size e = (compiled-read text image long size (sym made ∙ e)).small
+  size_small size e = (compiled_read text image long size (sym made ∙ e)).small
 
-  pub text-refused : (x : Refusal) (out' : List ℕ) (end : ℕ) → answer ≡ Compiled.Refused x → x.location < 18446744073709551616
-      → Put out s.used (refusalLine x) out' end
+  pub text_refused : (x : Refusal) (out' : List ℕ) (end : ℕ) → answer ≡ Compiled.Refused x → x.location < 18446744073709551616
+      → Put out s.used (refusal_line x) out' end
       → TextEnded text mode s out (record { phase = Phase.Over; mode = mode; start = 0; count = 0; epochs = 0; size = 0; used = end }) image' out'
-  unfolding owed leftIn Fitting TracksIn any
-  text-refused x out' end e small p =
-      let short : length (refusalLine x) ≤ 64 = refusal-short x small in
-      let fits : s.used + length (refusalLine x) ≤ length out = omega arith in
-      let at : end ≡ s.used + length (refusalLine x) = put-end out s.used (refusalLine x) out' end fits p in
-      let same : length out' ≡ length out = put-length out s.used (refusalLine x) out' end p in
+  unfolding owed left_in Fitting TracksIn any
+  text_refused x out' end e small p =
+      let short : length (refusal_line x) ≤ 64 = refusal_short x small in
+      let fits : s.used + length (refusal_line x) ≤ length out = omega arith in
+      let at : end ≡ s.used + length (refusal_line x) = put_end out s.used (refusal_line x) out' end fits p in
+      let same : length out' ≡ length out = put_length out s.used (refusal_line x) out' end p in
       record {
         owes = λ held rest.
-            append-nil (take end out') ∙ put-take out s.used (refusalLine x) out' end fits p
-            ∙ ap (λ (x : List ℕ). take s.used out ++ x) (sym (prints-refusal x e (withEpochs [] mode (lines_of rest))));
+            append-nil (take end out') ∙ put_take out s.used (refusal_line x) out' end fits p
+            ∙ ap (λ (x : List ℕ). take s.used out ++ x) (sym (prints_refusal x e (with_epochs [] mode (lines_of rest))));
         good = λ held h.
             record {
-              heldLong = h;
-              imageLong = kept ∙ long;
-              outLong = same ∙ outLong;
+              held_long = h;
+              image_long = kept ∙ long;
+              out_long = same ∙ out_long;
               ordered = omega arith;
               fitting = omega arith;
-              oneLine = refl;
+              one_line = refl;
               sized = omega arith;
               used = omega arith;
             };
@@ -76,21 +76,21 @@ module _ (text : List ℕ) (mode : Mode) (s : State) (image out : List ℕ) (ans
         quiet = λ held. refl;
       }
 
-  pub text-accepted : (size : ℕ) → answer ≡ Compiled.Image size
+  pub text_accepted : (size : ℕ) → answer ≡ Compiled.Image size
       → TextEnded text mode s out (record { phase = Phase.Epochs; mode = mode; start = 0; count = 0; epochs = 0; size = size; used = s.used }) image' out
-  unfolding owed leftIn Fitting TracksIn any epochLines lines_of pieces
-  text-accepted size e =
+  unfolding owed left_in Fitting TracksIn any epoch_lines lines_of pieces
+  text_accepted size e =
       let k : size ≤ 13064 = size_small size e in
       record {
-        owes = λ held rest. ap (λ (x : List ℕ). take s.used out ++ x) (sym (prints-epochs size e (lines_of rest)));
+        owes = λ held rest. ap (λ (x : List ℕ). take s.used out ++ x) (sym (prints_epochs size e (lines_of rest)));
         good = λ held h.
             record {
-              heldLong = h;
-              imageLong = kept ∙ long;
-              outLong = outLong;
+              held_long = h;
+              image_long = kept ∙ long;
+              out_long = out_long;
               ordered = omega arith;
               fitting = (refl, omega arith);
-              oneLine = refl;
+              one_line = refl;
               sized = k;
               used = omega arith;
             };
@@ -100,21 +100,21 @@ module _ (text : List ℕ) (mode : Mode) (s : State) (image out : List ℕ) (ans
 
 -- ---- the end of an epoch line
 
-pub line-ended : (s : State) (held image out : List ℕ) (d : Decision) (n : ℕ) (out' : List ℕ) (end : ℕ)
-    → s.start ≡ 0 → length out ≡ 65536 → Room s → n ≡ next s.epochs → d ≡ decisionIn s.mode (take s.size image) (take s.count held)
-    → Put out s.used (decisionLine n d) out' end
+pub line_ended_is : (s : State) (held image out : List ℕ) (d : Decision) (n : ℕ) (out' : List ℕ) (end : ℕ)
+    → s.start ≡ 0 → length out ≡ 65536 → Room s → n ≡ next s.epochs → d ≡ decision_in s.mode (take s.size image) (take s.count held)
+    → Put out s.used (decision_line n d) out' end
     → LineEnded s held image out (record { phase = s.phase; mode = s.mode; start = 0; count = 0; epochs = n; size = s.size; used = end }) out'
-line-ended s held image out d n out' end zero' long room number decided p =
-    let short : length (decisionLine n d) ≤ 512 = rw decided (decision-short n s.mode (take s.size image) (take s.count held) (omega arith)) in
-    let fits : s.used + length (decisionLine n d) ≤ length out = omega arith in
-    let at : end ≡ s.used + length (decisionLine n d) = put-end out s.used (decisionLine n d) out' end fits p in
-    let same : length out' ≡ length out = put-length out s.used (decisionLine n d) out' end p in
+line_ended_is s held image out d n out' end zero' long room number decided p =
+    let short : length (decision_line n d) ≤ 512 = rw decided (decision_short n s.mode (take s.size image) (take s.count held) (omega arith)) in
+    let fits : s.used + length (decision_line n d) ≤ length out = omega arith in
+    let at : end ≡ s.used + length (decision_line n d) = put_end out s.used (decision_line n d) out' end fits p in
+    let same : length out' ≡ length out = put_length out s.used (decision_line n d) out' end p in
     let now : take s.count held ≡ current s held = rw zero' refl in
     record {
       state = ap (λ (k : ℕ). record { phase = s.phase; mode = s.mode; start = 0; count = 0; epochs = k; size = s.size; used = end }) number;
       prints =
-          put-take out s.used (decisionLine n d) out' end fits p
-          ∙ ap₂ (λ (k : ℕ) (x : Decision). take s.used out ++ decisionLine k x) number (decided ∙ ap (decisionIn s.mode (take s.size image)) now);
-      outLong = same ∙ long;
+          put_take out s.used (decision_line n d) out' end fits p
+          ∙ ap₂ (λ (k : ℕ) (x : Decision). take s.used out ++ decision_line k x) number (decided ∙ ap (decision_in s.mode (take s.size image)) now);
+      out_long = same ∙ long;
       used = omega arith;
     }

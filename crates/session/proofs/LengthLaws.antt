@@ -5,48 +5,48 @@ use Rattle.policy.specs.Fault.{refusal}
 use Rattle.policy.specs.Set.{has, difference}
 use Rattle.policy.specs.declared.fault.Fault.{Fault}
 use Rattle.policy.specs.declared.mode.Mode.{Mode}
-use Rattle.policy.proofs.SetLaws.{has-difference, has-empty}
+use Rattle.policy.proofs.SetLaws.{has_difference, has_empty}
 use Rattle.lexer.specs.Byte.{bytes}
-use Rattle.epoch_line.specs.Epoch.{EpochAnswer, refused, accepted, readEpoch}
+use Rattle.epoch_line.specs.Epoch.{EpochAnswer, refused, accepted, read_epoch}
 use Rattle.word.specs.Word.{words_of}
 use Rattle.image.specs.Load.{load}
 use Rattle.image.specs.declared.load.Contents.{Contents}
 use Rattle.image.specs.declared.load.Loaded.{Loaded}
-use Rattle.monitor.proofs.FewLaws.{visited-few}
-use Rattle.monitor.specs.Decision.{proposedBy, proposedWithBy, keptBy, yieldedBy, clashBy, keptEventsBy, reducedBy, reductionBy, rulesIn, constraintsIn, issuedBy, decidedBy, onLine, onImage, decisionIn, answer_of, visitedIn}
+use Rattle.monitor.proofs.FewLaws.{visited_few}
+use Rattle.monitor.specs.Decision.{proposed_by, proposed_with_by, kept_by, yielded_by, clash_by, kept_events_by, reduced_by, reduction_by, rules_in, constraints_in, issued_by, decided_by, on_epoch_line, on_image, decision_in, answer_of, visited_in}
 use Rattle.monitor.specs.declared.decision.Decision.{Decision}
 use Rattle.output.specs.Number.{decimal}
-use Rattle.output.proofs.DecimalLaws.{decimal-few, decimal-short}
-use Rattle.report.proofs.LengthLaws.{fault-digits}
-use Rattle.report.specs.Report.{membersFrom, actionName, furtherNames, actionNames, actionList, wordsField, acceptLine, refusedLine}
-use Rattle.session.specs.Printed.{decisionLine}
+use Rattle.output.proofs.DecimalLaws.{decimal_few, decimal_short}
+use Rattle.report.proofs.LengthLaws.{fault_digits}
+use Rattle.report.specs.Report.{members_from, action_name, further_names, action_names, action_list, words_field, accept_line, refused_line}
+use Rattle.session.specs.Printed.{decision_line}
 
 -- ---- actions: no number is in both lists
 
 abbrev Apart : ℕ → ℕ → Type 0
 Apart s t = (n : ℕ) → (has s n && has t n) ≡ false
 
-members-short : (k n s t : ℕ) → n + k ≤ 64 → Apart s t
-    → length (furtherNames (membersFrom k n s)) + length (furtherNames (membersFrom k n t)) ≤ 4 * k
-unfolding membersFrom furtherNames actionName
-members-short zero n s t h a = omega arith
-members-short (suc k) n s t h a = go (has s n) (has t n) (a n) (members-short k (suc n) s t (omega arith) a) (decimal-few n 1 (omega arith))
+members_short : (k n s t : ℕ) → n + k ≤ 64 → Apart s t
+    → length (further_names (members_from k n s)) + length (further_names (members_from k n t)) ≤ 4 * k
+unfolding members_from further_names action_name
+members_short zero n s t h a = omega arith
+members_short (suc k) n s t h a = go (has s n) (has t n) (a n) (members_short k (suc n) s t (omega arith) a) (decimal_few n 1 (omega arith))
   where
-    go : (b c : Bool) → (b && c) ≡ false → length (furtherNames (membersFrom k (suc n) s)) + length (furtherNames (membersFrom k (suc n) t)) ≤ 4 * k
+    go : (b c : Bool) → (b && c) ≡ false → length (further_names (members_from k (suc n) s)) + length (further_names (members_from k (suc n) t)) ≤ 4 * k
         → length (decimal n) ≤ 2
-        → length (furtherNames (cond b (n ∷ []) [] ++ membersFrom k (suc n) s)) + length (furtherNames (cond c (n ∷ []) [] ++ membersFrom k (suc n) t)) ≤ 4 * suc k
+        → length (further_names (cond b (n ∷ []) [] ++ members_from k (suc n) s)) + length (further_names (cond c (n ∷ []) [] ++ members_from k (suc n) t)) ≤ 4 * suc k
     go true true e more few = let z : ◌≡◌ {A = ℕ} 0 1 = cc in absurd (omega arith)
     go true false e more few = simp length-append (omega arith)
     go false true e more few = simp length-append (omega arith)
     go false false e more few = omega arith
 
-names-short : (ns : List ℕ) → length (actionNames ns) ≤ 1 + length (furtherNames ns)
-unfolding actionNames furtherNames
-names-short [] = omega arith
-names-short (n ∷ ns) = simp length-append (omega arith)
+names_short : (ns : List ℕ) → length (action_names ns) ≤ 1 + length (further_names ns)
+unfolding action_names further_names
+names_short [] = omega arith
+names_short (n ∷ ns) = simp length-append (omega arith)
 
-difference-apart : (s t : ℕ) → Apart t (difference s t)
-difference-apart s t n = rw (has-difference s t n) (go (has t n) (has s n))
+difference_apart : (s t : ℕ) → Apart t (difference s t)
+difference_apart s t n = rw (has_difference s t n) (go (has t n) (has s n))
   where
     go : (b c : Bool) → (b && (c && not b)) ≡ false
     go true true = refl
@@ -54,52 +54,52 @@ difference-apart s t n = rw (has-difference s t n) (go (has t n) (has s n))
     go false c = refl
 
 abbrev ApartIn : Decision → Type 0
-ApartIn d = Apart (answer_of d).accepted.0 (answer_of d).cancelled.0
+ApartIn d = Apart (answer_of d).accepted.bits (answer_of d).cancelled.bits
 
 none_apart : Apart 0 0
-none_apart n = rw (has-empty n)
+none_apart n = rw (has_empty n)
 
-reduction-apart : (rules constraints : List ℕ) (e : Epoch) → ApartIn (reductionBy rules constraints e)
-unfolding reductionBy reducedBy
-reduction-apart rules constraints e = go (clashBy rules constraints e 0)
+reduction_apart : (rules constraints : List ℕ) (e : Epoch) → ApartIn (reduction_by rules constraints e)
+unfolding reduction_by reduced_by
+reduction_apart rules constraints e = go (clash_by rules constraints e 0)
   where
-    go : (b : Bool) → ApartIn (cond b (Decision.Refused (refusal Fault.Unavoidable 0)) (Decision.Issued (reducedBy rules constraints e)))
+    go : (b : Bool) → ApartIn (cond b (Decision.Refused (refusal Fault.Unavoidable 0)) (Decision.Issued (reduced_by rules constraints e)))
     go true = none_apart
-    go false = difference-apart (proposedBy rules e).0 (proposedWithBy rules e (keptEventsBy rules constraints e)).0
+    go false = difference_apart (proposed_by rules e).bits (proposed_with_by rules e (kept_events_by rules constraints e)).bits
 
-decided-apart : (mode : Mode) (contents : Contents) (words : List ℕ) (e : Epoch) → ApartIn (decidedBy mode contents words e)
-unfolding decidedBy issuedBy yieldedBy
-decided-apart Mode.Actions contents words e =
-    let all = proposedBy (rulesIn contents words) e in
-    difference-apart all.0 (keptBy (constraintsIn contents words) e.readings all).0
-decided-apart Mode.Events contents words e = reduction-apart (rulesIn contents words) (constraintsIn contents words) e
+decided_apart : (mode : Mode) (contents : Contents) (words : List ℕ) (e : Epoch) → ApartIn (decided_by mode contents words e)
+unfolding decided_by issued_by yielded_by
+decided_apart Mode.Actions contents words e =
+    let all = proposed_by (rules_in contents words) e in
+    difference_apart all.bits (kept_by (constraints_in contents words) e.readings all).bits
+decided_apart Mode.Events contents words e = reduction_apart (rules_in contents words) (constraints_in contents words) e
 
-decision-apart : (mode : Mode) (image line : List ℕ) → ApartIn (decisionIn mode image line)
-unfolding decisionIn onImage onLine
-decision-apart mode image line = go (load image) (readEpoch line)
+decision_apart : (mode : Mode) (image line : List ℕ) → ApartIn (decision_in mode image line)
+unfolding decision_in on_image on_epoch_line
+decision_apart mode image line = go (load image) (read_epoch line)
   where
-    go : (l : Loaded) (a : EpochAnswer) → ApartIn (onImage mode l (words_of image) a)
+    go : (l : Loaded) (a : EpochAnswer) → ApartIn (on_image mode l (words_of image) a)
     go (Loaded.Refused x) a = none_apart
     go (Loaded.Image contents) (refused f) = none_apart
-    go (Loaded.Image contents) (accepted e) = decided-apart mode contents (words_of image) e
+    go (Loaded.Image contents) (accepted e) = decided_apart mode contents (words_of image) e
 
 -- ---- lines
 
-line-short : (n : ℕ) (d : Decision) → n < 18446744073709551616 → ApartIn d → visitedIn d < 18446744073709551616
-    → length (decisionLine n d) ≤ 512
-unfolding decisionLine acceptLine refusedLine wordsField actionList bytes
-line-short n (Decision.Refused x) h a v =
-    simp length-append (omega (arith, decimal-short n h, fault-digits x.fault, decimal-short 0 v))
-line-short n (Decision.Issued actions) h a v =
+line_short : (n : ℕ) (d : Decision) → n < 18446744073709551616 → ApartIn d → visited_in d < 18446744073709551616
+    → length (decision_line n d) ≤ 512
+unfolding decision_line accept_line refused_line words_field action_list bytes
+line_short n (Decision.Refused x) h a v =
+    simp length-append (omega (arith, decimal_short n h, fault_digits x.fault, decimal_short 0 v))
+line_short n (Decision.Issued actions) h a v =
     simp length-append
     (omega (
       arith,
-      decimal-short n h,
-      decimal-short actions.visited v,
-      names-short (membersFrom 64 0 actions.accepted.0),
-      names-short (membersFrom 64 0 actions.cancelled.0),
-      members-short 64 0 actions.accepted.0 actions.cancelled.0 (omega arith) a,
+      decimal_short n h,
+      decimal_short actions.visited v,
+      names_short (members_from 64 0 actions.accepted.bits),
+      names_short (members_from 64 0 actions.cancelled.bits),
+      members_short 64 0 actions.accepted.bits actions.cancelled.bits (omega arith) a,
     ))
 
-pub decision-short : (n : ℕ) (mode : Mode) (image line : List ℕ) → n < 18446744073709551616 → length (decisionLine n (decisionIn mode image line)) ≤ 512
-decision-short n mode image line h = line-short n (decisionIn mode image line) h (decision-apart mode image line) (omega (arith, visited-few mode image line))
+pub decision_short : (n : ℕ) (mode : Mode) (image line : List ℕ) → n < 18446744073709551616 → length (decision_line n (decision_in mode image line)) ≤ 512
+decision_short n mode image line h = line_short n (decision_in mode image line) h (decision_apart mode image line) (omega (arith, visited_few mode image line))

@@ -1,5 +1,7 @@
 pub mod RunLaws
 pub mod SeenLaws
+pub mod GivesLaws
+pub mod DueLaws
 pub mod LineLaws
 pub mod SplitLaws
 pub mod EpochLaws
@@ -9,6 +11,7 @@ pub mod HeldLaws
 pub mod TextByteLaws
 pub mod EpochByteLaws
 pub mod TookLaws
+pub mod EngineLaws
 pub mod FinishLaws
 pub mod ListingLaws
 pub mod Whole

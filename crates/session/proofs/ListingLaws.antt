@@ -5,113 +5,113 @@ use Rattle.policy.specs.Policy.{Policy}
 use Rattle.policy.specs.declared.fault.Refusal.{Refusal}
 use Rattle.word.specs.Word.{words_of, word_at}
 use Rattle.layout.specs.Layout.{image_of}
-use Rattle.word.proofs.WordLaws.{words-length}
-use Rattle.acceptance.proofs.Accepted.{accepted-acceptable, texts-acceptable}
-use Rattle.rule_text.specs.Text.{Progress, reading, stopped, readText, readTexts}
-use Rattle.codegen.specs.Compile.{newestForm, outputOf, compiled, compiledTexts}
+use Rattle.word.proofs.WordLaws.{words_length}
+use Rattle.acceptance.proofs.Accepted.{accepted_acceptable, texts_acceptable}
+use Rattle.rule_text.specs.Text.{Progress, reading, stopped, read_text, read_texts}
+use Rattle.codegen.specs.Compile.{newest_form, output_of, compiled, compiled_texts}
 use Rattle.codegen.specs.declared.Compiled.{Compiled}
-use Rattle.output.specs.Number.{hexDigits}
-use Rattle.report.specs.Report.{word_line, refusalLine, textsRefusalLine}
-use Rattle.output.proofs.AppendLaws.{Put, Left, left-turn, left-none}
-use Rattle.session.specs.Listed.{wordLines, listingOf, listed, listedTexts}
-use Rattle.codegen.proofs.RoomLaws.{Read, image-small, output-stopped, output-read}
-use Rattle.acceptance.proofs.Locations.{location-small, locations-small}
-use Rattle.report.proofs.LengthLaws.{refusal-short, texts-refusal-short}
+use Rattle.output.specs.Number.{hex_digits}
+use Rattle.report.specs.Report.{word_line, refusal_line, texts_refusal_line}
+use Rattle.output.specs.Sink.{fed, fed-none}
+use Rattle.output.proofs.SinkLaws.{fed_then}
+use Rattle.session.specs.Listed.{word_lines, listing_of, listed, listed_texts}
+use Rattle.codegen.proofs.RoomLaws.{Read, image_small, output_stopped, output_read}
+use Rattle.acceptance.proofs.Locations.{location_small, locations_small}
+use Rattle.report.proofs.LengthLaws.{refusal_short, texts_refusal_short}
 
 -- ---- the loop over the words of an image
 
-module _ (image : List ℕ) (buffer out : List ℕ) (end i : ℕ) where
-  pub listed-word : (after : List ℕ) (next : ℕ) → i < length image / 4 → Left buffer 0 (wordLines (words_of image)) out end (wordLines (drop i (words_of image)))
-      → Put out end (word_line (word_at image i)) after next
-      → Left buffer 0 (wordLines (words_of image)) after next (wordLines (drop (i + 1) (words_of image)))
-  unfolding wordLines
-  listed-word after next h l p =
-      let k : i < length (words_of image) = rw (words-length image) h in
-      let e : drop i (words_of image) ≡ word_at image i ∷ drop (i + 1) (words_of image) = rw add-one (drop-cons (words_of image) i 0 k) in
-      left-turn (word_line (word_at image i)) (wordLines (drop (i + 1) (words_of image))) after next (rw e at l) p
+module _ {S : Type 0} (taken : S → ℕ → S) (sink : S) (image : List ℕ) (i : ℕ) where
+  pub word_put : {after : S} → i < length image / 4 → after ≡ fed taken sink (word_line (word_at image i))
+      → fed taken after (word_lines (drop (i + 1) (words_of image))) ≡ fed taken sink (word_lines (drop i (words_of image)))
+  unfolding word_lines
+  word_put h e =
+      let k : i < length (words_of image) = rw (words_length image) h in
+      let here : drop i (words_of image) ≡ word_at image i ∷ drop (i + 1) (words_of image) = rw add-one (drop-cons (words_of image) i 0 k) in
+      let rest : List ℕ = word_lines (drop (i + 1) (words_of image)) in
+      fed_then taken sink (word_line (word_at image i)) rest e refl ∙ ap (fed taken sink) (sym (ap word_lines here))
 
-  pub listed-all : length image / 4 ≤ i → end ≤ length out → Left buffer 0 (wordLines (words_of image)) out end (wordLines (drop i (words_of image)))
-      → Put buffer 0 (wordLines (words_of image)) out end
-  unfolding wordLines
-  listed-all h w l =
-      let k : length (words_of image) ≤ i = rw (words-length image) h in
-      left-none end (ap wordLines (drop_of_length-le (words_of image) k)) l (omega arith)
+  pub words_put : length image / 4 ≤ i → sink ≡ fed taken sink (word_lines (drop i (words_of image)))
+  unfolding word_lines
+  words_put h =
+      let k : length (words_of image) ≤ i = rw (words_length image) h in
+      sym (ap (λ (ws : List ℕ). fed taken sink (word_lines ws)) (drop_of_length-le (words_of image) k) ∙ fed-none taken sink)
 
 -- ---- the length of the listing
 
-hex-length : (k w : ℕ) → length (hexDigits k w) ≡ k
-unfolding hexDigits
-hex-length zero w = refl
-hex-length (suc k) w = ap suc (hex-length k w)
+hex_length : (k w : ℕ) → length (hex_digits k w) ≡ k
+unfolding hex_digits
+hex_length zero w = refl
+hex_length (suc k) w = ap suc (hex_length k w)
 
-lines-length : (ws : List ℕ) → length (wordLines ws) ≡ 9 * length ws
-unfolding wordLines word_line
-lines-length [] = refl
-lines-length (w ∷ ws) = simp (length-append, hex-length 8 w, lines-length ws) (omega arith)
+lines_length : (ws : List ℕ) → length (word_lines ws) ≡ 9 * length ws
+unfolding word_lines word_line
+lines_length [] = refl
+lines_length (w ∷ ws) = simp (length-append, hex_length 8 w, lines_length ws) (omega arith)
 
 -- ---- what a compilation lists
 
 module _ (refused : Refusal → List ℕ) (s : Progress) (keeps : (n : ℕ) (p : Policy) → s ≡ reading n p → Acceptable p) (image : List ℕ) (answer : Compiled)
-    (image' : List ℕ) (made : answer ≡ (outputOf s image).answer) (wrote : image' ≡ (outputOf s image).buffer) (long : length image ≡ 13064) where
-  refusal-listed : (x : Refusal) → answer ≡ Compiled.Refused x → refused x ≡ listingOf refused s
-  unfolding listingOf
-  refusal-listed x e = sym (ap (listingOf refused) (output-stopped s keeps image long x (sym made ∙ e)))
+    (image' : List ℕ) (made : answer ≡ (output_of s image).answer) (wrote : image' ≡ (output_of s image).buffer) (long : length image ≡ 13064) where
+  refusal_listed : (x : Refusal) → answer ≡ Compiled.Refused x → refused x ≡ listing_of refused s
+  unfolding listing_of
+  refusal_listed x e = sym (ap (listing_of refused) (output_stopped s keeps image long x (sym made ∙ e)))
 
-  image-listed : (size : ℕ) → answer ≡ Compiled.Image size → wordLines (words_of (take size image')) ≡ listingOf refused s
-  unfolding listingOf
-  image-listed size e =
-      let r : Read s (outputOf s image).buffer size = output-read s keeps image long size (sym made ∙ e) in
-      ap (λ (b : List ℕ). wordLines (words_of b)) (ap (take size) wrote ∙ r.image) ∙ sym (ap (listingOf refused) r.read)
+  image_listed : (size : ℕ) → answer ≡ Compiled.Image size → word_lines (words_of (take size image')) ≡ listing_of refused s
+  unfolding listing_of
+  image_listed size e =
+      let r : Read s (output_of s image).buffer size = output_read s keeps image long size (sym made ∙ e) in
+      ap (λ (b : List ℕ). word_lines (words_of b)) (ap (take size) wrote ∙ r.image) ∙ sym (ap (listing_of refused) r.read)
 
-  image-few : (size : ℕ) → answer ≡ Compiled.Image size → size ≤ 13064
-  image-few size e = (output-read s keeps image long size (sym made ∙ e)).small
+  image_few : (size : ℕ) → answer ≡ Compiled.Image size → size ≤ 13064
+  image_few size e = (output_read s keeps image long size (sym made ∙ e)).small
 
 module _ (text image : List ℕ) (answer : Compiled) (image' : List ℕ) (made : answer ≡ (compiled text image).answer)
     (wrote : image' ≡ (compiled text image).buffer) (long : length image ≡ 13064) where
-  pub lists-refusal : (x : Refusal) → answer ≡ Compiled.Refused x → refusalLine x ≡ listed text
+  pub lists_refusal : (x : Refusal) → answer ≡ Compiled.Refused x → refusal_line x ≡ listed text
   unfolding listed compiled
-  lists-refusal = refusal-listed refusalLine (readText text) (accepted-acceptable text) image answer image' made wrote long
+  lists_refusal = refusal_listed refusal_line (read_text text) (accepted_acceptable text) image answer image' made wrote long
 
-  pub lists-image : (size : ℕ) → answer ≡ Compiled.Image size → wordLines (words_of (take size image')) ≡ listed text
+  pub lists_image : (size : ℕ) → answer ≡ Compiled.Image size → word_lines (words_of (take size image')) ≡ listed text
   unfolding listed compiled
-  lists-image = image-listed refusalLine (readText text) (accepted-acceptable text) image answer image' made wrote long
+  lists_image = image_listed refusal_line (read_text text) (accepted_acceptable text) image answer image' made wrote long
 
-  pub image-within : (size : ℕ) → answer ≡ Compiled.Image size → size ≤ 13064
+  pub image_within_is : (size : ℕ) → answer ≡ Compiled.Image size → size ≤ 13064
   unfolding compiled
-  image-within = image-few refusalLine (readText text) (accepted-acceptable text) image answer image' made wrote long
+  image_within_is = image_few refusal_line (read_text text) (accepted_acceptable text) image answer image' made wrote long
 
-module _ (maker site image : List ℕ) (answer : Compiled) (image' : List ℕ) (made : answer ≡ (compiledTexts maker site image).answer)
-    (wrote : image' ≡ (compiledTexts maker site image).buffer) (long : length image ≡ 13064) where
-  pub lists-refusals : (x : Refusal) → answer ≡ Compiled.Refused x → textsRefusalLine x ≡ listedTexts maker site
-  unfolding listedTexts compiledTexts
-  lists-refusals = refusal-listed textsRefusalLine (readTexts maker site) (texts-acceptable maker site) image answer image' made wrote long
+module _ (maker site image : List ℕ) (answer : Compiled) (image' : List ℕ) (made : answer ≡ (compiled_texts maker site image).answer)
+    (wrote : image' ≡ (compiled_texts maker site image).buffer) (long : length image ≡ 13064) where
+  pub lists_refusals : (x : Refusal) → answer ≡ Compiled.Refused x → texts_refusal_line x ≡ listed_texts maker site
+  unfolding listed_texts compiled_texts
+  lists_refusals = refusal_listed texts_refusal_line (read_texts maker site) (texts_acceptable maker site) image answer image' made wrote long
 
-  pub lists-images : (size : ℕ) → answer ≡ Compiled.Image size → wordLines (words_of (take size image')) ≡ listedTexts maker site
-  unfolding listedTexts compiledTexts
-  lists-images = image-listed textsRefusalLine (readTexts maker site) (texts-acceptable maker site) image answer image' made wrote long
+  pub lists_images : (size : ℕ) → answer ≡ Compiled.Image size → word_lines (words_of (take size image')) ≡ listed_texts maker site
+  unfolding listed_texts compiled_texts
+  lists_images = image_listed texts_refusal_line (read_texts maker site) (texts_acceptable maker site) image answer image' made wrote long
 
-  pub images-within : (size : ℕ) → answer ≡ Compiled.Image size → size ≤ 13064
-  unfolding compiledTexts
-  images-within = image-few textsRefusalLine (readTexts maker site) (texts-acceptable maker site) image answer image' made wrote long
+  pub images_within : (size : ℕ) → answer ≡ Compiled.Image size → size ≤ 13064
+  unfolding compiled_texts
+  images_within = image_few texts_refusal_line (read_texts maker site) (texts_acceptable maker site) image answer image' made wrote long
 
 -- ---- how long a listing is
 
-image-lines : (image : List ℕ) → length image ≤ 13064 → length (wordLines (words_of image)) ≤ 29394
-image-lines image h = omega (arith, lines-length (words_of image), words-length image)
+image_lines : (image : List ℕ) → length image ≤ 13064 → length (word_lines (words_of image)) ≤ 29394
+image_lines image h = omega (arith, lines_length (words_of image), words_length image)
 
 module _ (refused : Refusal → List ℕ) (s : Progress) (keeps : (n : ℕ) (p : Policy) → s ≡ reading n p → Acceptable p) where
-  listing-short : ((x : Refusal) → s ≡ stopped x → length (refused x) ≤ 64) → length (listingOf refused s) ≤ 29394
-  unfolding listingOf
-  listing-short short = go s refl
+  listing_short : ((x : Refusal) → s ≡ stopped x → length (refused x) ≤ 64) → length (listing_of refused s) ≤ 29394
+  unfolding listing_of
+  listing_short short = go s refl
     where
-      go : (p : Progress) → s ≡ p → length (listingOf refused p) ≤ 29394
+      go : (p : Progress) → s ≡ p → length (listing_of refused p) ≤ 29394
       go (stopped x) e = omega (arith, short x e)
-      go (reading n p) e = image-lines (image_of newestForm p) (image-small p (keeps n p e))
+      go (reading n p) e = image_lines (image_of newest_form p) (image_small p (keeps n p e))
 
-pub listed-short : (text : List ℕ) → length (listed text) ≤ 29394
+pub listed_short : (text : List ℕ) → length (listed text) ≤ 29394
 unfolding listed
-listed-short text = listing-short refusalLine (readText text) (accepted-acceptable text) (λ x e. refusal-short x (omega (arith, location-small text x e)))
+listed_short text = listing_short refusal_line (read_text text) (accepted_acceptable text) (λ x e. refusal_short x (omega (arith, location_small text x e)))
 
-pub texts-listed-short : (maker site : List ℕ) → length (listedTexts maker site) ≤ 29394
-unfolding listedTexts
-texts-listed-short maker site = listing-short textsRefusalLine (readTexts maker site) (texts-acceptable maker site) (λ x e. texts-refusal-short x (omega (arith, locations-small maker site x e)))
+pub texts_listed_short : (maker site : List ℕ) → length (listed_texts maker site) ≤ 29394
+unfolding listed_texts
+texts_listed_short maker site = listing_short texts_refusal_line (read_texts maker site) (texts_acceptable maker site) (λ x e. texts_refusal_short x (omega (arith, locations_small maker site x e)))

@@ -1,33 +1,33 @@
 -- Laws of what was seen of the input: the held part of a line tells what the line tells.
-use Rattle.std.proofs.Common.{◌≡◌, ℕ, ◌+◌, ◌-◌, ◌<◌, ◌≤◌, min, Bool, true, false, cond, eqb, ltb, List, [], ◌∷◌, ◌++◌, length, take, sym, refl, ap, ◌∙◌, subst, arith, length-append, length-take, take_all, ltb-false, ltb-true, ne_eqb}
+use Rattle.std.proofs.Common.{◌≡◌, ℕ, ◌<◌, ◌≤◌, min, Bool, true, false, cond, eqb, ltb, List, [], ◌∷◌, ◌++◌, length, take, sym, refl, ap, ◌∙◌, subst, arith, length-append, length-take, take_all, ltb-false, ltb-true, ne_eqb}
+use Rattle.std.proofs.Math.Option.{some, or_else}
+use Rattle.std.proofs.Math.Seq.{take-append-le}
 use Prim.Native.String.{String}
-use mathlib.Core.Option.{some, or_else}
-use lib.Seq.{take-append-le}
 use Rattle.policy.specs.declared.mode.Mode.{Mode}
 use Rattle.lexer.specs.Byte.{bytes, is}
 use Rattle.session.specs.Printed.{mode_of}
-use Rattle.session.specs.Owed.{emptied, Seen, seeByte, TracksIn, Tracks}
+use Rattle.session.specs.Owed.{emptied, Seen, see_byte, TracksIn, Tracks}
 use Rattle.session.specs.declared.state.Phase.{Phase}
 use Rattle.session.specs.declared.state.State.{State}
-use Rattle.session.proofs.RunLaws.{word-long}
+use Rattle.session.proofs.RunLaws.{word_long}
 
 -- ---- a line of which so many bytes are held
 
 module _ (k : ℕ) (tail line : List ℕ) (e : line ≡ take k tail) where
-  held-length : length line ≡ min k (length tail)
-  held-length = ap length e ∙ length-take k tail
+  held_length : length line ≡ min k (length tail)
+  held_length = ap length e ∙ length-take k tail
 
   -- where there is room, all of it is
   held_all : length line < k → line ≡ tail
-  held_all h = e ∙ take_all k tail (omega (arith, held-length))
+  held_all h = e ∙ take_all k tail (omega (arith, held_length))
 
-  pub held-grows : (b : ℕ) → length line < k → line ++ b ∷ [] ≡ take k (tail ++ b ∷ [])
-  held-grows b h =
+  pub held_grows : (b : ℕ) → length line < k → line ++ b ∷ [] ≡ take k (tail ++ b ∷ [])
+  held_grows b h =
       ap (λ (l : List ℕ). l ++ b ∷ []) (held_all h)
-      ∙ sym (take_all k (tail ++ b ∷ []) (omega (arith, held-length, length-append tail (b ∷ []))))
+      ∙ sym (take_all k (tail ++ b ∷ []) (omega (arith, held_length, length-append tail (b ∷ []))))
 
   pub held_stays : (b : ℕ) → k ≤ length line → line ≡ take k (tail ++ b ∷ [])
-  held_stays b h = e ∙ sym (take-append-le k tail (b ∷ []) (omega (arith, held-length)))
+  held_stays b h = e ∙ sym (take-append-le k tail (b ∷ []) (omega (arith, held_length)))
 
   -- one byte more than a word has tells whether it is the word
   held_word : (word : String) → length (bytes word) < k → is word line ≡ is word tail
@@ -37,27 +37,27 @@ module _ (k : ℕ) (tail line : List ℕ) (e : line ≡ take k tail) where
       go true q = ap (is word) (held_all (ltb-true (length line) k q))
       go false q =
           let n : k ≤ length line = ltb-false (length line) k q in
-          word-long word line (omega arith) ∙ sym (word-long word tail (omega (arith, held-length)))
+          word_long word line (omega arith) ∙ sym (word_long word tail (omega (arith, held_length)))
 
   -- so eleven bytes tell which mode it picks
-  pub held-mode : 10 < k → mode_of line ≡ mode_of tail
+  pub held_mode : 10 < k → mode_of line ≡ mode_of tail
   unfolding mode_of bytes
-  held-mode h = rw (held_word "run" (omega arith), held_word "run events" h)
+  held_mode h = rw (held_word "run" (omega arith), held_word "run events" h)
 
 -- ---- a byte
 
-pub see-end : (x : Seen) → seeByte x 10 ≡ record { ran = or_else x.ran (mode_of x.tail); tail = [] }
-unfolding seeByte
-see-end x = refl
+pub see_end : (x : Seen) → see_byte x 10 ≡ record { ran = or_else x.ran (mode_of x.tail); tail = [] }
+unfolding see_byte
+see_end x = refl
 
-pub see-other : (x : Seen) (b : ℕ) → (b ≡ 10 → ⊥) → seeByte x b ≡ record { ran = x.ran; tail = x.tail ++ b ∷ [] }
-unfolding seeByte
-see-other x b n = rw (ne_eqb b 10 n)
+pub see_other : (x : Seen) (b : ℕ) → (b ≡ 10 → ⊥) → see_byte x b ≡ record { ran = x.ran; tail = x.tail ++ b ∷ [] }
+unfolding see_byte
+see_other x b n = rw (ne_eqb b 10 n)
 
 -- the mode that was picked stays
-pub ran-stays : {mode : Mode} (x : Seen) (b : ℕ) → x.ran ≡ some mode → (seeByte x b).ran ≡ some mode
-unfolding seeByte or_else
-ran-stays {mode} x b e = go (eqb b 10)
+pub ran_stays : {mode : Mode} (x : Seen) (b : ℕ) → x.ran ≡ some mode → (see_byte x b).ran ≡ some mode
+unfolding see_byte or_else
+ran_stays {mode} x b e = go (eqb b 10)
   where
     go : (t : Bool) → (cond {A = Seen} t (record { ran = or_else x.ran (mode_of x.tail); tail = [] }) (record { ran = x.ran; tail = x.tail ++ b ∷ [] })).ran ≡ some mode
     go true = rw e
@@ -65,11 +65,11 @@ ran-stays {mode} x b e = go (eqb b 10)
 
 -- ---- the phases
 
-pub tracks-at : (p : Phase) (x : Seen) (s : State) (held : List ℕ) → s.phase ≡ p → Tracks x s held → TracksIn p x s held
-tracks-at p x s held e t = subst (λ (q : Phase). TracksIn q x s held) e t
+pub tracks_at : (p : Phase) (x : Seen) (s : State) (held : List ℕ) → s.phase ≡ p → Tracks x s held → TracksIn p x s held
+tracks_at p x s held e t = subst (λ (q : Phase). TracksIn q x s held) e t
 
-pub at-tracks : (p : Phase) (x : Seen) (s : State) (held : List ℕ) → s.phase ≡ p → TracksIn p x s held → Tracks x s held
-at-tracks p x s held e t = subst (λ (q : Phase). TracksIn q x s held) (sym e) t
+pub at_tracks : (p : Phase) (x : Seen) (s : State) (held : List ℕ) → s.phase ≡ p → TracksIn p x s held → Tracks x s held
+at_tracks p x s held e t = subst (λ (q : Phase). TracksIn q x s held) (sym e) t
 
 -- handing out leaves what is tracked
 pub tracks_same : (p : Phase) (x : Seen) (s : State) (held : List ℕ) → TracksIn p x s held → TracksIn p x (emptied s) held

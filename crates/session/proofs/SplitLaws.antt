@@ -1,108 +1,108 @@
 -- Laws of the text: what the next bytes do to it, and where it ends.
 use Rattle.std.proofs.Common.{◌≡◌, ℕ, ◌+◌, ◌<◌, ◌≤◌, Bool, true, false, ltb, List, [], ◌∷◌, ◌++◌, length, sym, refl, ap, ◌∙◌, append_assoc, append-nil, arith, length-append, ltb-false, ltb-true, lt-ltb}
-use mathlib.Core.Option.{none, some, Option-elim}
+use Rattle.std.proofs.Math.Option.{none, some, Option-elim}
 use Rattle.policy.specs.Fault.{refusal}
 use Rattle.policy.specs.declared.fault.Fault.{Fault}
 use Rattle.policy.specs.declared.mode.Mode.{Mode}
-use Rattle.lexer.specs.Byte.{bytes, sameBytes, is}
+use Rattle.lexer.specs.Byte.{bytes, bytes_equal, is}
 use Rattle.lexer.specs.Lines.{pieces, lines_of}
-use Rattle.rule_text.specs.Text.{Progress, reading, stopped, readBehind, inText, readText}
-use Rattle.report.specs.Report.{refusalLine}
-use Rattle.session.specs.Printed.{Session, textOnly, withEpochs, mode_of, toText, splitAtRun, ended, textPart, epochLines, answersTo, printedFor}
-use Rattle.session.specs.Owed.{printedBehind}
-use Rattle.session.proofs.LineLaws.{OneLine, first, others, lines-begun, lines-ended, lines-last}
-use Rattle.session.proofs.RunLaws.{long-none}
+use Rattle.rule_text.specs.Text.{Progress, reading, stopped, read_text_behind, in_text, read_text}
+use Rattle.report.specs.Report.{refusal_line}
+use Rattle.session.specs.Printed.{Session, text_only, with_epochs, mode_of, to_text, split_at_run, ended, text_part, epoch_lines, answers_to, printed_for}
+use Rattle.session.specs.Owed.{printed_behind}
+use Rattle.session.proofs.LineLaws.{OneLine, first, others, lines_begun, lines_ended, lines_last}
+use Rattle.session.proofs.RunLaws.{long_none}
 
-by-split : (done rest : List ℕ) (s : Session) → splitAtRun (lines_of rest) ≡ s
-    → printedBehind done rest ≡ printedFor (done ++ textPart rest s) s
-unfolding printedBehind
-by-split done rest s e = ap (λ (x : Session). printedFor (done ++ textPart rest x) x) e
+by_split : (done rest : List ℕ) (s : Session) → split_at_run (lines_of rest) ≡ s
+    → printed_behind done rest ≡ printed_for (done ++ text_part rest s) s
+unfolding printed_behind
+by_split done rest s e = ap (λ (x : Session). printed_for (done ++ text_part rest x) x) e
 
-split-run : (line : List ℕ) (lines : List (List ℕ)) (mode : Mode) → mode_of line ≡ some mode → splitAtRun (line ∷ lines) ≡ withEpochs [] mode lines
-unfolding splitAtRun Option-elim
-split-run line lines mode e = rw e
+split_run : (line : List ℕ) (lines : List (List ℕ)) (mode : Mode) → mode_of line ≡ some mode → split_at_run (line ∷ lines) ≡ with_epochs [] mode lines
+unfolding split_at_run Option-elim
+split_run line lines mode e = rw e
 
-split-other : (line : List ℕ) (lines : List (List ℕ)) → mode_of line ≡ none → splitAtRun (line ∷ lines) ≡ toText line (splitAtRun lines)
-unfolding splitAtRun Option-elim
-split-other line lines e = rw e
+split_other : (line : List ℕ) (lines : List (List ℕ)) → mode_of line ≡ none → split_at_run (line ∷ lines) ≡ to_text line (split_at_run lines)
+unfolding split_at_run Option-elim
+split_other line lines e = rw e
 
 -- what is printed for a text goes by the lines behind it
-to-text : (text line : List ℕ) (s : Session) → printedFor text (toText line s) ≡ printedFor text s
-unfolding printedFor answersTo toText
-to-text text line textOnly = refl
-to-text text line (withEpochs t mode es) = go (readText text)
+to_text_is : (text line : List ℕ) (s : Session) → printed_for text (to_text line s) ≡ printed_for text s
+unfolding printed_for answers_to to_text
+to_text_is text line text_only = refl
+to_text_is text line (with_epochs t mode es) = go (read_text text)
   where
-    go : (p : Progress) → answersTo p (withEpochs (line ∷ t) mode es) ≡ answersTo p (withEpochs t mode es)
+    go : (p : Progress) → answers_to p (with_epochs (line ∷ t) mode es) ≡ answers_to p (with_epochs t mode es)
     go (stopped r) = refl
     go (reading n policy) = refl
 
 -- and by none in any mode
-pub no-epochs : (text : List ℕ) (mode : Mode) → printedFor text (withEpochs [] mode []) ≡ printedFor text textOnly
-unfolding printedFor answersTo epochLines
-no-epochs text mode = go (readText text)
+pub no_epochs : (text : List ℕ) (mode : Mode) → printed_for text (with_epochs [] mode []) ≡ printed_for text text_only
+unfolding printed_for answers_to epoch_lines
+no_epochs text mode = go (read_text text)
   where
-    go : (p : Progress) → answersTo p (withEpochs [] mode []) ≡ answersTo p textOnly
+    go : (p : Progress) → answers_to p (with_epochs [] mode []) ≡ answers_to p text_only
     go (stopped r) = refl
     go (reading n policy) = refl
 
 module _ (done line : List ℕ) (h : OneLine line) where
   -- the text ends before the line
-  pub behind-run : (rest : List ℕ) (mode : Mode) → mode_of line ≡ some mode
-      → printedBehind done (line ++ 10 ∷ rest) ≡ printedFor done (withEpochs [] mode (lines_of rest))
-  unfolding textPart ended
-  behind-run rest mode e =
-      by-split done (line ++ 10 ∷ rest) (withEpochs [] mode (lines_of rest)) (ap splitAtRun (lines-ended line rest h) ∙ split-run line (lines_of rest) mode e)
-      ∙ ap (λ (x : List ℕ). printedFor x (withEpochs [] mode (lines_of rest))) (append-nil done)
+  pub behind_run : (rest : List ℕ) (mode : Mode) → mode_of line ≡ some mode
+      → printed_behind done (line ++ 10 ∷ rest) ≡ printed_for done (with_epochs [] mode (lines_of rest))
+  unfolding text_part ended
+  behind_run rest mode e =
+      by_split done (line ++ 10 ∷ rest) (with_epochs [] mode (lines_of rest)) (ap split_at_run (lines_ended line rest h) ∙ split_run line (lines_of rest) mode e)
+      ∙ ap (λ (x : List ℕ). printed_for x (with_epochs [] mode (lines_of rest))) (append-nil done)
 
-  split-ended : (rest : List ℕ) (s : Session) → mode_of line ≡ none → splitAtRun (lines_of rest) ≡ s → splitAtRun (lines_of (line ++ 10 ∷ rest)) ≡ toText line s
-  split-ended rest s e q = ap splitAtRun (lines-ended line rest h) ∙ split-other line (lines_of rest) e ∙ ap (toText line) q
+  split_ended : (rest : List ℕ) (s : Session) → mode_of line ≡ none → split_at_run (lines_of rest) ≡ s → split_at_run (lines_of (line ++ 10 ∷ rest)) ≡ to_text line s
+  split_ended rest s e q = ap split_at_run (lines_ended line rest h) ∙ split_other line (lines_of rest) e ∙ ap (to_text line) q
 
   regroup : (x : List ℕ) → done ++ (line ++ 10 ∷ x) ≡ (done ++ line ++ 10 ∷ []) ++ x
   regroup x = simp append_assoc
 
-  text_same : (rest : List ℕ) (s : Session) → done ++ textPart (line ++ 10 ∷ rest) (toText line s) ≡ (done ++ line ++ 10 ∷ []) ++ textPart rest s
-  unfolding textPart ended toText
-  text_same rest textOnly = regroup rest
-  text_same rest (withEpochs t mode es) = regroup (ended t)
+  text_same : (rest : List ℕ) (s : Session) → done ++ text_part (line ++ 10 ∷ rest) (to_text line s) ≡ (done ++ line ++ 10 ∷ []) ++ text_part rest s
+  unfolding text_part ended to_text
+  text_same rest text_only = regroup rest
+  text_same rest (with_epochs t mode es) = regroup (ended t)
 
   -- a line more of the text
-  pub behind-line : (rest : List ℕ) → mode_of line ≡ none
-      → printedBehind done (line ++ 10 ∷ rest) ≡ printedBehind (done ++ line ++ 10 ∷ []) rest
-  behind-line rest e =
-      let s : Session = splitAtRun (lines_of rest) in
-      by-split done (line ++ 10 ∷ rest) (toText line s) (split-ended rest s e refl)
-      ∙ to-text (done ++ textPart (line ++ 10 ∷ rest) (toText line s)) line s ∙ ap (λ (x : List ℕ). printedFor x s) (text_same rest s)
-      ∙ sym (by-split (done ++ line ++ 10 ∷ []) rest s refl)
+  pub behind_line_is : (rest : List ℕ) → mode_of line ≡ none
+      → printed_behind done (line ++ 10 ∷ rest) ≡ printed_behind (done ++ line ++ 10 ∷ []) rest
+  behind_line_is rest e =
+      let s : Session = split_at_run (lines_of rest) in
+      by_split done (line ++ 10 ∷ rest) (to_text line s) (split_ended rest s e refl)
+      ∙ to_text_is (done ++ text_part (line ++ 10 ∷ rest) (to_text line s)) line s ∙ ap (λ (x : List ℕ). printed_for x s) (text_same rest s)
+      ∙ sym (by_split (done ++ line ++ 10 ∷ []) rest s refl)
 
-empty-none : mode_of [] ≡ none
-unfolding mode_of is bytes sameBytes
-empty-none = refl
+empty_none : mode_of [] ≡ none
+unfolding mode_of is bytes bytes_equal
+empty_none = refl
 
 -- the input ends in the line
-pub end-run : (done line : List ℕ) (mode : Mode) → OneLine line → mode_of line ≡ some mode → printedBehind done line ≡ printedFor done (withEpochs [] mode [])
-unfolding textPart ended
-end-run done [] mode h e = let z : ◌≡◌ {A = ℕ} 0 1 = cc empty-none in absurd (omega arith)
-end-run done (b ∷ bs) mode h e =
-    by-split done (b ∷ bs) (withEpochs [] mode []) (ap splitAtRun (lines-last b bs h) ∙ split-run (b ∷ bs) [] mode e)
-    ∙ ap (λ (x : List ℕ). printedFor x (withEpochs [] mode [])) (append-nil done)
+pub end_run : (done line : List ℕ) (mode : Mode) → OneLine line → mode_of line ≡ some mode → printed_behind done line ≡ printed_for done (with_epochs [] mode [])
+unfolding text_part ended
+end_run done [] mode h e = let z : ◌≡◌ {A = ℕ} 0 1 = cc empty_none in absurd (omega arith)
+end_run done (b ∷ bs) mode h e =
+    by_split done (b ∷ bs) (with_epochs [] mode []) (ap split_at_run (lines_last b bs h) ∙ split_run (b ∷ bs) [] mode e)
+    ∙ ap (λ (x : List ℕ). printed_for x (with_epochs [] mode [])) (append-nil done)
 
-pub end-text : (done line : List ℕ) → OneLine line → mode_of line ≡ none → printedBehind done line ≡ printedFor (done ++ line) textOnly
-unfolding textPart toText splitAtRun lines_of pieces
-end-text done [] h e = by-split done [] textOnly refl
-end-text done (b ∷ bs) h e =
-    by-split done (b ∷ bs) textOnly (ap splitAtRun (lines-last b bs h) ∙ split-other (b ∷ bs) [] e)
+pub end_text : (done line : List ℕ) → OneLine line → mode_of line ≡ none → printed_behind done line ≡ printed_for (done ++ line) text_only
+unfolding text_part to_text split_at_run lines_of pieces
+end_text done [] h e = by_split done [] text_only refl
+end_text done (b ∷ bs) h e =
+    by_split done (b ∷ bs) text_only (ap split_at_run (lines_last b bs h) ∙ split_other (b ∷ bs) [] e)
 
 -- ---- a text that is too long, whatever follows
 
-text-long : (text : List ℕ) (s : Session) → 32768 < length text → printedFor text s ≡ refusalLine (refusal Fault.TooLong 0)
-unfolding printedFor answersTo readText readBehind inText refusalLine
-text-long text s h = rw (lt-ltb 32768 (length text) h)
+text_long : (text : List ℕ) (s : Session) → 32768 < length text → printed_for text s ≡ refusal_line (refusal Fault.TooLong 0)
+unfolding printed_for answers_to read_text read_text_behind in_text refusal_line
+text_long text s h = rw (lt-ltb 32768 (length text) h)
 
 covers : (line rest : List ℕ) → OneLine line → 10 < length line
-    → length line ≤ length (textPart (line ++ rest) (splitAtRun (lines_of (line ++ rest))))
-unfolding textPart toText ended
+    → length line ≤ length (text_part (line ++ rest) (split_at_run (lines_of (line ++ rest))))
+unfolding text_part to_text ended
 covers [] rest h l = absurd (omega arith)
-covers (b ∷ bs) rest h l = go (splitAtRun (others (lines_of rest))) refl
+covers (b ∷ bs) rest h l = go (split_at_run (others (lines_of rest))) refl
   where
     whole : List ℕ
     whole = (b ∷ bs) ++ first (lines_of rest)
@@ -110,36 +110,36 @@ covers (b ∷ bs) rest h l = go (splitAtRun (others (lines_of rest))) refl
     long : length whole ≡ length (b ∷ bs) + length (first (lines_of rest))
     long = length-append (b ∷ bs) (first (lines_of rest))
 
-    at : (s : Session) → splitAtRun (others (lines_of rest)) ≡ s → splitAtRun (lines_of ((b ∷ bs) ++ rest)) ≡ toText whole s
+    at : (s : Session) → split_at_run (others (lines_of rest)) ≡ s → split_at_run (lines_of ((b ∷ bs) ++ rest)) ≡ to_text whole s
     at s q =
-        ap splitAtRun (lines-begun b bs rest h)
-        ∙ split-other whole (others (lines_of rest)) (long-none whole (omega (arith, long))) ∙ ap (toText whole) q
+        ap split_at_run (lines_begun b bs rest h)
+        ∙ split_other whole (others (lines_of rest)) (long_none whole (omega (arith, long))) ∙ ap (to_text whole) q
 
-    go : (s : Session) → splitAtRun (others (lines_of rest)) ≡ s
-        → length (b ∷ bs) ≤ length (textPart ((b ∷ bs) ++ rest) (splitAtRun (lines_of ((b ∷ bs) ++ rest))))
-    go textOnly q = rw (at textOnly q) (omega (arith, length-append (b ∷ bs) rest))
-    go (withEpochs t mode es) q = rw (at (withEpochs t mode es) q) (omega (arith, long, length-append whole (10 ∷ ended t)))
+    go : (s : Session) → split_at_run (others (lines_of rest)) ≡ s
+        → length (b ∷ bs) ≤ length (text_part ((b ∷ bs) ++ rest) (split_at_run (lines_of ((b ∷ bs) ++ rest))))
+    go text_only q = rw (at text_only q) (omega (arith, length-append (b ∷ bs) rest))
+    go (with_epochs t mode es) q = rw (at (with_epochs t mode es) q) (omega (arith, long, length-append whole (10 ∷ ended t)))
 
 -- more than the full length stands before the line
-pub over-text : (done rest : List ℕ) → 32768 < length done → printedBehind done rest ≡ refusalLine (refusal Fault.TooLong 0)
-over-text done rest l =
-    let s : Session = splitAtRun (lines_of rest) in
-    by-split done rest s refl ∙ text-long (done ++ textPart rest s) s (omega (arith, length-append done (textPart rest s)))
+pub over_text : (done rest : List ℕ) → 32768 < length done → printed_behind done rest ≡ refusal_line (refusal Fault.TooLong 0)
+over_text done rest l =
+    let s : Session = split_at_run (lines_of rest) in
+    by_split done rest s refl ∙ text_long (done ++ text_part rest s) s (omega (arith, length-append done (text_part rest s)))
 
 -- all that is held is full, whatever follows: the line is too long to pick a mode, or stands behind too many bytes
-pub full-text : (done line rest : List ℕ) → OneLine line → length done + length line ≡ 32780
-    → printedBehind done (line ++ rest) ≡ refusalLine (refusal Fault.TooLong 0)
-full-text done line rest h l = by-split done (line ++ rest) s refl ∙ text-long (done ++ textPart (line ++ rest) s) s (go (ltb 32768 (length done)) refl)
+pub full_text : (done line rest : List ℕ) → OneLine line → length done + length line ≡ 32780
+    → printed_behind done (line ++ rest) ≡ refusal_line (refusal Fault.TooLong 0)
+full_text done line rest h l = by_split done (line ++ rest) s refl ∙ text_long (done ++ text_part (line ++ rest) s) s (go (ltb 32768 (length done)) refl)
   where
     s : Session
-    s = splitAtRun (lines_of (line ++ rest))
+    s = split_at_run (lines_of (line ++ rest))
 
-    k : length (done ++ textPart (line ++ rest) s) ≡ length done + length (textPart (line ++ rest) s)
-    k = length-append done (textPart (line ++ rest) s)
+    k : length (done ++ text_part (line ++ rest) s) ≡ length done + length (text_part (line ++ rest) s)
+    k = length-append done (text_part (line ++ rest) s)
 
-    go : (b : Bool) → ltb 32768 (length done) ≡ b → 32768 < length (done ++ textPart (line ++ rest) s)
+    go : (b : Bool) → ltb 32768 (length done) ≡ b → 32768 < length (done ++ text_part (line ++ rest) s)
     go true e = omega (arith, k, ltb-true 32768 (length done) e)
     go false e =
         let n : length done ≤ 32768 = ltb-false 32768 (length done) e in
-        let m : length line ≤ length (textPart (line ++ rest) s) = covers line rest h (omega arith) in
+        let m : length line ≤ length (text_part (line ++ rest) s) = covers line rest h (omega arith) in
         omega (arith, k)

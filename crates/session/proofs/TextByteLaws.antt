@@ -1,208 +1,222 @@
 -- Laws of a byte of the text.
 use Rattle.std.proofs.Common.{◌≡◌, ℕ, ◌+◌, ◌-◌, ◌<◌, ◌≤◌, min, List, [], ◌∷◌, ◌++◌, length, take, set, sym, refl, ap, ◌∙◌, ap₂, arith, length-append, length-drop, length-set, length-take, length-take-le}
-use mathlib.Core.Option.{Option, none, some, or_else}
-use lib.Seq.{take-nil}
+use Rattle.std.proofs.Math.Option.{Option, none, some, or_else}
+use Rattle.std.proofs.Math.Seq.{take-nil}
 use Rattle.policy.specs.Fault.{refusal}
 use Rattle.policy.specs.declared.fault.Fault.{Fault}
 use Rattle.policy.specs.declared.mode.Mode.{Mode}
-use Rattle.report.specs.Report.{refusalLine}
+use Rattle.report.specs.Report.{refusal_line}
 use Rattle.session.specs.Printed.{mode_of}
-use Rattle.session.specs.Owed.{printedBehind, current, Good, Seen, seeByte, TracksIn, Tracks, Took}
-use Rattle.session.specs.Steps.Held.{startingAt, lineBehind, oneMoreHeld, Pushed, room, full}
+use Rattle.session.specs.Owed.{printed_behind, current, Good, Seen, see_byte, TracksIn, Tracks, Took}
+use Rattle.session.specs.Steps.Held.{starting_at, line_behind, one_more_held, Pushed, room, full}
 use Rattle.session.specs.Steps.Ended.{TextEnded}
 use Rattle.session.specs.declared.state.Phase.{Phase}
 use Rattle.session.specs.declared.state.State.{State}
-use Rattle.session.proofs.HeldLaws.{owed-text, fitting-text, as-text, held_more, done-same, done-line, none_left, snoc}
-use Rattle.session.proofs.LineLaws.{empty-line, line-more}
-use Rattle.session.proofs.SeenLaws.{held-grows, held_stays, held-mode, see-end, see-other, tracks-at, at-tracks}
-use Rattle.session.proofs.SplitLaws.{behind-run, behind-line, over-text, full-text}
+use Rattle.session.proofs.GivesLaws.{Byte, took_byte}
+use Rattle.session.proofs.HeldLaws.{owed_text, fitting_text, as_text, held_more, done_same, done_line, none_left, snoc}
+use Rattle.session.proofs.LineLaws.{empty_line, line_more}
+use Rattle.session.proofs.SeenLaws.{held_grows, held_stays, held_mode, see_end, see_other, tracks_at, at_tracks}
+use Rattle.session.proofs.SplitLaws.{behind_run, behind_line_is, over_text, full_text}
 
-line-long : (done line : List ℕ) → 32768 < length done + length line → 32768 < length (done ++ line ++ 10 ∷ [])
-line-long done line h = simp length-append (omega arith)
+line_long : (done line : List ℕ) → 32768 < length done + length line → 32768 < length (done ++ line ++ 10 ∷ [])
+line_long done line h = simp length-append (omega arith)
 
 module _ (s : State) (held image out : List ℕ) (g : Good s held image out) (t : s.phase ≡ Phase.Text) where
   at_most : s.count ≤ 32780
-  at_most = fitting-text s.phase s t g.fitting
+  at_most = fitting_text s.phase s t g.fitting
 
-  pub text-count : s.count ≤ length held
-  text-count = rw g.heldLong at_most
+  pub text_count : s.count ≤ length held
+  text_count = rw g.held_long at_most
 
-  held-length : length (take s.start held) + length (current s held) ≡ s.count
-  held-length =
+  held_length : length (take s.start held) + length (current s held) ≡ s.count
+  held_length =
       let c : s.count ≤ 32780 = at_most in
-      let l : length held ≡ 32780 = g.heldLong in
+      let l : length held ≡ 32780 = g.held_long in
       let o : s.start ≤ s.count = g.ordered in
       simp (length-drop, length-take) (omega arith)
 
   -- what the held part of the line tells
 
-  line-seen : (x : Seen) → TracksIn Phase.Text x s held → (seeByte x 10).ran ≡ mode_of (current s held)
+  line_seen : (x : Seen) → TracksIn Phase.Text x s held → (see_byte x 10).ran ≡ mode_of (current s held)
   unfolding TracksIn or_else
-  line-seen x (ran, line, first) =
-      ap (λ (y : Seen). y.ran) (see-end x) ∙ ap (λ (o : Option Mode). or_else o (mode_of x.tail)) ran
-      ∙ sym (held-mode (32780 - s.start) x.tail (current s held) line (omega (arith, first)))
+  line_seen x (ran, line, first) =
+      ap (λ (y : Seen). y.ran) (see_end x) ∙ ap (λ (o : Option Mode). or_else o (mode_of x.tail)) ran
+      ∙ sym (held_mode (32780 - s.start) x.tail (current s held) line (omega (arith, first)))
 
   -- the next line starts, and nothing of it is held
-  line-tracks : (n : ℕ) (held' : List ℕ) → n ≤ 32769 → mode_of (current s held) ≡ none → (x : Seen) → Tracks x s held → Tracks (seeByte x 10) (startingAt n s) held'
+  line_tracks : (n : ℕ) (held' : List ℕ) → n ≤ 32769 → mode_of (current s held) ≡ none → (x : Seen) → Tracks x s held → Tracks (see_byte x 10) (starting_at n s) held'
   unfolding TracksIn
-  line-tracks n held' k e x h =
-      at-tracks Phase.Text (seeByte x 10) (startingAt n s) held' t (
-        line-seen x (tracks-at Phase.Text x s held t h) ∙ e,
-        none_left held' n ∙ sym (ap (λ (y : Seen). take (32780 - n) y.tail) (see-end x) ∙ take-nil (32780 - n)),
+  line_tracks n held' k e x h =
+      at_tracks Phase.Text (see_byte x 10) (starting_at n s) held' t (
+        line_seen x (tracks_at Phase.Text x s held t h) ∙ e,
+        none_left held' n ∙ sym (ap (λ (y : Seen). take (32780 - n) y.tail) (see_end x) ∙ take-nil (32780 - n)),
         k,
       )
 
-  line-held : length (current s held) ≡ s.count - s.start
-  line-held =
+  pub line_held : length (current s held) ≡ s.count - s.start
+  line_held =
       let c : s.count ≤ 32780 = at_most in
-      let l : length held ≡ 32780 = g.heldLong in
+      let l : length held ≡ 32780 = g.held_long in
       simp (length-drop, length-take) (omega arith)
 
   -- ---- the line that picks a mode
 
-  pub text-run : (mode : Mode) (r : State) (image' out' : List ℕ) → mode_of (current s held) ≡ some mode → TextEnded (take s.start held) mode s out r image' out'
+  pub text_run : (mode : Mode) (r : State) (image' out' : List ℕ) → mode_of (current s held) ≡ some mode → TextEnded (take s.start held) mode s out r image' out'
       → Took s held image out (10 ∷ []) r held image' out'
-  text-run mode r image' out' e ended' =
-      record {
+  text_run mode r image' out' e ended' =
+      took_byte s held image out 10 r held image' out'
+      (record {
         owes = λ rest.
             ended'.owes held rest
-            ∙ sym (owed-text s held image out (10 ∷ rest) t
-            ∙ ap (λ (x : List ℕ). take s.used out ++ x) (behind-run (take s.start held) (current s held) g.oneLine rest mode e));
+            ∙ sym (owed_text s held image out (10 ∷ rest) t
+            ∙ ap (λ (x : List ℕ). take s.used out ++ x) (behind_run (take s.start held) (current s held) g.one_line rest mode e));
         tracks = λ x h.
-            ended'.tracks held (seeByte x 10) (line-seen x (tracks-at Phase.Text x s held t h) ∙ e) (ap (λ (y : Seen). y.tail) (see-end x));
-        good = ended'.good held g.heldLong;
-      }
+            ended'.tracks held (see_byte x 10) (line_seen x (tracks_at Phase.Text x s held t h) ∙ e) (ap (λ (y : Seen). y.tail) (see_end x));
+        open_line = λ n. absurd (n refl);
+        quiet = λ x h q.
+            let z : ◌≡◌ {A = Option Mode} none (some mode) = sym q ∙ line_seen x (tracks_at Phase.Text x s held t h) ∙ e in
+            cc;
+        good = ended'.good held g.held_long;
+      })
 
   -- ---- a byte that is held
 
-  byte-tracks : (b : ℕ) → s.count < 32780 → (b ≡ 10 → ⊥) → {line : List ℕ} → line ≡ current s held ++ b ∷ [] → (x : Seen) → TracksIn Phase.Text x s held
-      → ((seeByte x b).ran ≡ none) × (line ≡ take (32780 - s.start) (seeByte x b).tail) × (s.start ≤ 32769)
+  byte_tracks : (b : ℕ) → s.count < 32780 → (b ≡ 10 → ⊥) → {line : List ℕ} → line ≡ current s held ++ b ∷ [] → (x : Seen) → TracksIn Phase.Text x s held
+      → ((see_byte x b).ran ≡ none) × (line ≡ take (32780 - s.start) (see_byte x b).tail) × (s.start ≤ 32769)
   unfolding TracksIn
-  byte-tracks b c n e x (ran, line, first) = (
-    ap (λ (y : Seen). y.ran) (see-other x b n) ∙ ran,
-    e ∙ held-grows (32780 - s.start) x.tail (current s held) line b (omega (arith, line-held, g.ordered)) ∙ ap (λ (y : Seen). take (32780 - s.start) y.tail) (sym (see-other x b n)),
+  byte_tracks b c n e x (ran, line, first) = (
+    ap (λ (y : Seen). y.ran) (see_other x b n) ∙ ran,
+    e ∙ held_grows (32780 - s.start) x.tail (current s held) line b (omega (arith, line_held, g.ordered)) ∙ ap (λ (y : Seen). take (32780 - s.start) y.tail) (sym (see_other x b n)),
     first,
   )
 
-  text-counted : (b : ℕ) → s.count < 32780 → (b ≡ 10 → ⊥) → Took s held image out (b ∷ []) (oneMoreHeld s) (set held s.count b) image out
+  text_counted : (b : ℕ) → s.count < 32780 → (b ≡ 10 → ⊥) → Byte s held image out b (one_more_held s) (set held s.count b) image out
   unfolding TracksIn
-  text-counted b h' n =
-      let k : s.count < length held = rw g.heldLong h' in
+  text_counted b h' n =
+      let k : s.count < length held = rw g.held_long h' in
       let more = held_more held s.start s.count b g.ordered k in
       record {
         owes = λ rest.
-            owed-text (oneMoreHeld s) (set held s.count b) image out rest t
-            ∙ ap₂ (λ (d : List ℕ) (x : List ℕ). take s.used out ++ printedBehind d x) (done-same held s.start s.count b g.ordered k)
+            owed_text (one_more_held s) (set held s.count b) image out rest t
+            ∙ ap₂ (λ (d : List ℕ) (x : List ℕ). take s.used out ++ printed_behind d x) (done_same held s.start s.count b g.ordered k)
             (ap (λ (x : List ℕ). x ++ rest) more ∙ snoc (current s held) rest b)
-            ∙ sym (owed-text s held image out (b ∷ rest) t);
+            ∙ sym (owed_text s held image out (b ∷ rest) t);
         tracks = λ x h.
-            at-tracks Phase.Text (seeByte x b) (oneMoreHeld s) (set held s.count b) t (byte-tracks b h' n more x (tracks-at Phase.Text x s held t h));
+            at_tracks Phase.Text (see_byte x b) (one_more_held s) (set held s.count b) t (byte_tracks b h' n more x (tracks_at Phase.Text x s held t h));
+        open_line = λ n. refl;
+        quiet = λ x h e. refl;
         good =
             record {
-              heldLong = length-set held s.count b ∙ g.heldLong;
-              imageLong = g.imageLong;
-              outLong = g.outLong;
+              held_long = length-set held s.count b ∙ g.held_long;
+              image_long = g.image_long;
+              out_long = g.out_long;
               ordered = omega (arith, g.ordered);
-              fitting = as-text s.phase (oneMoreHeld s) t (omega arith);
-              oneLine = rw more (line-more (current s held) b g.oneLine n);
+              fitting = as_text s.phase (one_more_held s) t (omega arith);
+              one_line = rw more (line_more (current s held) b g.one_line n);
               sized = g.sized;
               used = g.used;
             };
       }
 
-  line-good : (n : ℕ) (held' : List ℕ) → length held' ≡ 32780 → n ≤ 32780 → Good (startingAt n s) held' image out
-  line-good n held' l k =
+  line_good : (n : ℕ) (held' : List ℕ) → length held' ≡ 32780 → n ≤ 32780 → Good (starting_at n s) held' image out
+  line_good n held' l k =
       record {
-        heldLong = l;
-        imageLong = g.imageLong;
-        outLong = g.outLong;
+        held_long = l;
+        image_long = g.image_long;
+        out_long = g.out_long;
         ordered = omega arith;
-        fitting = as-text s.phase (startingAt n s) t k;
-        oneLine = rw (none_left held' n) empty-line;
+        fitting = as_text s.phase (starting_at n s) t k;
+        one_line = rw (none_left held' n) empty_line;
         sized = g.sized;
         used = g.used;
       }
 
-  line-counted : mode_of (current s held) ≡ none → s.count < 32769
-      → Took s held image out (10 ∷ []) (startingAt (s.count + 1) s) (set held s.count 10) image out
-  line-counted e h =
-      let k : s.count < length held = rw g.heldLong (omega arith) in
+  line_counted : mode_of (current s held) ≡ none → s.count < 32769
+      → Byte s held image out 10 (starting_at (s.count + 1) s) (set held s.count 10) image out
+  line_counted e h =
+      let k : s.count < length held = rw g.held_long (omega arith) in
       record {
         owes = λ rest.
-            owed-text (startingAt (s.count + 1) s) (set held s.count 10) image out rest t
-            ∙ ap₂ (λ (d : List ℕ) (x : List ℕ). take s.used out ++ printedBehind d (x ++ rest))
-            (done-line held s.start s.count 10 g.ordered k) (none_left (set held s.count 10) (s.count + 1))
-            ∙ ap (λ (x : List ℕ). take s.used out ++ x) (sym (behind-line (take s.start held) (current s held) g.oneLine rest e))
-            ∙ sym (owed-text s held image out (10 ∷ rest) t);
-        tracks = line-tracks (s.count + 1) (set held s.count 10) (omega arith) e;
-        good = line-good (s.count + 1) (set held s.count 10) (length-set held s.count 10 ∙ g.heldLong) (omega arith);
+            owed_text (starting_at (s.count + 1) s) (set held s.count 10) image out rest t
+            ∙ ap₂ (λ (d : List ℕ) (x : List ℕ). take s.used out ++ printed_behind d (x ++ rest))
+            (done_line held s.start s.count 10 g.ordered k) (none_left (set held s.count 10) (s.count + 1))
+            ∙ ap (λ (x : List ℕ). take s.used out ++ x) (sym (behind_line_is (take s.start held) (current s held) g.one_line rest e))
+            ∙ sym (owed_text s held image out (10 ∷ rest) t);
+        tracks = line_tracks (s.count + 1) (set held s.count 10) (omega arith) e;
+        open_line = λ n. refl;
+        quiet = λ x h e. refl;
+        good = line_good (s.count + 1) (set held s.count 10) (length-set held s.count 10 ∙ g.held_long) (omega arith);
       }
 
   -- ---- a text that is too long: the same is owed before the byte and behind it
 
-  text-over : (b : ℕ) (r : State) → r.phase ≡ Phase.Text → r.used ≡ s.used
-      → ((rest : List ℕ) → printedBehind (take s.start held) (current s held ++ b ∷ rest) ≡ refusalLine (refusal Fault.TooLong 0))
-      → ((rest : List ℕ) → printedBehind (take r.start held) (current r held ++ rest) ≡ refusalLine (refusal Fault.TooLong 0))
-      → ((x : Seen) → Tracks x s held → Tracks (seeByte x b) r held)
-      → Good r held image out → Took s held image out (b ∷ []) r held image out
-  text-over b r p u before after tracks' g' =
+  text_over : (b : ℕ) (r : State) → r.phase ≡ Phase.Text → r.used ≡ s.used
+      → ((rest : List ℕ) → printed_behind (take s.start held) (current s held ++ b ∷ rest) ≡ refusal_line (refusal Fault.TooLong 0))
+      → ((rest : List ℕ) → printed_behind (take r.start held) (current r held ++ rest) ≡ refusal_line (refusal Fault.TooLong 0))
+      → ((x : Seen) → Tracks x s held → Tracks (see_byte x b) r held)
+      → Good r held image out → Byte s held image out b r held image out
+  text_over b r p u before after tracks' g' =
       record {
         owes = λ rest.
-            owed-text r held image out rest p
+            owed_text r held image out rest p
             ∙ ap₂ (λ (n : ℕ) (x : List ℕ). take n out ++ x) u (after rest ∙ sym (before rest))
-            ∙ sym (owed-text s held image out (b ∷ rest) t);
+            ∙ sym (owed_text s held image out (b ∷ rest) t);
         tracks = tracks';
+        open_line = λ n. ap (λ (n : ℕ). take n out) u;
+        quiet = λ x h e. ap (λ (n : ℕ). take n out) u;
         good = g';
       }
 
-  all-full : 32780 ≤ s.count → (rest : List ℕ) → printedBehind (take s.start held) (current s held ++ rest) ≡ refusalLine (refusal Fault.TooLong 0)
-  all-full h rest =
+  all_full : 32780 ≤ s.count → (rest : List ℕ) → printed_behind (take s.start held) (current s held ++ rest) ≡ refusal_line (refusal Fault.TooLong 0)
+  all_full h rest =
       let c : s.count ≤ 32780 = at_most in
-      full-text (take s.start held) (current s held) rest g.oneLine (held-length ∙ omega arith)
+      full_text (take s.start held) (current s held) rest g.one_line (held_length ∙ omega arith)
 
-  line-over : mode_of (current s held) ≡ none → 32769 ≤ s.count
-      → (rest : List ℕ) → printedBehind (take s.start held) (current s held ++ 10 ∷ rest) ≡ refusalLine (refusal Fault.TooLong 0)
-  line-over e h rest =
-      behind-line (take s.start held) (current s held) g.oneLine rest e
-      ∙ over-text (take s.start held ++ current s held ++ 10 ∷ []) rest (line-long (take s.start held) (current s held) (omega (arith, held-length)))
+  line_over : mode_of (current s held) ≡ none → 32769 ≤ s.count
+      → (rest : List ℕ) → printed_behind (take s.start held) (current s held ++ 10 ∷ rest) ≡ refusal_line (refusal Fault.TooLong 0)
+  line_over e h rest =
+      behind_line_is (take s.start held) (current s held) g.one_line rest e
+      ∙ over_text (take s.start held ++ current s held ++ 10 ∷ []) rest (line_long (take s.start held) (current s held) (omega (arith, held_length)))
 
-  next-over : (rest : List ℕ) → printedBehind (take 32769 held) (current (startingAt 32769 s) held ++ rest) ≡ refusalLine (refusal Fault.TooLong 0)
-  next-over rest =
-      let l : length (take 32769 held) ≡ 32769 = length-take-le 32769 held (rw g.heldLong (omega arith)) in
-      over-text (take 32769 held) (current (startingAt 32769 s) held ++ rest) (omega arith)
+  next_over : (rest : List ℕ) → printed_behind (take 32769 held) (current (starting_at 32769 s) held ++ rest) ≡ refusal_line (refusal Fault.TooLong 0)
+  next_over rest =
+      let l : length (take 32769 held) ≡ 32769 = length-take-le 32769 held (rw g.held_long (omega arith)) in
+      over_text (take 32769 held) (current (starting_at 32769 s) held ++ rest) (omega arith)
 
-  full-tracks : (b : ℕ) → 32780 ≤ s.count → (b ≡ 10 → ⊥) → (x : Seen) → Tracks x s held → Tracks (seeByte x b) s held
+  full_tracks : (b : ℕ) → 32780 ≤ s.count → (b ≡ 10 → ⊥) → (x : Seen) → Tracks x s held → Tracks (see_byte x b) s held
   unfolding TracksIn
-  full-tracks b c n x h = at-tracks Phase.Text (seeByte x b) s held t (go (tracks-at Phase.Text x s held t h))
+  full_tracks b c n x h = at_tracks Phase.Text (see_byte x b) s held t (go (tracks_at Phase.Text x s held t h))
     where
       go : (x.ran ≡ none) × (current s held ≡ take (32780 - s.start) x.tail) × (s.start ≤ 32769)
-          → ((seeByte x b).ran ≡ none) × (current s held ≡ take (32780 - s.start) (seeByte x b).tail) × (s.start ≤ 32769)
+          → ((see_byte x b).ran ≡ none) × (current s held ≡ take (32780 - s.start) (see_byte x b).tail) × (s.start ≤ 32769)
       go (ran, line, first) = (
-        ap (λ (y : Seen). y.ran) (see-other x b n) ∙ ran,
-        held_stays (32780 - s.start) x.tail (current s held) line b (omega (arith, line-held, g.ordered)) ∙ ap (λ (y : Seen). take (32780 - s.start) y.tail) (sym (see-other x b n)),
+        ap (λ (y : Seen). y.ran) (see_other x b n) ∙ ran,
+        held_stays (32780 - s.start) x.tail (current s held) line b (omega (arith, line_held, g.ordered)) ∙ ap (λ (y : Seen). take (32780 - s.start) y.tail) (sym (see_other x b n)),
         first,
       )
 
   -- ---- what the functions do
 
-  pub text-pushed : (b : ℕ) (r : State) (held' : List ℕ) → (b ≡ 10 → ⊥) → Pushed 32780 s b held r held' → Took s held image out (b ∷ []) r held' image out
-  text-pushed b r held' n (room h e k) = rw (e, k) (text-counted b h n)
-  text-pushed b r held' n (full h e k) = rw (e, k) (text-over b s t refl (λ rest. all-full h (b ∷ rest)) (all-full h) (full-tracks b h n) g)
+  pub text_pushed : (b : ℕ) (r : State) (held' : List ℕ) → (b ≡ 10 → ⊥) → Pushed 32780 s b held r held' → Took s held image out (b ∷ []) r held' image out
+  text_pushed b r held' n (room h e k) = rw (e, k) (took_byte _ _ _ _ _ _ _ _ _ (text_counted b h n))
+  text_pushed b r held' n (full h e k) = rw (e, k) (took_byte _ _ _ _ _ _ _ _ _ (text_over b s t refl (λ rest. all_full h (b ∷ rest)) (all_full h) (full_tracks b h n) g))
 
   -- the end of a line that picks none
-  pub text-line : (r : State) (held' : List ℕ) → mode_of (current s held) ≡ none → Pushed 32769 s 10 held r held'
-      → Took s held image out (10 ∷ []) (lineBehind r) held' image out
-  text-line r held' e (room h q k) =
+  pub text_line : (r : State) (held' : List ℕ) → mode_of (current s held) ≡ none → Pushed 32769 s 10 held r held'
+      → Took s held image out (10 ∷ []) (line_behind r) held' image out
+  text_line r held' e (room h q k) =
       let m : min (s.count + 1) 32769 ≡ s.count + 1 = omega arith in
-      rw (q, k, m) (line-counted e h)
-  text-line r held' e (full h q k) =
+      rw (q, k, m) (took_byte _ _ _ _ _ _ _ _ _ (line_counted e h))
+  text_line r held' e (full h q k) =
       let m : min s.count 32769 ≡ 32769 = omega arith in
-      rw (q, k, m) (text-over 10 (startingAt 32769 s) t refl (line-over e h) next-over (line-tracks 32769 held (omega arith) e) (line-good 32769 held g.heldLong (omega arith)))
+      rw (q, k, m)
+      (took_byte _ _ _ _ _ _ _ _ _
+      (text_over 10 (starting_at 32769 s) t refl (line_over e h) next_over (line_tracks 32769 held (omega arith) e) (line_good 32769 held g.held_long (omega arith))))
 
 -- ---- where the next line starts
 
-pub starts-full : (s : State) → 32769 < s.count → startingAt 32769 s ≡ lineBehind s
-starts-full s h = let m : min s.count 32769 ≡ 32769 = omega arith in rw m
+pub starts_full : (s : State) → 32769 < s.count → starting_at 32769 s ≡ line_behind s
+starts_full s h = let m : min s.count 32769 ≡ 32769 = omega arith in rw m
 
-pub starts-behind : (s : State) → s.count ≤ 32769 → startingAt s.count s ≡ lineBehind s
-starts-behind s h = let m : min s.count 32769 ≡ s.count = omega arith in rw m
+pub starts_behind : (s : State) → s.count ≤ 32769 → starting_at s.count s ≡ line_behind s
+starts_behind s h = let m : min s.count 32769 ≡ s.count = omega arith in rw m

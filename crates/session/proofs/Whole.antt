@@ -1,51 +1,62 @@
 -- However the input is cut into chunks and whenever the output is handed out, what all calls of a session hand out together is
 -- what the definition prints for the input. And what the compiler lists is what its definition says.
-use Rattle.std.proofs.Common.{◌≡◌, ℕ, ◌+◌, ◌≤◌, List, [], ◌++◌, length, take, sym, refl, ap, ◌∙◌, append-nil, arith}
-use mathlib.Core.Option.{some}
+use Rattle.std.proofs.Common.{◌≡◌, ℕ, ◌≤◌, List, [], ◌++◌, length, take, sym, ap, ◌∙◌, append_assoc, append-nil, arith}
+use Rattle.std.proofs.Math.Option.{some}
+use mathlib.Core.List.{foldl-append}
 use Rattle.policy.specs.declared.mode.Mode.{Mode}
-use Rattle.acceptance.proofs.Cut.{text-cut, texts-cut}
+use Rattle.acceptance.proofs.Cut.{text_cut, texts_cut}
 use Rattle.output.specs.Buffer.{appended, behind}
-use Rattle.report.specs.Report.{refusalLine, textsRefusalLine}
-use Rattle.session.specs.Listed.{listingOf, listed, listedTexts}
-use Rattle.lexer.specs.Lines.{pieces, lines_of}
-use Rattle.session.specs.Printed.{epochLines, printed}
-use Rattle.session.specs.Owed.{leftIn, owed, Good, Seen, see, nothingSeen, TracksIn, Fed, Finished, Called, begun, fed, handedOut, Reached, startState, emptied}
-use Rattle.session.specs.declared.state.Phase.{Phase}
+use Rattle.report.specs.Report.{refusal_line, texts_refusal_line}
+use Rattle.session.specs.Listed.{listing_of, listed, listed_texts}
+use Rattle.session.specs.Printed.{printed, due}
+use Rattle.session.specs.Owed.{owed, Good, Seen, see_byte, see, nothing_seen, given_for, Fed, Finished, Called, begun, fed, handed_out, Reached, start_state, emptied}
 use Rattle.session.specs.declared.state.State.{State}
-use Rattle.output.proofs.RoomLaws.{put-take}
-use Rattle.session.proofs.ListingLaws.{listed-short, texts-listed-short}
-use Rattle.session.proofs.TookLaws.{Represents, represents-start, represents-took, represents-emptied, represents-all}
+use Rattle.output.proofs.RoomLaws.{put_take}
+use Rattle.stream.proofs.FrontLaws.{cut_before}
+use Rattle.session.proofs.ListingLaws.{listed_short, texts_listed_short}
+use Rattle.session.proofs.EngineLaws.{given_emptied, given_none, start_due}
+use Rattle.session.proofs.GivesLaws.{none_left}
+use Rattle.session.proofs.TookLaws.{Represents, represents_start, represents_took, represents_emptied, represents_all}
 
 -- ---- the engine
 
 represented : {consumed handed held image out : List ℕ} {s : State} → Called consumed handed s held image out → Represents consumed handed s held image out
-represented (begun h i o) = represents-start _ _ _ h i o
-represented (fed chunk taken c f) = represents-took _ _ _ _ _ _ (represented c) (take taken chunk) _ _ _ _ f.took
-represented (handedOut c) = represents-emptied _ _ _ _ _ _ (represented c)
+represented (begun h i o) = represents_start _ _ _ h i o
+represented (fed chunk taken c f) = represents_took _ _ _ _ _ _ (represented c) (take taken chunk) _ _ _ _ f.took
+represented (handed_out c) = represents_emptied _ _ _ _ _ _ (represented c)
 
 -- after the calls, and with what `finish` leaves to be handed out
-pub all-printed : {consumed handed held image out : List ℕ} {s : State} → Called consumed handed s held image out
-    → (r : State) (out' : List ℕ) → Finished s held image out r out' → handed ++ take r.used out' ≡ printed consumed
-all-printed c r out' f = represents-all _ _ _ _ _ _ (represented c) (take r.used out') f.all
+pub all_printed : {consumed handed held image out : List ℕ} {s : State} → Called consumed handed s held image out
+    → (r : State) (image' out' : List ℕ) → Finished s held image out r image' out' → handed ++ take r.used out' ≡ printed consumed
+all_printed c r image' out' f = represents_all _ _ _ _ _ _ (represented c) (take r.used out') f.all
 
--- nothing is left to be printed for lines that have ended
-none_left : {mode : Mode} (p : Phase) (x : Seen) (s : State) (held image : List ℕ) → TracksIn p x s held → x.ran ≡ some mode → x.tail ≡ []
-    → leftIn p s held image [] ≡ []
-unfolding TracksIn leftIn epochLines lines_of pieces
-none_left Phase.Text x s held image (ran, line, first) r e = let z : ◌≡◌ {A = ℕ} 0 1 = cc in absurd (omega arith)
-none_left Phase.Epochs x s held image (ran, line) r e =
-    ap (λ (l : List ℕ). epochLines s.mode (take s.size image) s.epochs (lines_of (l ++ []))) (line ∙ ap (take 1025) e)
-none_left Phase.Over x s held image ran r e = refl
+-- whatever of the input has come, what was handed out and what waits are all that is due
+due_along : {consumed handed held image out : List ℕ} {s : State} → Called consumed handed s held image out → (rest : List ℕ)
+    → due (consumed ++ rest) ≡ handed ++ given_for (see nothing_seen consumed) s held image out rest
+due_along (begun h i o) rest = sym (start_due _ _ _ rest)
+due_along (fed {consumed} {handed} {held} {image} {out} {held'} {image'} {out'} {s} {r} chunk taken c f) rest =
+    let bytes = take taken chunk in
+    ap due (append_assoc consumed bytes rest) ∙ due_along c (bytes ++ rest)
+    ∙ ap (λ (l : List ℕ). handed ++ l)
+    (sym (f.took.gives (see nothing_seen consumed) (represented c).tracks rest)
+    ∙ ap (λ (x : Seen). given_for x r held' image' out' rest) (sym (foldl-append see_byte nothing_seen consumed bytes)))
+due_along (handed_out {consumed} {handed} {held} {image} {out} {s} c) rest =
+    due_along c rest ∙ ap (λ (l : List ℕ). handed ++ l) (given_emptied s held image out (see nothing_seen consumed) rest)
+    ∙ sym (append_assoc handed (take s.used out) (given_for (see nothing_seen consumed) (emptied s) held image out rest))
+
+pub all_due : {consumed handed held image out : List ℕ} {s : State} → Called consumed handed s held image out → handed ++ take s.used out ≡ due consumed
+all_due {consumed} {handed} {held} {image} {out} {s} c =
+    ap (λ (l : List ℕ). handed ++ l) (sym (given_none s held image out (see nothing_seen consumed))) ∙ sym (due_along c []) ∙ ap due (append-nil consumed)
 
 -- the answers are there as soon as they can be: once the line that picks the mode has ended and no line has begun behind the last
 -- line end, all that is printed for the input so far was handed out or waits
-pub answers-wait : {consumed handed held image out : List ℕ} {s : State} {mode : Mode} → Called consumed handed s held image out
-    → (see nothingSeen consumed).ran ≡ some mode → (see nothingSeen consumed).tail ≡ [] → handed ++ take s.used out ≡ printed consumed
+pub answers_wait : {consumed handed held image out : List ℕ} {s : State} {mode : Mode} → Called consumed handed s held image out
+    → (see nothing_seen consumed).ran ≡ some mode → (see nothing_seen consumed).tail ≡ [] → handed ++ take s.used out ≡ printed consumed
 unfolding owed
-answers-wait {consumed} {handed} {held} {image} {out} {s} c r e =
+answers_wait {consumed} {handed} {held} {image} {out} {s} c r e =
     let w = represented c in
     ap (λ (l : List ℕ). handed ++ l)
-    (sym (append-nil (take s.used out)) ∙ ap (λ (l : List ℕ). take s.used out ++ l) (sym (none_left s.phase (see nothingSeen consumed) s held image w.tracks r e)))
+    (sym (append-nil (take s.used out)) ∙ ap (λ (l : List ℕ). take s.used out ++ l) (sym (none_left s.phase (see nothing_seen consumed) s held image w.tracks r e)))
     ∙ sym (w.whole []) ∙ ap printed (append-nil consumed)
 
 -- `feed` and `finish` may be called
@@ -54,37 +65,44 @@ callable s held image out c = (represented c.calls).good
 
 -- ---- the calls of a loop that feeds chunks and hands out what waits
 
-pub reached-start : (held image out : List ℕ) → length held ≡ 32780 → length image ≡ 13064 → length out ≡ 65536 → Reached startState held image out
-reached-start held image out h i o = record { consumed = []; handed = []; calls = begun h i o }
+pub reached_start : (held image out : List ℕ) → length held ≡ 32780 → length image ≡ 13064 → length out ≡ 65536 → Reached start_state held image out
+reached_start held image out h i o = record { consumed = []; handed = []; calls = begun h i o }
 
-pub reached-fed : (s : State) (held image out chunk : List ℕ) (taken : ℕ) (r : State) (held' image' out' : List ℕ)
+pub reached_fed : (s : State) (held image out chunk : List ℕ) (taken : ℕ) (r : State) (held' image' out' : List ℕ)
     → Reached s held image out → Fed s held image out chunk taken r held' image' out' → Reached (emptied r) held' image' out'
-reached-fed s held image out chunk taken r held' image' out' c f =
-    record { consumed = c.consumed ++ take taken chunk; handed = c.handed ++ take r.used out'; calls = handedOut (fed chunk taken c.calls f) }
+reached_fed s held image out chunk taken r held' image' out' c f =
+    record { consumed = c.consumed ++ take taken chunk; handed = c.handed ++ take r.used out'; calls = handed_out (fed chunk taken c.calls f) }
 
-pub fed-room : (s : State) (held image out chunk : List ℕ) (taken : ℕ) (r : State) (held' image' out' : List ℕ)
+pub fed_room : (s : State) (held image out chunk : List ℕ) (taken : ℕ) (r : State) (held' image' out' : List ℕ)
     → Fed s held image out chunk taken r held' image' out' → r.used ≤ length out'
-fed-room s held image out chunk taken r held' image' out' f = let g = f.took.good in rw g.outLong g.used
+fed_room s held image out chunk taken r held' image' out' f = let g = f.took.good in rw g.out_long g.used
 
 -- ---- the compiler
 
 -- a buffer of 29,394 bytes has room for every listing, which then stands at its start
-pub listing-whole : (text out after : List ℕ) (end : ℕ) → 29394 ≤ length out
+pub listing_whole : (text out after : List ℕ) (end : ℕ) → 29394 ≤ length out
     → (end ≡ behind out 0 (listed text)) × (after ≡ appended out 0 (listed text)) → take end after ≡ listed text
-listing-whole text out after end room p = put-take out 0 (listed text) after end (omega (arith, listed-short text)) p
+listing_whole text out after end room p = put_take out 0 (listed text) after end (omega (arith, listed_short text)) p
 
 -- of an input over the length of a text 32,769 bytes are enough
-pub listing-cut : (input : List ℕ) → listed (take 32769 input) ≡ listed input
+pub listing_cut : (input : List ℕ) → listed (take 32769 input) ≡ listed input
 unfolding listed
-listing-cut input = ap (listingOf refusalLine) (text-cut input)
+listing_cut input = ap (listing_of refusal_line) (text_cut input)
+
+-- so the first 32,769 bytes of what was read are kept
+pub listing_kept : (kept chunk next rest : List ℕ) → next ≡ take 32769 (kept ++ chunk) → listed (kept ++ (chunk ++ rest)) ≡ listed (next ++ rest)
+listing_kept kept chunk next rest e =
+    ap listed (sym (append_assoc kept chunk rest)) ∙ sym (listing_cut ((kept ++ chunk) ++ rest))
+    ∙ ap listed (sym (cut_before 32769 (kept ++ chunk) rest)) ∙ listing_cut (take 32769 (kept ++ chunk) ++ rest)
+    ∙ ap (λ (l : List ℕ). listed (l ++ rest)) (sym e)
 
 -- ---- the compiler on two texts
 
-pub texts-listing-whole : (maker site out after : List ℕ) (end : ℕ) → 29394 ≤ length out
-    → (end ≡ behind out 0 (listedTexts maker site)) × (after ≡ appended out 0 (listedTexts maker site)) → take end after ≡ listedTexts maker site
-texts-listing-whole maker site out after end room p = put-take out 0 (listedTexts maker site) after end (omega (arith, texts-listed-short maker site)) p
+pub texts_listing_whole : (maker site out after : List ℕ) (end : ℕ) → 29394 ≤ length out
+    → (end ≡ behind out 0 (listed_texts maker site)) × (after ≡ appended out 0 (listed_texts maker site)) → take end after ≡ listed_texts maker site
+texts_listing_whole maker site out after end room p = put_take out 0 (listed_texts maker site) after end (omega (arith, texts_listed_short maker site)) p
 
 -- and so they are of each
-pub texts-listing-cut : (maker site : List ℕ) → listedTexts (take 32769 maker) (take 32769 site) ≡ listedTexts maker site
-unfolding listedTexts
-texts-listing-cut maker site = ap (listingOf textsRefusalLine) (texts-cut maker site)
+pub texts_listing_cut : (maker site : List ℕ) → listed_texts (take 32769 maker) (take 32769 site) ≡ listed_texts maker site
+unfolding listed_texts
+texts_listing_cut maker site = ap (listing_of texts_refusal_line) (texts_cut maker site)

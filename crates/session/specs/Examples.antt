@@ -3,8 +3,8 @@
 use Rattle.std.specs.Prelude.{ℕ, List, [], ◌∷◌}
 use Prim.Native.String.{String}
 use Rattle.lexer.specs.Byte.{bytes}
-use Rattle.session.specs.Listed.{listed, listedTexts}
-use Rattle.session.specs.Printed.{printed}
+use Rattle.session.specs.Listed.{listed, listed_texts}
+use Rattle.session.specs.Printed.{printed, due}
 
 pub record Example : Type 0 where
   pub input : String
@@ -46,6 +46,23 @@ sessions =
     ∷ row "run events" ""
     ∷ []
 
+-- what is due where more may follow
+unfoldable pub dues : List Example
+dues =
+    -- a text is not answered, and the line that ends it only once it has ended
+    row "" ""
+    ∷ row "E1 causes A1\nE1" ""
+    ∷ row "E1 causes A1\nE1 causes\nrun" ""
+    ∷ row "E1 causes A1\nE1 causes\nrun\n" "refused 2 line 2\n"
+    ∷ row "E1 causes A1\nE1 causes\nrun events\nE1\nE2" "refused 2 line 2\n"
+    -- each epoch line once it has ended
+    ∷ row "run\n" ""
+    ∷ row "run\nE1" ""
+    ∷ row "run\nE1\n" "1 accept - cancel - words 0\n"
+    ∷ row "run\nrun\n\nE1" "1 refused 12 words 0\n2 accept - cancel - words 0\n"
+    ∷ row "E1 & !E2 causes A3 if R0 > 40\nE3 causes A4\nnever A3 & A4\nrun\nE1 E3 R0=41\nE1 E3 R0=4" "1 accept A3 cancel A4 words 12\n"
+    ∷ []
+
 unfoldable pub listings : List Example
 listings =
     row "E1 & !E2 causes A3 if R0 > 40\nE3 causes A4\nnever A3 & A4\n"
@@ -64,8 +81,8 @@ pub record TextsExample : Type 0 where
 abbrev texts : String → String → String → TextsExample
 texts m s o = record { maker = m; site = s; output = o }
 
-unfoldable pub textsListings : List TextsExample
-textsListings =
+unfoldable pub texts_listings : List TextsExample
+texts_listings =
     -- the worked text, a rule of it from the site; the maker's last line lacks its end
     texts "E1 & !E2 causes A3 if R0 > 40\nnever A3 & A4" "E3 causes A4\n"
     "01007003\n10400004\n20800003\n30008001\n00000028\n50C00000\n10C00001\n51000000\n60C00002\n61000001\n70000000\nB9FF0FC9\n"
@@ -78,11 +95,14 @@ textsListings =
 unfoldable pub expected : Example → List ℕ
 expected x = bytes x.output
 
-unfoldable pub sessionPrinted : Example → List ℕ
-sessionPrinted x = printed (bytes x.input)
+unfoldable pub session_printed : Example → List ℕ
+session_printed x = printed (bytes x.input)
 
-unfoldable pub textListed : Example → List ℕ
-textListed x = listed (bytes x.input)
+unfoldable pub session_due : Example → List ℕ
+session_due x = due (bytes x.input)
 
-unfoldable pub textsListed : TextsExample → List ℕ
-textsListed x = listedTexts (bytes x.maker) (bytes x.site)
+unfoldable pub text_listed : Example → List ℕ
+text_listed x = listed (bytes x.input)
+
+unfoldable pub texts_listed : TextsExample → List ℕ
+texts_listed x = listed_texts (bytes x.maker) (bytes x.site)

@@ -3,5 +3,9 @@
 pub mod Printed
 pub mod Listed
 pub mod Owed
+pub mod Kept
+pub mod Engine
+pub mod Compiler
+pub mod Texts
 pub mod Steps
 pub mod Examples

@@ -1,15 +1,16 @@
 -- Document 01, "The two programs", and document 02, L4 and L7: what the engine prints for all of its input.
-use Rattle.std.specs.Prelude.{ℕ, ◌+◌, ◌%◌, ◌^◌, cond, List, [], ◌∷◌, ◌++◌}
-use Rattle.std.proofs.Math.Option.{Option, none, some, Option·elim}
+use Rattle.std.specs.Prelude.{ℕ, ◌+◌, ◌%◌, ◌^◌, Bool, true, false, cond, List, [], ◌∷◌, ◌++◌}
+use Rattle.std.proofs.Math.Option.{Option, none, some, Option-elim}
 use Rattle.policy.specs.declared.mode.Mode.{Mode}
 use Rattle.lexer.specs.Byte.{is}
 use Rattle.lexer.specs.Lines.{lines_of}
-use Rattle.rule_text.specs.Text.{Progress, reading, stopped, readText}
+use Rattle.rule_text.specs.Text.{Progress, reading, stopped, read_text}
 use Rattle.layout.specs.Layout.{image_of}
-use Rattle.codegen.specs.Compile.{newestForm}
-use Rattle.monitor.specs.Decision.{decisionIn}
+use Rattle.codegen.specs.Compile.{newest_form}
+use Rattle.monitor.specs.Decision.{decision_in}
 use Rattle.monitor.specs.declared.decision.Decision.{Decision}
-use Rattle.report.specs.Report.{refusalLine, acceptLine, refusedLine}
+use Rattle.stream.specs.Lines.{due_by_lines}
+use Rattle.report.specs.Report.{refusal_line, accept_line, refused_line}
 
 -- ---- "A line `run events` in place of `run` picks this mode."
 
@@ -19,26 +20,26 @@ mode_of line = cond (is "run" line) (some Mode.Actions) (cond (is "run events" l
 -- ---- "The first line of exactly these three bytes ends the text; without one all input is text." The ten of `run events` likewise.
 
 pub data Session : Type 0 where
-  textOnly : Session
+  text_only : Session
   -- the lines of the text, the mode that the line behind it picks, and the epoch lines
-  withEpochs : List (List ℕ) → Mode → List (List ℕ) → Session
+  with_epochs : List (List ℕ) → Mode → List (List ℕ) → Session
 
-unfoldable pub toText : List ℕ → Session → Session
-toText line textOnly = textOnly
-toText line (withEpochs text mode epochs) = withEpochs (line ∷ text) mode epochs
+unfoldable pub to_text : List ℕ → Session → Session
+to_text line text_only = text_only
+to_text line (with_epochs text mode epochs) = with_epochs (line ∷ text) mode epochs
 
-unfoldable pub splitAtRun : List (List ℕ) → Session
-splitAtRun [] = textOnly
-splitAtRun (line ∷ lines) = Option·elim (mode_of line) (toText line (splitAtRun lines)) (λ mode. withEpochs [] mode lines)
+unfoldable pub split_at_run : List (List ℕ) → Session
+split_at_run [] = text_only
+split_at_run (line ∷ lines) = Option-elim (mode_of line) (to_text line (split_at_run lines)) (λ mode. with_epochs [] mode lines)
 
 -- lines with their line ends
 unfoldable pub ended : List (List ℕ) → List ℕ
 ended [] = []
 ended (line ∷ lines) = line ++ 10 ∷ ended lines
 
-unfoldable pub textPart : List ℕ → Session → List ℕ
-textPart input textOnly = input
-textPart input (withEpochs text mode epochs) = ended text
+unfoldable pub text_part : List ℕ → Session → List ℕ
+text_part input text_only = input
+text_part input (with_epochs text mode epochs) = ended text
 
 -- ---- one line for each epoch
 
@@ -46,26 +47,38 @@ textPart input (withEpochs text mode epochs) = ended text
 abbrev pub next : ℕ → ℕ
 next n = (n + 1) % 2 ^ 64
 
-unfoldable pub decisionLine : ℕ → Decision → List ℕ
-decisionLine n (Decision.Refused r) = refusedLine n r.fault
-decisionLine n (Decision.Issued actions) = acceptLine n actions.accepted actions.cancelled actions.visited
+unfoldable pub decision_line : ℕ → Decision → List ℕ
+decision_line n (Decision.Refused r) = refused_line n r.fault
+decision_line n (Decision.Issued actions) = accept_line n actions.accepted actions.cancelled actions.visited
 
 -- after n epochs
-unfoldable pub epochLines : Mode → List ℕ → ℕ → List (List ℕ) → List ℕ
-epochLines mode image n [] = []
-epochLines mode image n (line ∷ lines) = decisionLine (next n) (decisionIn mode image line) ++ epochLines mode image (next n) lines
+unfoldable pub epoch_lines : Mode → List ℕ → ℕ → List (List ℕ) → List ℕ
+epoch_lines mode image n [] = []
+epoch_lines mode image n (line ∷ lines) = decision_line (next n) (decision_in mode image line) ++ epoch_lines mode image (next n) lines
 
 -- ---- "A refused text prints its refusal line and nothing else."
 
-unfoldable pub answersTo : Progress → Session → List ℕ
-answersTo (stopped r) s = refusalLine r
-answersTo (reading n policy) textOnly = []
-answersTo (reading n policy) (withEpochs text mode epochs) = epochLines mode (image_of newestForm policy) 0 epochs
+unfoldable pub answers_to : Progress → Session → List ℕ
+answers_to (stopped r) s = refusal_line r
+answers_to (reading n policy) text_only = []
+answers_to (reading n policy) (with_epochs text mode epochs) = epoch_lines mode (image_of newest_form policy) 0 epochs
 
 -- the bytes of the text are told apart from its lines, of which the last may lack its end
-unfoldable pub printedFor : List ℕ → Session → List ℕ
-printedFor text s = answersTo (readText text) s
+unfoldable pub printed_for : List ℕ → Session → List ℕ
+printed_for text s = answers_to (read_text text) s
 
 -- the whole: all bytes of the input to all bytes of the output
 unfoldable pub printed : List ℕ → List ℕ
-printed input = let s : Session = splitAtRun (lines_of input) in printedFor (textPart input s) s
+printed input = let s : Session = split_at_run (lines_of input) in printed_for (text_part input s) s
+
+-- ---- before the input has ended: nothing, and once a line that picks a mode has ended, what is printed for the lines that have
+
+abbrev pub has_epochs : Session → Bool
+has_epochs text_only = false
+has_epochs (with_epochs text mode epochs) = true
+
+abbrev pub runs : List ℕ → Bool
+runs lines = has_epochs (split_at_run (lines_of lines))
+
+unfoldable pub due : List ℕ → List ℕ
+due input = due_by_lines runs printed [] input

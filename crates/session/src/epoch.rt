@@ -4,6 +4,7 @@ ghost use Rattle.session.specs.Owed.{Good, Room, Took};
 ghost use Rattle.session.specs.Steps.Ended.{LineEnded};
 ghost use Rattle.session.specs.declared.state.Phase.{Phase};
 
+use crate::page::{put_accept, put_refused};
 use crate::state::{HELD_SIZE, LINE_HELD, OUT_SIZE, State, push};
 use image::IMAGE_SIZE;
 use monitor::Decision;
@@ -28,10 +29,10 @@ pub(crate) fn end_line(state: State, held: &[u8], image: &[u8], out: &mut [u8; O
     match decision {
         Decision::Refused(refusal) => {
             let fault = refusal.fault;
-            next.used = report::put_refused(out, state.used, next.epochs, fault);
+            next.used = put_refused(out, state.used, next.epochs, fault);
         }
         Decision::Issued(actions) => {
-            next.used = report::put_accept(
+            next.used = put_accept(
                 out,
                 state.used,
                 next.epochs,

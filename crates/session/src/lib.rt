@@ -1,15 +1,22 @@
 // What the compiler and the engine print: from all bytes of the input to all bytes of the output. The engine's session takes its
 // input in chunks of any size and its caller hands the output out whenever it likes. Start with specs/Printed.antt; the compiler's
 // is specs/Listed.antt.
+#![tactic(auto)]
+
+mod compiler;
+mod engine;
 mod epoch;
 mod listing;
 mod mode;
+mod page;
 mod state;
 mod text;
 
 ghost use Rattle.std.specs.Prelude.{◌≡◌, [], ◌∷◌};
-ghost use Rattle.session.specs.Owed.{startState, emptied, Good, Room, Took, Fed, Finished};
+ghost use Rattle.session.specs.Owed.{start_state, emptied, Good, Room, Took, Fed, Finished};
 
+pub use compiler::{TextsFailure, list_input, list_texts};
+pub use engine::{Engine, answer_epochs};
 use epoch::{end_line, line_byte};
 pub use image::IMAGE_SIZE;
 pub use listing::{LISTING_SIZE, put_listing, put_texts_listing};
@@ -21,7 +28,7 @@ use text::{at_run, end_text, text_byte};
 
 // Before any input.
 pub fn begin() -> State
-    ensures { result ≡ startState }
+    ensures { result ≡ start_state }
 {
     State {
         phase: Phase::Text,
@@ -63,7 +70,7 @@ fn step(
 }
 
 // How many bytes of a chunk were taken, and the state behind them.
-#[derive(Drop)]
+#[derive(Clone, Copy)]
 pub struct Taken {
     pub state: State,
     pub taken: usize,
@@ -101,7 +108,7 @@ pub fn finish(
 ) -> State
     requires good { Good state held.now image.old out.old }
     requires room { Room state }
-    ensures { Finished state held.now image.old out.old result out.new }
+    ensures { Finished state held.now image.old out.old result image.new out.new }
 {
     let phase = state.phase;
     match phase {

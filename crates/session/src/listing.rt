@@ -3,23 +3,32 @@ ghost use Rattle.std.specs.Prelude.{◌≡◌};
 ghost use Rattle.io.specs.Counts.{IsPrefixLen};
 ghost use Rattle.word.specs.Word.{words_of};
 ghost use Rattle.output.specs.Buffer.{appended, behind};
-ghost use Rattle.session.specs.Listed.{wordLines, listed, listedTexts};
+ghost use Rattle.output.specs.Sink.{fed};
+ghost use Rattle.session.specs.Listed.{word_lines, listed, listed_texts};
 
+use crate::page::{put_refusal, put_texts_refusal};
 use codegen::Compiled;
 use image::IMAGE_SIZE;
+use output::{Page, Sink};
 
 // The words of an image, each a line.
-fn put_image(image: &[u8], out: &mut [u8]) -> usize
-    ensures answer { result ≡ behind out.old 0 (wordLines (words_of image.now)) }
-    ensures buffer { out.new ≡ appended out.old 0 (wordLines (words_of image.now)) }
+fn put_words<S: Sink>(sink: &mut S, image: &[u8])
+    ensures { sink.new ≡ fed S.taken sink.old (word_lines (words_of image.now)) }
 {
-    let mut end = 0;
-    let mut i = 0;
-    while i < image.len() / 4 {
-        end = report::put_word_line(out, end, word::word_at(image, i));
-        i += 1;
+    for i in 0..image.len() / 4 {
+        report::put_word_line(sink, word::word_at(image, i));
     }
-    end
+}
+
+// The same at the start of a buffer; the answer is where they end.
+#[tactic(auto, using(output::proofs::SinkLaws::stored_all, output::proofs::AppendLaws::append_clipped), unfolding(output::specs::Buffer::behind))]
+fn put_image(image: &[u8], out: &mut [u8]) -> usize
+    ensures answer { result ≡ behind out.old 0 (word_lines (words_of image.now)) }
+    ensures buffer { out.new ≡ appended out.old 0 (word_lines (words_of image.now)) }
+{
+    let mut page = Page { bytes: out, end: 0 };
+    put_words(&mut page, image);
+    page.end
 }
 
 // The longest listing: the largest image has 3,266 words, a line of nine bytes each.
@@ -34,7 +43,7 @@ pub fn put_listing(text: &[u8], out: &mut [u8]) -> usize
     let mut image = [0u8; IMAGE_SIZE];
     let compiled = codegen::compile(text, &mut image);
     match compiled {
-        Compiled::Refused(refusal) => report::put_refusal(out, 0, refusal),
+        Compiled::Refused(refusal) => put_refusal(out, 0, refusal),
         Compiled::Image(size) => put_image(&image[..size], out),
     }
 }
@@ -42,13 +51,13 @@ pub fn put_listing(text: &[u8], out: &mut [u8]) -> usize
 // What the compiler prints for the maker's and the site's text as one.
 pub fn put_texts_listing(maker: &[u8], site: &[u8], out: &mut [u8]) -> usize
     ensures prefix_len { IsPrefixLen result out.new }
-    ensures answer { result ≡ behind out.old 0 (listedTexts maker.now site.now) }
-    ensures buffer { out.new ≡ appended out.old 0 (listedTexts maker.now site.now) }
+    ensures answer { result ≡ behind out.old 0 (listed_texts maker.now site.now) }
+    ensures buffer { out.new ≡ appended out.old 0 (listed_texts maker.now site.now) }
 {
     let mut image = [0u8; IMAGE_SIZE];
     let compiled = codegen::compile_texts(maker, site, &mut image);
     match compiled {
-        Compiled::Refused(refusal) => report::put_texts_refusal(out, 0, refusal),
+        Compiled::Refused(refusal) => put_texts_refusal(out, 0, refusal),
         Compiled::Image(size) => put_image(&image[..size], out),
     }
 }

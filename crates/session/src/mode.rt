@@ -1,13 +1,13 @@
 // The lines that end the text: each picks a mode.
 ghost use Rattle.std.specs.Prelude.{◌≡◌};
-ghost use Rattle.lexer.specs.Byte.{sameBytes};
+ghost use Rattle.lexer.specs.Byte.{bytes_equal};
 ghost use Rattle.session.specs.Printed.{mode_of};
-ghost use Rattle.session.specs.Steps.Picked.{modeIn};
+ghost use Rattle.session.specs.Steps.Picked.{mode_in};
 
 use policy::Mode;
 
 // What a line picks.
-#[derive(Drop)]
+#[derive(Clone, Copy)]
 pub(crate) enum Picked {
     Mode(Mode),
     Nothing,
@@ -15,7 +15,7 @@ pub(crate) enum Picked {
 
 // Whether a line is this word.
 fn same_bytes(line: &[u8], word: &[u8]) -> bool
-    ensures { result ≡ sameBytes line.now word.now }
+    ensures { result ≡ bytes_equal line.now word.now }
 {
     if line.len() != word.len() {
         return false;
@@ -32,7 +32,7 @@ fn same_bytes(line: &[u8], word: &[u8]) -> bool
 
 // The mode that a line picks, if it is `run` or `run events`.
 pub(crate) fn pick_mode(line: &[u8]) -> Picked
-    ensures { modeIn result ≡ mode_of line.now }
+    ensures { mode_in result ≡ mode_of line.now }
 {
     if same_bytes(line, b"run") {
         return Picked::Mode(Mode::Actions);

@@ -20,7 +20,7 @@ pub const OUT_SIZE: usize = 65536;
 pub(crate) const ROOM_LIMIT: usize = 65024;
 
 // What is being read: the text, epoch lines, or, once the text is refused, nothing that counts.
-#[derive(Drop)]
+#[derive(Clone, Copy)]
 pub enum Phase {
     Text,
     Epochs,
@@ -29,7 +29,7 @@ pub enum Phase {
 
 // `count` bytes are held, of the text or of the epoch line; the current line starts at `start`. `epochs` were decided in `mode`,
 // which does not matter before the text has ended, on an image of `size` bytes. `used` bytes of output wait.
-#[derive(Drop)]
+#[derive(Clone, Copy)]
 pub struct State {
     pub phase: Phase,
     pub mode: Mode,

@@ -2,12 +2,13 @@
 ghost use Rattle.std.specs.Prelude.{◌≡◌, ◌≤◌, [], ◌∷◌, length, take};
 ghost use Rattle.session.specs.Printed.{mode_of};
 ghost use Rattle.session.specs.Owed.{current, Good, Room, Took};
-ghost use Rattle.session.specs.Steps.Held.{lineBehind};
-ghost use Rattle.session.specs.Steps.Picked.{modeIn};
+ghost use Rattle.session.specs.Steps.Held.{line_behind};
+ghost use Rattle.session.specs.Steps.Picked.{mode_in};
 ghost use Rattle.session.specs.Steps.Ended.{TextEnded};
 ghost use Rattle.session.specs.declared.state.Phase.{Phase};
 
 use crate::mode::{Picked, pick_mode};
+use crate::page::put_refusal;
 use crate::state::{HELD_SIZE, OUT_SIZE, Phase, State, TEXT_HELD, push};
 use codegen::Compiled;
 use image::IMAGE_SIZE;
@@ -17,7 +18,7 @@ use policy::Mode;
 pub(crate) fn at_run(state: State, held: &[u8]) -> Picked
     requires ordered { state.start ≤ state.count }
     requires inside { state.count ≤ length held.now }
-    ensures { modeIn result ≡ mode_of (current state held.now) }
+    ensures { mode_in result ≡ mode_of (current state held.now) }
 {
     let start = state.start;
     let count = state.count;
@@ -48,7 +49,7 @@ pub(crate) fn end_text(
             count: 0,
             epochs: 0,
             size: 0,
-            used: report::put_refusal(out, state.used, refusal),
+            used: put_refusal(out, state.used, refusal),
         },
         Compiled::Image(size) => State {
             phase: Phase::Epochs,
@@ -65,7 +66,7 @@ pub(crate) fn end_text(
 // The next line starts behind what is held. 32,769 bytes tell that a text is too long: the lines behind them are held one over
 // the other.
 fn line_behind(state: State) -> State
-    ensures { result ≡ lineBehind state }
+    ensures { result ≡ line_behind state }
 {
     let mut next = state;
     if TEXT_HELD < next.count {

@@ -1,184 +1,180 @@
 -- Laws of reading the heads of a line, one after another.
-use Prim.Native.Nat.{ℕ, ◌<◌}
-use mathlib.Core.Bool.{Bool, true, false, ◌&&◌, cond, and_assoc, and-true}
-use mathlib.Core.List.{List, [], ◌∷◌}
-use mathlib.Core.Option.{Option, none, some, map}
-use mathlib.Core.Path.{◌≡◌, refl, sym, ap, ap₂, ◌∙◌}
-use native.Mathlib.Omega.{arith}
-use lib.ListN.{length}
-use Rattle.line_value.specs.Steps.Push.{pushItem, pushCount}
-use Rattle.line_value.specs.Value.{head, padded, noHead}
-use Rattle.policy.specs.Limits.{headLimit}
+use Rattle.std.proofs.Common.{ℕ, ◌<◌, Bool, true, false, ◌&&◌, cond, List, [], ◌∷◌, ◌≡◌, refl, sym, ap, ap₂, ◌∙◌, arith, length}
+use Rattle.std.proofs.Math.Bool.{and_assoc, and-true}
+use Rattle.std.proofs.Math.Option.{Option, none, some, map}
+use Rattle.line_value.specs.Steps.Push.{push_item, push_count}
+use Rattle.line_value.specs.Value.{head, padded, no_head}
+use Rattle.policy.specs.Limits.{head_limit}
 use Rattle.policy.specs.List.{all}
 use Rattle.policy.specs.declared.line.Head.{Head}
 use Rattle.policy.specs.declared.line.Test.{Test}
-use Rattle.lexer.proofs.TokenLaws.{tokens-after-spaces, tokens-first, tokens-ended, line-past-spaces, line-past-token}
-use Rattle.lexer.proofs.WhileLaws.{skip-ge}
-use Rattle.lexer.proofs.KeywordLaws.{token-inside, skip-grows, word-token, word-absent}
-use Rattle.lexer.specs.Byte.{bytes, sameBytes, is, isSpace}
-use Rattle.lexer.specs.Token.{Token, both, literalOf, actionOf, named}
+use Rattle.lexer.proofs.TokenLaws.{tokens_after_spaces, tokens_first, tokens_ended, line_past_spaces, line_past_token}
+use Rattle.lexer.proofs.WhileLaws.{skip_ge}
+use Rattle.lexer.proofs.KeywordLaws.{token_inside, skip_grows, word_token, word_absent}
+use Rattle.lexer.specs.Byte.{bytes, bytes_equal, is, is_space}
+use Rattle.lexer.specs.Token.{Token, both, literal_of, action_of, named}
 use Rattle.syntax.specs.Grammar.{Joined, last, before, joined}
 use Rattle.lexer.specs.Number.{is_empty}
-use Rattle.syntax.proofs.FillLaws.{filled, filledCount, filled-all, filled-count-all}
-use Rattle.syntax.specs.Steps.Outcome.{HeadsRead, view_of, smallHeads, headsOutcome}
-use Rattle.token.specs.Steps.PartAt.{testInRange, smallTest, test_of, headEnding, headAt}
-use Rattle.lexer.specs.Steps.Scan.{inToken, tokenAt, keywordAt, tokensAt}
-use Rattle.lexer.specs.Lines.{skipWhile, lineEnd}
+use Rattle.syntax.proofs.FillLaws.{filled, filled_count, filled_all, filled_count_all}
+use Rattle.syntax.specs.Steps.Outcome.{HeadsRead, view_of, small_heads, heads_outcome}
+use Rattle.token.specs.Steps.PartAt.{test_in_range, small_test, test_of, head_ending, head_at}
+use Rattle.lexer.specs.Steps.Scan.{in_token, token_at, keyword_at, tokens_at}
+use Rattle.lexer.specs.Lines.{skip_while, line_end}
 use Rattle.lexer.specs.declared.scan.KeywordAt.{KeywordAt}
 use Rattle.token.specs.declared.HeadAt.{HeadAt}
 
 -- ---- items joined by `&`
 
 module _ {A : Type 0} (item : Token → Option A) (t : Token) where
-  joined-bad : item t ≡ none → (ts : List Token) → joined item (t ∷ ts) ≡ none
+  joined_bad : item t ≡ none → (ts : List Token) → joined item (t ∷ ts) ≡ none
   unfolding joined both
-  joined-bad e [] = rw e
-  joined-bad e (s ∷ ts) = rw e (go (is "&" s))
+  joined_bad e [] = rw e
+  joined_bad e (s ∷ ts) = rw e (go (is "&" s))
     where
       go : (b : Bool) → ◌≡◌ {A = Option (Joined A)} (cond b none none) none
       go true = refl
       go false = refl
 
   module _ (x : A) (e : item t ≡ some x) where
-    joined-more : (s : Token) (ts : List Token) → is "&" s ≡ true → joined item (t ∷ s ∷ ts) ≡ map (before x) (joined item ts)
+    joined_more : (s : Token) (ts : List Token) → is "&" s ≡ true → joined item (t ∷ s ∷ ts) ≡ map (before x) (joined item ts)
     unfolding joined both
-    joined-more s ts h = rw (h, e) (go (joined item ts))
+    joined_more s ts h = rw (h, e) (go (joined item ts))
       where
         go : (o : Option (Joined A)) → both before (some x) o ≡ map (before x) o
         go none = refl
         go (some j) = refl
 
-    joined-alone : joined item (t ∷ []) ≡ some (last [] x)
+    joined_alone : joined item (t ∷ []) ≡ some (last [] x)
     unfolding joined
-    joined-alone = rw e
+    joined_alone = rw e
 
-    joined-last : (s : Token) (ts : List Token) → is "&" s ≡ false → joined item (t ∷ s ∷ ts) ≡ some (last (s ∷ ts) x)
+    joined_last : (s : Token) (ts : List Token) → is "&" s ≡ false → joined item (t ∷ s ∷ ts) ≡ some (last (s ∷ ts) x)
     unfolding joined
-    joined-last s ts h = rw (h, e)
+    joined_last s ts h = rw (h, e)
 
 -- ---- the heads of a line, after some that were read
 
-unfoldable pub headsFrom : Bool → List Head → ℕ → ℕ → Option (Joined Test) → Option HeadsRead
-headsFrom ok heads n end none = none
-headsFrom ok heads n end (some j) =
-    some (record { in_range = ok && all testInRange j.items; heads = filled headLimit heads n (smallHeads j.items); count = filledCount headLimit n (smallHeads j.items); rest = j.rest; end = end })
+unfoldable pub heads_from : Bool → List Head → ℕ → ℕ → Option (Joined Test) → Option HeadsRead
+heads_from ok heads n end none = none
+heads_from ok heads n end (some j) =
+    some (record { in_range = ok && all test_in_range j.items; heads = filled head_limit heads n (small_heads j.items); count = filled_count head_limit n (small_heads j.items); rest = j.rest; end = end })
 
-pub heads-start : (e : ℕ) (o : Option (Joined Test)) → headsOutcome e o ≡ headsFrom true (padded headLimit noHead []) 0 e o
-unfolding headsOutcome headsFrom
-heads-start e none = refl
-heads-start e (some j) = rw (filled-all headLimit noHead (smallHeads j.items), filled-count-all headLimit noHead (smallHeads j.items))
+pub heads_start : (e : ℕ) (o : Option (Joined Test)) → heads_outcome e o ≡ heads_from true (padded head_limit no_head []) 0 e o
+unfolding heads_outcome heads_from
+heads_start e none = refl
+heads_start e (some j) = rw (filled_all head_limit no_head (small_heads j.items), filled_count_all head_limit no_head (small_heads j.items))
 
 -- one head more
-heads-step : (r : Bool) (hs : List Head) (k e : ℕ) (x : Test) (o : Option (Joined Test)) → headsFrom r hs k e (map (before x) o) ≡ headsFrom (r && testInRange x) (pushItem headLimit hs k (head (smallTest x))) (pushCount headLimit k) e o
-unfolding headsFrom filled filledCount all
-heads-step r hs k e x none = refl
-heads-step r hs k e x (some j) = rw (and_assoc r (testInRange x) (all testInRange j.items))
+heads_step : (r : Bool) (hs : List Head) (k e : ℕ) (x : Test) (o : Option (Joined Test)) → heads_from r hs k e (map (before x) o) ≡ heads_from (r && test_in_range x) (push_item head_limit hs k (head (small_test x))) (push_count head_limit k) e o
+unfolding heads_from filled filled_count all
+heads_step r hs k e x none = refl
+heads_step r hs k e x (some j) = rw (and_assoc r (test_in_range x) (all test_in_range j.items))
 
 -- ---- one head at a position
 
 record HeadRead (text : List ℕ) (at : ℕ) (never : Bool) (t : Test) (ok : Bool) (e : ℕ) : Type 0 where
   test : Test
-  read : test_of never (tokenAt text at) ≡ some test
-  small : t ≡ smallTest test
-  range : ok ≡ testInRange test
-  behind : e ≡ skipWhile inToken text at
+  read : test_of never (token_at text at) ≡ some test
+  small : t ≡ small_test test
+  range : ok ≡ test_in_range test
+  behind : e ≡ skip_while in_token text at
 
-head-some : (text : List ℕ) (at : ℕ) (never : Bool) (t : Test) (ok : Bool) (e : ℕ) → headAt text at never ≡ HeadAt.Head t ok e → HeadRead text at never t ok e
-unfolding headAt headEnding
-head-some text at never t ok e = go (test_of never (tokenAt text at)) refl
+head_some : (text : List ℕ) (at : ℕ) (never : Bool) (t : Test) (ok : Bool) (e : ℕ) → head_at text at never ≡ HeadAt.Head t ok e → HeadRead text at never t ok e
+unfolding head_at head_ending
+head_some text at never t ok e = go (test_of never (token_at text at)) refl
   where
-    go : (o : Option Test) → test_of never (tokenAt text at) ≡ o → headEnding (skipWhile inToken text at) o ≡ HeadAt.Head t ok e → HeadRead text at never t ok e
+    go : (o : Option Test) → test_of never (token_at text at) ≡ o → head_ending (skip_while in_token text at) o ≡ HeadAt.Head t ok e → HeadRead text at never t ok e
     go none p q = let w : ◌≡◌ {A = ℕ} 0 1 = cc in absurd (omega arith)
     go (some x) p q = record { test = x; read = p; small = cc; range = cc; behind = cc }
 
-head-none : (text : List ℕ) (at : ℕ) (never : Bool) → headAt text at never ≡ HeadAt.Malformed → test_of never (tokenAt text at) ≡ none
-unfolding headAt headEnding
-head-none text at never = go (test_of never (tokenAt text at))
+head_none : (text : List ℕ) (at : ℕ) (never : Bool) → head_at text at never ≡ HeadAt.Malformed → test_of never (token_at text at) ≡ none
+unfolding head_at head_ending
+head_none text at never = go (test_of never (token_at text at))
   where
-    go : (o : Option Test) → headEnding (skipWhile inToken text at) o ≡ HeadAt.Malformed → o ≡ none
+    go : (o : Option Test) → head_ending (skip_while in_token text at) o ≡ HeadAt.Malformed → o ≡ none
     go none q = refl
     go (some x) q = let w : ◌≡◌ {A = ℕ} 0 1 = cc in absurd (omega arith)
 
-test-token : (never : Bool) (t : Token) (x : Test) → test_of never t ≡ some x → is_empty t ≡ false
-unfolding test_of actionOf literalOf named is_empty
-test-token true [] x e = let w : ◌≡◌ {A = ℕ} 0 1 = cc in absurd (omega arith)
-test-token false [] x e = let w : ◌≡◌ {A = ℕ} 0 1 = cc in absurd (omega arith)
-test-token true (b ∷ t) x e = refl
-test-token false (b ∷ t) x e = refl
+test_token_is : (never : Bool) (t : Token) (x : Test) → test_of never t ≡ some x → is_empty t ≡ false
+unfolding test_of action_of literal_of named is_empty
+test_token_is true [] x e = let w : ◌≡◌ {A = ℕ} 0 1 = cc in absurd (omega arith)
+test_token_is false [] x e = let w : ◌≡◌ {A = ℕ} 0 1 = cc in absurd (omega arith)
+test_token_is true (b ∷ t) x e = refl
+test_token_is false (b ∷ t) x e = refl
 
 -- ---- a turn of reading
 
 module _ (text : List ℕ) (at : ℕ) (never r : Bool) (hs : List Head) (k : ℕ) where
   abbrev s : ℕ
-  s = skipWhile isSpace text at
+  s = skip_while is_space text at
 
   abbrev item : Token → Option Test
   item = test_of never
 
   abbrev outcome : Option HeadsRead
-  outcome = headsFrom r hs k (lineEnd text at) (joined item (tokensAt text at))
+  outcome = heads_from r hs k (line_end text at) (joined item (tokens_at text at))
 
-  pub heads-failed : headAt text s never ≡ HeadAt.Malformed → none ≡ outcome
-  unfolding headsFrom joined
-  heads-failed q = ap (headsFrom r hs k (lineEnd text at)) (sym (ap (joined item) (tokens-after-spaces text at) ∙ go (is_empty (tokenAt text s)) refl))
+  pub heads_failed : head_at text s never ≡ HeadAt.Malformed → none ≡ outcome
+  unfolding heads_from joined
+  heads_failed q = ap (heads_from r hs k (line_end text at)) (sym (ap (joined item) (tokens_after_spaces text at) ∙ go (is_empty (token_at text s)) refl))
     where
-      go : (b : Bool) → is_empty (tokenAt text s) ≡ b → joined item (tokensAt text s) ≡ none
-      go true h = ap (joined item) (tokens-ended text at h)
-      go false h = ap (joined item) (tokens-first text s h) ∙ joined-bad item (tokenAt text s) (head-none text s never q) (tokensAt text (skipWhile inToken text s))
+      go : (b : Bool) → is_empty (token_at text s) ≡ b → joined item (tokens_at text s) ≡ none
+      go true h = ap (joined item) (tokens_ended text at h)
+      go false h = ap (joined item) (tokens_first text s h) ∙ joined_bad item (token_at text s) (head_none text s never q) (tokens_at text (skip_while in_token text s))
 
-  module _ (t : Test) (ok : Bool) (e : ℕ) (q : headAt text s never ≡ HeadAt.Head t ok e) where
+  module _ (t : Test) (ok : Bool) (e : ℕ) (q : head_at text s never ≡ HeadAt.Head t ok e) where
     abbrev n : ℕ
-    n = skipWhile isSpace text e
+    n = skip_while is_space text e
 
     abbrev hs' : List Head
-    hs' = pushItem headLimit hs k (head t)
+    hs' = push_item head_limit hs k (head t)
 
     abbrev k' : ℕ
-    k' = pushCount headLimit k
+    k' = push_count head_limit k
 
     found : HeadRead text s never t ok e
-    found = head-some text s never t ok e q
+    found = head_some text s never t ok e q
 
-    solid : is_empty (tokenAt text s) ≡ false
-    solid = test-token never (tokenAt text s) found.test found.read
+    solid : is_empty (token_at text s) ≡ false
+    solid = test_token_is never (token_at text s) found.test found.read
 
     -- the head, and what is behind it
-    tokens : tokensAt text at ≡ tokenAt text s ∷ tokensAt text n
-    tokens = tokens-after-spaces text at ∙ tokens-first text s solid ∙ ap (λ (i : ℕ). tokenAt text s ∷ tokensAt text i) (sym found.behind) ∙ ap (λ (ts : List Token). tokenAt text s ∷ ts) (tokens-after-spaces text e)
+    tokens : tokens_at text at ≡ token_at text s ∷ tokens_at text n
+    tokens = tokens_after_spaces text at ∙ tokens_first text s solid ∙ ap (λ (i : ℕ). token_at text s ∷ tokens_at text i) (sym found.behind) ∙ ap (λ (ts : List Token). token_at text s ∷ ts) (tokens_after_spaces text e)
 
-    ends : lineEnd text n ≡ lineEnd text at
-    ends = line-past-spaces text e ∙ ap (lineEnd text) found.behind ∙ line-past-token text s ∙ line-past-spaces text at
+    ends : line_end text n ≡ line_end text at
+    ends = line_past_spaces text e ∙ ap (line_end text) found.behind ∙ line_past_token text s ∙ line_past_spaces text at
 
-    taken : (o : Option (Joined Test)) → headsFrom r hs k (lineEnd text at) (map (before found.test) o) ≡ headsFrom (r && ok) hs' k' (lineEnd text n) o
+    taken : (o : Option (Joined Test)) → heads_from r hs k (line_end text at) (map (before found.test) o) ≡ heads_from (r && ok) hs' k' (line_end text n) o
     taken o =
-        heads-step r hs k (lineEnd text at) found.test o
+        heads_step r hs k (line_end text at) found.test o
         ∙ cc (found.range, found.small, ends)
 
-    pub heads-again : (b : ℕ) → keywordAt text n (bytes "&") ≡ KeywordAt.Found b → outcome ≡ headsFrom (r && ok) hs' k' (lineEnd text b) (joined item (tokensAt text b))
-    unfolding is bytes is_empty sameBytes
-    heads-again b w =
-        let f = word-token text n (bytes "&") b w in
-        ap (λ (ts : List Token). headsFrom r hs k (lineEnd text at) (joined item ts)) (tokens ∙ ap (λ (ts : List Token). tokenAt text s ∷ ts) (tokens-first text n (ap is_empty f.0)))
-        ∙ ap (headsFrom r hs k (lineEnd text at)) (joined-more item (tokenAt text s) found.test found.read (tokenAt text n) (tokensAt text (skipWhile inToken text n)) (ap (λ (u : Token). sameBytes u (bytes "&")) f.0))
-        ∙ taken (joined item (tokensAt text (skipWhile inToken text n)))
-        ∙ ap₂ (λ (i m : ℕ). headsFrom (r && ok) hs' k' i (joined item (tokensAt text m))) (sym (line-past-token text n) ∙ ap (lineEnd text) (sym f.1)) (sym f.1)
+    pub heads_again : (b : ℕ) → keyword_at text n (bytes "&") ≡ KeywordAt.Found b → outcome ≡ heads_from (r && ok) hs' k' (line_end text b) (joined item (tokens_at text b))
+    unfolding is bytes is_empty bytes_equal
+    heads_again b w =
+        let f = word_token text n (bytes "&") b w in
+        ap (λ (ts : List Token). heads_from r hs k (line_end text at) (joined item ts)) (tokens ∙ ap (λ (ts : List Token). token_at text s ∷ ts) (tokens_first text n (ap is_empty f.0)))
+        ∙ ap (heads_from r hs k (line_end text at)) (joined_more item (token_at text s) found.test found.read (token_at text n) (tokens_at text (skip_while in_token text n)) (ap (λ (u : Token). bytes_equal u (bytes "&")) f.0))
+        ∙ taken (joined item (tokens_at text (skip_while in_token text n)))
+        ∙ ap₂ (λ (i m : ℕ). heads_from (r && ok) hs' k' i (joined item (tokens_at text m))) (sym (line_past_token text n) ∙ ap (line_end text) (sym f.1)) (sym f.1)
 
-    pub heads_done : keywordAt text n (bytes "&") ≡ KeywordAt.Absent → view_of text (record { ok = true; in_range = r && ok; heads = hs'; count = k'; at = n }) ≡ outcome
-    unfolding headsFrom filled filledCount all is bytes
+    pub heads_done : keyword_at text n (bytes "&") ≡ KeywordAt.Absent → view_of text (record { ok = true; in_range = r && ok; heads = hs'; count = k'; at = n }) ≡ outcome
+    unfolding heads_from filled filled_count all is bytes
     heads_done w =
-        sym (ap (λ (ts : List Token). headsFrom r hs k (lineEnd text at) (joined item ts)) tokens
-        ∙ ap (headsFrom r hs k (lineEnd text at)) (go (is_empty (tokenAt text n)) refl)
-        ∙ cc (found.range, found.small, ends, and-true (testInRange found.test)))
+        sym (ap (λ (ts : List Token). heads_from r hs k (line_end text at) (joined item ts)) tokens
+        ∙ ap (heads_from r hs k (line_end text at)) (go (is_empty (token_at text n)) refl)
+        ∙ cc (found.range, found.small, ends, and-true (test_in_range found.test)))
       where
-        go : (b : Bool) → is_empty (tokenAt text n) ≡ b → joined item (tokenAt text s ∷ tokensAt text n) ≡ some (last (tokensAt text n) found.test)
-        go true h = rw (tokens-ended text e h) (joined-alone item (tokenAt text s) found.test found.read)
+        go : (b : Bool) → is_empty (token_at text n) ≡ b → joined item (token_at text s ∷ tokens_at text n) ≡ some (last (tokens_at text n) found.test)
+        go true h = rw (tokens_ended text e h) (joined_alone item (token_at text s) found.test found.read)
         go false h =
-            rw (tokens-first text n h)
-            (joined-last item (tokenAt text s) found.test found.read (tokenAt text n) (tokensAt text (skipWhile inToken text n)) (word-absent text n (bytes "&") w))
+            rw (tokens_first text n h)
+            (joined_last item (token_at text s) found.test found.read (token_at text n) (tokens_at text (skip_while in_token text n)) (word_absent text n (bytes "&") w))
 
-    pub heads-less : (b : ℕ) → keywordAt text n (bytes "&") ≡ KeywordAt.Found b → (at < length text) × (at < b)
-    heads-less b w =
-        let i : s < length text = token-inside text s solid in
-        let f : b ≡ skipWhile inToken text n = (word-token text n (bytes "&") b w).1 in
-        let g : e ≡ skipWhile inToken text s = found.behind in
-        (omega (arith, skip-ge isSpace text at), omega (arith, skip-ge isSpace text at, skip-grows text s solid, skip-ge isSpace text e, skip-ge inToken text n))
+    pub heads_less : (b : ℕ) → keyword_at text n (bytes "&") ≡ KeywordAt.Found b → (at < length text) × (at < b)
+    heads_less b w =
+        let i : s < length text = token_inside text s solid in
+        let f : b ≡ skip_while in_token text n = (word_token text n (bytes "&") b w).1 in
+        let g : e ≡ skip_while in_token text s = found.behind in
+        (omega (arith, skip_ge is_space text at), omega (arith, skip_ge is_space text at, skip_grows text s solid, skip_ge is_space text e, skip_ge in_token text n))

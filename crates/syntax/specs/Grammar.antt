@@ -7,23 +7,23 @@ use Rattle.policy.specs.declared.comparison.Comparison.{Comparison}
 use Rattle.policy.specs.declared.comparison.Literal.{Literal}
 use Rattle.policy.specs.declared.number.Action.{Action}
 use Rattle.lexer.specs.Byte.{is}
-use Rattle.lexer.specs.Token.{Token, literalOf, actionOf, both, comparisonOf}
+use Rattle.lexer.specs.Token.{Token, literal_of, action_of, both, comparison_of}
 
 -- ---- the condition: `if` with one or more comparisons joined by `,`, or nothing
 
 abbrev single : Comparison → List Comparison
 single c = c ∷ []
 
-unfoldable pub comparisonsFrom : List Token → Option (List Comparison)
-comparisonsFrom [] = none
-comparisonsFrom (r ∷ []) = none
-comparisonsFrom (r ∷ relation ∷ []) = none
-comparisonsFrom (r ∷ relation ∷ o ∷ []) = map single (comparisonOf r relation o)
-comparisonsFrom (r ∷ relation ∷ o ∷ t ∷ ts) = cond (is "," t) (both ◌∷◌ (comparisonOf r relation o) (comparisonsFrom ts)) none
+unfoldable pub comparisons_from : List Token → Option (List Comparison)
+comparisons_from [] = none
+comparisons_from (r ∷ []) = none
+comparisons_from (r ∷ relation ∷ []) = none
+comparisons_from (r ∷ relation ∷ o ∷ []) = map single (comparison_of r relation o)
+comparisons_from (r ∷ relation ∷ o ∷ t ∷ ts) = cond (is "," t) (both ◌∷◌ (comparison_of r relation o) (comparisons_from ts)) none
 
-unfoldable pub conditionFrom : List Token → Option (List Comparison)
-conditionFrom [] = some []
-conditionFrom (t ∷ ts) = cond (is "if" t) (comparisonsFrom ts) none
+unfoldable pub condition_from : List Token → Option (List Comparison)
+condition_from [] = some []
+condition_from (t ∷ ts) = cond (is "if" t) (comparisons_from ts) none
 
 -- ---- one or more items joined by `&`, and the tokens behind them
 
@@ -50,22 +50,22 @@ abbrev pub causes : List Literal → Action → List Comparison → PolicyLine
 causes literals action comparisons = rule (record { literals = literals; action = action; comparisons = comparisons })
 
 -- what follows the literals of a rule
-unfoldable pub ruleAfter : List Literal → List Token → Option PolicyLine
-ruleAfter literals [] = none
-ruleAfter literals (t ∷ []) = none
-ruleAfter literals (t ∷ a ∷ ts) = cond (is "causes" t) (both (causes literals) (actionOf a) (conditionFrom ts)) none
+unfoldable pub rule_after : List Literal → List Token → Option PolicyLine
+rule_after literals [] = none
+rule_after literals (t ∷ []) = none
+rule_after literals (t ∷ a ∷ ts) = cond (is "causes" t) (both (causes literals) (action_of a) (condition_from ts)) none
 
 abbrev pub never : List Action → List Comparison → PolicyLine
 never actions comparisons = constraint (record { actions = actions; comparisons = comparisons })
 
-unfoldable pub constraintAfter : List Action → List Token → Option PolicyLine
-constraintAfter actions ts = map (never actions) (conditionFrom ts)
+unfoldable pub constraint_after : List Action → List Token → Option PolicyLine
+constraint_after actions ts = map (never actions) (condition_from ts)
 
 module _ {A : Type 0} where
   unfoldable pub after : (List A → List Token → Option PolicyLine) → Option (Joined A) → Option PolicyLine
   after f none = none
   after f (some j) = f j.items j.rest
 
-unfoldable pub lineFrom : List Token → Option PolicyLine
-lineFrom [] = none
-lineFrom (t ∷ ts) = cond (is "never" t) (after constraintAfter (joined actionOf ts)) (after ruleAfter (joined literalOf (t ∷ ts)))
+unfoldable pub line_from : List Token → Option PolicyLine
+line_from [] = none
+line_from (t ∷ ts) = cond (is "never" t) (after constraint_after (joined action_of ts)) (after rule_after (joined literal_of (t ∷ ts)))

@@ -5,8 +5,8 @@ use Rattle.std.proofs.Math.Option.{Option, none, some}
 use Rattle.policy.specs.Limits.{in_range, crowded, repeated}
 use Rattle.policy.specs.Line.{PolicyLine}
 use Rattle.policy.specs.declared.fault.Fault.{Fault}
-use Rattle.syntax.specs.Grammar.{lineFrom}
-use Rattle.lexer.specs.Lines.{tokensOf}
+use Rattle.syntax.specs.Grammar.{line_from}
+use Rattle.lexer.specs.Lines.{tokens_of}
 
 pub data LineAnswer : Type 0 where
   skipped : LineAnswer
@@ -14,21 +14,21 @@ pub data LineAnswer : Type 0 where
   accepted : PolicyLine → LineAnswer
 
 -- the faults of a line in their order: 2, 3, 4, 6
-unfoldable pub judgeLine : Option PolicyLine → LineAnswer
-judgeLine none = refused Fault.Syntax
-judgeLine (some l) =
+unfoldable pub judge_line : Option PolicyLine → LineAnswer
+judge_line none = refused Fault.Syntax
+judge_line (some l) =
     cond (not (in_range l)) (refused Fault.OutOfRange)
     (cond (crowded l) (refused Fault.TooManyParts)
     (cond (repeated l) (refused Fault.Duplicate) (accepted l)))
 
-unfoldable pub isComment : List ℕ → Bool
-isComment [] = false
-isComment (b ∷ bs) = eqb b (code "#")
+unfoldable pub is_comment : List ℕ → Bool
+is_comment [] = false
+is_comment (b ∷ bs) = eqb b (code "#")
 
 -- lines with no token, and lines whose first token begins with `#`, are skipped
-unfoldable pub tokensAnswer : List (List ℕ) → LineAnswer
-tokensAnswer [] = skipped
-tokensAnswer (t ∷ ts) = cond (isComment t) skipped (judgeLine (lineFrom (t ∷ ts)))
+unfoldable pub tokens_answer : List (List ℕ) → LineAnswer
+tokens_answer [] = skipped
+tokens_answer (t ∷ ts) = cond (is_comment t) skipped (judge_line (line_from (t ∷ ts)))
 
-unfoldable pub lineAnswer : List ℕ → LineAnswer
-lineAnswer line = tokensAnswer (tokensOf line)
+unfoldable pub line_answer : List ℕ → LineAnswer
+line_answer line = tokens_answer (tokens_of line)

@@ -1,17 +1,17 @@
 // The lines of a rule text. A line is scanned once: its parts are collected with a flag that says whether every number is
 // in range, and the line is judged at its end.
 ghost use Rattle.std.specs.Prelude.{◌≡◌, false, ◌≤◌};
-ghost use Rattle.line_value.specs.Steps.Push.{pushCount};
-ghost use Rattle.lexer.specs.Token.{literalOf, actionOf};
-ghost use Rattle.syntax.specs.Grammar.{joined, comparisonsFrom, conditionFrom, after, ruleAfter, constraintAfter, lineFrom};
+ghost use Rattle.line_value.specs.Steps.Push.{push_count};
+ghost use Rattle.lexer.specs.Token.{literal_of, action_of};
+ghost use Rattle.syntax.specs.Grammar.{joined, comparisons_from, condition_from, after, rule_after, constraint_after, line_from};
 ghost use Rattle.token.specs.Steps.PartAt.{test_of};
-ghost use Rattle.lexer.specs.Steps.Scan.{tokenAt, tokensAt};
-ghost use Rattle.lexer.specs.Lines.{lineEnd};
+ghost use Rattle.lexer.specs.Steps.Scan.{token_at, tokens_at};
+ghost use Rattle.lexer.specs.Lines.{line_end};
 ghost use Rattle.lexer.specs.Number.{is_empty};
-ghost use Rattle.syntax.specs.Answer.{behindLine, lineReadOf, lineRead};
-ghost use Rattle.syntax.specs.Steps.Judged.{lineStatus, parsedStatus};
+ghost use Rattle.syntax.specs.Answer.{behind_line, line_read_of, line_read};
+ghost use Rattle.syntax.specs.Steps.Judged.{line_status, parsed_status};
 ghost use Rattle.syntax.specs.Judge.{LineAnswer};
-ghost use Rattle.syntax.specs.Steps.Outcome.{failedLine, view_of, headsOutcome, noComparisons, conditionOutcome, assembledLine, causeLine, parsedFrom};
+ghost use Rattle.syntax.specs.Steps.Outcome.{failed_line, view_of, heads_outcome, no_comparisons, condition_outcome, assembled_line, cause_line, parsed_from};
 
 use lexer::{
     KeywordAt, NumberAt, action_at, ampersand_at, at_token_end, causes_at, comma_at, if_at,
@@ -23,7 +23,7 @@ use token::{ComparisonAt, HeadAt, comparison_at, head_at};
 
 // What was read of a line: whether it has the right shape, whether every number is in range, the parts, and the position
 // behind them.
-#[derive(Drop)]
+#[derive(Clone, Copy)]
 pub struct ParsedLine {
     pub ok: bool,
     pub in_range: bool,
@@ -32,7 +32,7 @@ pub struct ParsedLine {
 }
 
 // The same of its literals or actions, held and counted as in `Line`.
-#[derive(Drop)]
+#[derive(Clone, Copy)]
 pub struct Heads {
     pub ok: bool,
     pub in_range: bool,
@@ -42,7 +42,7 @@ pub struct Heads {
 }
 
 // The same of its condition, which ends the line.
-#[derive(Drop)]
+#[derive(Clone, Copy)]
 pub struct Condition {
     pub ok: bool,
     pub in_range: bool,
@@ -54,13 +54,13 @@ pub struct Condition {
 // A count of parts, which stops at one past the limit.
 fn one_more(n: usize, limit: usize) -> usize
     requires { limit ≤ 8 }
-    ensures { result ≡ pushCount limit n }
+    ensures { result ≡ push_count limit n }
 {
     if n <= limit { n + 1 } else { n }
 }
 
 fn failed() -> ParsedLine
-    ensures { result ≡ failedLine }
+    ensures { result ≡ failed_line }
 {
     ParsedLine {
         ok: false,
@@ -73,7 +73,7 @@ fn failed() -> ParsedLine
 // The literals of a rule or the actions of a constraint, joined by `&`.
 fn read_heads(text: &[u8], from: usize, never: bool) -> Heads
     ensures { view_of text.now result
-        ≡ headsOutcome (lineEnd text.now from) (joined (test_of never) (tokensAt text.now from)) }
+        ≡ heads_outcome (line_end text.now from) (joined (test_of never) (tokens_at text.now from)) }
 {
     let line = Line::new();
     let mut heads = line.heads;
@@ -112,7 +112,7 @@ fn read_heads(text: &[u8], from: usize, never: bool) -> Heads
 
 // A condition with no comparison: there is none, or it has the wrong shape.
 fn no_comparisons(ok: bool, at: usize) -> Condition
-    ensures { result ≡ noComparisons ok at }
+    ensures { result ≡ no_comparisons ok at }
 {
     let line = Line::new();
     let comparisons = line.comparisons;
@@ -128,7 +128,7 @@ fn no_comparisons(ok: bool, at: usize) -> Condition
 // The comparisons of a line, joined by `,`, to the end of the line.
 fn read_comparisons(text: &[u8], from: usize) -> Condition
     ensures { result
-        ≡ conditionOutcome (lineEnd text.now from) (comparisonsFrom (tokensAt text.now from)) }
+        ≡ condition_outcome (line_end text.now from) (comparisons_from (tokens_at text.now from)) }
 {
     let line = Line::new();
     let mut comparisons = line.comparisons;
@@ -165,7 +165,7 @@ fn read_comparisons(text: &[u8], from: usize) -> Condition
 // The condition of a line: `if` and comparisons, or nothing, to the end of the line.
 fn read_condition(text: &[u8], from: usize) -> Condition
     ensures { result
-        ≡ conditionOutcome (lineEnd text.now from) (conditionFrom (tokensAt text.now from)) }
+        ≡ condition_outcome (line_end text.now from) (condition_from (tokens_at text.now from)) }
 {
     let start = skip_spaces(text, from);
     if at_token_end(text, start) {
@@ -184,7 +184,7 @@ fn assembled(
     ending_in_range: bool,
     condition: Condition,
 ) -> ParsedLine
-    ensures { result ≡ assembledLine heads ending ending_in_range condition }
+    ensures { result ≡ assembled_line heads ending ending_in_range condition }
 {
     if condition.ok {
         let held = heads.heads;
@@ -208,8 +208,8 @@ fn assembled(
 
 // `causes`, the action and the condition of a rule whose literals were read.
 fn read_cause(text: &[u8], heads: Heads) -> ParsedLine
-    ensures { result ≡ causeLine heads (lineEnd text.now heads.at)
-        (tokensAt text.now heads.at) }
+    ensures { result ≡ cause_line heads (line_end text.now heads.at)
+        (tokens_at text.now heads.at) }
 {
     let first = skip_spaces(text, heads.at);
     let KeywordAt::Found(behind) = causes_at(text, first) else {
@@ -228,8 +228,8 @@ fn read_cause(text: &[u8], heads: Heads) -> ParsedLine
 }
 
 fn read_rule(text: &[u8], from: usize) -> ParsedLine
-    ensures { result ≡ parsedFrom (lineEnd text.now from)
-        (after ruleAfter (joined literalOf (tokensAt text.now from))) }
+    ensures { result ≡ parsed_from (line_end text.now from)
+        (after rule_after (joined literal_of (tokens_at text.now from))) }
 {
     let heads = read_heads(text, from, false);
     if heads.ok {
@@ -240,8 +240,8 @@ fn read_rule(text: &[u8], from: usize) -> ParsedLine
 }
 
 fn read_constraint(text: &[u8], from: usize) -> ParsedLine
-    ensures { result ≡ parsedFrom (lineEnd text.now from)
-        (after constraintAfter (joined actionOf (tokensAt text.now from))) }
+    ensures { result ≡ parsed_from (line_end text.now from)
+        (after constraint_after (joined action_of (tokens_at text.now from))) }
 {
     let heads = read_heads(text, from, true);
     if heads.ok {
@@ -254,8 +254,8 @@ fn read_constraint(text: &[u8], from: usize) -> ParsedLine
 
 // The line whose first token is at the position.
 fn parse_line(text: &[u8], start: usize) -> ParsedLine
-    ensures { is_empty (tokenAt text.now start) ≡ false →
-        result ≡ parsedFrom (lineEnd text.now start) (lineFrom (tokensAt text.now start)) }
+    ensures { is_empty (token_at text.now start) ≡ false →
+        result ≡ parsed_from (line_end text.now start) (line_from (tokens_at text.now start)) }
 {
     let never = never_at(text, start);
     match never {
@@ -264,7 +264,7 @@ fn parse_line(text: &[u8], start: usize) -> ParsedLine
     }
 }
 
-#[derive(Drop)]
+#[derive(Clone, Copy)]
 pub enum LineStatus {
     // A line with no token, or a comment.
     Skipped,
@@ -274,7 +274,7 @@ pub enum LineStatus {
 
 // The line at a position: what it is, its value where it is accepted, and where the next line starts unless it is
 // refused.
-#[derive(Drop)]
+#[derive(Clone, Copy)]
 pub struct LineRead {
     pub status: LineStatus,
     pub line: Line,
@@ -282,7 +282,7 @@ pub struct LineRead {
 }
 
 fn judged_line(line: Line) -> LineStatus
-    ensures { result ≡ lineStatus line }
+    ensures { result ≡ line_status line }
 {
     if HEAD_LIMIT < line.head_count {
         return LineStatus::Refused(Fault::TooManyParts);
@@ -299,7 +299,7 @@ fn judged_line(line: Line) -> LineStatus
 
 // The faults of a line, in their order.
 fn judged(parsed: ParsedLine) -> LineStatus
-    ensures { result ≡ parsedStatus parsed }
+    ensures { result ≡ parsed_status parsed }
 {
     let line = parsed.line;
     if parsed.ok {
@@ -315,13 +315,13 @@ fn judged(parsed: ParsedLine) -> LineStatus
 
 // Where the line that ends at a position is followed by the next one.
 fn behind_line(text: &[u8], end: usize) -> usize
-    ensures { result ≡ behindLine text.now end }
+    ensures { result ≡ behind_line text.now end }
 {
     if end < text.len() { end + 1 } else { end }
 }
 
 fn skipped(next: usize) -> LineRead
-    ensures { result ≡ lineReadOf next LineAnswer.skipped }
+    ensures { result ≡ line_read_of next LineAnswer.skipped }
 {
     LineRead {
         status: LineStatus::Skipped,
@@ -331,7 +331,7 @@ fn skipped(next: usize) -> LineRead
 }
 
 fn refused(fault: Fault) -> LineRead
-    ensures { result ≡ lineReadOf 0 (LineAnswer.refused fault) }
+    ensures { result ≡ line_read_of 0 (LineAnswer.refused fault) }
 {
     LineRead {
         status: LineStatus::Refused(fault),
@@ -342,7 +342,7 @@ fn refused(fault: Fault) -> LineRead
 
 // The line that starts at a position.
 pub fn read_line(text: &[u8], at: usize) -> LineRead
-    ensures { result ≡ lineRead text.now at }
+    ensures { result ≡ line_read text.now at }
 {
     let start = skip_spaces(text, at);
     if at_token_end(text, start) {

@@ -1,6 +1,6 @@
 // Constants: decimal ones, and patterns of 32 bits in hexadecimal digits.
 ghost use Rattle.std.specs.Prelude.{◌≡◌};
-ghost use Rattle.token.specs.Steps.PartAt.{positiveAt, negativeAt, decimalAt, patternAt, hexadecimalAt, constantAt};
+ghost use Rattle.token.specs.Steps.PartAt.{positive_at, negative_at, decimal_at, pattern_at, hexadecimal_at, constant_at};
 
 use lexer::{NumberAt, at_token_end, hex_digits, number_at};
 use policy::constant_from;
@@ -14,7 +14,7 @@ const SMALLEST: u32 = 2_147_483_648;
 // The most digits of a pattern of 32 bits.
 const PATTERN_DIGITS: usize = 8;
 
-#[derive(Drop)]
+#[derive(Clone, Copy)]
 pub enum ConstantAt {
     // The constant, and the position behind it.
     Value(i32, usize),
@@ -23,7 +23,7 @@ pub enum ConstantAt {
 }
 
 fn positive(number: NumberAt) -> ConstantAt
-    ensures { result ≡ positiveAt number }
+    ensures { result ≡ positive_at number }
 {
     match number {
         NumberAt::Number(value, end) => {
@@ -39,7 +39,7 @@ fn positive(number: NumberAt) -> ConstantAt
 
 // `-0` is no constant.
 fn negative(number: NumberAt) -> ConstantAt
-    ensures { result ≡ negativeAt number }
+    ensures { result ≡ negative_at number }
 {
     match number {
         NumberAt::Number(value, end) => {
@@ -58,7 +58,7 @@ fn negative(number: NumberAt) -> ConstantAt
 
 // A number, or a minus and a number other than 0.
 fn decimal_at(text: &[u8], at: usize) -> ConstantAt
-    ensures { result ≡ decimalAt text.now at }
+    ensures { result ≡ decimal_at text.now at }
 {
     if text.len() <= at {
         return ConstantAt::Malformed;
@@ -72,7 +72,7 @@ fn decimal_at(text: &[u8], at: usize) -> ConstantAt
 
 // The token at the position as hexadecimal digits, a pattern of 32 bits.
 fn pattern_at(text: &[u8], at: usize) -> ConstantAt
-    ensures { result ≡ patternAt text.now at }
+    ensures { result ≡ pattern_at text.now at }
 {
     let digits = hex_digits(text, at);
     let end = digits.end;
@@ -91,7 +91,7 @@ fn pattern_at(text: &[u8], at: usize) -> ConstantAt
 
 // `0x` and such digits.
 fn hexadecimal_at(text: &[u8], at: usize) -> ConstantAt
-    ensures { result ≡ hexadecimalAt text.now at }
+    ensures { result ≡ hexadecimal_at text.now at }
 {
     if text.len() <= at || text.len() - at < 2 {
         return ConstantAt::Malformed;
@@ -105,7 +105,7 @@ fn hexadecimal_at(text: &[u8], at: usize) -> ConstantAt
 
 // The constant that the token at the position is, in a rule text or an epoch line.
 pub fn constant_at(text: &[u8], at: usize) -> ConstantAt
-    ensures { result ≡ constantAt text.now at }
+    ensures { result ≡ constant_at text.now at }
 {
     let decimal = decimal_at(text, at);
     if let ConstantAt::Malformed = decimal {

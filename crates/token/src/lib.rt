@@ -1,11 +1,13 @@
 // The parts of a line, each one token: constants, relations, operands, literals and actions. A part out of range is read
 // as a filler, and flagged.
+#![tactic(auto)]
+
 mod constant;
 
 ghost use Rattle.std.specs.Prelude.{◌≡◌, [], ◌∷◌};
-ghost use Rattle.token.specs.Steps.PartAt.{relationEnding, relationAt, operandEnding, operand_at, literalHead, actionHead, headAt, comparisonFrom, comparisonAt};
+ghost use Rattle.token.specs.Steps.PartAt.{relation_ending, relation_at, operand_ending, operand_at, literal_head, action_head, head_at, comparison_from, comparison_at};
 ghost use Rattle.std.proofs.Math.Option.{some};
-ghost use Rattle.lexer.specs.Token.{relationOf};
+ghost use Rattle.lexer.specs.Token.{relation_of};
 
 pub use constant::{ConstantAt, constant_at};
 use lexer::{NumberAt, action_at, at_token_end, event_at, reading_at, skip_spaces};
@@ -14,7 +16,7 @@ use policy::{
     Relation, Test,
 };
 
-#[derive(Drop)]
+#[derive(Clone, Copy)]
 pub enum RelationAt {
     Relation(Relation, usize),
     Malformed,
@@ -22,7 +24,7 @@ pub enum RelationAt {
 
 // The relation that one byte is.
 fn one_byte(b: u8, end: usize) -> RelationAt
-    ensures { result ≡ relationEnding end (relationOf (b ∷ [])) }
+    ensures { result ≡ relation_ending end (relation_of (b ∷ [])) }
 {
     match b {
         b'=' => RelationAt::Relation(Relation::Equal, end),
@@ -34,7 +36,7 @@ fn one_byte(b: u8, end: usize) -> RelationAt
 
 // The relation that a byte and `=` are.
 fn two_bytes(b: u8, end: usize) -> RelationAt
-    ensures { result ≡ relationEnding end (relationOf (b ∷ 61 ∷ [])) }
+    ensures { result ≡ relation_ending end (relation_of (b ∷ 61 ∷ [])) }
 {
     match b {
         b'!' => RelationAt::Relation(Relation::NotEqual, end),
@@ -45,7 +47,7 @@ fn two_bytes(b: u8, end: usize) -> RelationAt
 }
 
 fn relation_at(text: &[u8], at: usize) -> RelationAt
-    ensures { result ≡ relationAt text.now at }
+    ensures { result ≡ relation_at text.now at }
 {
     if at_token_end(text, at) {
         return RelationAt::Malformed;
@@ -63,7 +65,7 @@ fn relation_at(text: &[u8], at: usize) -> RelationAt
     RelationAt::Malformed
 }
 
-#[derive(Drop)]
+#[derive(Clone, Copy)]
 pub enum OperandAt {
     // The operand, whether it is in range, and the position behind it.
     Operand(Operand, bool, usize),
@@ -71,7 +73,7 @@ pub enum OperandAt {
 }
 
 fn reading_operand(n: u32, end: usize) -> OperandAt
-    ensures { result ≡ operandEnding end (some (Operand.Reading (record { 0 = n }))) }
+    ensures { result ≡ operand_ending end (some (Operand.Reading (record { 0 = n }))) }
 {
     let check = Reading::new(n);
     match check {
@@ -95,7 +97,7 @@ fn operand_at(text: &[u8], at: usize) -> OperandAt
     }
 }
 
-#[derive(Drop)]
+#[derive(Clone, Copy)]
 pub enum HeadAt {
     // The literal or the action, whether it is in range, and the position behind it.
     Head(Test, bool, usize),
@@ -103,7 +105,7 @@ pub enum HeadAt {
 }
 
 fn literal_head(number: NumberAt, negated: bool) -> HeadAt
-    ensures { result ≡ literalHead number negated }
+    ensures { result ≡ literal_head number negated }
 {
     match number {
         NumberAt::Number(n, end) => {
@@ -120,7 +122,7 @@ fn literal_head(number: NumberAt, negated: bool) -> HeadAt
 }
 
 fn action_head(number: NumberAt) -> HeadAt
-    ensures { result ≡ actionHead number }
+    ensures { result ≡ action_head number }
 {
     match number {
         NumberAt::Number(n, end) => {
@@ -136,7 +138,7 @@ fn action_head(number: NumberAt) -> HeadAt
 
 // An action of a constraint, or a literal of a rule.
 pub fn head_at(text: &[u8], at: usize, never: bool) -> HeadAt
-    ensures { result ≡ headAt text.now at never }
+    ensures { result ≡ head_at text.now at never }
 {
     if never {
         return action_head(action_at(text, at));
@@ -151,7 +153,7 @@ pub fn head_at(text: &[u8], at: usize, never: bool) -> HeadAt
     }
 }
 
-#[derive(Drop)]
+#[derive(Clone, Copy)]
 pub enum ComparisonAt {
     // The comparison, whether it is in range, and the position behind it.
     Comparison(Comparison, bool, usize),
@@ -165,7 +167,7 @@ fn comparison_from(
     in_range: bool,
     end: usize,
 ) -> ComparisonAt
-    ensures { result ≡ comparisonFrom n relation operand in_range end }
+    ensures { result ≡ comparison_from n relation operand in_range end }
 {
     let check = Reading::new(n);
     if let ReadingCheck::Valid(reading) = check {
@@ -188,7 +190,7 @@ fn comparison_from(
 
 // A comparison: three tokens, the first at the position.
 pub fn comparison_at(text: &[u8], at: usize) -> ComparisonAt
-    ensures { result ≡ comparisonAt text.now at }
+    ensures { result ≡ comparison_at text.now at }
 {
     let NumberAt::Number(n, behind) = reading_at(text, at) else {
         return ComparisonAt::Malformed;

@@ -1,8 +1,8 @@
 -- Document 01, "Image": words of 32 bits, each stored most significant byte first.
 use Rattle.std.specs.Prelude.{ℕ, ◌+◌, ◌*◌, ◌/◌, ◌%◌, ◌^◌, ◌<◌, List, [], ◌∷◌, ◌++◌, get_or, take, drop}
 
-abbrev pub wordLimit : ℕ
-wordLimit = 2 ^ 32
+abbrev pub word_limit : ℕ
+word_limit = 2 ^ 32
 
 -- each element is below n
 abbrev pub Below : ℕ → List ℕ → Type 0
@@ -22,12 +22,12 @@ words_of (a ∷ b ∷ []) = []
 words_of (a ∷ []) = []
 words_of [] = []
 
-abbrev pub byteList : ℕ → List ℕ
-byteList w = w / 2 ^ 24 % 256 ∷ w / 2 ^ 16 % 256 ∷ w / 2 ^ 8 % 256 ∷ w % 256 ∷ []
+abbrev pub byte_list : ℕ → List ℕ
+byte_list w = w / 2 ^ 24 % 256 ∷ w / 2 ^ 16 % 256 ∷ w / 2 ^ 8 % 256 ∷ w % 256 ∷ []
 
 unfoldable pub bytes_of : List ℕ → List ℕ
 bytes_of [] = []
-bytes_of (w ∷ ws) = byteList w ++ bytes_of ws
+bytes_of (w ∷ ws) = byte_list w ++ bytes_of ws
 
 -- 0 past the last word
 abbrev pub word_at : List ℕ → ℕ → ℕ

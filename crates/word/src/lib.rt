@@ -1,8 +1,10 @@
 // Words of 32 bits in a slice of bytes, most significant byte first. Start with specs/Word.antt.
+#![tactic(auto)]
+
 ghost use Rattle.std.specs.Prelude.{◌≡◌, [], ◌∷◌, ◌/◌, ◌<◌, min, length};
 ghost use Rattle.word.specs.Steps.Swap.{swap};
 ghost use Rattle.word.specs.Word.{join, word_at};
-ghost use Rattle.word.specs.Steps.Write.{fits, putWords};
+ghost use Rattle.word.specs.Steps.Write.{fits, put_words};
 
 // Four bytes as a word whose least significant byte is the first: what one load reads.
 fn reversed4(a: u8, b: u8, c: u8, d: u8) -> u32
@@ -59,7 +61,7 @@ pub fn word_in(bytes: &[u8], index: usize) -> u32
 // Whether the word fits at the index. Where it does not, the buffer stays as it is.
 pub fn put_word(buffer: &mut [u8], index: usize, word: u32) -> bool
     ensures answer { result ≡ fits buffer.old index 1 }
-    ensures buffer { buffer.new ≡ putWords buffer.old index (word ∷ []) }
+    ensures buffer { buffer.new ≡ put_words buffer.old index (word ∷ []) }
 {
     if index < buffer.len() / 4 {
         let at = index * 4;

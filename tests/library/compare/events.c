@@ -163,12 +163,12 @@ static void compare_known(struct buffer *text)
         enum fault fault;
         uint64_t accepted, cancelled;
         size_t visited;
-    } cases[] = {/* document 01's example, with its five epochs */
+    } cases[] = {/* the README's example, with its five epochs */
         {EXAMPLE, "E1 E3 R0=41", FAULT_NONE, A3, A4, 3 + (6 + 2) + (7 + 3)},
         {EXAMPLE, "E1 E3 R0=40", FAULT_NONE, A4, 0, 3 + (5 + 1) + (6 + 1)},
         {EXAMPLE, "E1 E2 E3 R0=41", FAULT_NONE, A4, 0, 3 + (3 + 1) + (3 + 1) + (4 + 1)},
         {EXAMPLE, "", FAULT_NONE, 0, 0, 3}, {EXAMPLE, "E64", FAULT_EPOCH_RANGE, 0, 0, 0},
-        /* example 2 of source document 000: the order is dropped whole */
+        /* goods that cannot be mailed are not charged: the order is dropped whole */
         {orders, "E0 E1", FAULT_NONE, A0, A1 | A2, 4 + 6 + 9}, {orders, "E1", FAULT_NONE, A1 | A2, 0, 4 + 6},
         {orders, "E0", FAULT_NONE, A0, 0, 4 + 6}, {orders, "", FAULT_NONE, 0, 0, 4},
         /* a service call is charged though the order is dropped */

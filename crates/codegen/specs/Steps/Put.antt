@@ -1,30 +1,30 @@
 -- How the compiler puts the lines of its texts into the buffer, one after another.
 use Rattle.std.specs.Prelude.{ℕ, ◌+◌, ◌≤◌, List, [], ◌∷◌, ◌++◌, length, take}
-use Rattle.policy.specs.Line.{PolicyLine, endingOf}
+use Rattle.policy.specs.Line.{PolicyLine, ending_of}
 use Rattle.policy.specs.declared.line.Ending.{Ending}
-use Rattle.word.specs.Steps.Write.{putWords}
+use Rattle.word.specs.Steps.Write.{put_words}
 use Rattle.word.specs.Word.{words_of}
 use Rattle.lexer.specs.Lines.{lines_of}
-use Rattle.layout.specs.Header.{packHeader}
-use Rattle.layout.specs.Layout.{lineWords, checkWords}
-use Rattle.syntax.specs.Judge.{LineAnswer, skipped, refused, accepted, lineAnswer}
+use Rattle.layout.specs.Header.{pack_header}
+use Rattle.layout.specs.Layout.{line_words, check_words}
+use Rattle.syntax.specs.Judge.{LineAnswer, skipped, refused, accepted, line_answer}
 use Rattle.rule_text.specs.declared.LineCounts.{LineCounts}
-use Rattle.codegen.specs.Compile.{newestForm}
+use Rattle.codegen.specs.Compile.{newest_form}
 use Rattle.codegen.specs.declared.Cursors.{Cursors}
 
 -- a word for each line, literal or action, comparison and constant
-abbrev pub wordCount : LineCounts → ℕ
-wordCount c = c.lines + c.heads + c.comparisons + c.constants
+abbrev pub word_count : LineCounts → ℕ
+word_count c = c.lines + c.heads + c.comparisons + c.constants
 
 -- the word at which a line goes, by its ending
-unfoldable pub cursorFor : Ending → Cursors → ℕ
-cursorFor (Ending.Causes a) p = p.rules
-cursorFor Ending.Never p = p.constraints
+unfoldable pub cursor_for : Ending → Cursors → ℕ
+cursor_for (Ending.Causes a) p = p.rules
+cursor_for Ending.Never p = p.constraints
 
 -- the cursors after a line of so many words
-unfoldable pub cursorsAfter : Ending → Cursors → ℕ → Cursors
-cursorsAfter (Ending.Causes a) p n = record { rules = p.rules + n; constraints = p.constraints }
-cursorsAfter Ending.Never p n = record { rules = p.rules; constraints = p.constraints + n }
+unfoldable pub cursors_after : Ending → Cursors → ℕ → Cursors
+cursors_after (Ending.Causes a) p n = record { rules = p.rules + n; constraints = p.constraints }
+cursors_after Ending.Never p n = record { rules = p.rules; constraints = p.constraints + n }
 
 -- cursors that are far from overflowing
 pub record Near (limit : ℕ) (p : Cursors) : Type 0 where
@@ -37,35 +37,35 @@ pub record Further (p q : Cursors) : Type 0 where
   pub constraints : q.constraints ≤ p.constraints + 557056
 
 -- one line more, unless it is skipped; none from a refused one on
-unfoldable pub acceptedLine : LineAnswer → List PolicyLine → List PolicyLine
-acceptedLine skipped ls = ls
-acceptedLine (refused f) ls = []
-acceptedLine (accepted l) ls = l ∷ ls
+unfoldable pub accepted_line : LineAnswer → List PolicyLine → List PolicyLine
+accepted_line skipped ls = ls
+accepted_line (refused f) ls = []
+accepted_line (accepted l) ls = l ∷ ls
 
-unfoldable pub acceptedLines : List (List ℕ) → List PolicyLine
-acceptedLines [] = []
-acceptedLines (line ∷ lines) = acceptedLine (lineAnswer line) (acceptedLines lines)
+unfoldable pub accepted_lines : List (List ℕ) → List PolicyLine
+accepted_lines [] = []
+accepted_lines (line ∷ lines) = accepted_line (line_answer line) (accepted_lines lines)
 
 -- the lines of the maker's text and, behind them, of the site's
-abbrev pub linesOfBoth : List ℕ → List ℕ → List PolicyLine
-linesOfBoth maker site = acceptedLines (lines_of maker) ++ acceptedLines (lines_of site)
+abbrev pub lines_of_both : List ℕ → List ℕ → List PolicyLine
+lines_of_both maker site = accepted_lines (lines_of maker) ++ accepted_lines (lines_of site)
 
 -- the cursors behind lines
-unfoldable pub cursorsBehind : List PolicyLine → Cursors → Cursors
-cursorsBehind [] p = p
-cursorsBehind (l ∷ ls) p = cursorsBehind ls (cursorsAfter (endingOf l) p (length (lineWords l)))
+unfoldable pub cursors_behind : List PolicyLine → Cursors → Cursors
+cursors_behind [] p = p
+cursors_behind (l ∷ ls) p = cursors_behind ls (cursors_after (ending_of l) p (length (line_words l)))
 
-unfoldable pub putLines : List PolicyLine → Cursors → List ℕ → List ℕ
-putLines [] p buffer = buffer
-putLines (l ∷ ls) p buffer =
-    putLines ls (cursorsAfter (endingOf l) p (length (lineWords l))) (putWords buffer (cursorFor (endingOf l) p) (lineWords l))
+unfoldable pub put_lines : List PolicyLine → Cursors → List ℕ → List ℕ
+put_lines [] p buffer = buffer
+put_lines (l ∷ ls) p buffer =
+    put_lines ls (cursors_after (ending_of l) p (length (line_words l))) (put_words buffer (cursor_for (ending_of l) p) (line_words l))
 
 -- word 0, the lines, and the check words from the words before them
-unfoldable pub putContent : List PolicyLine → ℕ → ℕ → List ℕ → List ℕ
-putContent ls ruleCount constraintCount buffer =
-    putLines ls (record { rules = 1; constraints = 1 + ruleCount }) (putWords buffer 0 (packHeader newestForm ruleCount constraintCount ∷ []))
+unfoldable pub put_content : List PolicyLine → ℕ → ℕ → List ℕ → List ℕ
+put_content ls rule_count constraint_count buffer =
+    put_lines ls (record { rules = 1; constraints = 1 + rule_count }) (put_words buffer 0 (pack_header newest_form rule_count constraint_count ∷ []))
 
-unfoldable pub putImage : List PolicyLine → ℕ → ℕ → List ℕ → List ℕ
-putImage ls ruleCount constraintCount buffer =
-    let content : List ℕ = putContent ls ruleCount constraintCount buffer in
-    putWords content (1 + ruleCount + constraintCount) (checkWords newestForm (take (1 + ruleCount + constraintCount) (words_of content)))
+unfoldable pub put_image : List PolicyLine → ℕ → ℕ → List ℕ → List ℕ
+put_image ls rule_count constraint_count buffer =
+    let content : List ℕ = put_content ls rule_count constraint_count buffer in
+    put_words content (1 + rule_count + constraint_count) (check_words newest_form (take (1 + rule_count + constraint_count) (words_of content)))

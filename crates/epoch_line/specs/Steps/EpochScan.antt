@@ -1,76 +1,74 @@
 -- What stands at a position of an epoch line, and what was collected up to there.
-use Rattle.std.specs.Prelude.{ℕ, Bool, true, ◌||◌, cond, eqb, ltb, ℤ, drop}
-use mathlib.Core.List.{List, foldl}
+use Rattle.std.specs.Prelude.{ℕ, Bool, true, ◌||◌, cond, eqb, ltb, ℤ, drop, List}
+use mathlib.Core.List.{foldl}
 use Rattle.std.proofs.Math.Option.{Option, none, some}
 use Rattle.policy.specs.Epoch.{Epoch}
 use Rattle.policy.specs.List.{any}
-use Rattle.policy.specs.Number.{readingLimit}
-use Rattle.policy.specs.Set.{hasReading}
+use Rattle.policy.specs.Number.{reading_limit}
+use Rattle.policy.specs.Set.{EventSet, ReadingSet, has_reading}
 use Rattle.policy.specs.declared.fault.Fault.{Fault}
-use Rattle.policy.specs.declared.set.EventSet.{EventSet}
-use Rattle.policy.specs.declared.set.ReadingSet.{ReadingSet}
-use Rattle.epoch_line.specs.Answer.{refusedRead, acceptedRead}
-use Rattle.epoch_line.specs.Epoch.{Item, event, value, atEquals, assignmentOf, item_of, items_of, itemInRange, addItem}
-use Rattle.lexer.specs.Steps.Scan.{inToken, tokenAt, tokensAt}
-use Rattle.lexer.specs.Lines.{skipWhile}
+use Rattle.epoch_line.specs.Answer.{refused_read, accepted_read}
+use Rattle.epoch_line.specs.Epoch.{Item, event, value, at_equals, assignment_of, item_of, items_of, item_in_range, add_item}
+use Rattle.lexer.specs.Steps.Scan.{in_token, token_at, tokens_at}
+use Rattle.lexer.specs.Lines.{skip_while}
 use Rattle.epoch_line.specs.declared.EpochRead.{EpochRead}
 use Rattle.epoch_line.specs.declared.ItemAt.{ItemAt}
 use Rattle.token.specs.declared.constant.ConstantAt.{ConstantAt}
 
 -- ---- one token
 
-unfoldable pub itemWithin : ℕ → Item → ItemAt
-itemWithin end (event n) = ItemAt.Event (record { 0 = n }) end
-itemWithin end (value n k) = ItemAt.Value (record { 0 = n }) k end
+unfoldable pub item_within : ℕ → Item → ItemAt
+item_within end (event n) = ItemAt.Event (record { 0 = n }) end
+item_within end (value n k) = ItemAt.Value (record { 0 = n }) k end
 
-unfoldable pub itemEnding : ℕ → Option Item → ItemAt
-itemEnding end none = ItemAt.Malformed
-itemEnding end (some i) = cond (itemInRange i) (itemWithin end i) (ItemAt.OutOfRange end)
+unfoldable pub item_ending : ℕ → Option Item → ItemAt
+item_ending end none = ItemAt.Malformed
+item_ending end (some i) = cond (item_in_range i) (item_within end i) (ItemAt.OutOfRange end)
 
 -- the value of the reading with this number, by the constant that was read
-unfoldable pub valueItem : ℕ → ConstantAt → ItemAt
-valueItem n (ConstantAt.Value k end) = cond (ltb n readingLimit) (ItemAt.Value (record { 0 = n }) k end) (ItemAt.OutOfRange end)
-valueItem n (ConstantAt.OutOfRange end) = ItemAt.OutOfRange end
-valueItem n ConstantAt.Malformed = ItemAt.Malformed
+unfoldable pub value_item : ℕ → ConstantAt → ItemAt
+value_item n (ConstantAt.Value k end) = cond (ltb n reading_limit) (ItemAt.Value (record { 0 = n }) k end) (ItemAt.OutOfRange end)
+value_item n (ConstantAt.OutOfRange end) = ItemAt.OutOfRange end
+value_item n ConstantAt.Malformed = ItemAt.Malformed
 
 unfoldable pub value_at : List ℕ → ℕ → ItemAt
-value_at line at = itemEnding (skipWhile inToken line at) (assignmentOf (atEquals (tokenAt line at)))
+value_at line at = item_ending (skip_while in_token line at) (assignment_of (at_equals (token_at line at)))
 
 unfoldable pub item_at : List ℕ → ℕ → ItemAt
-item_at line at = itemEnding (skipWhile inToken line at) (item_of (tokenAt line at))
+item_at line at = item_ending (skip_while in_token line at) (item_of (token_at line at))
 
 -- ---- the line as it is scanned: what was collected, and whether a number was out of range or a reading given twice
 
 pub record Scanned : Type 0 where
-  pub outOfRange : Bool
+  pub out_of_range : Bool
   pub twice : Bool
   pub epoch : Epoch
 
 abbrev pub scanned : Bool → Bool → EventSet → ReadingSet → List ℤ → Scanned
-scanned outOfRange twice events given values =
-    record { outOfRange = outOfRange; twice = twice; epoch = record { events = events; readings = record { given = given; values = values } } }
+scanned out_of_range twice events given values =
+    record { out_of_range = out_of_range; twice = twice; epoch = record { events = events; readings = record { given = given; values = values } } }
 
 -- one item more, which is in range
-unfoldable pub addScanned : Scanned → Item → Scanned
-addScanned s (event n) = record { outOfRange = s.outOfRange; twice = s.twice; epoch = addItem s.epoch (event n) }
-addScanned s (value n k) =
-    record { outOfRange = s.outOfRange; twice = s.twice || hasReading s.epoch.readings.given (record { 0 = n }); epoch = addItem s.epoch (value n k) }
+unfoldable pub add_scanned : Scanned → Item → Scanned
+add_scanned s (event n) = record { out_of_range = s.out_of_range; twice = s.twice; epoch = add_item s.epoch (event n) }
+add_scanned s (value n k) =
+    record { out_of_range = s.out_of_range; twice = s.twice || has_reading s.epoch.readings.given (record { 0 = n }); epoch = add_item s.epoch (value n k) }
 
 abbrev pub flagged : Scanned → Scanned
-flagged s = record { outOfRange = true; twice = s.twice; epoch = s.epoch }
+flagged s = record { out_of_range = true; twice = s.twice; epoch = s.epoch }
 
-unfoldable pub takeItem : Scanned → Item → Scanned
-takeItem s i = cond (itemInRange i) (addScanned s i) (flagged s)
+unfoldable pub take_item : Scanned → Item → Scanned
+take_item s i = cond (item_in_range i) (add_scanned s i) (flagged s)
 
-unfoldable pub finishRead : Scanned → EpochRead
-finishRead s =
-    cond s.outOfRange (refusedRead Fault.EpochRange)
-    (cond s.twice (refusedRead Fault.DuplicateReading) (acceptedRead s.epoch))
+unfoldable pub finish_read : Scanned → EpochRead
+finish_read s =
+    cond s.out_of_range (refused_read Fault.EpochRange)
+    (cond s.twice (refused_read Fault.DuplicateReading) (accepted_read s.epoch))
 
-unfoldable pub itemsRead : Scanned → Option (List Item) → EpochRead
-itemsRead s none = refusedRead Fault.EpochSyntax
-itemsRead s (some is) = finishRead (foldl takeItem s is)
+unfoldable pub items_read : Scanned → Option (List Item) → EpochRead
+items_read s none = refused_read Fault.EpochSyntax
+items_read s (some is) = finish_read (foldl take_item s is)
 
 -- the answer, after what was collected up to a position
-unfoldable pub epochFrom : Scanned → List ℕ → ℕ → EpochRead
-epochFrom s line at = cond (any (eqb 10) (drop at line)) (refusedRead Fault.EpochSyntax) (itemsRead s (items_of (tokensAt line at)))
+unfoldable pub epoch_from : Scanned → List ℕ → ℕ → EpochRead
+epoch_from s line at = cond (any (eqb 10) (drop at line)) (refused_read Fault.EpochSyntax) (items_read s (items_of (tokens_at line at)))

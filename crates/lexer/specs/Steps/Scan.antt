@@ -2,64 +2,64 @@
 use Prim.Native.Char.{code}
 use Rattle.std.specs.Prelude.{ℕ, ◌+◌, ◌%◌, ◌^◌, min, Bool, not, cond, List, length, drop}
 use Rattle.std.proofs.Math.Option.{Option, none, some}
-use Rattle.lexer.specs.Byte.{sameBytes, endsToken, isDigit, isHexDigit}
+use Rattle.lexer.specs.Byte.{bytes_equal, ends_token, is_digit, is_hex_digit}
 use Rattle.lexer.specs.Token.{named}
-use Rattle.lexer.specs.Lines.{tokensOf, takeWhile, skipWhile, restOfLine}
-use Rattle.lexer.specs.Number.{number_of, decimalFrom, hexNumber}
+use Rattle.lexer.specs.Lines.{tokens_of, take_leading, skip_while, rest_of_line}
+use Rattle.lexer.specs.Number.{number_of, decimal_from, hex_number}
 use Rattle.lexer.specs.declared.scan.Digits.{Digits}
 use Rattle.lexer.specs.declared.scan.NumberAt.{NumberAt}
 use Rattle.lexer.specs.declared.scan.KeywordAt.{KeywordAt}
 
-abbrev pub inToken : ℕ → Bool
-inToken b = not (endsToken b)
+abbrev pub in_token : ℕ → Bool
+in_token b = not (ends_token b)
 
-unfoldable pub tokenAt : List ℕ → ℕ → List ℕ
-tokenAt text at = takeWhile inToken (drop at text)
+unfoldable pub token_at : List ℕ → ℕ → List ℕ
+token_at text at = take_leading in_token (drop at text)
 
-unfoldable pub keywordAt : List ℕ → ℕ → List ℕ → KeywordAt
-keywordAt text at keyword = cond (sameBytes (tokenAt text at) keyword) (KeywordAt.Found (at + length keyword)) KeywordAt.Absent
+unfoldable pub keyword_at : List ℕ → ℕ → List ℕ → KeywordAt
+keyword_at text at keyword = cond (bytes_equal (token_at text at) keyword) (KeywordAt.Found (at + length keyword)) KeywordAt.Absent
 
 -- ---- numbers: those past every limit are all read as one
 
-abbrev pub clipLimit : ℕ
-clipLimit = 3000000000
+abbrev pub clip_limit : ℕ
+clip_limit = 3000000000
 
 abbrev pub clip : ℕ → ℕ
-clip n = min n clipLimit
+clip n = min n clip_limit
 
-unfoldable pub numberEnding : ℕ → Option ℕ → NumberAt
-numberEnding end none = NumberAt.Malformed
-numberEnding end (some n) = NumberAt.Number (clip n) end
+unfoldable pub number_ending : ℕ → Option ℕ → NumberAt
+number_ending end none = NumberAt.Malformed
+number_ending end (some n) = NumberAt.Number (clip n) end
 
 -- the digits at a position: their value, and the position behind them
-unfoldable pub leadingDigits : List ℕ → ℕ → Digits
-leadingDigits text at = record { value = clip (decimalFrom 0 (takeWhile isDigit (drop at text))); end = skipWhile isDigit text at }
+unfoldable pub leading_digits : List ℕ → ℕ → Digits
+leading_digits text at = record { value = clip (decimal_from 0 (take_leading is_digit (drop at text))); end = skip_while is_digit text at }
 
 -- the number that the digits at a position are
-unfoldable pub digitsAt : List ℕ → ℕ → NumberAt
-digitsAt text at = numberEnding (skipWhile isDigit text at) (number_of (takeWhile isDigit (drop at text)))
+unfoldable pub digits_at : List ℕ → ℕ → NumberAt
+digits_at text at = number_ending (skip_while is_digit text at) (number_of (take_leading is_digit (drop at text)))
 
 -- the hexadecimal digits at a position: the value of the last eight of them, and the position behind them
-unfoldable pub hexDigitsAt : List ℕ → ℕ → Digits
-hexDigitsAt text at = record { value = hexNumber (takeWhile isHexDigit (drop at text)) % 2 ^ 32; end = skipWhile isHexDigit text at }
+unfoldable pub hex_digits_at : List ℕ → ℕ → Digits
+hex_digits_at text at = record { value = hex_number (take_leading is_hex_digit (drop at text)) % 2 ^ 32; end = skip_while is_hex_digit text at }
 
 -- the number that the token at a position is
 unfoldable pub number_at : List ℕ → ℕ → NumberAt
-number_at text at = numberEnding (skipWhile inToken text at) (number_of (tokenAt text at))
+number_at text at = number_ending (skip_while in_token text at) (number_of (token_at text at))
 
 -- a letter and a number, as a whole token
 unfoldable pub name_at : List ℕ → ℕ → ℕ → NumberAt
-name_at text at letter = numberEnding (skipWhile inToken text at) (named letter (tokenAt text at))
+name_at text at letter = number_ending (skip_while in_token text at) (named letter (token_at text at))
 
-abbrev pub eventAt : List ℕ → ℕ → NumberAt
-eventAt text at = name_at text at (code "E")
+abbrev pub event_at : List ℕ → ℕ → NumberAt
+event_at text at = name_at text at (code "E")
 
-abbrev pub actionAt : List ℕ → ℕ → NumberAt
-actionAt text at = name_at text at (code "A")
+abbrev pub action_at : List ℕ → ℕ → NumberAt
+action_at text at = name_at text at (code "A")
 
-abbrev pub readingAt : List ℕ → ℕ → NumberAt
-readingAt text at = name_at text at (code "R")
+abbrev pub reading_at : List ℕ → ℕ → NumberAt
+reading_at text at = name_at text at (code "R")
 
 -- the tokens from a position to the end of its line
-unfoldable pub tokensAt : List ℕ → ℕ → List (List ℕ)
-tokensAt text at = tokensOf (restOfLine text at)
+unfoldable pub tokens_at : List ℕ → ℕ → List (List ℕ)
+tokens_at text at = tokens_of (rest_of_line text at)

@@ -13,10 +13,10 @@ agrees f i [] = true
 agrees f i (x ∷ xs) = eqb x (f i) && agrees f (suc i) xs
 
 -- what stands for a class in the table
-unfoldable pub classMark : Class → ℕ
-classMark Class.Space = code "_"
-classMark Class.LineEnd = code "n"
-classMark Class.Digit = code "0"
-classMark Class.Letter = code "a"
-classMark Class.Sign = code "!"
-classMark Class.Other = code "."
+unfoldable pub class_mark : Class → ℕ
+class_mark Class.Space = code "_"
+class_mark Class.LineEnd = code "n"
+class_mark Class.Digit = code "0"
+class_mark Class.Letter = code "a"
+class_mark Class.Sign = code "!"
+class_mark Class.Other = code "."

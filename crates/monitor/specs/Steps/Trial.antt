@@ -2,25 +2,25 @@
 use Rattle.std.specs.Prelude.{ℕ, ◌+◌, List}
 use Rattle.policy.specs.Epoch.{Epoch, Readings}
 use Rattle.policy.specs.declared.set.Events.{Events}
-use Rattle.run.specs.Run.{runRules, runConstraints, ruleFetches, trialFetches}
-use Rattle.monitor.specs.Decision.{proposedWithBy, keptEventsBy, triedEventWords}
+use Rattle.run.specs.Run.{run_rules, run_constraints, rule_fetches, trial_fetches}
+use Rattle.monitor.specs.Decision.{proposed_with_by, kept_events_by, tried_event_words}
 use Rattle.monitor.specs.declared.events.EventTrial.{EventTrial}
 use Rattle.monitor.specs.declared.events.KeptEvents.{KeptEvents}
 
 -- the trial of some events of an epoch
-abbrev pub trialOf : List ℕ → List ℕ → Events → Readings → EventTrial
-trialOf rules constraints ev rs =
+abbrev pub trial_of : List ℕ → List ℕ → Events → Readings → EventTrial
+trial_of rules constraints ev rs =
     record {
-      actions = runRules ev rs rules;
-      conflict = runConstraints rs (runRules ev rs rules) constraints;
-      words = ruleFetches ev rs rules + trialFetches rs (runRules ev rs rules) constraints;
+      actions = run_rules ev rs rules;
+      conflict = run_constraints rs (run_rules ev rs rules) constraints;
+      words = rule_fetches ev rs rules + trial_fetches rs (run_rules ev rs rules) constraints;
     }
 
 -- the events that are kept in the end, what they propose, and the words of all trials
-abbrev pub keptOf : List ℕ → List ℕ → Epoch → KeptEvents
-keptOf rules constraints e =
+abbrev pub kept_of : List ℕ → List ℕ → Epoch → KeptEvents
+kept_of rules constraints e =
     record {
-      events = keptEventsBy rules constraints e;
-      actions = proposedWithBy rules e (keptEventsBy rules constraints e);
-      words = triedEventWords rules constraints e;
+      events = kept_events_by rules constraints e;
+      actions = proposed_with_by rules e (kept_events_by rules constraints e);
+      words = tried_event_words rules constraints e;
     }

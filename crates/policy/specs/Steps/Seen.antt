@@ -3,6 +3,6 @@
 use Rattle.std.specs.Prelude.{ℕ, Bool, false, ◌||◌, List, [], ◌∷◌}
 use Rattle.policy.specs.Set.{has, insert}
 
-unfoldable pub seenIn : ℕ → List ℕ → Bool
-seenIn s [] = false
-seenIn s (n ∷ ns) = has s n || seenIn (insert s n) ns
+unfoldable pub seen_in : ℕ → List ℕ → Bool
+seen_in s [] = false
+seen_in s (n ∷ ns) = has s n || seen_in (insert s n) ns

@@ -1,7 +1,7 @@
--- The text of a line's value, as the code appends it. That the value of a line has the line's text is proved (`value-text` in
+-- The text of a line's value, as the code appends it. That the value of a line has the line's text is proved (`value_text_is` in
 -- proofs/ValueLaws.antt).
 use Prim.Native.Char.{code}
-use Rattle.std.specs.Prelude.{ℕ, List, [], ◌∷◌, ◌++◌, map, take}
+use Rattle.std.specs.Prelude.{ℕ, List, [], ◌∷◌, ◌++◌, take}
 use Rattle.policy.specs.declared.comparison.Comparison.{Comparison}
 use Rattle.policy.specs.declared.line.Ending.{Ending}
 use Rattle.policy.specs.declared.line.Head.{Head}
@@ -9,14 +9,14 @@ use Rattle.policy.specs.declared.line.Test.{Test}
 use Rattle.line_value.specs.declared.Line.{Line}
 use Rattle.lexer.specs.Byte.{bytes}
 use Rattle.lexer.specs.Token.{Token}
-use Rattle.printer.specs.Printed.{literalToken, actionToken, readingToken, relationToken, operandToken}
+use Rattle.printer.specs.Printed.{literal_token, action_token, reading_token, relation_token, operand_token}
 
-unfoldable pub testToken : Test → Token
-testToken (Test.Occurs l) = literalToken l
-testToken (Test.Member a) = actionToken a
+unfoldable pub test_token : Test → Token
+test_token (Test.Occurs l) = literal_token l
+test_token (Test.Member a) = action_token a
 
-unfoldable pub comparisonText : Comparison → List ℕ
-comparisonText c = readingToken c.reading ++ code " " ∷ relationToken c.relation ++ code " " ∷ operandToken c.operand
+unfoldable pub comparison_text : Comparison → List ℕ
+comparison_text c = reading_token c.reading ++ code " " ∷ relation_token c.relation ++ code " " ∷ operand_token c.operand
 
 module _ {A : Type 0} (text : A → List ℕ) where
   -- one text after another: `first` stands before the first of them, `next` before each other
@@ -24,20 +24,20 @@ module _ {A : Type 0} (text : A → List ℕ) where
   linked first next [] = []
   linked first next (x ∷ xs) = first ++ text x ++ linked next next xs
 
-abbrev pub headText : Head → List ℕ
-headText h = testToken h.0
+abbrev pub head_text : Head → List ℕ
+head_text h = test_token h.0
 
 -- the parts that a value holds are those up to its counts
-unfoldable pub headsText : Line → List ℕ
-headsText l = linked headText [] (bytes " & ") (take l.head_count l.heads)
+unfoldable pub heads_text : Line → List ℕ
+heads_text l = linked head_text [] (bytes " & ") (take l.head_count l.heads)
 
-unfoldable pub conditionText : Line → List ℕ
-conditionText l = linked comparisonText (bytes " if ") (bytes " , ") (take l.comparison_count l.comparisons)
+unfoldable pub condition_text : Line → List ℕ
+condition_text l = linked comparison_text (bytes " if ") (bytes " , ") (take l.comparison_count l.comparisons)
 
 -- with the line's end
-unfoldable pub endingText : Ending → List ℕ → List ℕ → List ℕ
-endingText (Ending.Causes a) heads condition = heads ++ bytes " causes " ++ actionToken a ++ condition ++ 10 ∷ []
-endingText Ending.Never heads condition = bytes "never " ++ heads ++ condition ++ 10 ∷ []
+unfoldable pub ending_text : Ending → List ℕ → List ℕ → List ℕ
+ending_text (Ending.Causes a) heads condition = heads ++ bytes " causes " ++ action_token a ++ condition ++ 10 ∷ []
+ending_text Ending.Never heads condition = bytes "never " ++ heads ++ condition ++ 10 ∷ []
 
-unfoldable pub valueText : Line → List ℕ
-valueText l = endingText l.ending (headsText l) (conditionText l)
+unfoldable pub value_text : Line → List ℕ
+value_text l = ending_text l.ending (heads_text l) (condition_text l)

@@ -1,15 +1,15 @@
 -- Counting the lines of a text instead of collecting them.
-use Rattle.std.specs.Prelude.{ℕ, ◌+◌, cond, ltb, length, drop}
-use mathlib.Core.List.{List, foldl}
+use Rattle.std.specs.Prelude.{ℕ, ◌+◌, cond, ltb, length, drop, List}
+use mathlib.Core.List.{foldl}
 use Rattle.policy.specs.Fault.{refusal, within}
-use Rattle.policy.specs.Line.{PolicyLine, headsOf, comparisonsOf, endingOf, constantCount}
+use Rattle.policy.specs.Line.{PolicyLine, heads_of, comparisons_of, ending_of, constant_count}
 use Rattle.policy.specs.declared.fault.Fault.{Fault}
 use Rattle.policy.specs.declared.fault.Refusal.{Refusal}
 use Rattle.policy.specs.declared.fault.Source.{Source}
-use Rattle.syntax.specs.Judge.{LineAnswer, skipped, refused, accepted, lineAnswer}
+use Rattle.syntax.specs.Judge.{LineAnswer, skipped, refused, accepted, line_answer}
 use Rattle.lexer.specs.Lines.{lines_of}
-use Rattle.rule_text.specs.Text.{textLimit}
-use Rattle.rule_text.specs.Steps.Tally.{oneMore, tallyAs}
+use Rattle.rule_text.specs.Text.{text_limit}
+use Rattle.rule_text.specs.Steps.Tally.{one_more, tally_as}
 use Rattle.rule_text.specs.declared.LineCounts.{LineCounts}
 use Rattle.rule_text.specs.declared.Tally.{Tally}
 use Rattle.rule_text.specs.declared.TextCounts.{TextCounts}
@@ -20,37 +20,37 @@ pub data Counting : Type 0 where
   going : ℕ → TextCounts → Counting
   halted : Refusal → Counting
 
-unfoldable pub countedStep : ℕ → Tally → Counting
-countedStep n (Tally.Go c) = going (n + 1) c
-countedStep n (Tally.Stop f) = halted (refusal f n)
+unfoldable pub counted_step : ℕ → Tally → Counting
+counted_step n (Tally.Go c) = going (n + 1) c
+counted_step n (Tally.Stop f) = halted (refusal f n)
 
 -- one line more, to the counts of its kind
 abbrev pub plus : LineCounts → PolicyLine → LineCounts
-plus c l = oneMore c (length (headsOf l)) (length (comparisonsOf l)) (constantCount (comparisonsOf l))
+plus c l = one_more c (length (heads_of l)) (length (comparisons_of l)) (constant_count (comparisons_of l))
 
 -- what a line is, to the counts
 unfoldable pub stepped : TextCounts → LineAnswer → Tally
 stepped c skipped = Tally.Go c
 stepped c (refused f) = Tally.Stop f
-stepped c (accepted l) = tallyAs (endingOf l) c (plus c.rules l) (plus c.constraints l)
+stepped c (accepted l) = tally_as (ending_of l) c (plus c.rules l) (plus c.constraints l)
 
-unfoldable pub countLine : Counting → List ℕ → Counting
-countLine (going n c) line = countedStep n (stepped c (lineAnswer line))
-countLine (halted r) line = halted r
+unfoldable pub count_line : Counting → List ℕ → Counting
+count_line (going n c) line = counted_step n (stepped c (line_answer line))
+count_line (halted r) line = halted r
 
 -- the lines from a position on, counted
-unfoldable pub countFrom : List ℕ → ℕ → TextCounts → ℕ → Counting
-countFrom text n c at = foldl countLine (going n c) (lines_of (drop at text))
+unfoldable pub count_from : List ℕ → ℕ → TextCounts → ℕ → Counting
+count_from text n c at = foldl count_line (going n c) (lines_of (drop at text))
 
 -- the lines of a text, counted behind those before it
-unfoldable pub countBehind : TextCounts → List ℕ → Counting
-countBehind c text = cond (ltb textLimit (length text)) (halted (refusal Fault.TooLong 0)) (countFrom text 1 c 0)
+unfoldable pub count_behind : TextCounts → List ℕ → Counting
+count_behind c text = cond (ltb text_limit (length text)) (halted (refusal Fault.TooLong 0)) (count_from text 1 c 0)
 
-unfoldable pub countRead : Counting → TextRead
-countRead (going n c) = TextRead.Accepted c
-countRead (halted r) = TextRead.Refused r
+unfoldable pub count_read : Counting → TextRead
+count_read (going n c) = TextRead.Accepted c
+count_read (halted r) = TextRead.Refused r
 
 -- the refusal, if it is one, in one of the texts
-unfoldable pub sourcedIn : Source → TextRead → TextRead
-sourcedIn source (TextRead.Accepted c) = TextRead.Accepted c
-sourcedIn source (TextRead.Refused r) = TextRead.Refused (within source r)
+unfoldable pub sourced_in : Source → TextRead → TextRead
+sourced_in source (TextRead.Accepted c) = TextRead.Accepted c
+sourced_in source (TextRead.Refused r) = TextRead.Refused (within source r)

@@ -1,7 +1,7 @@
 -- The counts of a text with one line more.
 use Rattle.std.specs.Prelude.{ℕ, ◌+◌, ◌*◌, ◌≤◌, cond, ltb, take}
-use Rattle.policy.specs.Limits.{headLimit, comparisonLimit, ruleLimit, constraintLimit}
-use Rattle.policy.specs.Line.{constantCount}
+use Rattle.policy.specs.Limits.{head_limit, comparison_limit, rule_limit, constraint_limit}
+use Rattle.policy.specs.Line.{constant_count}
 use Rattle.policy.specs.declared.fault.Fault.{Fault}
 use Rattle.policy.specs.declared.line.Ending.{Ending}
 use Rattle.line_value.specs.declared.Line.{Line}
@@ -18,8 +18,8 @@ pub record Within (limit : ℕ) (c : LineCounts) : Type 0 where
   pub constants : c.constants ≤ c.lines * 4
 
 pub record Small (c : TextCounts) : Type 0 where
-  pub rules : Within ruleLimit c.rules
-  pub constraints : Within constraintLimit c.constraints
+  pub rules : Within rule_limit c.rules
+  pub constraints : Within constraint_limit c.constraints
 
 -- a line whose parts were counted to one past their limits
 pub record Counted (l : Line) : Type 0 where
@@ -27,22 +27,22 @@ pub record Counted (l : Line) : Type 0 where
   pub comparisons : l.comparison_count ≤ 5
 
 -- one line more, with so many parts
-abbrev pub oneMore : LineCounts → ℕ → ℕ → ℕ → LineCounts
-oneMore c heads comparisons constants =
+abbrev pub one_more : LineCounts → ℕ → ℕ → ℕ → LineCounts
+one_more c heads comparisons constants =
     record { lines = c.lines + 1; heads = c.heads + heads; comparisons = c.comparisons + comparisons; constants = c.constants + constants }
 
-unfoldable pub withLine : LineCounts → Line → LineCounts
-withLine c l = oneMore c l.head_count l.comparison_count (constantCount (take l.comparison_count l.comparisons))
+unfoldable pub with_line : LineCounts → Line → LineCounts
+with_line c l = one_more c l.head_count l.comparison_count (constant_count (take l.comparison_count l.comparisons))
 
 -- the counts with those of the kind that a line ends as
-unfoldable pub tallyAs : Ending → TextCounts → LineCounts → LineCounts → Tally
-tallyAs (Ending.Causes a) c rules constraints = cond (ltb c.rules.lines ruleLimit) (Tally.Go (record { rules = rules; constraints = c.constraints })) (Tally.Stop Fault.TooManyLines)
-tallyAs Ending.Never c rules constraints = cond (ltb c.constraints.lines constraintLimit) (Tally.Go (record { rules = c.rules; constraints = constraints })) (Tally.Stop Fault.TooManyLines)
+unfoldable pub tally_as : Ending → TextCounts → LineCounts → LineCounts → Tally
+tally_as (Ending.Causes a) c rules constraints = cond (ltb c.rules.lines rule_limit) (Tally.Go (record { rules = rules; constraints = c.constraints })) (Tally.Stop Fault.TooManyLines)
+tally_as Ending.Never c rules constraints = cond (ltb c.constraints.lines constraint_limit) (Tally.Go (record { rules = c.rules; constraints = constraints })) (Tally.Stop Fault.TooManyLines)
 
-unfoldable pub talliedBy : TextCounts → Line → Tally
-talliedBy c l = tallyAs l.ending c (withLine c.rules l) (withLine c.constraints l)
+unfoldable pub tallied_by : TextCounts → Line → Tally
+tallied_by c l = tally_as l.ending c (with_line c.rules l) (with_line c.constraints l)
 
 unfoldable pub step_of : TextCounts → LineStatus → Line → Tally
 step_of c LineStatus.Skipped l = Tally.Go c
 step_of c (LineStatus.Refused f) l = Tally.Stop f
-step_of c LineStatus.Accepted l = talliedBy c l
+step_of c LineStatus.Accepted l = tallied_by c l

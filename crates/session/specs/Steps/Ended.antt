@@ -3,26 +3,26 @@ use Rattle.std.specs.Prelude.{◌≡◌, ℕ, ◌≤◌, List, [], ◌++◌, len
 use Rattle.std.proofs.Math.Option.{some}
 use Rattle.policy.specs.declared.mode.Mode.{Mode}
 use Rattle.lexer.specs.Lines.{lines_of}
-use Rattle.monitor.specs.Decision.{decisionIn}
-use Rattle.session.specs.Printed.{withEpochs, printedFor, next, decisionLine}
-use Rattle.session.specs.Owed.{current, leftIn, owed, Good, Seen, Tracks}
+use Rattle.monitor.specs.Decision.{decision_in}
+use Rattle.session.specs.Printed.{with_epochs, printed_for, next, decision_line}
+use Rattle.session.specs.Owed.{current, left_in, owed, Good, Seen, Tracks}
 use Rattle.session.specs.declared.state.State.{State}
 
 -- the text is complete, and epochs are decided in the mode; nothing is held
 pub record TextEnded (text : List ℕ) (mode : Mode) (s : State) (out : List ℕ) (r : State) (image' out' : List ℕ) : Type 0 where
-  pub owes : (held rest : List ℕ) → owed r held image' out' rest ≡ take s.used out ++ printedFor text (withEpochs [] mode (lines_of rest))
+  pub owes : (held rest : List ℕ) → owed r held image' out' rest ≡ take s.used out ++ printed_for text (with_epochs [] mode (lines_of rest))
   pub good : (held : List ℕ) → length held ≡ 32780 → Good r held image' out'
   -- behind the line that picks the mode
   pub tracks : (held : List ℕ) (x : Seen) → x.ran ≡ some mode → x.tail ≡ [] → Tracks x r held
   -- the end of the input adds nothing
-  pub quiet : (held : List ℕ) → leftIn r.phase r held image' [] ≡ []
+  pub quiet : (held : List ℕ) → left_in r.phase r held image' [] ≡ []
 
-abbrev pub decidedBy : State → ℕ → State
-decidedBy s used = record { phase = s.phase; mode = s.mode; start = 0; count = 0; epochs = next s.epochs; size = s.size; used = used }
+abbrev pub decided_by : State → ℕ → State
+decided_by s used = record { phase = s.phase; mode = s.mode; start = 0; count = 0; epochs = next s.epochs; size = s.size; used = used }
 
 -- the epoch line is complete
 pub record LineEnded (s : State) (held image out : List ℕ) (r : State) (out' : List ℕ) : Type 0 where
-  pub state : r ≡ decidedBy s r.used
-  pub prints : take r.used out' ≡ take s.used out ++ decisionLine (next s.epochs) (decisionIn s.mode (take s.size image) (current s held))
-  pub outLong : length out' ≡ 65536
+  pub state : r ≡ decided_by s r.used
+  pub prints : take r.used out' ≡ take s.used out ++ decision_line (next s.epochs) (decision_in s.mode (take s.size image) (current s held))
+  pub out_long : length out' ≡ 65536
   pub used : r.used ≤ 65536

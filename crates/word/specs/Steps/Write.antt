@@ -3,13 +3,13 @@ use Rattle.std.specs.Prelude.{ℕ, ◌+◌, ◌*◌, ◌/◌, Bool, cond, List, 
 use Rattle.word.specs.Word.{bytes_of}
 
 -- the bytes in place of those that stood there
-unfoldable pub putBytes : List ℕ → ℕ → List ℕ → List ℕ
-putBytes buffer at bytes = take at buffer ++ bytes ++ drop (at + length bytes) buffer
+unfoldable pub put_bytes : List ℕ → ℕ → List ℕ → List ℕ
+put_bytes buffer at bytes = take at buffer ++ bytes ++ drop (at + length bytes) buffer
 
 -- whether so many words fit from a word index on
 unfoldable pub fits : List ℕ → ℕ → ℕ → Bool
 fits buffer index count = leb (index + count) (length buffer / 4)
 
 -- words from a word index on; nothing changes where they do not fit
-unfoldable pub putWords : List ℕ → ℕ → List ℕ → List ℕ
-putWords buffer index words = cond (fits buffer index (length words)) (putBytes buffer (index * 4) (bytes_of words)) buffer
+unfoldable pub put_words : List ℕ → ℕ → List ℕ → List ℕ
+put_words buffer index words = cond (fits buffer index (length words)) (put_bytes buffer (index * 4) (bytes_of words)) buffer

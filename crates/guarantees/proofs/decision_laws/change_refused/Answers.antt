@@ -1,0 +1,5 @@
+use Rattle.guarantees.proofs.Demand3 as laws
+use Rattle.guarantees.proofs.decision_laws.change_refused.Goals as goal
+
+pub returns : goal.returns
+returns c = laws.change_refused_in

@@ -1,0 +1,5 @@
+use Rattle.guarantees.proofs.Demand3 as laws
+use Rattle.guarantees.proofs.decision_laws.decision_obeys.Goals as goal
+
+pub returns : goal.returns
+returns c = laws.texts_decision_obeys

@@ -1,0 +1,5 @@
+use Rattle.guarantees.proofs.Demand3 as laws
+use Rattle.guarantees.proofs.decision_laws.events_conflict_refused.Goals as goal
+
+pub returns : goal.returns
+returns c = laws.texts_events_conflict_refused

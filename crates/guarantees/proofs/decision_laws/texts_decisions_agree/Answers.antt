@@ -1,0 +1,5 @@
+use Rattle.guarantees.proofs.Demand3 as laws
+use Rattle.guarantees.proofs.decision_laws.texts_decisions_agree.Goals as goal
+
+pub returns : goal.returns
+returns c = laws.texts_told_decisions_agree

@@ -1,0 +1,38 @@
+-- Of a text over its length 32,769 bytes are enough, whatever a run leaves.
+use Rattle.std.proofs.Common.{◌≡◌, ℕ, List, take, ◌∙◌, ap₂, subst}
+use Rattle.rule_text.specs.Text.{Progress, reading, stopped, read_texts}
+use Rattle.acceptance.proofs.Cut.{texts_cut}
+use Rattle.stream.specs.declared.failure.Failure.{Failure}
+use Rattle.stream.specs.Lines.{whole_part}
+use Rattle.stream.specs.Machine.{Known, AnswersAll, EndsBy}
+use Rattle.questions.specs.Answered.{answered}
+use Rattle.questions.specs.Run.{due, AnswersTexts, QuestionsEndBy}
+use Rattle.questions.proofs.Room.{answers_cut}
+
+module _ (maker site first second : List ℕ) (m : first ≡ take 32769 maker) (s : second ≡ take 32769 site) where
+  answered_cut : answered first second ≡ answered maker site
+  answered_cut = ap₂ answered m s ∙ (λ i. λ input. answers_cut maker site input i)
+
+  due_cut : due first second ≡ due maker site
+  unfolding due
+  due_cut = λ i. λ input. answered_cut i (whole_part input)
+
+  read_cut : read_texts first second ≡ read_texts maker site
+  read_cut = ap₂ read_texts m s ∙ texts_cut maker site
+
+  module _ (old new : Known) where
+    pub answers_cut : AnswersTexts (read_texts first second) first second old new → AnswersTexts (read_texts maker site) maker site old new
+    answers_cut h = go (read_texts maker site) (subst (λ p. AnswersTexts p first second old new) read_cut h)
+      where
+        go : (p : Progress) → AnswersTexts p first second old new → AnswersTexts p maker site old new
+        go (stopped r) h = h
+        go (reading n policy) h =
+            subst (λ d. AnswersAll (answered maker site) d old new) due_cut (subst (λ a. AnswersAll a (due first second) old new) answered_cut h)
+
+    pub end_cut : (e : Failure) → QuestionsEndBy e (read_texts first second) first second old new → QuestionsEndBy e (read_texts maker site) maker site old new
+    end_cut e h = go (read_texts maker site) (subst (λ p. QuestionsEndBy e p first second old new) read_cut h)
+      where
+        go : (p : Progress) → QuestionsEndBy e p first second old new → QuestionsEndBy e p maker site old new
+        go (stopped r) h = h
+        go (reading n policy) h =
+            subst (λ d. EndsBy e d (answered maker site) old new) due_cut (subst (λ a. EndsBy e (due first second) a old new) answered_cut h)

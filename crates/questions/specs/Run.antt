@@ -1,0 +1,42 @@
+-- What a run on two texts leaves, by how it ends.
+use Rattle.std.specs.Prelude.{◌≡◌, ℕ, List, take}
+use Rattle.rule_text.specs.Text.{Progress, reading, stopped, read_texts}
+use Rattle.report.specs.Report.{texts_refusal_line}
+use Rattle.stream.specs.declared.failure.Failure.{Failure}
+use Rattle.stream.specs.Event.{GoOn, Fails}
+use Rattle.stream.specs.Lines.{whole_part}
+use Rattle.stream.specs.Inputs.{IsReadWhole, BothRead}
+use Rattle.stream.specs.Machine.{Known, Reads, Sends, AnswersAll, EndsBy, IsWriteFailure}
+use Rattle.questions.specs.Answered.{answered}
+use Rattle.questions.specs.declared.texts.ExplainFailure.{ExplainFailure}
+use Rattle.questions.specs.declared.texts.ExplainFailure.TheVariants.{Maker, Site, Questions}
+
+module _ (maker site : List ℕ) where
+  -- before the end of the input, what is printed for the lines that have ended
+  unfoldable pub due : List ℕ → List ℕ
+  due input = answered maker site (whole_part input)
+
+-- what was read of the texts; and with it all questions were answered. Of refused texts the refusal was written, and nothing was read
+abbrev pub AnswersTexts : Progress → (maker site : List ℕ) (old new : Known) → Type 0
+AnswersTexts (stopped r) maker site old new = Sends (GoOn 0) old new (texts_refusal_line r)
+AnswersTexts (reading n policy) maker site old new = AnswersAll (answered maker site) (due maker site) old new
+
+-- or a call failed. Of refused texts a front of the refusal was written, and nothing was read
+abbrev pub QuestionsEndBy : Failure → Progress → (maker site : List ℕ) (old new : Known) → Type 0
+QuestionsEndBy e (stopped r) maker site old new = IsWriteFailure e × ((n : ℕ) × Sends (Fails e) old new (take n (texts_refusal_line r)))
+QuestionsEndBy e (reading n policy) maker site old new = EndsBy e (due maker site) (answered maker site) old new
+
+-- ---- the texts are inputs, too
+
+-- both were read to their ends, and then the questions on them were answered
+abbrev pub ReadsAndAnswers : (maker maker' site site' old new : Known) → Type 0
+ReadsAndAnswers maker maker' site site' old new =
+    BothRead maker maker' site site' (λ first second. AnswersTexts (read_texts first second) first second old new)
+
+-- where a text could not be read, no question was read and nothing was written, nor was the site's read where it was the maker's
+abbrev pub ExplainEndsBy : ExplainFailure → (maker maker' site site' old new : Known) → Type 0
+ExplainEndsBy (Maker e) maker maker' site site' old new = ((bytes : List ℕ) × Reads (Fails (Failure.Read e)) maker maker' bytes) × (site' ≡ site) × (new ≡ old)
+ExplainEndsBy (Site e) maker maker' site site' old new =
+    ((first : List ℕ) × IsReadWhole maker maker' first) × ((bytes : List ℕ) × Reads (Fails (Failure.Read e)) site site' bytes) × (new ≡ old)
+ExplainEndsBy (Questions e) maker maker' site site' old new =
+    BothRead maker maker' site site' (λ first second. QuestionsEndBy e (read_texts first second) first second old new)

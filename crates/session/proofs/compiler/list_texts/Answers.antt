@@ -1,0 +1,45 @@
+use Rattle.std.proofs.Common.{◌≡◌, ℕ, ◌≤◌, List, length, take, refl, ◌∙◌, ap₂, subst, arith, rules}
+use Rattle.stream.specs.declared.failure.Failure.{Failure}
+use Rattle.stream.specs.Event.{Fails}
+use Rattle.output.proofs.AppendLaws.{Put}
+use Rattle.stream.specs.Machine.{Sends}
+use Rattle.session.specs.Listed.{listed_texts}
+use Rattle.session.proofs.Whole.{texts_listing_whole, texts_listing_cut}
+use Rattle.session.proofs.compiler.list_texts.Goals as goal
+
+-- the listing of the first bytes of both texts is that of both
+both_listed : (maker site first second out after : List ℕ) (end : ℕ) → maker ≡ take 32769 first → site ≡ take 32769 second
+    → Put out 0 (listed_texts maker site) after end → 29394 ≤ length out → take end after ≡ listed_texts first second
+both_listed maker site first second out after end m s put room =
+    texts_listing_whole maker site out after end room put ∙ ap₂ listed_texts m s ∙ texts_listing_cut first second
+
+pub returns-in-Err-clause-err : goal.returns-in-Err-clause-err
+returns-in-Err-clause-err g c = (c.in-Err.ensures.err, refl, refl)
+
+pub returns-in-Err-read_front-clause-err : goal.returns-in-Err-read_front-clause-err
+returns-in-Err-read_front-clause-err g c =
+    let (first, read, end, kept) = c.in-Ok.ensures.ok in
+    ((first, (read, end)), c.in-Err-read_front.ensures.err, refl)
+
+pub returns-in-Ok-write_whole-clause-ok : goal.returns-in-Ok-write_whole-clause-ok
+returns-in-Ok-write_whole-clause-ok g c =
+    let (first, read, end, kept) = c.in-Ok.ensures.ok in
+    let (second, read', end', kept') = c.in-Ok-read_front.ensures.ok in
+    let maker : take c.in-Ok.size c.read_front.new.front ≡ take 32769 first = kept in
+    let site : take c.in-Ok-read_front.size c.read_front-2.new.front ≡ take 32769 second = kept' in
+    let put = c.put_texts_listing-end.ensures in
+    let listed = both_listed _ _ first second _ _ _ maker site (put.answer, put.buffer) (search (rules, arith)) in
+    (first, second, (read, end), (read', end'), subst (Sends _ _ _) listed c.in-Ok-write_whole.ensures.ok)
+
+pub returns-in-Err-write_whole-clause-err : goal.returns-in-Err-write_whole-clause-err
+returns-in-Err-write_whole-clause-err g c =
+    let (first, read, end, kept) = c.in-Ok.ensures.ok in
+    let (second, read', end', kept') = c.in-Ok-read_front.ensures.ok in
+    let maker : take c.in-Ok.size c.read_front.new.front ≡ take 32769 first = kept in
+    let site : take c.in-Ok-read_front.size c.read_front-2.new.front ≡ take 32769 second = kept' in
+    let put = c.put_texts_listing-end.ensures in
+    let listed = both_listed _ _ first second _ _ _ maker site (put.answer, put.buffer) (search (rules, arith)) in
+    let old = g.E.Ends.known c.args.ends.now in
+    let new = g.E.Ends.known c.write_whole.new.ends in
+    let (n, sent) = c.in-Err-write_whole.ensures.err in
+    (first, second, (read, end), (read', end'), (n, subst (λ l. Sends (Fails (Failure.Write c.in-Err-write_whole.e)) old new (take n l)) listed sent))

@@ -1,0 +1,27 @@
+use Rattle.std.proofs.Common.{sym}
+use Rattle.session.specs.Owed.{seen_by}
+use Rattle.session.proofs.EngineLaws.{tracks_starting, starting_tracks, empty_room, given_took}
+use Rattle.session.proofs.engine.EngineMachine.feed.Goals as goal
+
+pub invariant_of-self : goal.invariant_of-self
+invariant_of-self c =
+    let e = c.args.self.now in
+    let took = c.feed-fed.ensures.took in
+    record {
+      good = took.good;
+      starting = tracks_starting _ _ _ _ (took.tracks (seen_by e.state e.held) (starting_tracks e.state e.held e.image e.out e.good e.starting));
+    }
+
+pub returns-clause-moves : goal.returns-clause-moves
+returns-clause-moves c = λ none some.
+    let e = c.args.self.now in
+    c.feed-fed.ensures.moves (empty_room e.state e.held e.image e.out e.good none) some
+
+pub returns-clause-goes : goal.returns-clause-goes
+returns-clause-goes c =
+    let e = c.args.self.now in
+    let took = c.feed-fed.ensures.took in
+    record {
+      at_once = given_took _ _ _ _ _ _ _ _ _ (starting_tracks e.state e.held e.image e.out e.good e.starting) took;
+      in_all = λ rest. sym (took.owes rest);
+    }

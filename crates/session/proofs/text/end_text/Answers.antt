@@ -1,0 +1,13 @@
+use Rattle.std.proofs.Common.{arith}
+use Rattle.session.proofs.EndLaws.{text_refused, text_accepted}
+use Rattle.session.proofs.text.end_text.Goals as goal
+
+pub returns-in-Refused : goal.returns-in-Refused
+returns-in-Refused c =
+    text_refused _ _ c.args.state _ _ c.compile-compiled.result _ c.compile-compiled.ensures.answer c.compile-compiled.ensures.buffer c.compile-compiled.auto.out c.requires.image_sized c.requires.out_sized c.requires.room
+    _ _ _ c.in-Refused.is (omega arith) (c.put_refusal.ensures.answer, c.put_refusal.ensures.buffer)
+
+pub returns-in-Image : goal.returns-in-Image
+returns-in-Image c =
+    text_accepted _ _ c.args.state _ _ c.compile-compiled.result _ c.compile-compiled.ensures.answer c.compile-compiled.ensures.buffer c.compile-compiled.auto.out c.requires.image_sized c.requires.out_sized c.requires.room
+    _ c.in-Image.is

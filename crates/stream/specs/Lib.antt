@@ -1,0 +1,4 @@
+pub mod Event
+pub mod Inputs
+pub mod Lines
+pub mod Machine
