@@ -1,2 +1,3 @@
 pub mod WordLaws
 pub mod WriteLaws
+pub mod ChunkLaws

@@ -1,9 +1,10 @@
 // Words of 32 bits in a slice of bytes, most significant byte first. Start with specs/Word.antt.
 #![tactic(auto)]
 
-ghost use Rattle.std.specs.Prelude.{◌≡◌, [], ◌∷◌, ◌/◌, ◌<◌, min, length};
+ghost use Rattle.std.specs.Prelude.{◌≡◌, [], ◌∷◌, ◌/◌, ◌<◌, min, length, get_or};
 ghost use Rattle.word.specs.Steps.Swap.{swap};
-ghost use Rattle.word.specs.Word.{join, word_at};
+ghost use Rattle.word.specs.Word.{join, words_of, word_at};
+ghost use Rattle.word.specs.Chunk.{words_in};
 ghost use Rattle.word.specs.Steps.Write.{fits, put_words};
 
 // Four bytes as a word whose least significant byte is the first: what one load reads.
@@ -79,4 +80,31 @@ pub fn at_most(n: usize, limit: usize) -> usize
     ensures { result ≡ min n limit }
 {
     if n < limit { n } else { limit }
+}
+
+/// The words of the bytes. What is left over behind the last is no word.
+pub fn words(bytes: &[u8]) -> &[[u8; 4]]
+    ensures { words_in result.now ≡ words_of bytes.now }
+{
+    let (words, _) = bytes.as_chunks::<4>();
+    words
+}
+
+/// The word at an index that is there.
+pub fn word(words: &[[u8; 4]], index: usize) -> u32
+    requires { index < length words.now }
+    ensures { result ≡ get_or (words_in words.now) index 0 }
+{
+    u32::from_be_bytes(words[index])
+}
+
+/// The word at an index, 0 past the last.
+pub fn word_or_zero(words: &[[u8; 4]], index: usize) -> u32
+    ensures { result ≡ get_or (words_in words.now) index 0 }
+{
+    if index < words.len() {
+        word(words, index)
+    } else {
+        0
+    }
 }
