@@ -227,7 +227,7 @@ rule_part ws = between 1 (1 + rule_count ws) ws
 abbrev constraint_part : List ℕ → List ℕ
 constraint_part ws = between (1 + rule_count ws) (1 + rule_count ws + constraint_count ws) ws
 
-counts_add : (ws : List ℕ) → counts_fit ws ≡ true → length ws ≡ 1 + rule_count ws + constraint_count ws + 1
+pub counts_add : (ws : List ℕ) → counts_fit ws ≡ true → length ws ≡ 1 + rule_count ws + constraint_count ws + 1
 unfolding counts_fit check_count
 counts_add ws c = eqb-true (length ws) (1 + rule_count ws + constraint_count ws + 1) (and_out (leb (rule_count ws) 2176 && leb (constraint_count ws) 1088) (eqb (length ws) (1 + rule_count ws + constraint_count ws + 1)) c).1
 

@@ -9,9 +9,10 @@ use crate::part::Shown;
 use layout::put_line;
 use lexer::{line_end, skip_spaces};
 use line_value::Line;
-use policy::{Action, ActionSet, Ending, EventSet, Part, ReadingSet, Source};
+use policy::{Action, ActionSet, Ending, EventSet, Part, READING_LIMIT, ReadingSet, Source};
 use run::{run_constraints, run_rules};
 use syntax::{LineStatus, read_line};
+use word::{part, words};
 
 // Which lines are sought: rules that propose the action on these events, or constraints that hold on the set.
 #[derive(Clone, Copy)]
@@ -27,19 +28,20 @@ pub struct Sought {
 const LINE_SIZE: usize = 68;
 
 // Whether a line is sought.
-fn told(line: Line, sought: Sought, values: &[i32]) -> bool
+fn told(line: Line, sought: Sought, values: &[i32; READING_LIMIT]) -> bool
     requires { Writable (value_words line) }
     ensures { result ≡ tells sought.part line.ending sought values.now (value_words line) }
 {
-    let mut words = [0u8; LINE_SIZE];
-    let count = put_line(&mut words, 0, line);
-    let part = sought.part;
+    let mut bytes = [0u8; LINE_SIZE];
+    let count = put_line(&mut bytes, 0, line);
+    let words = part(words(&bytes), 0, count);
+    let place = sought.part;
     let ending = line.ending;
-    match part {
+    match place {
         Part::Rules => match ending {
             Ending::Causes(_) => {
                 let events = sought.events.all();
-                let run = run_rules(&words, 0, count, events, sought.given, values);
+                let run = run_rules(words, events, sought.given, values);
                 run.actions.has(sought.action)
             }
             Ending::Never => false,
@@ -47,7 +49,7 @@ fn told(line: Line, sought: Sought, values: &[i32]) -> bool
         Part::Constraints => match ending {
             Ending::Causes(_) => false,
             Ending::Never => {
-                let run = run_constraints(&words, 0, count, sought.set, sought.given, values);
+                let run = run_constraints(words, sought.set, sought.given, values);
                 run.conflict
             }
         },
@@ -91,7 +93,7 @@ pub enum Search {
 }
 
 // The first line that is sought. A text that is refused at a line has none from there on.
-pub(crate) fn find(text: &[u8], source: Source, sought: Sought, values: &[i32]) -> Search
+pub(crate) fn find(text: &[u8], source: Source, sought: Sought, values: &[i32; READING_LIMIT]) -> Search
     ensures { result ≡ search_of (first_from (sought_by sought values.now) source 0 (lines_of text.now)) }
 {
     let mut at = 0;

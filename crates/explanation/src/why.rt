@@ -11,7 +11,7 @@ use codegen::{Compiled, compile_texts};
 use epoch_line::read_epoch;
 use image::IMAGE_SIZE;
 use monitor::{Decision, decide};
-use policy::{Action, ActionCheck, ActionSet, Fault, Mode, Part, Refusal, Source};
+use policy::{Action, ActionCheck, ActionSet, Fault, Mode, Part, READING_LIMIT, Refusal, Source};
 
 #[derive(Clone, Copy)]
 pub enum Outcome {
@@ -44,7 +44,7 @@ fn no_part() -> Shown
 }
 
 // The first line of both texts that is sought, the maker's lines before the site's.
-fn first_shown(maker: &[u8], site: &[u8], sought: Sought, values: &[i32]) -> Shown
+fn first_shown(maker: &[u8], site: &[u8], sought: Sought, values: &[i32; READING_LIMIT]) -> Shown
     ensures { result ≡ first_shown (sought_by sought values.now) maker.now site.now }
 {
     let first = find(maker, Source::Maker, sought, values);

@@ -1,5 +1,5 @@
 -- Each way through a decision: what the code was answered on it, and the decision by the definition.
-use Rattle.std.proofs.Common.{ℕ, ◌+◌, ◌<◌, Bool, true, false, cond, List, ◌≡◌, refl, sym, ap, ◌∙◌, arith}
+use Rattle.std.proofs.Common.{ℕ, ◌+◌, ◌≤◌, ◌<◌, Bool, true, false, cond, List, ◌≡◌, refl, sym, ap, ◌∙◌, length, arith}
 use Rattle.policy.specs.Epoch.{Epoch, Readings}
 use Rattle.policy.specs.Fault.{refusal}
 use Rattle.policy.specs.Set.{ActionSet, EventSet, all_events, keeping, no_events, actions_without, set_of}
@@ -11,7 +11,7 @@ use Rattle.epoch_line.specs.Epoch.{EpochAnswer, refused, accepted, read_epoch}
 use Rattle.epoch_line.specs.Answer.{answer_read, epoch_read}
 use Rattle.epoch_line.specs.declared.EpochRead.{EpochRead}
 use Rattle.epoch_line.specs.declared.EpochStatus.{EpochStatus}
-use Rattle.exactness.proofs.Exact.{took}
+use Rattle.exactness.proofs.Exact.{took, counts_add}
 use Rattle.image.specs.Load.{load}
 use Rattle.word.specs.Word.{words_of}
 use Rattle.image.specs.declared.load.Loaded.{Loaded}
@@ -31,16 +31,21 @@ pub taken_small : (bytes : List ℕ) (contents : Contents) → load bytes ≡ Lo
     → (contents.rule_words < 4096) × (contents.constraint_words < 4096)
 taken_small bytes contents e = let t = took bytes contents e in (omega (arith, t.rule_words_are), omega (arith, t.constraint_words_are))
 
+-- and its parts stand in it
+pub taken_inside : (bytes : List ℕ) (contents : Contents) → load bytes ≡ Loaded.Image contents
+    → 1 + contents.rule_words + contents.constraint_words ≤ length (words_of bytes)
+taken_inside bytes contents e = let t = took bytes contents e in omega (arith, t.rule_words_are, t.constraint_words_are, counts_add (words_of bytes) t.checked.count)
+
 -- ---- running the words in the first mode
 
-module _ (contents : Contents) (words : List ℕ) (e : Epoch) where
+module _ (rules constraints : List ℕ) (e : Epoch) where
   pub issues : (ev : Events) (proposed kept others : ActionSet) (run tried : ℕ)
       → ev ≡ all_events e.events
-      → proposed ≡ run_rules ev e.readings (rules_in contents words) → run ≡ rule_fetches ev e.readings (rules_in contents words)
-      → kept ≡ kept_by (constraints_in contents words) e.readings proposed → tried ≡ tried_words (constraints_in contents words) e.readings proposed
+      → proposed ≡ run_rules ev e.readings rules → run ≡ rule_fetches ev e.readings rules
+      → kept ≡ kept_by constraints e.readings proposed → tried ≡ tried_words constraints e.readings proposed
       → others ≡ actions_without proposed kept
-      → ◌≡◌ {A = Actions} (record { accepted = kept; cancelled = others; visited = run + tried }) (issued_by contents words e)
-  unfolding issued_by yielded_by
+      → ◌≡◌ {A = Actions} (record { accepted = kept; cancelled = others; visited = run + tried }) (yielded_by rules constraints e)
+  unfolding yielded_by
   issues ev proposed kept others run tried v p r k t o = rw (o, k, r, t, p, v)
 
 -- ---- and in the second

@@ -1,11 +1,10 @@
 // The first mode: actions are cancelled (document 01).
-ghost use Rattle.std.specs.Prelude.{◌≡◌, ◌<◌};
-ghost use Rattle.word.specs.Word.{words_of, between};
-ghost use Rattle.monitor.specs.Decision.{kept_by, tried_words, issued_by};
+ghost use Rattle.std.specs.Prelude.{◌≡◌, ◌<◌, length};
+ghost use Rattle.word.specs.Chunk.{words_in};
+ghost use Rattle.monitor.specs.Decision.{kept_by, tried_words, yielded_by};
 
 use crate::decision::Actions;
-use image::Contents;
-use policy::{Action, ActionSet, EventSet, ReadingSet};
+use policy::{Action, ActionSet, EventSet, READING_LIMIT, ReadingSet};
 use run::{run_constraints, run_rules};
 
 // What is kept of the proposed actions, and how many words all trials fetched.
@@ -15,19 +14,18 @@ pub struct Kept {
     pub words: usize,
 }
 
-// What is kept of the proposed actions: by rising number, each unless a constraint of the words from index `start` up to
-// `end` holds on those kept so far together with it. The end is within an image, so that the words of all trials can be added up.
+// What is kept of the proposed actions: by rising number, each unless a constraint holds on those kept so far together with it. The
+// constraints are those of an image, so that the words of all trials can be added up.
+#[inline(never)]
 fn resolve(
-    image: &[u8],
-    start: usize,
-    end: usize,
+    constraints: &[[u8; 4]],
     proposed: ActionSet,
     given: ReadingSet,
-    values: &[i32],
+    values: &[i32; READING_LIMIT],
 ) -> Kept
-    requires { end < 8192 }
-    ensures actions { result.actions ≡ kept_by (between start end (words_of image.now)) (record { given = given; values = values.now }) proposed }
-    ensures words { result.words ≡ tried_words (between start end (words_of image.now)) (record { given = given; values = values.now }) proposed }
+    requires { length constraints.now < 8192 }
+    ensures actions { result.actions ≡ kept_by (words_in constraints.now) (record { given = given; values = values.now }) proposed }
+    ensures words { result.words ≡ tried_words (words_in constraints.now) (record { given = given; values = values.now }) proposed }
 {
     let mut kept = ActionSet::EMPTY;
     let mut words = 0;
@@ -37,7 +35,7 @@ fn resolve(
     while left != 0 {
         if left % 2 == 1 {
             let more = kept.insert(Action(n));
-            let trial = run_constraints(image, start, end, more, given, values);
+            let trial = run_constraints(constraints, more, given, values);
             words += trial.words;
             if !trial.conflict {
                 kept = more;
@@ -52,33 +50,25 @@ fn resolve(
     }
 }
 
-// The words of an image that the loader took, run on an epoch.
+// The words of the rules and of the constraints of an image that the loader took, run on an epoch.
 pub(crate) fn issue(
-    image: &[u8],
-    contents: Contents,
+    rules: &[[u8; 4]],
+    constraints: &[[u8; 4]],
     events: EventSet,
     given: ReadingSet,
-    values: &[i32],
+    values: &[i32; READING_LIMIT],
 ) -> Actions
-    requires fact_1 { contents.rule_words < 4096 }
-    requires fact_2 { contents.constraint_words < 4096 }
-    ensures { result ≡ issued_by contents (words_of image.now) (record { events = events; readings = record { given = given; values = values.now } }) }
+    requires few_rules { length rules.now < 4096 }
+    requires few_constraints { length constraints.now < 4096 }
+    ensures { result ≡ yielded_by (words_in rules.now) (words_in constraints.now) (record { events = events; readings = record { given = given; values = values.now } }) }
 {
-    let middle = 1 + contents.rule_words;
-    let rules = run_rules(image, 1, middle, events.all(), given, values);
-    let proposed = rules.actions;
-    let kept = resolve(
-        image,
-        middle,
-        middle + contents.constraint_words,
-        proposed,
-        given,
-        values,
-    );
+    let run = run_rules(rules, events.all(), given, values);
+    let proposed = run.actions;
+    let kept = resolve(constraints, proposed, given, values);
     let accepted = kept.actions;
     Actions {
         accepted,
         cancelled: proposed.without(accepted),
-        visited: rules.words + kept.words,
+        visited: run.words + kept.words,
     }
 }

@@ -1,13 +1,12 @@
 // The second mode: events are dropped, with all that they cause (document 02, L7).
-ghost use Rattle.std.specs.Prelude.{◌≡◌, ◌<◌};
+ghost use Rattle.std.specs.Prelude.{◌≡◌, ◌<◌, length};
 ghost use Rattle.policy.specs.Set.{keeping, no_events};
-ghost use Rattle.word.specs.Word.{words_of};
-ghost use Rattle.monitor.specs.Decision.{rules_in, constraints_in, proposed_by, proposed_with_by, reduction_by};
+ghost use Rattle.word.specs.Chunk.{words_in};
+ghost use Rattle.monitor.specs.Decision.{proposed_by, proposed_with_by, reduction_by};
 ghost use Rattle.monitor.specs.Steps.Trial.{trial_of, kept_of};
 
 use crate::decision::{Actions, Decision};
-use image::Contents;
-use policy::{ActionSet, Event, EventSet, Events, Fault, ReadingSet};
+use policy::{ActionSet, Event, EventSet, Events, Fault, READING_LIMIT, ReadingSet};
 use run::{run_constraints, run_rules};
 
 // What the trial of events answers: the actions that they propose, whether a constraint holds on these, and how many words were
@@ -21,25 +20,23 @@ pub struct EventTrial {
 
 // The trial of some events of an epoch: all rules are run, and then the constraints.
 fn try_events(
-    image: &[u8],
-    contents: Contents,
+    rules: &[[u8; 4]],
+    constraints: &[[u8; 4]],
     events: Events,
     given: ReadingSet,
-    values: &[i32],
+    values: &[i32; READING_LIMIT],
 ) -> EventTrial
-    requires fact_1 { contents.rule_words < 4096 }
-    requires fact_2 { contents.constraint_words < 4096 }
-    ensures { result ≡ trial_of (rules_in contents (words_of image.now)) (constraints_in contents (words_of image.now)) events (record { given = given; values = values.now }) }
+    requires few_rules { length rules.now < 4096 }
+    requires few_constraints { length constraints.now < 4096 }
+    ensures { result ≡ trial_of (words_in rules.now) (words_in constraints.now) events (record { given = given; values = values.now }) }
 {
-    let middle = 1 + contents.rule_words;
-    let end = middle + contents.constraint_words;
-    let rules = run_rules(image, 1, middle, events, given, values);
-    let actions = rules.actions;
-    let trial = run_constraints(image, middle, end, actions, given, values);
+    let run = run_rules(rules, events, given, values);
+    let actions = run.actions;
+    let trial = run_constraints(constraints, actions, given, values);
     EventTrial {
         actions,
         conflict: trial.conflict,
-        words: rules.words + trial.words,
+        words: run.words + trial.words,
     }
 }
 
@@ -54,17 +51,17 @@ pub struct KeptEvents {
 // What is kept of an epoch's events: by rising number, each unless a constraint holds on what those kept so far together with it
 // propose. `none` is the trial with no event. What the last trial that was kept proposed is not run again.
 fn keep_events(
-    image: &[u8],
-    contents: Contents,
+    rules: &[[u8; 4]],
+    constraints: &[[u8; 4]],
     none: EventTrial,
     events: EventSet,
     given: ReadingSet,
-    values: &[i32],
+    values: &[i32; READING_LIMIT],
 ) -> KeptEvents
-    requires small_1 { contents.rule_words < 4096 }
-    requires small_2 { contents.constraint_words < 4096 }
-    requires first { none ≡ trial_of (rules_in contents (words_of image.now)) (constraints_in contents (words_of image.now)) (keeping events no_events) (record { given = given; values = values.now }) }
-    ensures { result ≡ kept_of (rules_in contents (words_of image.now)) (constraints_in contents (words_of image.now)) (record { events = events; readings = record { given = given; values = values.now } }) }
+    requires few_rules { length rules.now < 4096 }
+    requires few_constraints { length constraints.now < 4096 }
+    requires first { none ≡ trial_of (words_in rules.now) (words_in constraints.now) (keeping events no_events) (record { given = given; values = values.now }) }
+    ensures { result ≡ kept_of (words_in rules.now) (words_in constraints.now) (record { events = events; readings = record { given = given; values = values.now } }) }
 {
     let mut kept = EventSet::EMPTY;
     let mut actions = none.actions;
@@ -75,7 +72,7 @@ fn keep_events(
     while left != 0 {
         if left % 2 == 1 {
             let more = kept.insert(Event(n));
-            let trial = try_events(image, contents, events.keeping(more), given, values);
+            let trial = try_events(rules, constraints, events.keeping(more), given, values);
             words += trial.words;
             if !trial.conflict {
                 kept = more;
@@ -94,40 +91,37 @@ fn keep_events(
 
 // What all events of an epoch propose. Where none was dropped, the last trial has shown it.
 fn propose_all(
-    image: &[u8],
-    contents: Contents,
+    rules: &[[u8; 4]],
     kept: KeptEvents,
     events: EventSet,
     given: ReadingSet,
-    values: &[i32],
+    values: &[i32; READING_LIMIT],
 ) -> ActionSet
-    requires small { contents.rule_words < 4096 }
-    requires shown { kept.actions ≡ proposed_with_by (rules_in contents (words_of image.now)) (record { events = events; readings = record { given = given; values = values.now } }) kept.events }
-    ensures { result ≡ proposed_by (rules_in contents (words_of image.now)) (record { events = events; readings = record { given = given; values = values.now } }) }
+    requires { kept.actions ≡ proposed_with_by (words_in rules.now) (record { events = events; readings = record { given = given; values = values.now } }) kept.events }
+    ensures { result ≡ proposed_by (words_in rules.now) (record { events = events; readings = record { given = given; values = values.now } }) }
 {
     if kept.events.bits == events.bits {
         return kept.actions;
     }
-    let middle = 1 + contents.rule_words;
-    let rules = run_rules(image, 1, middle, events.all(), given, values);
-    rules.actions
+    let run = run_rules(rules, events.all(), given, values);
+    run.actions
 }
 
-// The words of an image that the loader took, run on an epoch. It is refused where a constraint holds already with no event.
+// The words of the rules and of the constraints of an image that the loader took, run on an epoch. It is refused where a constraint holds already with no event.
 pub(crate) fn issue_events(
-    image: &[u8],
-    contents: Contents,
+    rules: &[[u8; 4]],
+    constraints: &[[u8; 4]],
     events: EventSet,
     given: ReadingSet,
-    values: &[i32],
+    values: &[i32; READING_LIMIT],
 ) -> Decision
-    requires fact_1 { contents.rule_words < 4096 }
-    requires fact_2 { contents.constraint_words < 4096 }
-    ensures { result ≡ reduction_by (rules_in contents (words_of image.now)) (constraints_in contents (words_of image.now)) (record { events = events; readings = record { given = given; values = values.now } }) }
+    requires few_rules { length rules.now < 4096 }
+    requires few_constraints { length constraints.now < 4096 }
+    ensures { result ≡ reduction_by (words_in rules.now) (words_in constraints.now) (record { events = events; readings = record { given = given; values = values.now } }) }
 {
     let none = try_events(
-        image,
-        contents,
+        rules,
+        constraints,
         events.keeping(EventSet::EMPTY),
         given,
         values,
@@ -135,8 +129,8 @@ pub(crate) fn issue_events(
     if none.conflict {
         return Decision::Refused(Fault::Unavoidable.at(0));
     }
-    let kept = keep_events(image, contents, none, events, given, values);
-    let all = propose_all(image, contents, kept, events, given, values);
+    let kept = keep_events(rules, constraints, none, events, given, values);
+    let all = propose_all(rules, kept, events, given, values);
     let accepted = kept.actions;
     Decision::Issued(Actions {
         accepted,

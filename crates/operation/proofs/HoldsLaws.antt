@@ -1,5 +1,10 @@
 -- A comparison and its test, from the fields of its word as the functions answer them.
-use Rattle.std.proofs.Common.{ℕ, ◌≡◌, refl, sym, ap, ap₂, ◌∙◌, ℤ, w32, to_z, Option, Some, None}
+use Rattle.std.proofs.Common.{ℕ, ◌<◌, Bool, true, false, cond, List, ◌≡◌, refl, sym, ap, ap₂, ◌∙◌, ℤ, w32, to_z, Option, Some, None, get_or, length, arith, ltb-true, ltb-false}
+use Rattle.std.specs.Prelude.{pos, ltb, slice_get}
+use Rattle.std.proofs.lemmas.Option.{slice_get-get_or, slice_get_past}
+use Rattle.policy.proofs.ListLaws.{true_false}
+use Rattle.policy.proofs.SetLaws.{has_below, has_below_past}
+use Rattle.policy.specs.Set.{ReadingSet, has, below, set_of}
 use Rattle.policy.proofs.MissingLaws.{given_counts, left_missing, right_missing}
 use Rattle.policy.specs.Comparison.{relation_holds, missing_holds, operand_value, comparison_holds}
 use Rattle.policy.specs.Epoch.{Readings, reading_value}
@@ -9,6 +14,41 @@ use Rattle.policy.specs.declared.line.Part.{Part}
 use Rattle.operation.specs.Fields.{first_of, second_of, relation_code_of}
 use Rattle.operation.specs.Operation.{relation_from}
 use Rattle.operation.specs.Parts.{constant_comparison, reading_comparison}
+
+none_either : (b : Bool) → ◌≡◌ {A = Option ℤ} None (cond b None None)
+none_either true = refl
+none_either false = refl
+
+-- the value of a reading, from the set cut down to the readings that there are
+module _ (given : ReadingSet) (values : List ℤ) (n : ℕ) (all : length values ≡ 16) (known : ReadingSet) (cut : known ≡ set_of (below given.bits 16)) where
+  abbrev here : Option ℤ
+  here = reading_value (record { given = given; values = values }) (record { 0 = n })
+
+  cut_has : has known.bits n ≡ has (below given.bits 16) n
+  cut_has = ap (λ (k : ReadingSet). has k.bits n) cut
+
+  pub in_alphabet : (b : Bool) → ltb n 16 ≡ b → has known.bits n ≡ true → n < 16
+  in_alphabet true e h = ltb-true n 16 e
+  in_alphabet false e h = absurd (true_false h (cut_has ∙ has_below_past given.bits 16 n (ltb-false n 16 e)))
+
+  pub value_given : has known.bits n ≡ true → Some (get_or values n (pos 0)) ≡ here
+  unfolding reading_value
+  value_given h =
+      let small : n < 16 = in_alphabet (ltb n 16) refl h in
+      let there : has given.bits n ≡ true = sym (has_below given.bits 16 n small) ∙ sym cut_has ∙ h in
+      rw there (sym (slice_get-get_or values n (pos 0) (omega arith)))
+
+  pub value_missing : has known.bits n ≡ false → None ≡ here
+  unfolding reading_value
+  value_missing h = go (ltb n 16) refl
+    where
+      go : (b : Bool) → ltb n 16 ≡ b → None ≡ here
+      go true e =
+          let out : has given.bits n ≡ false = sym (has_below given.bits 16 n (ltb-true n 16 e)) ∙ sym cut_has ∙ h in
+          rw out refl
+      go false e =
+          let past : slice_get values n ≡ None = slice_get_past values n (omega (arith, ltb-false n 16 e)) in
+          rw past (none_either (has given.bits n))
 
 module _ (w f k : ℕ) (first : f ≡ first_of w) (code : k ≡ relation_code_of w) (r : Relation) (relation : r ≡ relation_from k) where
   pub constant_by : (v : ℕ) (z : ℤ) → z ≡ to_z w32 v → record { reading = record { 0 = f }; relation = r; operand = Operand.Constant z } ≡ constant_comparison w v

@@ -1,5 +1,5 @@
 -- The words of the parts of a line, read back: what each word's fields say is the part that it was written from.
-use Rattle.std.proofs.Common.{ℕ, ◌-◌, ◌%◌, ◌^◌, ◌<◌, Bool, true, cond, [], ◌∷◌, ◌≡◌, refl, sym, ap, ap₂, ◌∙◌, subst, arith, ltb-true, lt-ltb, ℤ, to_z-of_z, w32, SFits, of_z}
+use Rattle.std.proofs.Common.{ℕ, ◌%◌, ◌^◌, ◌<◌, Bool, true, cond, [], ◌∷◌, ◌≡◌, refl, sym, ap, ap₂, ◌∙◌, subst, arith, ltb-true, lt-ltb, ℤ, to_z-of_z, w32, SFits, of_z}
 use Rattle.std.proofs.Math.Dec.{ltb}
 use Rattle.std.proofs.Math.Facts.{of_z-to_z, Fits-of_z}
 use Rattle.policy.proofs.ConstantLaws.{reading_value_is, reading_limit_is}

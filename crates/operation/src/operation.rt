@@ -1,5 +1,6 @@
 // What the fields of a word stand for, both ways: operations, relations, constants, and the words of the parts of a line.
 ghost use Rattle.std.specs.Prelude.{◌≡◌, ◌<◌};
+ghost use Rattle.policy.specs.Epoch.{reading_value};
 ghost use Rattle.policy.specs.Comparison.{relation_holds, comparison_holds};
 ghost use Rattle.operation.specs.Operation.{opcode, relation_code, relation_from};
 ghost use Rattle.operation.specs.Fields.{pack, operation_of};
@@ -7,7 +8,8 @@ ghost use Rattle.operation.specs.Parts.{test_word, comparison_word, ending_word,
 
 use crate::fields::{first, opcode, relation_code_of, second};
 use policy::{
-    Comparison, Ending, Operand, Part, Reading, ReadingSet, Relation, Test, constant_from,
+    Comparison, Ending, Operand, Part, READING_LIMIT, Reading, ReadingSet, Relation, Test,
+    constant_from,
 };
 
 // The operations of document 01, in the order of their numbers, and one for all numbers that are none. It comes last: with it
@@ -173,30 +175,47 @@ fn relation_holds(code: u32, left: i32, right: i32) -> bool
     }
 }
 
+// The value of a reading; none where the epoch does not give it. The set is cut down to the readings that there are first, which a
+// loop does but once; then no index needs a test.
+fn value(reading: Reading, given: ReadingSet, values: &[i32; READING_LIMIT]) -> Option<i32>
+    ensures { result ≡ reading_value (record { given = given; values = values.now }) reading }
+{
+    if given.below(Reading(READING_LIMIT as u8)).has(reading) {
+        Some(values[reading.0 as usize])
+    } else {
+        None
+    }
+}
+
 // Whether a comparison with a constant, by its word and the constant word, holds on the readings of an epoch in a line of the part.
 pub fn constant_holds(
     part: Part,
     word: u32,
     constant: u32,
     given: ReadingSet,
-    values: &[i32],
+    values: &[i32; READING_LIMIT],
 ) -> bool
     ensures { result ≡ comparison_holds part (record { given = given; values = values.now }) (constant_comparison word constant) }
 {
-    let Some(left) = Reading(first(word) as u8).value(given, values) else {
+    let Some(left) = value(Reading(first(word) as u8), given, values) else {
         return part.missing_holds();
     };
     relation_holds(relation_code_of(word), left, constant_from(constant))
 }
 
 // The same for a comparison with a reading.
-pub fn reading_holds(part: Part, word: u32, given: ReadingSet, values: &[i32]) -> bool
+pub fn reading_holds(
+    part: Part,
+    word: u32,
+    given: ReadingSet,
+    values: &[i32; READING_LIMIT],
+) -> bool
     ensures { result ≡ comparison_holds part (record { given = given; values = values.now }) (reading_comparison word) }
 {
-    let Some(left) = Reading(first(word) as u8).value(given, values) else {
+    let Some(left) = value(Reading(first(word) as u8), given, values) else {
         return part.missing_holds();
     };
-    let Some(right) = Reading(second(word) as u8).value(given, values) else {
+    let Some(right) = value(Reading(second(word) as u8), given, values) else {
         return part.missing_holds();
     };
     relation_holds(relation_code_of(word), left, right)

@@ -1,4 +1,3 @@
-pub mod OperationLaws
 pub mod RunLaws
 pub mod TestLaws
 pub mod FetchLaws

@@ -1,57 +1,66 @@
 -- Laws of the loop that runs rules: what is proposed, and how many words are fetched, from an index on.
-use Rattle.std.proofs.Common.{ℕ, ◌+◌, ◌-◌, ◌≤◌, ◌<◌, cond, List, ◌∷◌, ◌≡◌, sym, ap, ◌∙◌, arith, length, take, drop}
+use Rattle.std.proofs.Common.{ℕ, ◌+◌, ◌≤◌, ◌<◌, Bool, true, false, cond, List, ◌∷◌, ◌≡◌, refl, sym, ap, ◌∙◌, add-zero, arith, get_or, length, drop}
 use mathlib.Core.List.{foldl}
-use Rattle.policy.specs.Set.{ActionSet}
+use Rattle.policy.specs.Set.{ActionSet, no_actions}
 use Rattle.policy.specs.Epoch.{Readings}
 use Rattle.policy.specs.declared.set.Events.{Events}
 use Rattle.operation.specs.Fields.{skip_of, operation_of}
-use Rattle.word.specs.Word.{words_of, word_at}
-use Rattle.operation.specs.declared.operation.Operation.{Operation}
-use Rattle.run.specs.Run.{constant_count, ran, rule_test, proposes_at, proposing, fetches_of, fetches}
-use Rattle.run.specs.Steps.Test.{tested}
+use Rattle.run.specs.Run.{constant_count, ran, rule_test, proposing, fetches_of, fetches}
+use Rattle.run.specs.Steps.Test.{IsTestIn, AsksNothing}
 use Rattle.run.specs.declared.test.Tested.{Tested}
-use Rattle.run.proofs.RunLaws.{ran_end, turn, last_turn}
-use Rattle.run.proofs.FetchLaws.{fetches_more, fetches_one}
+use Rattle.run.proofs.RunLaws.{ran_end, turn}
 
-module _ (ev : Events) (rs : Readings) (bytes : List ℕ) (end : ℕ) where
+module _ (ev : Events) (rs : Readings) (ws : List ℕ) where
   -- what is proposed in the end, with what is proposed before an index
   abbrev pub proposed_from : ActionSet → ℕ → ActionSet
-  proposed_from s at = foldl proposing s (ran (rule_test ev rs) 0 (drop at (take end (words_of bytes))))
+  proposed_from s at = foldl proposing s (ran (rule_test ev rs) 0 (drop at ws))
 
   -- how many words are fetched from an index on
   abbrev pub fetched_from : ℕ → ℕ
-  fetched_from at = fetches (ran (rule_test ev rs) 0 (drop at (take end (words_of bytes))))
+  fetched_from at = fetches (ran (rule_test ev rs) 0 (drop at ws))
 
-  module _ (at w next : ℕ) (op : Operation) (t : Tested) (within : at < length (take end (words_of bytes))) (this : w ≡ word_at bytes at) (is : op ≡ operation_of w)
-      (et : t ≡ tested (rule_test ev rs op w (word_at bytes (at + 1))) op (at + 1)) (en : next ≡ t.next + cond t.holds 0 (skip_of w)) where
-    goes_on : ran (rule_test ev rs) 0 (drop at (take end (words_of bytes))) ≡ w ∷ ran (rule_test ev rs) 0 (drop next (take end (words_of bytes)))
-    goes_on =
-        turn (rule_test ev rs) bytes end at w next op within this is t.holds (ap (λ (x : Tested). x.holds) et)
-        (en ∙ ap (λ (n : ℕ). n + cond t.holds 0 (skip_of w)) (ap (λ (x : Tested). x.next) et))
+  -- a run is at `at`: the words between `from` and `at` are as many as were fetched
+  pub record Running (s : ActionSet) (at from : ℕ) : Type 0 where
+    pub proposed : proposed_from s at ≡ proposed_from no_actions 0
+    pub behind : from ≤ at
+    pub words : at + fetched_from at ≡ from + fetched_from 0
 
-    pub rules_turn : (s s' : ActionSet) → s' ≡ proposes_at op w s → proposed_from s at ≡ proposed_from s' next
-    rules_turn s s' es =
-        ap (foldl proposing s) goes_on
-        ∙ ap (λ (x : ActionSet). proposed_from x next) (ap (λ (o : Operation). proposes_at o w s) (sym is) ∙ sym es)
+  running_at : {s s' : ActionSet} {at at' from : ℕ} → s ≡ s' → at ≡ at' → Running s at from → Running s' at' from
+  running_at {s} {s'} {at} {at'} {from} p q r = rw (sym p, sym q) r
 
-    pub rules_fetch : fetched_from at ≡ t.next - at + fetched_from next
-    rules_fetch =
-        let e : t.next ≡ at + 1 + constant_count op = ap (λ (x : Tested). x.next) et in
-        let f : fetched_from at ≡ fetches_of op + fetched_from next =
-        ap fetches goes_on ∙ fetches_more w (ran (rule_test ev rs) 0 (drop next (take end (words_of bytes)))) op is in
-        omega arith
+  module _ (at w : ℕ) (s : ActionSet) (from : ℕ) (g : Running s at from) (within : at < length ws) (this : w ≡ get_or ws at 0) where
+    go_on : (holds : Bool) → holds ≡ rule_test ev rs (operation_of w) w (get_or ws (at + 1) 0)
+        → Running (proposing s w) (at + 1 + constant_count (operation_of w) + cond holds 0 (skip_of w)) (from + cond holds 0 (skip_of w))
+    unfolding fetches
+    go_on holds h =
+        let next : ℕ = at + 1 + constant_count (operation_of w) + cond holds 0 (skip_of w) in
+        let goes : ran (rule_test ev rs) 0 (drop at ws) ≡ w ∷ ran (rule_test ev rs) 0 (drop next ws) = turn (rule_test ev rs) ws at w next (operation_of w) within this refl holds h refl in
+        let f : fetched_from at ≡ fetches_of (operation_of w) + fetched_from next = ap fetches goes in
+        record { proposed = sym (ap (foldl proposing s) goes) ∙ g.proposed; behind = omega (arith, g.behind); words = omega (arith, g.words, f) }
 
-  module _ (at w : ℕ) (op : Operation) (e : at + 1 ≡ length (take end (words_of bytes))) (this : w ≡ word_at bytes at) (is : op ≡ operation_of w) where
-    pub rules_last : (s s' : ActionSet) → s' ≡ proposes_at op w s → proposed_from s at ≡ s'
-    rules_last s s' es =
-        ap (foldl proposing s) (last_turn (rule_test ev rs) bytes end at w 0 op e this) ∙ ap (λ (o : Operation). proposes_at o w s) (sym is) ∙ sym es
+    module _ (t : Tested) (is : IsTestIn ev rs w (get_or ws (at + 1) 0) (at + 1) t) where
+      turned : (holds : Bool) → t.holds ≡ holds → Running s (t.next + cond holds 0 (skip_of w)) (from + cond holds 0 (skip_of w))
+      turned holds e =
+          running_at (is.proposes_none s) (ap (λ (n : ℕ). n + cond holds 0 (skip_of w)) (sym (ap (λ (x : Tested). x.next) is.is)))
+          (go_on holds (sym e ∙ ap (λ (x : Tested). x.holds) is.is))
 
-    pub rules_last_fetch : fetched_from at ≡ fetches_of op
-    rules_last_fetch = ap fetches (last_turn (rule_test ev rs) bytes end at w 0 op e this) ∙ fetches_one w op is
+      -- a test that holds
+      pub rules_held : t.holds ≡ true → Running s t.next from
+      rules_held e = rw (sym (add-zero t.next), sym (add-zero from)) (turned true e)
 
-  pub rules_end : (s : ActionSet) (at : ℕ) → length (take end (words_of bytes)) ≤ at → proposed_from s at ≡ s
-  rules_end s at h = ap (foldl proposing s) (ran_end (rule_test ev rs) (take end (words_of bytes)) at h)
+      -- one that fails
+      pub rules_failed : t.holds ≡ false → (m n : ℕ) → m ≡ skip_of w → n ≡ skip_of w → Running s (t.next + m) (from + n)
+      rules_failed e m n p q = rw (p, q) (turned false e)
 
-  pub rules_end_fetch : (at : ℕ) → length (take end (words_of bytes)) ≤ at → fetched_from at ≡ 0
+    -- a word that asks for none
+    pub rules_pass : AsksNothing ev rs w (get_or ws (at + 1) 0) → Running (proposing s w) (at + 1) from
+    rules_pass none =
+        let next : at + 1 + constant_count (operation_of w) + 0 ≡ at + 1 = omega (arith, none.alone) in
+        rw (sym next, sym (add-zero from)) (go_on true (sym none.holds))
+
+  pub rules_end : (s : ActionSet) (at : ℕ) → length ws ≤ at → proposed_from s at ≡ s
+  rules_end s at h = ap (foldl proposing s) (ran_end (rule_test ev rs) ws at h)
+
+  pub rules_end_fetch : (at : ℕ) → length ws ≤ at → fetched_from at ≡ 0
   unfolding fetches
-  rules_end_fetch at h = ap fetches (ran_end (rule_test ev rs) (take end (words_of bytes)) at h)
+  rules_end_fetch at h = ap fetches (ran_end (rule_test ev rs) ws at h)

@@ -1,59 +1,74 @@
 // The constraint part of an image.
-ghost use Rattle.std.specs.Prelude.{◌≡◌, ◌/◌, ◌≤◌, ◌<◌, length};
-ghost use Rattle.word.specs.Word.{words_of, word_at, between};
-ghost use Rattle.run.specs.Run.{constraint_test, is_never, run_constraints, trial_fetches};
-ghost use Rattle.run.specs.Steps.Test.{tested, is_member_operation, left_at};
+ghost use Rattle.std.specs.Prelude.{◌≡◌, ◌<◌, ◌≤◌, length, get_or, true, MatchOption};
+ghost use Rattle.word.specs.Chunk.{words_in};
+ghost use Rattle.operation.specs.Fields.{operation_of};
+ghost use Rattle.run.specs.Run.{ends_constraint, run_constraints, trial_fetches};
+ghost use Rattle.run.specs.Steps.Test.{IsTestOf, is_member_operation, is_constant_operation, left_at};
 
-use crate::test::{Tested, against_constant, against_reading, fetches, last_of, passed};
+use crate::test::{Tested, against_constant, against_reading, fetches, last_of};
 use operation::{Operation, first, skip};
-use policy::{Action, ActionSet, Part, ReadingSet};
-use word::{at_most, word_in};
+use policy::{Action, ActionSet, Part, READING_LIMIT, ReadingSet};
+use word::nth_word;
 
-fn test_constraint(
-    image: &[u8],
-    behind: usize,
-    operation: Operation,
-    word: u32,
-    set: ActionSet,
-    given: ReadingSet,
-    values: &[i32],
-) -> Tested
-    requires { behind < length image.now / 4 }
-    ensures { result ≡ tested (constraint_test (record { given = given; values = values.now }) set operation word (word_at image.now behind)) operation behind }
-{
-    match operation {
-        Operation::Member => Tested {
-            holds: set.has(Action(first(word) as u8)),
-            next: behind,
-        },
-        Operation::AgainstConstant => {
-            against_constant(Part::Constraints, image, behind, word, given, values)
-        }
-        Operation::AgainstReading => {
-            against_reading(Part::Constraints, behind, word, given, values)
-        }
-        _ => Tested {
-            holds: true,
-            next: behind,
-        },
-    }
-}
+// Words are told apart by functions of their own, each of which compiles to one comparison.
 
-fn is_member(operation: Operation) -> bool
-    ensures { result ≡ is_member_operation operation }
+fn is_member(word: u32) -> bool
+    ensures { result ≡ is_member_operation (operation_of word) }
 {
-    match operation {
+    match Operation::of(word) {
         Operation::Member => true,
         _ => false,
     }
 }
 
-fn is_never(operation: Operation) -> bool
-    ensures { result ≡ is_never operation }
+fn is_against_constant(word: u32) -> bool
+    ensures { result ≡ is_constant_operation (operation_of word) }
 {
-    match operation {
+    match Operation::of(word) {
+        Operation::AgainstConstant => true,
+        _ => false,
+    }
+}
+
+#[tactic(auto, unfolding(crate::specs::Run::is_never))]
+fn is_never(word: u32) -> bool
+    ensures { result ≡ ends_constraint word }
+{
+    match Operation::of(word) {
         Operation::Never => true,
         _ => false,
+    }
+}
+
+// The test of a word; none where it ends its constraint. Constants come first, which a trial meets most.
+#[tactic(auto, unfolding(crate::specs::Run::is_never, crate::specs::Run::constraint_test, crate::specs::Run::comparison_test))]
+fn test_constraint(
+    words: &[[u8; 4]],
+    behind: usize,
+    word: u32,
+    set: ActionSet,
+    given: ReadingSet,
+    values: &[i32; READING_LIMIT],
+) -> Option<Tested>
+    requires { behind < length words.now }
+    ensures { MatchOption result (ends_constraint word ≡ true) (IsTestOf (record { given = given; values = values.now }) set word (get_or (words_in words.now) behind 0) behind) }
+{
+    let part = Part::Constraints;
+    if is_against_constant(word) {
+        let constant = nth_word(words, behind);
+        return Some(against_constant(part, behind, word, constant, given, values));
+    }
+    match Operation::of(word) {
+        Operation::Never => None,
+        Operation::Member => Some(Tested {
+            holds: set.has(Action(first(word) as u8)),
+            next: behind,
+        }),
+        Operation::AgainstReading => Some(against_reading(part, behind, word, given, values)),
+        _ => Some(Tested {
+            holds: true,
+            next: behind,
+        }),
     }
 }
 
@@ -66,16 +81,16 @@ pub struct Trial {
 
 // The answer where the trial was left at a word, before which as many words were fetched as lie between `from` and it. That word,
 // if there is one, is fetched too.
-fn left_at(image: &[u8], at: usize, count: usize, from: usize) -> Trial
-    requires inside { count ≤ length image.now / 4 }
-    requires behind { from ≤ at }
-    ensures { result ≡ left_at image.now at count from }
+#[tactic(auto, unfolding(crate::specs::Steps::Test::left_at))]
+fn left_at(words: &[[u8; 4]], at: usize, from: usize) -> Trial
+    requires { from ≤ at }
+    ensures { result ≡ left_at (words_in words.now) at from }
 {
-    if at < count {
-        let operation = Operation::of(word_in(image, at));
+    if at < words.len() {
+        let last = nth_word(words, at);
         Trial {
-            conflict: is_never(operation),
-            words: at + fetches(operation) - from,
+            conflict: is_never(last),
+            words: at + fetches(Operation::of(last)) - from,
         }
     } else {
         Trial {
@@ -85,29 +100,26 @@ fn left_at(image: &[u8], at: usize, count: usize, from: usize) -> Trial
     }
 }
 
-// The trial of a set of actions by the constraints of the words from index `start` up to `end`. The first that holds ends it.
+/// The trial of a set of actions by the words of the constraints. The first that holds ends it.
 // A constraint's members come before its comparisons, so they have a loop of their own, which tests for no other operation. The
-// loops are left at the word that ends a constraint which holds, or at the last word. Every word before that was fetched or passed
-// over by a failed test, so that it is enough to move `from` along by what such a test passes over.
+// loops are left at the word that ends a constraint which holds, or at the last word, so that a constant is always there and is read
+// without a test. The words are counted as in the run of rules.
 pub fn run_constraints(
-    image: &[u8],
-    start: usize,
-    end: usize,
+    words: &[[u8; 4]],
     set: ActionSet,
     given: ReadingSet,
-    values: &[i32],
+    values: &[i32; READING_LIMIT],
 ) -> Trial
-    ensures conflict { result.conflict ≡ run_constraints (record { given = given; values = values.now }) set (between start end (words_of image.now)) }
-    ensures words { result.words ≡ trial_fetches (record { given = given; values = values.now }) set (between start end (words_of image.now)) }
+    ensures conflict { result.conflict ≡ run_constraints (record { given = given; values = values.now }) set (words_in words.now) }
+    ensures words { result.words ≡ trial_fetches (record { given = given; values = values.now }) set (words_in words.now) }
 {
-    let count = at_most(end, image.len() / 4);
-    let last = last_of(count);
-    let mut at = start;
-    let mut from = start;
+    let last = last_of(words.len());
+    let mut at = 0;
+    let mut from = 0;
     'constraints: while at < last {
         while at < last {
-            let word = word_in(image, at);
-            if !is_member(Operation::of(word)) {
+            let word = nth_word(words, at);
+            if !is_member(word) {
                 break;
             }
             at += 1;
@@ -118,18 +130,17 @@ pub fn run_constraints(
             }
         }
         while at < last {
-            let word = word_in(image, at);
-            let operation = Operation::of(word);
-            if is_never(operation) {
+            let word = nth_word(words, at);
+            let Some(test) = test_constraint(words, at + 1, word, set, given, values) else {
                 break 'constraints;
-            }
-            let test = test_constraint(image, at + 1, operation, word, set, given, values);
-            at = passed(test, word);
+            };
+            at = test.next;
             if !test.holds {
+                at += skip(word) as usize;
                 from += skip(word) as usize;
                 continue 'constraints;
             }
         }
     }
-    left_at(image, at, count, from)
+    left_at(words, at, from)
 }

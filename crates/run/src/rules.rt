@@ -1,51 +1,75 @@
 // The rule part of an image.
-ghost use Rattle.std.specs.Prelude.{◌≡◌, ◌/◌, ◌<◌, length};
-ghost use Rattle.word.specs.Word.{words_of, word_at, between};
-ghost use Rattle.run.specs.Run.{rule_test, proposes_at, run_rules, rule_fetches};
-ghost use Rattle.run.specs.Steps.Test.{tested};
+ghost use Rattle.std.specs.Prelude.{◌≡◌, ◌≤◌, get_or, length, MatchOption};
+ghost use Rattle.word.specs.Chunk.{words_in};
+ghost use Rattle.operation.specs.Fields.{operation_of};
+ghost use Rattle.run.specs.Run.{proposing, run_rules, rule_fetches};
+ghost use Rattle.run.specs.Steps.Test.{IsTestIn, AsksNothing, is_present_operation, is_absent_operation};
 
-use crate::test::{Tested, against_constant, against_reading, fetches, last_of, passed};
-use operation::{Operation, first};
-use policy::{Action, ActionSet, Event, Events, Part, ReadingSet};
-use word::{at_most, word_in};
+use crate::test::{Tested, against_constant, against_reading};
+use operation::{Operation, first, skip};
+use policy::{Action, ActionSet, Event, Events, Part, READING_LIMIT, ReadingSet};
+use word::{nth_word, nth_word_or_zero};
 
+fn is_present(word: u32) -> bool
+    ensures { result ≡ is_present_operation (operation_of word) }
+{
+    match Operation::of(word) {
+        Operation::Present => true,
+        _ => false,
+    }
+}
+
+fn is_absent(word: u32) -> bool
+    ensures { result ≡ is_absent_operation (operation_of word) }
+{
+    match Operation::of(word) {
+        Operation::Absent => true,
+        _ => false,
+    }
+}
+
+// The test of a word; none where it asks for none. Heads come first, which a run meets most.
+#[tactic(auto, unfolding(crate::specs::Run::rule_test, crate::specs::Run::comparison_test, crate::specs::Run::proposes_at))]
 fn test_rule(
-    image: &[u8],
+    words: &[[u8; 4]],
     behind: usize,
-    operation: Operation,
     word: u32,
     events: Events,
     given: ReadingSet,
-    values: &[i32],
-) -> Tested
-    requires { behind < length image.now / 4 }
-    ensures { result ≡ tested (rule_test events (record { given = given; values = values.now }) operation word (word_at image.now behind)) operation behind }
+    values: &[i32; READING_LIMIT],
+) -> Option<Tested>
+    requires { behind ≤ length words.now }
+    ensures { MatchOption result (AsksNothing events (record { given = given; values = values.now }) word (get_or (words_in words.now) behind 0)) (IsTestIn events (record { given = given; values = values.now }) word (get_or (words_in words.now) behind 0) behind) }
 {
-    match operation {
-        Operation::Present => Tested {
+    let part = Part::Rules;
+    if is_present(word) {
+        return Some(Tested {
             holds: events.present.has(Event(first(word) as u8)),
             next: behind,
-        },
-        Operation::Absent => Tested {
+        });
+    }
+    if is_absent(word) {
+        return Some(Tested {
             holds: !events.occurred.has(Event(first(word) as u8)),
             next: behind,
-        },
+        });
+    }
+    match Operation::of(word) {
         Operation::AgainstConstant => {
-            against_constant(Part::Rules, image, behind, word, given, values)
+            let constant = nth_word_or_zero(words, behind);
+            Some(against_constant(part, behind, word, constant, given, values))
         }
-        Operation::AgainstReading => against_reading(Part::Rules, behind, word, given, values),
-        _ => Tested {
-            holds: true,
-            next: behind,
-        },
+        Operation::AgainstReading => Some(against_reading(part, behind, word, given, values)),
+        _ => None,
     }
 }
 
 // The set with the action that a word proposes, if it does.
-fn with_proposal(set: ActionSet, operation: Operation, word: u32) -> ActionSet
-    ensures { result ≡ proposes_at operation word set }
+#[tactic(auto, unfolding(crate::specs::Run::proposes_at))]
+fn with_proposal(set: ActionSet, word: u32) -> ActionSet
+    ensures { result ≡ proposing set word }
 {
-    match operation {
+    match Operation::of(word) {
         Operation::Proposes => set.insert(Action(first(word) as u8)),
         _ => set,
     }
@@ -58,37 +82,39 @@ pub struct Proposals {
     pub words: usize,
 }
 
-// The run of the rules of the words from index `start` up to `end`.
+/// The run of the words of the rules on the events and readings of an epoch.
+// Every word before `at` was fetched or passed over by a failed test, so that it is enough to move `from` along by what such a test
+// passes over.
 pub fn run_rules(
-    image: &[u8],
-    start: usize,
-    end: usize,
+    words: &[[u8; 4]],
     events: Events,
     given: ReadingSet,
-    values: &[i32],
+    values: &[i32; READING_LIMIT],
 ) -> Proposals
-    ensures actions { result.actions ≡ run_rules events (record { given = given; values = values.now }) (between start end (words_of image.now)) }
-    ensures words { result.words ≡ rule_fetches events (record { given = given; values = values.now }) (between start end (words_of image.now)) }
+    ensures actions { result.actions ≡ run_rules events (record { given = given; values = values.now }) (words_in words.now) }
+    ensures words { result.words ≡ rule_fetches events (record { given = given; values = values.now }) (words_in words.now) }
 {
-    let count = at_most(end, image.len() / 4);
-    let last = last_of(count);
     let mut actions = ActionSet::EMPTY;
-    let mut words = 0;
-    let mut at = start;
-    while at < last {
-        let word = word_in(image, at);
-        let operation = Operation::of(word);
-        actions = with_proposal(actions, operation, word);
-        let test = test_rule(image, at + 1, operation, word, events, given, values);
-        words += test.next - at;
-        at = passed(test, word);
+    let mut at = 0;
+    let mut from = 0;
+    while at < words.len() {
+        let word = nth_word(words, at);
+        match test_rule(words, at + 1, word, events, given, values) {
+            Some(test) => {
+                at = test.next;
+                if !test.holds {
+                    at += skip(word) as usize;
+                    from += skip(word) as usize;
+                }
+            }
+            None => {
+                actions = with_proposal(actions, word);
+                at += 1;
+            }
+        }
     }
-    // The last word is fetched, and what it proposes counts, but no test of it.
-    if at < count {
-        let word = word_in(image, at);
-        let operation = Operation::of(word);
-        actions = with_proposal(actions, operation, word);
-        words += fetches(operation);
+    Proposals {
+        actions,
+        words: at - from,
     }
-    Proposals { actions, words }
 }

@@ -1,16 +1,13 @@
 // The test of a word, which both runs share: whether it holds, and where the run goes on.
-ghost use Rattle.std.specs.Prelude.{cond, ◌≡◌, ◌+◌, ◌-◌, ◌/◌, ◌≤◌, ◌<◌, length};
-ghost use Rattle.operation.specs.Fields.{skip_of};
+ghost use Rattle.std.specs.Prelude.{◌≡◌, ◌-◌, ◌≤◌};
 ghost use Rattle.operation.specs.Parts.{constant_comparison, reading_comparison};
 ghost use Rattle.operation.specs.declared.operation.Operation.{Operation};
 ghost use Rattle.policy.specs.Comparison.{comparison_holds};
-ghost use Rattle.word.specs.Word.{word_at};
 ghost use Rattle.run.specs.Run.{fetches_of};
 ghost use Rattle.run.specs.Steps.Test.{tested};
 
-use operation::{Operation, constant_holds, reading_holds, skip};
-use policy::{Part, ReadingSet};
-use word::word_in;
+use operation::{Operation, constant_holds, reading_holds};
+use policy::{Part, READING_LIMIT, ReadingSet};
 
 // Whether the test of a word holds, and the word behind it and its constant.
 #[derive(Clone, Copy)]
@@ -19,8 +16,7 @@ pub struct Tested {
     pub next: usize,
 }
 
-// The index of the last of so many words; 0 of none. The loops of both runs stop before it, so that the word behind is always there
-// and is read without a test.
+// The index of the last of so many words; 0 of none.
 pub(crate) fn last_of(count: usize) -> usize
     ensures { result ≡ count - 1 }
 {
@@ -30,17 +26,17 @@ pub(crate) fn last_of(count: usize) -> usize
 // A comparison with a constant, which is the word behind.
 pub(crate) fn against_constant(
     part: Part,
-    image: &[u8],
     behind: usize,
     word: u32,
+    constant: u32,
     given: ReadingSet,
-    values: &[i32],
+    values: &[i32; READING_LIMIT],
 ) -> Tested
-    requires { behind < length image.now / 4 }
-    ensures { result ≡ tested (comparison_holds part (record { given = given; values = values.now }) (constant_comparison word (word_at image.now behind))) Operation.AgainstConstant behind }
+    requires { behind ≤ 0x4000_0000_0000_0000 }
+    ensures { result ≡ tested (comparison_holds part (record { given = given; values = values.now }) (constant_comparison word constant)) Operation.AgainstConstant behind }
 {
     Tested {
-        holds: constant_holds(part, word, word_in(image, behind), given, values),
+        holds: constant_holds(part, word, constant, given, values),
         next: behind + 1,
     }
 }
@@ -51,7 +47,7 @@ pub(crate) fn against_reading(
     behind: usize,
     word: u32,
     given: ReadingSet,
-    values: &[i32],
+    values: &[i32; READING_LIMIT],
 ) -> Tested
     ensures { result ≡ tested (comparison_holds part (record { given = given; values = values.now }) (reading_comparison word)) Operation.AgainstReading behind }
 {
@@ -68,17 +64,5 @@ pub(crate) fn fetches(operation: Operation) -> usize
     match operation {
         Operation::AgainstConstant => 2,
         _ => 1,
-    }
-}
-
-// Where the run goes on: a test that fails passes over `skip` further words.
-pub(crate) fn passed(test: Tested, word: u32) -> usize
-    requires { test.next ≤ 0x4000_0000_0000_0000 }
-    ensures { result ≡ test.next + cond test.holds 0 (skip_of word) }
-{
-    if test.holds {
-        test.next
-    } else {
-        test.next + skip(word) as usize
     }
 }

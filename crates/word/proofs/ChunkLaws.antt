@@ -1,5 +1,5 @@
 -- The words of an image cut into chunks of four bytes are the words of its bytes.
-use Rattle.std.proofs.Common.{ℕ, zero, suc, ◌/◌, List, [], ◌∷◌, ◌≡◌, refl, ap₂, arith, length}
+use Rattle.std.proofs.Common.{ℕ, zero, suc, ◌/◌, List, [], ◌∷◌, ◌≡◌, refl, ap, ap₂, arith, length}
 use Rattle.std.specs.Simd.{first_chunks}
 use Rattle.word.specs.Word.{join, words_of}
 use Rattle.word.specs.Chunk.{word_from, words_in}
@@ -21,3 +21,7 @@ words_chunks (suc k) (a ∷ b ∷ c ∷ []) e = absurd (omega arith)
 words_chunks (suc k) (a ∷ b ∷ c ∷ d ∷ rest) e =
     let l : k ≡ length rest / 4 = omega arith in
     ap₂ (λ (x : ℕ) (xs : List ℕ). x ∷ xs) (word_join a b c d) (words_chunks k rest l)
+
+pub words_in_length : (chunks : List (List ℕ)) → length (words_in chunks) ≡ length chunks
+words_in_length [] = refl
+words_in_length (c ∷ cs) = ap suc (words_in_length cs)

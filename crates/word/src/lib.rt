@@ -1,9 +1,9 @@
 // Words of 32 bits in a slice of bytes, most significant byte first. Start with specs/Word.antt.
 #![tactic(auto)]
 
-ghost use Rattle.std.specs.Prelude.{◌≡◌, [], ◌∷◌, ◌/◌, ◌<◌, min, length, get_or};
+ghost use Rattle.std.specs.Prelude.{◌≡◌, [], ◌∷◌, ◌/◌, ◌-◌, ◌<◌, ◌≤◌, min, length, get_or};
 ghost use Rattle.word.specs.Steps.Swap.{swap};
-ghost use Rattle.word.specs.Word.{join, words_of, word_at};
+ghost use Rattle.word.specs.Word.{join, words_of, word_at, between};
 ghost use Rattle.word.specs.Chunk.{words_in};
 ghost use Rattle.word.specs.Steps.Write.{fits, put_words};
 
@@ -91,7 +91,7 @@ pub fn words(bytes: &[u8]) -> &[[u8; 4]]
 }
 
 /// The word at an index that is there.
-pub fn word(words: &[[u8; 4]], index: usize) -> u32
+pub fn nth_word(words: &[[u8; 4]], index: usize) -> u32
     requires { index < length words.now }
     ensures { result ≡ get_or (words_in words.now) index 0 }
 {
@@ -99,12 +99,23 @@ pub fn word(words: &[[u8; 4]], index: usize) -> u32
 }
 
 /// The word at an index, 0 past the last.
-pub fn word_or_zero(words: &[[u8; 4]], index: usize) -> u32
+pub fn nth_word_or_zero(words: &[[u8; 4]], index: usize) -> u32
     ensures { result ≡ get_or (words_in words.now) index 0 }
 {
     if index < words.len() {
-        word(words, index)
+        nth_word(words, index)
     } else {
         0
     }
+}
+
+/// The words from one index up to another.
+#[tactic(auto, unfolding(crate::specs::Word::between))]
+pub fn part(words: &[[u8; 4]], start: usize, end: usize) -> &[[u8; 4]]
+    requires ordered { start ≤ end }
+    requires inside { end ≤ length words.now }
+    ensures words { words_in result.now ≡ between start end (words_in words.now) }
+    ensures count { length result.now ≡ end - start }
+{
+    &words[start..end]
 }

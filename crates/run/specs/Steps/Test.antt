@@ -1,15 +1,32 @@
 -- What the functions answer for the test of a word, and where a trial is left.
-use Rattle.std.specs.Prelude.{ℕ, ◌+◌, ◌-◌, Bool, true, false, cond, List, ltb}
-use Rattle.word.specs.Word.{word_at}
+use Rattle.std.specs.Prelude.{ℕ, ◌+◌, ◌-◌, Bool, true, false, cond, List, ltb, get_or, length, ◌≡◌}
+use Rattle.policy.specs.Epoch.{Readings}
+use Rattle.policy.specs.Set.{ActionSet}
+use Rattle.policy.specs.declared.set.Events.{Events}
 use Rattle.operation.specs.Fields.{operation_of}
 use Rattle.operation.specs.declared.operation.Operation.{Operation}
-use Rattle.run.specs.Run.{constant_count, ends_constraint, fetches_of}
+use Rattle.run.specs.Run.{constant_count, rule_test, proposing, constraint_test, ends_constraint, fetches_of}
 use Rattle.run.specs.declared.constraints.Trial.{Trial}
 use Rattle.run.specs.declared.test.Tested.{Tested}
 
 -- the outcome of the test of an operation, whose word stands before the index `behind`
 abbrev pub tested : Bool → Operation → ℕ → Tested
 tested holds op behind = record { holds = holds; next = behind + constant_count op }
+
+-- the test of a word that asks for one, and so proposes nothing, with the word behind it, which has the index `behind`
+pub record IsTestIn (ev : Events) (rs : Readings) (w k behind : ℕ) (t : Tested) : Type 0 where
+  pub proposes_none : (s : ActionSet) → proposing s w ≡ s
+  pub is : t ≡ tested (rule_test ev rs (operation_of w) w k) (operation_of w) behind
+
+-- a word that asks for no test, and has no constant
+pub record AsksNothing (ev : Events) (rs : Readings) (w k : ℕ) : Type 0 where
+  pub holds : rule_test ev rs (operation_of w) w k ≡ true
+  pub alone : constant_count (operation_of w) ≡ 0
+
+-- the test of a word that ends no constraint, with the word behind it, which has the index `behind`
+pub record IsTestOf (rs : Readings) (s : ActionSet) (w k behind : ℕ) (t : Tested) : Type 0 where
+  pub goes_on : ends_constraint w ≡ false
+  pub is : t ≡ tested (constraint_test rs s (operation_of w) w k) (operation_of w) behind
 
 abbrev pub is_member_operation : Operation → Bool
 is_member_operation Operation.Member = true
@@ -21,9 +38,40 @@ is_member_operation Operation.AgainstReading = false
 is_member_operation Operation.Proposes = false
 is_member_operation Operation.Never = false
 
+abbrev pub is_present_operation : Operation → Bool
+is_present_operation Operation.Present = true
+is_present_operation Operation.Absent = false
+is_present_operation Operation.AgainstConstant = false
+is_present_operation Operation.AgainstReading = false
+is_present_operation Operation.Proposes = false
+is_present_operation Operation.Member = false
+is_present_operation Operation.Never = false
+is_present_operation Operation.Unknown = false
+
+abbrev pub is_absent_operation : Operation → Bool
+is_absent_operation Operation.Present = false
+is_absent_operation Operation.Absent = true
+is_absent_operation Operation.AgainstConstant = false
+is_absent_operation Operation.AgainstReading = false
+is_absent_operation Operation.Proposes = false
+is_absent_operation Operation.Member = false
+is_absent_operation Operation.Never = false
+is_absent_operation Operation.Unknown = false
+
+-- a comparison with a constant
+abbrev pub is_constant_operation : Operation → Bool
+is_constant_operation Operation.AgainstConstant = true
+is_constant_operation Operation.Unknown = false
+is_constant_operation Operation.Present = false
+is_constant_operation Operation.Absent = false
+is_constant_operation Operation.AgainstReading = false
+is_constant_operation Operation.Proposes = false
+is_constant_operation Operation.Member = false
+is_constant_operation Operation.Never = false
+
 -- the answer of a trial that was left at a word, before which as many words were fetched as lie between `from` and it
-unfoldable pub left_at : List ℕ → ℕ → ℕ → ℕ → Trial
-left_at bytes at count from =
-    cond (ltb at count)
-    (record { conflict = ends_constraint (word_at bytes at); words = at + fetches_of (operation_of (word_at bytes at)) - from })
+unfoldable pub left_at : List ℕ → ℕ → ℕ → Trial
+left_at ws at from =
+    cond (ltb at (length ws))
+    (record { conflict = ends_constraint (get_or ws at 0); words = at + fetches_of (operation_of (get_or ws at 0)) - from })
     (record { conflict = false; words = at - from })

@@ -1,29 +1,27 @@
-use Rattle.std.proofs.Common.{◌+◌, ◌<◌, length, arith, rules}
+use Rattle.std.proofs.Common.{◌<◌, List, ℕ, length, arith, rules}
 use Rattle.policy.specs.Epoch.{Readings}
-use Rattle.word.specs.Word.{words_of, between}
+use Rattle.word.specs.Chunk.{words_in}
+use Rattle.word.proofs.ChunkLaws.{words_in_length}
 use Rattle.run.proofs.FetchLaws.{rule_fetches_few}
 use Rattle.monitor.proofs.DecideLaws.{issues}
 use Rattle.monitor.proofs.FewLaws.{tried_few}
-use Rattle.monitor.proofs.TrialLaws.{between_few}
 use Rattle.monitor.proofs.actions.issue.Goals as goal
 
 pub overflow_add-result : goal.overflow_add-result
 overflow_add-result c =
     let rs : Readings = record { given = c.args.given; values = c.args.values.now } in
-    let ws = words_of c.args.image.now in
-    let middle = 1 + c.args.contents.rule_words in
-    let end = middle + c.args.contents.constraint_words in
-    let few : length (between middle end ws) < 8192 = omega (arith, between_few middle end ws) in
+    let constraints : List ℕ = words_in c.args.constraints.now in
+    let few : length constraints < 8192 = omega (arith, words_in_length c.args.constraints.now) in
     omega (
       arith,
-      c.run_rules-rules.ensures.words,
+      c.run_rules-run.ensures.words,
       c.resolve-kept.ensures.words,
-      rule_fetches_few rs (between 1 middle ws) c.all.result,
-      between_few 1 middle ws,
-      tried_few (between middle end ws) few rs c.run_rules-rules.result.actions,
+      rule_fetches_few rs (words_in c.args.rules.now) c.all.result,
+      words_in_length c.args.rules.now,
+      tried_few constraints few rs c.run_rules-run.result.actions,
     )
 
 pub returns : goal.returns
 returns c =
-    issues c.args.contents (words_of c.args.image.now) (record { events = c.args.events; readings = record { given = c.args.given; values = c.args.values.now } })
-    _ _ _ _ _ _ c.all.ensures c.run_rules-rules.ensures.actions c.run_rules-rules.ensures.words c.resolve-kept.ensures.actions c.resolve-kept.ensures.words c.without.ensures
+    issues (words_in c.args.rules.now) (words_in c.args.constraints.now) (record { events = c.args.events; readings = record { given = c.args.given; values = c.args.values.now } })
+    _ _ _ _ _ _ c.all.ensures c.run_rules-run.ensures.actions c.run_rules-run.ensures.words c.resolve-kept.ensures.actions c.resolve-kept.ensures.words c.without.ensures

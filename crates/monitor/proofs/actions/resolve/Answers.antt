@@ -2,10 +2,11 @@ use Rattle.std.proofs.Common.{ℕ, ◌^◌, ◌<◌, true, false, ⊎_elim, sym,
 use borrow.Author.Tests.{not-true, not-false}
 use Rattle.policy.specs.Set.{ActionSet, set_of}
 use Rattle.policy.specs.Epoch.{Readings}
-use Rattle.word.specs.Word.{words_of, between}
+use Rattle.word.specs.Chunk.{words_in}
+use Rattle.word.proofs.ChunkLaws.{words_in_length}
 use Rattle.monitor.specs.Decision.{conflict_by, kept_by, trial_words, tried_words}
 use Rattle.monitor.proofs.FewLaws.{trial_few}
-use Rattle.monitor.proofs.TrialLaws.{between_few, tried_none, left_limit, other_turn, trial_turn, few_spent, tried_all, all_spent}
+use Rattle.monitor.proofs.TrialLaws.{tried_none, left_limit, other_turn, trial_turn, few_spent, tried_all, all_spent}
 use Rattle.monitor.proofs.actions.resolve.Goals as goal
 
 pub loop-left-init : goal.loop-left-init
@@ -13,10 +14,10 @@ loop-left-init c = tried_none _ _ _
 
 pub overflow_add-words : goal.overflow_add-words
 overflow_add-words c =
-    let part = between c.args.start c.args.end (words_of c.args.image.now) in
+    let part = words_in c.args.constraints.now in
     let rs : Readings = record { given = c.args.given; values = c.args.values.now } in
     let small : c.args.proposed.bits < 2 ^ 64 = search rules in
-    let few : length part < 8192 = omega (arith, between_few c.args.start c.args.end (words_of c.args.image.now), c.requires) in
+    let few : length part < 8192 = omega (arith, words_in_length c.args.constraints.now, c.requires) in
     omega (
       arith,
       c.run_constraints-trial.ensures.words,
@@ -26,7 +27,7 @@ overflow_add-words c =
 
 pub loop-left-preserved : goal.loop-left-preserved
 loop-left-preserved c =
-    let part = between c.args.start c.args.end (words_of c.args.image.now) in
+    let part = words_in c.args.constraints.now in
     let rs : Readings = record { given = c.args.given; values = c.args.values.now } in
     let small : c.args.proposed.bits < 2 ^ 64 = search rules in
     let bits : ActionSet → ℕ = λ s. s.bits in
@@ -41,5 +42,5 @@ loop-left-preserved c =
 pub returns : goal.returns
 unfolding kept_by tried_words
 returns c =
-    let part = between c.args.start c.args.end (words_of c.args.image.now) in
+    let part = words_in c.args.constraints.now in
     let rs : Readings = record { given = c.args.given; values = c.args.values.now } in record { actions = ap set_of (tried_all (conflict_by part rs) (trial_words part rs) c.args.proposed.bits c.loop-left.kept.bits c.loop-left.words c.loop-left.left c.loop-left.n c.loop-left-test.false c.loop-left.invariant); words = all_spent (conflict_by part rs) (trial_words part rs) c.args.proposed.bits c.loop-left.kept.bits c.loop-left.words c.loop-left.left c.loop-left.n c.loop-left-test.false c.loop-left.invariant }

@@ -1,12 +1,12 @@
 use Rattle.policy.specs.Epoch.{Readings}
-use Rattle.word.specs.Word.{words_of, between}
+use Rattle.word.specs.Chunk.{words_in}
 use Rattle.monitor.specs.Decision.{conflict_by, trial_words}
 use Rattle.monitor.proofs.TrialLaws.{Tried}
 use Rattle.monitor.proofs.actions.resolve.Given as goal
 
 abbrev pub invariant-loop-left : goal.invariant-loop-left
 invariant-loop-left l =
-    let part = between l.start l.end (words_of l.image) in
+    let part = words_in l.constraints in
     let rs : Readings = record { given = l.given; values = l.values } in
     Tried (conflict_by part rs) (trial_words part rs) l.initial.left l.kept.bits l.words l.left l.n
 

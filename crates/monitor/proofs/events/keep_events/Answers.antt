@@ -1,37 +1,33 @@
 use Rattle.std.proofs.Common.{◌^◌, ◌<◌, ⊎_elim, arith, rules}
 use borrow.Author.Tests.{not-true, not-false}
 use Rattle.policy.specs.Epoch.{Epoch}
-use Rattle.word.specs.Word.{words_of}
-use Rattle.monitor.specs.Decision.{rules_in, constraints_in}
+use Rattle.word.specs.Chunk.{words_in}
+use Rattle.word.proofs.ChunkLaws.{words_in_length}
 use Rattle.monitor.proofs.EventLaws.{kept_none, other_event, kept_event, dropped_event, few_words, all_tried, all_few}
-use Rattle.monitor.proofs.FewLaws.{rules_few, constraints_few}
 use Rattle.monitor.proofs.events.keep_events.Goals as goal
 
 pub loop-left-init : goal.loop-left-init
 loop-left-init c =
-    let ws = words_of c.args.image.now in
     let e : Epoch = record { events = c.args.events; readings = record { given = c.args.given; values = c.args.values.now } } in
-    kept_none (rules_in c.args.contents ws) (constraints_in c.args.contents ws) e c.args.none c.requires.first
+    kept_none (words_in c.args.rules.now) (words_in c.args.constraints.now) e c.args.none c.requires.first
 
 pub overflow_add-words : goal.overflow_add-words
 overflow_add-words c =
-    let ws = words_of c.args.image.now in
-    let rules = rules_in c.args.contents ws in
-    let constraints = constraints_in c.args.contents ws in
+    let rules = words_in c.args.rules.now in
+    let constraints = words_in c.args.constraints.now in
     let e : Epoch = record { events = c.args.events; readings = record { given = c.args.given; values = c.args.values.now } } in
     let small : c.args.events.bits < 2 ^ 64 = omega (arith, c.well_formed.1.1.1.0.1.1.0.1) in
     omega (
       arith,
       few_words rules constraints e small c.loop-left.kept c.loop-left.actions c.loop-left.words c.loop-left.left c.loop-left.n c.loop-left.invariant c.loop-left-test.true
           c.if-left-eq1.true _ c.insert-more.ensures _ c.keeping.ensures _ c.try_events-trial.ensures
-          (rules_few c.args.contents ws c.requires.small_1) (constraints_few c.args.contents ws c.requires.small_2),
+          (omega (arith, words_in_length c.args.rules.now)) (omega (arith, words_in_length c.args.constraints.now)),
     )
 
 pub loop-left-preserved : goal.loop-left-preserved
 loop-left-preserved c =
-    let ws = words_of c.args.image.now in
-    let rules = rules_in c.args.contents ws in
-    let constraints = constraints_in c.args.contents ws in
+    let rules = words_in c.args.rules.now in
+    let constraints = words_in c.args.constraints.now in
     let e : Epoch = record { events = c.args.events; readings = record { given = c.args.given; values = c.args.values.now } } in
     let small : c.args.events.bits < 2 ^ 64 = search rules in
     ⊎_elim
@@ -43,20 +39,18 @@ loop-left-preserved c =
 
 pub overflow_add-result : goal.overflow_add-result
 overflow_add-result c =
-    let ws = words_of c.args.image.now in
-    let rules = rules_in c.args.contents ws in
-    let constraints = constraints_in c.args.contents ws in
+    let rules = words_in c.args.rules.now in
+    let constraints = words_in c.args.constraints.now in
     let e : Epoch = record { events = c.args.events; readings = record { given = c.args.given; values = c.args.values.now } } in
     omega (
       arith,
       all_few rules constraints e c.loop-left.kept c.loop-left.actions c.loop-left.words c.loop-left.left c.loop-left.n c.loop-left.invariant c.loop-left-test.false c.args.none c.requires.first
-          (rules_few c.args.contents ws c.requires.small_1) (constraints_few c.args.contents ws c.requires.small_2),
+          (omega (arith, words_in_length c.args.rules.now)) (omega (arith, words_in_length c.args.constraints.now)),
     )
 
 pub returns : goal.returns
 returns c =
-    let ws = words_of c.args.image.now in
-    let rules = rules_in c.args.contents ws in
-    let constraints = constraints_in c.args.contents ws in
+    let rules = words_in c.args.rules.now in
+    let constraints = words_in c.args.constraints.now in
     let e : Epoch = record { events = c.args.events; readings = record { given = c.args.given; values = c.args.values.now } } in
     all_tried rules constraints e c.loop-left.kept c.loop-left.actions c.loop-left.words c.loop-left.left c.loop-left.n c.loop-left.invariant c.loop-left-test.false c.args.none c.requires.first
