@@ -1,6 +1,6 @@
 -- Each way through the function that compiles and decides.
 use Rattle.std.proofs.Common.{ℕ, ◌≤◌, List, ◌≡◌, sym, ap, ◌∙◌, length, take}
-use Rattle.std.proofs.Math.Option.{Option, none, some, map}
+use Rattle.std.proofs.Math.Option.{none, some, map}
 use Rattle.policy.specs.Policy.{Policy}
 use Rattle.policy.specs.declared.fault.Refusal.{Refusal}
 use Rattle.policy.specs.declared.mode.Mode.{Mode}

@@ -7,8 +7,8 @@ ghost use Rattle.stream.specs.Machine.{Sends, IsWriteFailure};
 ghost use Rattle.questions.specs.Run.{AnswersTexts, QuestionsEndBy};
 
 use crate::answer::{ANSWER_SIZE, put_answer};
-use crate::page::put_texts_refusal;
 use crate::line::{EPOCH_HELD, Question, begun, is_open, take_line};
+use crate::page::put_texts_refusal;
 use codegen::Compiled;
 use image::IMAGE_SIZE;
 use policy::Refusal;
