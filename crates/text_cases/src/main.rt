@@ -54,7 +54,11 @@ fn show_epoch<W: Write>(out: &mut W, line: &[u8]) -> io::Result<()> {
     match read.status {
         EpochStatus::Refused(fault) => write!(out, "refused {}", fault.number())?,
         EpochStatus::Accepted => {
-            write!(out, "events {:x} given {:x}", read.events.bits, read.given.bits)?;
+            write!(
+                out,
+                "events {:x} given {:x}",
+                read.events.bits, read.given.bits
+            )?;
             show_values(out, &read.values)?;
         }
     }
