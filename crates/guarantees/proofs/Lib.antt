@@ -4,6 +4,7 @@ pub mod Exactness
 pub mod Words
 pub mod Output
 pub mod Patterns
+pub mod LineLaws
 pub mod Pipe
 pub mod Reductions
 pub mod RoundTrip
