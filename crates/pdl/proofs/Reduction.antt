@@ -1,5 +1,5 @@
--- The events that are kept are a maximal reduction free of conflict (source document 000, Definitions 10 and 11.5), lower numbers kept
--- first; and an epoch has no such reduction exactly where a constraint holds already with no event kept.
+-- The events that are kept are a maximal reduction free of conflict (Chomicki, Lobo and Naqvi, TKDE 2003, Definitions 10 and 11.5),
+-- lower numbers kept first; and an epoch has no such reduction exactly where a constraint holds already with no event kept.
 use Rattle.std.proofs.Common.{ℕ, Bool, true, false, ◌↔◌, ◌≡◌, refl, sym, ap}
 use Rattle.policy.proofs.ListLaws.{true_false, not_true_is, not_false_is}
 use Rattle.policy.proofs.SetLaws.{has_empty, has_limit}
