@@ -33,7 +33,7 @@ cancelled text part = because Outcome.Cancelled text (bytes part)
 abbrev not_proposed : Said
 not_proposed = because Outcome.NotProposed 0 []
 
--- of three lines the second is the site's: `E3 causes A4`
+-- the maker's lines; the site adds `E3 causes A4`
 abbrev worked : String
 worked = "E1 & !E2 causes A3 if R0 > 40\nnever A3 & A4\n"
 

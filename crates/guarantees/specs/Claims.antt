@@ -33,7 +33,7 @@ pub record DecompilesTo (image text : List ℕ) : Type 0 where
   pub accepted : (decompiled image buffer).answer ≡ Decompiled.Text size
   pub written : take size (decompiled image buffer).buffer ≡ text
 
--- the decisions on an image, line after line, by what each tells
+-- the decisions on an image, line after line, each as an `Answer`
 unfoldable pub answers : List ℕ → List (List ℕ) → List Answer
 answers image lines = map (λ (line : List ℕ). answer_of (decision image line)) lines
 

@@ -84,8 +84,8 @@ examples =
     -- the five epochs in the second mode
     ∷ told worked (by_events "E1 E3 R0=41" ∷ by_events "E1 E3 R0=40" ∷ by_events "E1 E2 E3 R0=41" ∷ by_events "" ∷ by_events "E64" ∷ [])
     (some (decided (3 ∷ []) (4 ∷ []) ∷ decided (4 ∷ []) [] ∷ decided (4 ∷ []) [] ∷ decided [] [] ∷ refused_under 13 ∷ []))
-    -- Chomicki, Lobo and Naqvi's Example 2 (TKDE 2003): E0 a defective product, E1 an order; A0 stop, A1 mail, A2 charge. By events the
-    -- order is dropped whole
+    -- Example 2 of Chomicki, Lobo and Naqvi, "Conflict Resolution Using Logic Programming" (TKDE 2003): E0 a defective product, E1 an
+    -- order; A0 stop, A1 mail, A2 charge. By events the order is dropped whole
     ∷ told "E0 causes A0\nE1 causes A1\nE1 causes A2\nnever A0 & A1\n" (by_actions "E0 E1" ∷ by_events "E0 E1" ∷ by_events "E1" ∷ [])
     (some (decided (0 ∷ 2 ∷ []) (1 ∷ []) ∷ decided (0 ∷ []) (1 ∷ 2 ∷ []) ∷ decided (1 ∷ 2 ∷ []) [] ∷ []))
     -- E2, a service call, is charged all the same

@@ -1,5 +1,5 @@
--- The reference machine. It sees a rule text and epoch lines, each with its mode, and no image; for each line it answers what
--- docs/REFERENCE.md, "What an epoch yields", says of the text's rules and never lines.
+-- The reference machine. It sees a rule text and epoch lines, each with its mode, and no image. For each line it answers the line's
+-- fault, or what the text's rules and never lines yield on it (docs/REFERENCE.md, "What an epoch yields").
 use Rattle.std.specs.Prelude.{ℕ, cond, List, map}
 use Rattle.std.proofs.Math.Option
 use Rattle.std.proofs.Math.Option.{Option}

@@ -79,7 +79,7 @@ orders = whenever 0 0 ∷ whenever 1 1 ∷ whenever 1 2 ∷ []
 
 unfoldable pub reductions : List Reduction
 reductions =
-    -- Chomicki, Lobo and Naqvi's Example 2 (TKDE 2003): the order is dropped whole
+    -- Example 2 of Chomicki, Lobo and Naqvi, "Conflict Resolution Using Logic Programming" (TKDE 2003): the order is dropped whole
     record { rules = orders; constraints = never (0 ∷ 1 ∷ []) [] ∷ []; events = 0 ∷ 1 ∷ []; kept_numbers = 0 ∷ []; issued_actions = 0 ∷ []; withheld_actions = 1 ∷ 2 ∷ [] }
     -- an order alone
     ∷ record { rules = orders; constraints = never (0 ∷ 1 ∷ []) [] ∷ []; events = 1 ∷ []; kept_numbers = 1 ∷ []; issued_actions = 1 ∷ 2 ∷ []; withheld_actions = [] }
