@@ -1,4 +1,4 @@
--- "The loader takes exactly the images that some accepted text compiles to", and fault 11.
+-- The loader takes exactly the images that some accepted text compiles to, and when it refuses under 11.
 use Rattle.std.proofs.Common.{ℕ, true, List, [], ◌∷◌, ◌↔◌, ◌≡◌, sym, ap, ◌∙◌, subst, arith, ltb-true, eqb-true, length}
 use Rattle.std.proofs.Math.Option.{some}
 use Rattle.policy.proofs.ListLaws.{and_out}

@@ -1,4 +1,4 @@
--- Demand 3 of the whole program: what the engine prints is what the reference machine says.
+-- What the engine's program prints is what the reference machine says.
 use Rattle.std.proofs.Common.{ℕ, List, [], ◌∷◌, ◌++◌, ◌≡◌, refl, ap, ap₂, ◌∙◌}
 use Rattle.policy.specs.Limits.{Acceptable}
 use Rattle.policy.specs.Policy.{Policy}

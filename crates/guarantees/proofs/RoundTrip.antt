@@ -1,4 +1,4 @@
--- Document 02, L1: the text that is written from an image compiles to that image, and tells the policies apart.
+-- The text that is written from an image compiles to that image, and tells the policies apart.
 use Rattle.std.proofs.Common.{ℕ, ◌≤◌, List, ◌++◌, ◌↔◌, ◌≡◌, sym, ap, ◌∙◌, arith, length, drop}
 use Rattle.std.proofs.Math.Option.{some}
 use Rattle.policy.specs.Fill.{Filled, deliver}
