@@ -38,7 +38,7 @@ use Rattle.explanation.specs.declared.why.Explained.{Explained}
 use Rattle.explanation.specs.declared.why.Outcome.{Outcome}
 use Rattle.explanation.specs.declared.why.Reason.{Reason}
 use Rattle.guarantees.proofs.Decisions.{written_yields}
-use Rattle.guarantees.proofs.Demand3.{image_of_texts, alone_writes}
+use Rattle.guarantees.proofs.Agreement.{image_of_texts, alone_writes}
 use Rattle.guarantees.proofs.FirstLaws.{Both, both, rule_line, constraint_line, first_line}
 use Rattle.guarantees.specs.Claims.{CompilesTo, TextsCompileTo}
 use Rattle.guarantees.specs.Decisions.{yield_of}

@@ -1,5 +1,5 @@
 pub mod Decisions
-pub mod Demand3
+pub mod Agreement
 pub mod Exactness
 pub mod Words
 pub mod Output

@@ -11,7 +11,7 @@ use Rattle.pdl.specs.Answer.{Answer}
 use Rattle.guarantees.specs.Machine.{steps_told}
 use Rattle.guarantees.specs.Together.{told, decided_lines}
 use Rattle.guarantees.specs.declared.Told.{Told}
-use Rattle.guarantees.proofs.Demand3.{same_answer}
+use Rattle.guarantees.proofs.Agreement.{same_answer}
 
 module _ (image : List ℕ) (other : Told) where
   pub one_more : (lines : List Told) (ds : List Decision) (i : ℕ) → i < length lines → i < length ds

@@ -18,7 +18,7 @@ use Rattle.codegen.proofs.Compilation.{text_delivered}
 use Rattle.codegen.specs.Compile.{newest_form, compiled}
 use Rattle.codegen.specs.declared.Compiled.{Compiled}
 use Rattle.decompile.proofs.Decompilation.{text_written, never_short}
-use Rattle.guarantees.proofs.Demand3.{image_of_text}
+use Rattle.guarantees.proofs.Agreement.{image_of_text}
 use Rattle.guarantees.proofs.Exactness.{newest_only, printed_compiles}
 use Rattle.guarantees.specs.Claims.{CompilesTo, DecompilesTo}
 
