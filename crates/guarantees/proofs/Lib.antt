@@ -1,4 +1,5 @@
 pub mod Decisions
+pub mod Determined
 pub mod Agreement
 pub mod Exactness
 pub mod Words

@@ -16,6 +16,7 @@ ghost use Rattle.policy.specs.Epoch.{Epoch};
 ghost use Rattle.policy.specs.Policy.{Policy};
 ghost use Rattle.epoch_line.specs.Epoch.{accepted, read_epoch};
 ghost use Rattle.rule_text.specs.Text.{policy_of_texts};
+ghost use Rattle.pdl.specs.Answer.{Answer};
 ghost use Rattle.pdl.specs.Pdl.{Reducible};
 ghost use Rattle.pdl.specs.Reduction.{kept_events, proposed_with};
 ghost use Rattle.policy.specs.declared.fault.Fault.{Fault};
@@ -58,6 +59,11 @@ pub fn refused_empty()
 /// On the image of a text, the decision by actions on an accepted line is a maximal action cancellation of what the text's rules propose, lower numbers kept first.
 pub fn decision_obeys()
     ensures { (maker site image : List ℕ) → TextsCompileTo maker site image → (p : Policy) → policy_of_texts maker site ≡ some p → (line : List ℕ) (e : Epoch) → read_epoch line ≡ accepted e → Obeys p e (answer_of (decision image line)) }
+{}
+
+/// What a policy asks of a decision by actions is met by one accepted and one cancelled set alone.
+pub fn answer_determined()
+    ensures { (p : Policy) (e : Epoch) (a b : Answer) → Obeys p e a → Obeys p e b → (a.accepted ≡ b.accepted) × (a.cancelled ≡ b.cancelled) }
 {}
 
 /// By events: where some reduction of the epoch is free of conflict, the kept events are a maximal one and what they propose is issued.
