@@ -7,6 +7,7 @@
 pub mod decision_laws;
 pub mod image_laws;
 pub mod policy_laws;
+pub mod reading_laws;
 
 ghost use Rattle.std.specs.Prelude.{◌≡◌, IfOk, IfErr};
 ghost use Rattle.rule_text.specs.Text.{read_texts, stopped};
