@@ -1,5 +1,5 @@
 -- The readings of an accepted epoch line: one that it gives has the value that stands there, and no other is given.
-use Rattle.std.proofs.Common.{ℕ, zero, suc, ◌<◌, Bool, true, false, not, cond, List, [], ◌∷◌, ◌≢◌, ◌≡◌, refl, sym, ap, ◌∙◌, subst, arith, ltb-true, ℤ, length, length-set, slice_get, lt-length-set, get_or-set_same, Option, Some}
+use Rattle.std.proofs.Common.{ℕ, zero, suc, ◌<◌, Bool, true, false, not, cond, List, [], ◌∷◌, ◌≢◌, ◌≡◌, refl, sym, ap, ◌∙◌, subst, arith, ltb-true, ℤ, length, length-set, slice_get, lt-length-set, get_or-set_same, Some}
 use Rattle.std.proofs.Math.Option.{some}
 use Rattle.std.proofs.Math.Dec.{ltb, eqb}
 use Rattle.std.proofs.Math.ListN.{set}
@@ -12,7 +12,7 @@ use Rattle.policy.specs.Epoch.{Epoch, reading_value}
 use Rattle.policy.specs.Limits.{is_reading_value, repeats}
 use Rattle.policy.specs.List.{all, any}
 use Rattle.policy.specs.Number.{reading_limit}
-use Rattle.policy.specs.Set.{has, has_reading}
+use Rattle.policy.specs.Set.{has_reading}
 use Rattle.policy.specs.declared.fault.Fault.{Fault}
 use Rattle.policy.specs.declared.number.Reading.{Reading}
 use Rattle.epoch_line.specs.Epoch.{Item, event, value, items_of, item_in_range, given_by, add_item, empty_epoch, EpochAnswer, refused, accepted, judge_epoch, epoch_limit, read_epoch}
@@ -98,10 +98,10 @@ epoch_of (refused f) = empty_epoch
 epoch_of (accepted e) = e
 
 module _ (e : Epoch) where
-  record Read (is : List Item) : Type 0 where
-    ranges : all item_in_range is ≡ true
-    once : repeats (given_by is) ≡ false
-    whole : foldl add_item empty_epoch is ≡ e
+  pub record Read (is : List Item) : Type 0 where
+    pub ranges : all item_in_range is ≡ true
+    pub once : repeats (given_by is) ≡ false
+    pub whole : foldl add_item empty_epoch is ≡ e
 
   judged : (is : List Item) → judge_epoch (some is) ≡ accepted e → Read is
   unfolding judge_epoch
@@ -113,7 +113,7 @@ module _ (e : Epoch) where
       go true p true q h = absurd (true_false (ap is_accepted h) refl)
       go true p false q h = record { ranges = p; once = q; whole = ap epoch_of h }
 
-  items_read_is : (line : List ℕ) (is : List Item) → items_of (tokens_of line) ≡ some is → read_epoch line ≡ accepted e → Read is
+  pub items_read_is : (line : List ℕ) (is : List Item) → items_of (tokens_of line) ≡ some is → read_epoch line ≡ accepted e → Read is
   unfolding read_epoch
   items_read_is line is some_is = go (ltb epoch_limit (length line)) (any (eqb 10) line)
     where

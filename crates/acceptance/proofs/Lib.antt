@@ -2,8 +2,10 @@ pub mod Accepted
 pub mod Alphabet
 pub mod Cut
 pub mod Examples
+pub mod FirstFault
 pub mod Given
 pub mod Locations
+pub mod Named
 pub mod Patterns
 pub mod Refusals
 pub mod Texts

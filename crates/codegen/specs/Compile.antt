@@ -19,7 +19,7 @@ output_of (reading n p) buffer = fill Compiled.Refused Compiled.Image (image_of 
 unfoldable pub compiled : List ℕ → List ℕ → Filled Compiled
 compiled text buffer = output_of (read_text text) buffer
 
--- document 02, L6: the same of the maker's and the site's text as one
+-- the same of the maker's and the site's text as one
 unfoldable pub compiled_texts : List ℕ → List ℕ → List ℕ → Filled Compiled
 compiled_texts maker site buffer = output_of (read_texts maker site) buffer
 

@@ -1,4 +1,4 @@
-// The compiler: from a rule text, or two texts as one, to the image of their policy, in a lent buffer. Start with specs/Compile.antt.
+//! The compiler: from a rule text, or two texts as one, to the image of their policy, in a lent buffer. Start with specs/Compile.antt.
 #![tactic(auto)]
 
 ghost use Rattle.std.specs.Prelude.{◌≡◌, ◌≤◌, length};
@@ -15,16 +15,19 @@ use rule_text::{LineCounts, TextRead, read_texts};
 use syntax::{LineStatus, read_line};
 use word::put_word;
 
+/// The form that is written.
 const FORM: u8 = 1;
 
+/// What came of a text, or of two.
 #[derive(Clone, Copy)]
 pub enum Compiled {
+    /// A fault of a text, 1 to 6, or 15 where the buffer has too few bytes for the image.
     Refused(Refusal),
-    // How many bytes the image has.
+    /// How many bytes the image has.
     Image(usize),
 }
 
-// How many words lines take.
+/// How many words lines take.
 fn words(counts: LineCounts) -> usize
     requires { word_count counts ≤ 4096 }
     ensures { result ≡ word_count counts }
@@ -32,14 +35,14 @@ fn words(counts: LineCounts) -> usize
     counts.lines + counts.heads + counts.comparisons + counts.constants
 }
 
-// The words at which the next rule and the next constraint go.
+/// The words at which the next rule and the next constraint go.
 #[derive(Clone, Copy)]
 pub struct Cursors {
     pub rules: usize,
     pub constraints: usize,
 }
 
-// A line put in behind those of its kind.
+/// A line put in behind those of its kind.
 fn put_next(out: &mut [u8], cursors: Cursors, line: Line) -> Cursors
     requires near { Near 2000000 cursors }
     requires short { length (value_words line) ≤ 17 }
@@ -65,7 +68,7 @@ fn put_next(out: &mut [u8], cursors: Cursors, line: Line) -> Cursors
     }
 }
 
-// The lines of a text, up to the first that is refused, and the cursors behind them.
+/// The lines of a text, up to the first that is refused, and the cursors behind them.
 fn put_lines(out: &mut [u8], text: &[u8], start: Cursors) -> Cursors
     requires near { Near 600000 start }
     requires short { length text.now ≤ 32768 }
@@ -93,7 +96,7 @@ fn put_lines(out: &mut [u8], text: &[u8], start: Cursors) -> Cursors
     cursors
 }
 
-// The image of two accepted texts, for which there is room.
+/// The image of two accepted texts, for which there is room.
 fn put_image(out: &mut [u8], maker: &[u8], site: &[u8], rule_words: usize, constraint_words: usize)
     requires maker { length maker.now ≤ 32768 }
     requires site { length site.now ≤ 32768 }
@@ -112,8 +115,8 @@ fn put_image(out: &mut [u8], maker: &[u8], site: &[u8], rule_words: usize, const
     put_check_words(out, FORM, middle + constraint_words);
 }
 
-// The image of the maker's and the site's text as one from the start of the buffer on, or why there is none. A refusal leaves the
-// buffer as it is.
+/// Writes the image of the maker's and the site's text as one from the start of the buffer on, or says why there is none. A refusal
+/// leaves the buffer as it is, and an image what stands behind it. 13,064 bytes are enough for every image.
 pub fn compile_texts(maker: &[u8], site: &[u8], out: &mut [u8]) -> Compiled
     ensures answer { result ≡ (compiled_texts maker.now site.now out.old).answer }
     ensures buffer { out.new ≡ (compiled_texts maker.now site.now out.old).buffer }
@@ -134,7 +137,7 @@ pub fn compile_texts(maker: &[u8], site: &[u8], out: &mut [u8]) -> Compiled
     }
 }
 
-// The same of a single text, which is the maker's: the site's is empty.
+/// The same of a single text, which is the maker's: the site's is empty.
 pub fn compile(text: &[u8], out: &mut [u8]) -> Compiled
     ensures answer { result ≡ (compiled text.now out.old).answer }
     ensures buffer { out.new ≡ (compiled text.now out.old).buffer }

@@ -1,5 +1,5 @@
-// Reads a rule text from standard input, or the maker's and the site's text from two files, and prints the image, one word a line, or
-// why it is refused. What is printed for which text is `session`'s: this program names the ends, and says which of them failed.
+//! Reads a rule text from standard input, or the maker's and the site's text from two files, and prints the image, one word a line, or
+//! why it is refused. What is printed for which text is `session`'s: this program names the ends, and says which of them failed.
 #![tactic(auto)]
 
 use files::Named;
@@ -19,7 +19,7 @@ fn standard(rt: HostRuntime) -> Pair<Stdin, Stdout> {
     }
 }
 
-// A text from standard input.
+/// Compiles a text from standard input.
 fn compile_input(rt: HostRuntime) {
     match session::list_input(&mut standard(rt)) {
         Ok(()) => {}
@@ -28,7 +28,7 @@ fn compile_input(rt: HostRuntime) {
     }
 }
 
-// The maker's and the site's text from the files of these names.
+/// Compiles the maker's and the site's text from the files of these names.
 fn compile_files(rt: HostRuntime, maker: &str, site: &str) {
     let mut first = Pair {
         reader: Named::new(rt, maker),

@@ -1,4 +1,4 @@
-// The decompiler: from an image to the rule text of its policy, in a lent buffer. Start with specs/Decompile.antt.
+//! The decompiler: from an image to the rule text of its policy, in a lent buffer. Start with specs/Decompile.antt.
 #![tactic(auto)]
 
 ghost use Rattle.std.specs.Prelude.{◌≡◌, ◌≤◌, ◌↔◌, IsTrue, min, length};
@@ -18,14 +18,16 @@ use printer::put_line;
 /// Bytes of the longest text: 128 rules of 150 bytes, and 64 constraints of 137.
 pub const TEXT_SIZE: usize = 27968;
 
-/// What came of it: a refusal, or how many bytes the text has.
+/// What came of an image.
 #[derive(Clone, Copy)]
 pub enum Decompiled {
+    /// A fault of the image, 7 to 11, or 15 where the buffer has too few bytes for the text.
     Refused(Refusal),
+    /// How many bytes the text has.
     Text(usize),
 }
 
-// The texts of so many lines, from the first on.
+/// The texts of so many lines, from the first on.
 fn put_text<S: Sink>(sink: &mut S, image: &[u8], lines: usize)
     ensures { sink.new ≡ fed S.taken sink.old (text_of_values (values_from (words_of image.now) lines 1)) }
 {
@@ -37,7 +39,7 @@ fn put_text<S: Sink>(sink: &mut S, image: &[u8], lines: usize)
     }
 }
 
-// How many bytes the texts have.
+/// How many bytes the texts have.
 #[tactic(auto, using(output::proofs::SinkLaws::counted_all))]
 fn text_size(image: &[u8], lines: usize) -> usize
     requires { length (text_of_values (values_from (words_of image.now) lines 1)) ≤ longest_text }
@@ -48,7 +50,7 @@ fn text_size(image: &[u8], lines: usize) -> usize
     counter.count
 }
 
-// Whether the texts have room in so many bytes. Where the longest text has, they need not be counted.
+/// Whether the texts have room in so many bytes. Where the longest text has, they need not be counted.
 fn fits(image: &[u8], lines: usize, room: usize) -> bool
     requires { length (text_of_values (values_from (words_of image.now) lines 1)) ≤ longest_text }
     ensures { IsTrue result ↔ (length (text_of_values (values_from (words_of image.now) lines 1)) ≤ room) }
@@ -56,7 +58,7 @@ fn fits(image: &[u8], lines: usize, room: usize) -> bool
     TEXT_SIZE <= room || text_size(image, lines) <= room
 }
 
-// Writes the texts from the start of the buffer on. The answer is where they end.
+/// Writes the texts from the start of the buffer on. The answer is where they end.
 #[tactic(auto, using(output::proofs::SinkLaws::stored_all))]
 fn write_text(out: &mut [u8], image: &[u8], lines: usize) -> usize
     ensures end { result ≡ min (length (text_of_values (values_from (words_of image.now) lines 1))) (length out.old) }

@@ -1,5 +1,5 @@
-// Reads the words of an image from standard input, one a line as the compiler prints them, and prints the rule text of the image, or
-// why it is refused. What is printed for which input is `dump`'s: this program names the ends, and says which of them failed.
+//! Reads the words of an image from standard input, one a line as the compiler prints them, and prints the rule text of the image, or
+//! why it is refused. What is printed for which input is `dump`'s: this program names the ends, and says which of them failed.
 #![tactic(auto)]
 
 use std::env::{Env, FillError};

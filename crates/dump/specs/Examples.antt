@@ -13,7 +13,7 @@ row i o = record { input = i; output = o }
 
 unfoldable pub dumps : List Example
 dumps =
-    -- document 01's worked image
+    -- the image of `E1 & !E2 causes A3 if R0 > 40`, `E3 causes A4` and `never A3 & A4`
     row "01007003\n10400004\n20800003\n30008001\n00000028\n50C00000\n10C00001\n51000000\n60C00002\n61000001\n70000000\nB9FF0FC9\n"
     "E1 & !E2 causes A3 if R0 > 40\nE3 causes A4\nnever A3 & A4\n"
     -- in small letters

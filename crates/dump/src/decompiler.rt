@@ -1,4 +1,4 @@
-// The decompiler's whole run.
+//! The decompiler's whole run.
 ghost use Rattle.std.specs.Prelude.{◌≡◌, OnOk, IfErr};
 ghost use Rattle.stream.specs.Machine.{AnswersAll, EndsBy, nothing};
 ghost use Rattle.dump.specs.Calls.{start_state};
@@ -9,10 +9,10 @@ use crate::state::State;
 use decompile::TEXT_SIZE;
 use stream::{Ends, Failure, Summary, summarize};
 
-// Bytes that are read at once.
+/// Bytes that are read at once.
 const CHUNK_SIZE: usize = 65536;
 
-// The image as far as it was read, and the room for its text.
+/// The image as far as it was read, and the room for its text.
 #[derive(Drop)]
 struct Decompiler {
     state: State,
@@ -47,7 +47,7 @@ impl Summary for Decompiler {
     }
 }
 
-// Restores the text of the image whose words are the input.
+/// Restores the text of the image whose words are the input: all of it is read before anything is written.
 pub fn restore_input<E: Ends>(ends: &mut E) -> Result<(), Failure>
     ensures ok { OnOk result (AnswersAll restored nothing (E.known ends.old) (E.known ends.new)) }
     ensures err { IfErr result (λ e. EndsBy e nothing restored (E.known ends.old) (E.known ends.new)) }

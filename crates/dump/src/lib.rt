@@ -1,5 +1,5 @@
-// Reads the words of an image as the compiler prints them, in chunks of any sizes, and prints the rule text of the image. Start with
-// specs/Dump.antt.
+//! Reads the words of an image as the compiler prints them, in chunks of any sizes, and prints the rule text of the image. Start with
+//! specs/Dump.antt.
 #![tactic(auto)]
 
 mod decompiler;
@@ -19,10 +19,10 @@ pub use state::State;
 use state::{close, step};
 use word::at_most;
 
-// Bytes for the words: one word over the largest image, which tells that there are too many.
+/// Bytes for the words: one word over the largest image, which tells that there are too many.
 pub const DUMP_SIZE: usize = 13068;
 
-// Before any input.
+/// The state before any input.
 pub fn begin() -> State
     ensures { result ≡ start_state }
 {
@@ -35,7 +35,7 @@ pub fn begin() -> State
     }
 }
 
-// The bytes of a chunk.
+/// Takes the bytes of a chunk. The words go into `image`, four bytes each, as many as it has room for; `DUMP_SIZE` bytes are enough.
 pub fn feed(start: State, chunk: &[u8], image: &mut [u8]) -> State
     ensures answer { result ≡ (fed (held start image.old) chunk.now).state }
     ensures image { image.new ≡ (fed (held start image.old) chunk.now).image }
@@ -49,7 +49,7 @@ pub fn feed(start: State, chunk: &[u8], image: &mut [u8]) -> State
     state
 }
 
-// What is printed for an image: its text, or why it is refused.
+/// What is printed for an image: its text, or why it is refused.
 fn put_image(image: &[u8], out: &mut [u8]) -> usize
     ensures answer { result ≡ behind out.old 0 (image_within (length out.old) image.now) }
     ensures buffer { out.new ≡ appended out.old 0 (image_within (length out.old) image.now) }
@@ -61,7 +61,8 @@ fn put_image(image: &[u8], out: &mut [u8]) -> usize
     }
 }
 
-// The input has ended.
+/// The input has ended: puts what is printed for it at the start of `out`, and answers how many bytes it has. A text has room in
+/// `TEXT_SIZE` bytes.
 pub fn finish(state: State, image: &mut [u8], out: &mut [u8]) -> usize
     ensures prefix_len { IsPrefixLen result out.new }
     ensures answer { result ≡ behind out.old 0 (finished (length out.old) (closed (held state image.old))) }

@@ -1,12 +1,12 @@
-// What was read of the input, and what a byte more does to it.
+//! What was read of the input, and what a byte more does to it.
 ghost use Rattle.std.specs.Prelude.{◌≡◌};
 ghost use Rattle.dump.specs.Calls.{held, broken, line_ended, digit_taken, stepped, closed};
 
 use lexer::hex_value;
 use word::put_word;
 
-// `lines` whole lines were read, all words, of which the first `words` are held, and of the open line `digits` digits, whose value is
-// `value`; or the line behind `lines` lines is no word.
+/// What was read: `lines` whole lines, all words, of which the first `words` are held, and of the open line `digits` digits, whose
+/// value is `value`. Where it is `broken`, the line behind `lines` lines is no word, and the rest does not matter.
 #[derive(Clone, Copy)]
 pub struct State {
     pub lines: u64,
@@ -16,16 +16,16 @@ pub struct State {
     pub broken: bool,
 }
 
-// Digits of a word.
+/// Digits of a word.
 const DIGITS: u8 = 8;
 
-// Values of a hexadecimal digit.
+/// Values of a hexadecimal digit.
 const BASE: u8 = 16;
 
-// Values of seven digits: one digit more makes a word.
+/// Values of seven digits: one digit more makes a word.
 const SEVEN_DIGITS: u32 = 0x1000_0000;
 
-// The open line is no word.
+/// The open line is no word.
 fn break_line(state: State) -> State
     ensures { result ≡ broken state }
 {
@@ -34,7 +34,7 @@ fn break_line(state: State) -> State
     next
 }
 
-// The open line has ended. A word that has no room is counted as a line and not held.
+/// The open line has ended. A word that has no room is counted as a line and not held.
 fn end_line(state: State, image: &mut [u8]) -> State
     ensures answer { result ≡ (line_ended (held state image.old)).state }
     ensures image { image.new ≡ (line_ended (held state image.old)).image }
@@ -55,7 +55,7 @@ fn end_line(state: State, image: &mut [u8]) -> State
     }
 }
 
-// A byte of the open line, by its value as a digit.
+/// A byte of the open line, by its value as a digit.
 fn take_digit(state: State, digit: u8) -> State
     ensures { result ≡ digit_taken state digit }
 {
@@ -74,7 +74,7 @@ fn take_digit(state: State, digit: u8) -> State
     }
 }
 
-// One byte of the input.
+/// One byte of the input.
 pub(crate) fn step(state: State, byte: u8, image: &mut [u8]) -> State
     ensures answer { result ≡ (stepped (held state image.old) byte).state }
     ensures image { image.new ≡ (stepped (held state image.old) byte).image }
@@ -88,7 +88,7 @@ pub(crate) fn step(state: State, byte: u8, image: &mut [u8]) -> State
     take_digit(state, hex_value(byte))
 }
 
-// The input has ended: an open line has ended with it.
+/// The input has ended: an open line has ended with it.
 pub(crate) fn close(state: State, image: &mut [u8]) -> State
     ensures answer { result ≡ (closed (held state image.old)).state }
     ensures image { image.new ≡ (closed (held state image.old)).image }

@@ -1,5 +1,5 @@
-// Reads a rule text, a line `run` or `run events` and epoch lines from standard input, and prints what is decided on each epoch.
-// What is printed for which input, and when, is `session`'s: this program names the ends, and says which of them failed.
+//! Reads a rule text, a line `run` or `run events` and epoch lines from standard input, and prints what is decided on each epoch.
+//! What is printed for which input, and when, is `session`'s: this program names the ends, and says which of them failed.
 #![tactic(auto)]
 
 use std::env::{Env, FillError};

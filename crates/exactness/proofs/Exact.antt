@@ -130,13 +130,13 @@ module _ (form : ℕ) (known : known_form form ≡ true) (p : Policy) (ok : Acce
       ap₂ (λ (k m : ℕ). lines_from Part.Constraints 64 (1 + k) (between (1 + k) (1 + k + m) (image_words form p))) rules_are constraints_are
       ∙ ap (lines_from Part.Constraints 64 (1 + P)) image_constraints ∙ constraints_found (1 + P)
 
-  -- 2: the loader takes the image of every acceptable policy, and says how many words and lines it has
+  -- the loader takes the image of every acceptable policy, and says how many words and lines it has
   pub image_taken : load (image_of form p) ≡ Loaded.Image (contents_of form p)
   unfolding load load_words body_answer
   image_taken =
       rw (image_size, image_words_is, rule_lines_is, constraint_lines_is, form_is, known, counts, sums, rules_are, constraints_are, length-map p.rules rule, length-map p.constraints constraint)
 
-  -- 2: the policy that it then holds is that policy
+  -- the policy that it then holds is that policy
   pub image_holds : policy_in (image_of form p) ≡ p
   unfolding policy_in lines_in
   image_holds =
@@ -267,7 +267,7 @@ module _ (bytes : List ℕ) (bounded : Bytes bytes) (contents : Contents) (taken
   ws : List ℕ
   ws = words_of bytes
 
-  -- 3: its lines are valid, and not too many
+  -- its lines are valid, and not too many
   pub held_acceptable : Acceptable (policy_in bytes)
   held_acceptable =
       record {
@@ -355,14 +355,14 @@ module _ (bytes : List ℕ) (bounded : Bytes bytes) (contents : Contents) (taken
   unfolding image_words check_words
   whole_same = rw content_same (ap (λ (x : ℕ). (get_or ws 0 0 ∷ R ++ C) ++ x ∷ []) (sym last_same) ∙ sym split)
 
-  -- 3: it is the image of the policy that it holds, byte for byte
+  -- it is the image of the policy that it holds, byte for byte
   pub held_image : image_of contents.form (policy_in bytes) ≡ bytes
   unfolding image_of well_sized ws
   held_image =
       ap bytes_of whole_same
       ∙ bytes_of_words bytes bounded (eqb-true (length bytes % 4) 0 (and_out (leb 8 (length bytes) && leb (length bytes) 13064) (eqb (length bytes % 4) 0) t.checked.size).1)
 
-  -- 3: and of a form that is known
+  -- and of a form that is known
   pub held_form : known_form contents.form ≡ true
   held_form = ap known_form t.form_is ∙ t.checked.form
 
@@ -375,7 +375,7 @@ module _ (bytes : List ℕ) (bounded : Bytes bytes) (contents : Contents) (taken
   unfolding constraint_part_words
   taken_constraints = h.constraint_part_is.words
 
--- 2 and 3 together: the loader takes exactly the images of acceptable policies
+-- both ways together: the loader takes exactly the images of acceptable policies
 pub exactly_images : (bytes : List ℕ) → Bytes bytes → ((contents : Contents) × (load bytes ≡ Loaded.Image contents)) ↔ IsImage bytes
 exactly_images bytes bounded = (
   λ x. record { form = x.0.form; policy = policy_in bytes; known = held_form bytes bounded x.0 x.1; acceptable = held_acceptable bytes bounded x.0 x.1; same = held_image bytes bounded x.0 x.1 },
@@ -413,7 +413,7 @@ first_fault_only ws p q (in_constraints rs w a) (in_rules b) =
     absurd (omega arith)
 first_fault_only ws p q (in_constraints rs w a) (in_constraints rs' w' b) = let e : fault p ≡ fault q = sym (constraints_at ws p a) ∙ constraints_at ws q b in cc
 
--- 4: where the loader refuses under 11, every line before the location is whole and valid, and at the location none fits
+-- where the loader refuses under 11, every line before the location is whole and valid, and at the location none fits
 pub fault_location : (bytes : List ℕ) (location : ℕ) → load bytes ≡ Loaded.Refused (refusal Fault.ImageBody location) → FirstFault (words_of bytes) location
 unfolding body_answer
 fault_location bytes location e = go (answered bytes)
@@ -497,7 +497,7 @@ changed_length bytes i v aligned = omega (arith, bytes_length (set (words_of byt
 same_word : (s s' old v : ℕ) → s' % word_limit ≡ 0 → s % word_limit ≡ 0 → s' + old ≡ s + v → v < word_limit → old < word_limit → v ≡ old
 same_word s s' old v a b e h k = omega arith
 
--- 6: bytes that pass the checks 7 to 10, with any other value in the location of one word, are refused under one of them
+-- bytes that pass the checks 7 to 10, with any other value in the location of one word, are refused under one of them
 pub one_word_changed : (bytes : List ℕ) → Bytes bytes → Checked bytes → (i v : ℕ) → i < length (words_of bytes) → v < word_limit → ¬ (v ≡ word_at bytes i) → RefusedEarly (load (changed bytes i v))
 unfolding sums_to_zero
 one_word_changed bytes bounded ok i v l small other = go (answered (changed bytes i v))

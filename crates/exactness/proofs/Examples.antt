@@ -1,5 +1,5 @@
--- The worked example of document 01 and the empty policy: the words of their images, and that loading them yields the
--- policy again.
+-- A worked example (docs/REFERENCE.md, "The image") and the empty policy: the words of their images, and that loading them yields
+-- the policy again.
 use Rattle.std.proofs.Common.{map, ◌≡◌, refl}
 use Rattle.policy.specs.Limits.{valid, in_range, crowded, repeated, repeats, test_number, operand_in_range, comparison_in_range, ending_in_range, is_reading_value}
 use Rattle.policy.specs.Line.{heads_of, comparisons_of, ending_of}

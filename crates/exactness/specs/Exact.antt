@@ -72,8 +72,8 @@ pub record NoLineAt (part : Part) (room from : ℕ) (ws : List ℕ) (location : 
   pub more : 0 < length rest
   pub none_fits : (length before ≡ room) ⊎ ((l : PolicyLine) (tail : List ℕ) → in_part part l ≡ true → valid l ≡ true → ¬ (rest ≡ line_words l ++ tail))
 
--- document 01, fault 11: its location is the first line start at which no line fits, in the rule part or, where all of that is
--- lines, in the constraint part
+-- the location of fault 11: the first line start at which no line fits, in the rule part or, where all of that is lines, in the
+-- constraint part
 pub data FirstFault (ws : List ℕ) (location : ℕ) : Type 0 where
   in_rules : NoLineAt Part.Rules rule_limit 1 (between 1 (1 + rule_count ws) ws) location → FirstFault ws location
   in_constraints : (rules : List PolicyLine) → rule_lines ws ≡ whole rules

@@ -1,5 +1,5 @@
--- The worked example of document 01 and the empty policy, one row each: the words of the image, what the loader answers for
--- its bytes and the policy that it then holds.
+-- A worked example (docs/REFERENCE.md, "The image") and the empty policy, one row each: the words of the image, what the loader
+-- answers for its bytes and the policy that it then holds.
 use Rattle.std.specs.Prelude.{ℕ, Bool, true, false, List, [], ◌∷◌, pos}
 use Rattle.policy.specs.Policy.{Policy}
 use Rattle.policy.specs.declared.comparison.Literal.{Literal}
@@ -39,7 +39,7 @@ pub record Image : Type 0 where
 unfoldable pub policies : List Policy
 policies = worked ∷ nothing ∷ []
 
--- document 01 writes the words in hexadecimal: 01007003, 10400004, 20800003, 30008001, 00000028, 50C00000, 10C00001, 51000000,
+-- the words in hexadecimal: 01007003, 10400004, 20800003, 30008001, 00000028, 50C00000, 10C00001, 51000000,
 -- 60C00002, 61000001, 70000000, B9FF0FC9; and 01000000, FF000000
 unfoldable pub images : List Image
 images =

@@ -1,5 +1,5 @@
-// Reads the maker's and the site's text from two files and questions from standard input, one a line, and prints for each what became
-// of its action and why. What is printed for which question is `questions`': this program names the ends, and says which of them failed.
+//! Reads the maker's and the site's text from two files and questions from standard input, one a line, and prints for each what became
+//! of its action and why. What is printed for which question is `questions`': this program names the ends, and says which of them failed.
 #![tactic(auto)]
 
 use files::Named;

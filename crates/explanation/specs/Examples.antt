@@ -1,4 +1,4 @@
--- Document 02, L6: what is said of an action, one row each: two texts, an epoch line and the action's number.
+-- What is said of an action, one row each: two texts, an epoch line and the action's number.
 use Rattle.std.specs.Prelude.{ℕ, List, [], ◌∷◌}
 use Prim.Native.String.{String}
 use Rattle.policy.specs.Fault.{fault_number, source_number}
@@ -33,7 +33,7 @@ cancelled text part = because Outcome.Cancelled text (bytes part)
 abbrev not_proposed : Said
 not_proposed = because Outcome.NotProposed 0 []
 
--- document 01's worked text, its second line from the site
+-- the maker's lines; the site adds `E3 causes A4`
 abbrev worked : String
 worked = "E1 & !E2 causes A3 if R0 > 40\nnever A3 & A4\n"
 
@@ -60,7 +60,7 @@ explanations =
     ∷ row three "never A2 & A3\nnever A1 & A2\n" "E1" 2 (cancelled 2 "never A1 & A2")
     ∷ row three "never A2 & A3\nnever A1 & A2\n" "E1" 3 (accepted 1 "E1 causes A3")
     ∷ row three "never A1\nnever A1 & A2\nnever A2\n" "E1" 2 (cancelled 2 "never A2")
-    -- L2: a comparison with a missing reading
+    -- a comparison with a missing reading
     ∷ row "E1 causes A7\n" "never A7 if R4 > 90\n" "E1" 7 (cancelled 2 "never A7 if R4 > 90")
     -- faults: the maker's text, the site's, the epoch line, the action
     ∷ row "\nE1\n" "E1\n" "E" 64 (refused 2 1 2)

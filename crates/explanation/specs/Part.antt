@@ -1,5 +1,5 @@
--- Document 02, L6: the first line that passes a test, "without line end, trimmed of spaces at both ends, straight out of the text it
--- came from".
+-- The first line that passes a test, without its line end, trimmed of spaces at both ends, and straight out of the text that it
+-- stands in.
 use Rattle.std.specs.Prelude.{ℕ, ◌+◌, ◌-◌, Bool, cond, List, [], ◌∷◌, ltb, length, take, drop}
 use Rattle.std.proofs.Math.Option.{Option, none, some}
 use Rattle.policy.specs.Line.{PolicyLine}

@@ -1,4 +1,4 @@
--- Document 02, L6: "for an epoch and an action, the tool says not proposed, accepted, or cancelled", and which line it shows.
+-- For an epoch and an action: whether the action is not proposed, accepted, or cancelled, and which line is shown for it.
 use Rattle.std.specs.Prelude.{ℕ, Bool, false, cond, ◌&&◌, List, eqb}
 use Rattle.std.proofs.Math.Option.{Option, none, some}
 use Rattle.policy.specs.Epoch.{Epoch, Readings}
@@ -28,7 +28,7 @@ unfoldable pub proposed_by : Epoch → Action → PolicyLine → Bool
 proposed_by e a (rule r) = rule_holds (all_events e.events) e.readings r && eqb r.action.0 a.0
 proposed_by e a (constraint c) = false
 
--- for a cancelled one the constraints that hold "on the lower-numbered accepted actions together with it"
+-- for a cancelled one the constraints that hold on the lower-numbered accepted actions together with it
 unfoldable pub cancelled_by : Readings → ActionSet → Action → PolicyLine → Bool
 cancelled_by rs accepts a (rule r) = false
 cancelled_by rs accepts a (constraint c) = constraint_holds rs (insert_action (actions_below accepts a) a) c
@@ -45,7 +45,7 @@ module _ (maker site : List ℕ) where
       (cond (has_action cancels a) (because Outcome.Cancelled (first_shown (cancelled_by e.readings accepts a) maker site))
       (because Outcome.NotProposed nothing))
 
-  -- ---- "an action over 63 is 13, after all other checks"
+  -- ---- an action over 63 is refused under 13, after all other checks
 
   unfoldable pub on_action : ActionSet → ActionSet → Epoch → ActionCheck → Explained
   on_action accepts cancels e ActionCheck.OutOfRange = Explained.Refused (refusal Fault.EpochRange 0)

@@ -1,4 +1,4 @@
-// The first line of a text that tells why. A line is judged by running its words, as the engine runs those of an image.
+//! The first line of a text that tells why. A line is judged by running its words, as the engine runs those of an image.
 ghost use Rattle.std.specs.Prelude.{◌≡◌, ◌+◌, ◌-◌, ◌≤◌, length, take, drop};
 ghost use Rattle.lexer.specs.Lines.{lines_of, rest_of_line};
 ghost use Rattle.layout.specs.Steps.Value.{value_words};
@@ -14,7 +14,7 @@ use run::{run_constraints, run_rules};
 use syntax::{LineStatus, read_line};
 use word::{part, words};
 
-// Which lines are sought: rules that propose the action on these events, or constraints that hold on the set.
+/// Which lines are sought: rules that propose the action on these events, or constraints that hold on the set.
 #[derive(Clone, Copy)]
 pub struct Sought {
     pub part: Part,
@@ -24,10 +24,10 @@ pub struct Sought {
     pub given: ReadingSet,
 }
 
-// Bytes of the longest line's words.
+/// Bytes of the longest line's words.
 const LINE_SIZE: usize = 68;
 
-// Whether a line is sought.
+/// Whether a line is sought.
 fn told(line: Line, sought: Sought, values: &[i32; READING_LIMIT]) -> bool
     requires { Writable (value_words line) }
     ensures { result ≡ tells sought.part line.ending sought values.now (value_words line) }
@@ -56,7 +56,7 @@ fn told(line: Line, sought: Sought, values: &[i32; READING_LIMIT]) -> bool
     }
 }
 
-// Where the bytes from `start` up to `end` end, without the spaces at their end.
+/// Where the bytes from `start` up to `end` end, without the spaces at their end.
 fn trimmed_end(text: &[u8], start: usize, end: usize) -> usize
     requires ordered { start ≤ end }
     requires inside { end ≤ length text.now }
@@ -72,7 +72,7 @@ fn trimmed_end(text: &[u8], start: usize, end: usize) -> usize
     i
 }
 
-// What is shown of the line that starts at a position.
+/// What is shown of the line that starts at a position.
 fn shown_at(text: &[u8], source: Source, at: usize) -> Shown
     requires { at ≤ length text.now }
     ensures { result ≡ shown_at source at (rest_of_line text.now at) }
@@ -86,13 +86,14 @@ fn shown_at(text: &[u8], source: Source, at: usize) -> Shown
     }
 }
 
+/// What a search in a text came to.
 #[derive(Clone, Copy)]
 pub enum Search {
     Found(Shown),
     Absent,
 }
 
-// The first line that is sought. A text that is refused at a line has none from there on.
+/// The first line that is sought. A text that is refused at a line has none from there on.
 pub(crate) fn find(text: &[u8], source: Source, sought: Sought, values: &[i32; READING_LIMIT]) -> Search
     ensures { result ≡ search_of (first_from (sought_by sought values.now) source 0 (lines_of text.now)) }
 {

@@ -1,4 +1,4 @@
-// What became of an action, and the line that says why.
+//! What became of an action, and the line that says why.
 ghost use Rattle.std.specs.Prelude.{◌≡◌, length};
 ghost use Rattle.explanation.specs.Part.{nothing, first_shown};
 ghost use Rattle.explanation.specs.Why.{reason_for, explained, part_shown};
@@ -13,6 +13,7 @@ use image::IMAGE_SIZE;
 use monitor::{Decision, decide};
 use policy::{Action, ActionCheck, ActionSet, Fault, Mode, Part, READING_LIMIT, Refusal, Source};
 
+/// What became of an action.
 #[derive(Clone, Copy)]
 pub enum Outcome {
     NotProposed,
@@ -20,15 +21,19 @@ pub enum Outcome {
     Cancelled,
 }
 
-// What became of an action, and what is shown for it.
+/// What became of an action, and what is shown for it: of an accepted one the first rule that proposed it, of a cancelled one the first
+/// constraint that held on the accepted actions with lower numbers together with it.
 #[derive(Clone, Copy)]
 pub struct Reason {
     pub outcome: Outcome,
     pub shown: Shown,
 }
 
+/// The answer to a question about an action.
 #[derive(Clone, Copy)]
 pub enum Explained {
+    /// A fault of the texts, 1 to 6, or, on an image, of the image, 7 to 11; then of the epoch line, 1 and 12 to 14; then 13 for a number
+    /// over 63.
     Refused(Refusal),
     Because(Reason),
 }
@@ -43,7 +48,7 @@ fn no_part() -> Shown
     }
 }
 
-// The first line of both texts that is sought, the maker's lines before the site's.
+/// The first line of both texts that is sought, the maker's lines before the site's.
 fn first_shown(maker: &[u8], site: &[u8], sought: Sought, values: &[i32; READING_LIMIT]) -> Shown
     ensures { result ≡ first_shown (sought_by sought values.now) maker.now site.now }
 {
@@ -60,7 +65,7 @@ fn first_shown(maker: &[u8], site: &[u8], sought: Sought, values: &[i32; READING
     }
 }
 
-// What became of an action that a decision accepted, cancelled, or neither.
+/// What became of an action that a decision accepted, cancelled, or neither.
 fn reason_for(
     maker: &[u8],
     site: &[u8],
@@ -107,8 +112,8 @@ fn reason_for(
     }
 }
 
-// The explanation of an action by the texts, from what is decided on an image. Where the image is that of the texts, it is that of
-// `explain`, which compiles them each time.
+/// The explanation of an action by the texts, from what is decided on an image. Where the image is that of the texts, it is that of
+/// `explain`, which compiles them each time.
 pub fn explain_on(image: &[u8], maker: &[u8], site: &[u8], line: &[u8], number: u32) -> Explained
     ensures { result ≡ explained_on maker.now site.now line.now number image.now }
 {
@@ -135,7 +140,8 @@ pub fn explain_on(image: &[u8], maker: &[u8], site: &[u8], line: &[u8], number: 
     }
 }
 
-// The explanation of the action of a number on an epoch line, without its line end, by the maker's and the site's text.
+/// The explanation of the action of a number on an epoch line, without its line end, by the maker's and the site's text. What is decided
+/// is decided in the first mode, by action cancellation.
 pub fn explain(maker: &[u8], site: &[u8], line: &[u8], number: u32) -> Explained
     ensures { result ≡ explained maker.now site.now line.now number }
 {
@@ -147,8 +153,8 @@ pub fn explain(maker: &[u8], site: &[u8], line: &[u8], number: u32) -> Explained
     }
 }
 
-// The bytes that are shown, out of the text that they stand in: none where nothing is shown. They live as long as the texts, whatever
-// becomes of the line.
+/// The bytes that are shown, out of the text that they stand in: none where nothing is shown. They live as long as the texts, whatever
+/// becomes of the line.
 pub fn explanation<'t, 'e>(maker: &'t [u8], site: &'t [u8], line: &'e [u8], number: u32) -> &'t [u8]
     ensures { result.now ≡ part_shown maker.now site.now (explained maker.now site.now line.now number) }
 {

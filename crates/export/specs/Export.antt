@@ -1,4 +1,4 @@
--- The answer of a decision, as numbers: the fault's number and location (document 01: ground and place), 0 where nothing is refused.
+-- The answer of a decision, as numbers: the fault's number and location, 0 where nothing is refused.
 use Rattle.policy.specs.Fault.{fault_number}
 use Rattle.monitor.specs.declared.decision.Decision.{Decision}
 use Rattle.export.specs.declared.EpochDecision.{EpochDecision}

@@ -1,4 +1,4 @@
-// The answer of a decision for C, which two libraries give: kinohazel and kinohazel_events. Start with specs/Export.antt.
+//! The answer of a decision for C, which two libraries give: kinohazel and kinohazel_events. Start with specs/Export.antt.
 #![tactic(auto)]
 
 ghost use Rattle.std.specs.Prelude.{◌≡◌};
@@ -8,19 +8,23 @@ ghost use Rattle.export.specs.Export.{decision_of};
 use monitor::Decision;
 use policy::Refusal;
 
-// The fault's number, or 0; the word of the image at fault; the accepted and the cancelled actions, action n as bit n; how many words
-// of the image were fetched to decide the epoch.
+/// What is decided of an epoch. On a refusal the sets are empty and `visited` is 0; otherwise `fault` and `word` are 0.
 #[repr(C)]
 #[derive(Clone, Copy)]
 pub struct EpochDecision {
+    /// The fault's number.
     pub fault: u64,
+    /// The word of the image at fault, counted from 0; 0 where the fault is at none.
     pub word: u64,
+    /// The accepted actions, action n as bit n.
     pub accepted: u64,
+    /// The cancelled actions, action n as bit n.
     pub cancelled: u64,
+    /// How many words of the image were fetched to decide the epoch.
     pub visited: u64,
 }
 
-// The number of a refusal's fault.
+/// The number of a refusal's fault.
 pub fn fault_number(refusal: Refusal) -> u64
     ensures { result ≡ fault_number refusal.fault }
 {
@@ -28,7 +32,7 @@ pub fn fault_number(refusal: Refusal) -> u64
     fault.number() as u64
 }
 
-// What is decided of an epoch, as numbers, in either mode.
+/// What is decided of an epoch, as numbers, in either mode.
 pub fn epoch_decision(answer: Decision) -> EpochDecision
     ensures { result ≡ decision_of answer }
 {

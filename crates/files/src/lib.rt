@@ -1,4 +1,4 @@
-// The files that a program's arguments name, and what is said of a failure.
+//! The files that a program's arguments name, and what is said of a failure.
 #![tactic(auto)]
 
 use std::fs::File;
@@ -16,6 +16,7 @@ pub struct Named<'n> {
 }
 
 impl<'n> Named<'n> {
+    /// The file of this name. Nothing is opened yet.
     pub fn new(rt: HostRuntime, name: &'n str) -> Named<'n> {
         Named {
             rt,
@@ -50,7 +51,8 @@ fn words_of(text: &str) -> &str {
     }
 }
 
-/// Says on standard error what of a program failed, and how.
+/// Says on standard error what of a program failed, and how, as `engine: standard input: Is a directory`. Where that can't be written,
+/// nothing more is said.
 pub fn say(rt: HostRuntime, program: &str, what: &str, error: &io::Error) {
     let _ = match error.to_string(rt.alloc()) {
         Ok(text) => {

@@ -20,7 +20,6 @@ use Rattle.policy.specs.declared.number.Action.{Action}
 use Rattle.pdl.proofs.Monitor.{accepted_with_cancelled, cancelled_apart, cancelled_trial, giving_back_violates, maximal_cancellation, nothing_cancelled}
 use Rattle.pdl.specs.Answer.{refuses}
 use Rattle.pdl.specs.Pdl.{NameActions}
-use Rattle.pdl.specs.Yield as Yield
 use Rattle.pdl.specs.Yield.{cancelled}
 use Rattle.acceptance.proofs.Refusals.{epoch_faults}
 use Rattle.epoch_line.specs.Answer.{answer_read, epoch_read, refusal_in_epoch}

@@ -1,4 +1,4 @@
--- "The loader takes exactly the images that some accepted text compiles to", and fault 11.
+-- The loader takes exactly the images that some accepted text compiles to, and when it refuses under 11.
 use Rattle.std.proofs.Common.{ℕ, true, List, [], ◌∷◌, ◌↔◌, ◌≡◌, sym, ap, ◌∙◌, subst, arith, ltb-true, eqb-true, length}
 use Rattle.std.proofs.Math.Option.{some}
 use Rattle.policy.proofs.ListLaws.{and_out}
@@ -24,7 +24,7 @@ use Rattle.codegen.specs.Compile.{newest_form}
 use Rattle.printer.proofs.Printing.{text_read_is, text_policy, text_ascii}
 use Rattle.printer.proofs.SplitLaws.{ascii}
 use Rattle.printer.specs.Printed.{text_of}
-use Rattle.guarantees.proofs.Demand3.{image_of_text}
+use Rattle.guarantees.proofs.Agreement.{image_of_text}
 use Rattle.guarantees.specs.Claims.{CompilesTo, SomeText}
 
 ascii_bytes : (s : List ℕ) → all ascii s ≡ true → Bytes s

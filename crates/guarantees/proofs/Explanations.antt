@@ -1,4 +1,4 @@
--- Document 02, L6: when an action is explained, what is told of it, and which part of which text is shown.
+-- When an action is explained, what is told of it, and which part of which text is shown.
 use Rattle.std.proofs.Common.{ℕ, ◌<◌, Bool, true, false, cond, ◌&&◌, List, [], ◌∷◌, ◌++◌, ◌↔◌, ◌≡◌, refl, sym, ap, ◌∙◌, subst, arith, lt-ltb, le-ltb, ltb-true, ltb-false, eqb-true, eq-eqb, length, length-append}
 use Rattle.std.proofs.Math.Option.{some}
 use Rattle.std.proofs.Math.Path.{subst⁻¹}
@@ -38,7 +38,7 @@ use Rattle.explanation.specs.declared.why.Explained.{Explained}
 use Rattle.explanation.specs.declared.why.Outcome.{Outcome}
 use Rattle.explanation.specs.declared.why.Reason.{Reason}
 use Rattle.guarantees.proofs.Decisions.{written_yields}
-use Rattle.guarantees.proofs.Demand3.{image_of_texts, alone_writes}
+use Rattle.guarantees.proofs.Agreement.{image_of_texts, alone_writes}
 use Rattle.guarantees.proofs.FirstLaws.{Both, both, rule_line, constraint_line, first_line}
 use Rattle.guarantees.specs.Claims.{CompilesTo, TextsCompileTo}
 use Rattle.guarantees.specs.Decisions.{yield_of}
@@ -165,7 +165,7 @@ module _ (maker site line : List ℕ) (n : ℕ) where
 
 -- ---- which lines say so
 
--- a line passes a test of the definitions exactly where it says so in the paper's words
+-- a line passes a test of the definitions exactly where it says so in the terms of specs/Pdl of `pdl`
 proposed_means : (e : Epoch) (a : Action) → a.0 < 64 → (l : PolicyLine) → (proposed_by e a l ≡ true) ↔ Proposes e a l
 unfolding proposed_by proposals propose
 proposed_means e a small (constraint c) = (λ h. true_false h refl, λ h. absurd h)

@@ -1,9 +1,11 @@
 pub mod Decisions
-pub mod Demand3
+pub mod Determined
+pub mod Agreement
 pub mod Exactness
 pub mod Words
 pub mod Output
 pub mod Patterns
+pub mod LineLaws
 pub mod Pipe
 pub mod Reductions
 pub mod RoundTrip

@@ -1,4 +1,4 @@
--- Demand 3 of the whole program: what the engine prints is what the reference machine says.
+-- What the engine's program prints is what the reference machine says.
 use Rattle.std.proofs.Common.{ℕ, List, [], ◌∷◌, ◌++◌, ◌≡◌, refl, ap, ap₂, ◌∙◌}
 use Rattle.policy.specs.Limits.{Acceptable}
 use Rattle.policy.specs.Policy.{Policy}
@@ -14,7 +14,7 @@ use Rattle.monitor.specs.declared.decision.Decision.{Decision}
 use Rattle.report.specs.Report.{refused_line}
 use Rattle.session.specs.Printed.{Session, text_only, with_epochs, split_at_run, text_part, next, decision_line, epoch_lines, answers_to, printed_for, printed}
 use Rattle.guarantees.specs.Output.{answer_line, answer_lines, machine_lines, machine_prints, fetched}
-use Rattle.guarantees.proofs.Demand3.{same_answer}
+use Rattle.guarantees.proofs.Agreement.{same_answer}
 
 decision_line_is : (n : ℕ) (d : Decision) → decision_line n d ≡ answer_line n (answer_of d) (visited_in d)
 unfolding decision_line answer_line refused_line

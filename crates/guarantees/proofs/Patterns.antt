@@ -1,4 +1,4 @@
--- Document 02, L5: a constant in hexadecimal digits and the words of an image.
+-- A constant in hexadecimal digits and the words of an image.
 use Rattle.std.proofs.Common.{ℕ, ◌<◌, List, [], ◌∷◌, ◌≡◌, sym, ap, ◌∙◌, arith, ℤ, to_z-of_z, w32, of_z, to_z}
 use Rattle.std.proofs.Math.Option.{some}
 use Rattle.policy.proofs.ConstantLaws.{reading_value_is}

@@ -1,5 +1,5 @@
--- Document 02, L7: what holds of every decision in the second mode. It is what the image's policy yields, the kept events are a maximal
--- reduction free of conflict, and it is refused for a conflict exactly where there is none.
+-- What holds of every decision in the second mode, that of event cancellation. It is what the image's policy yields, the kept events
+-- are a maximal reduction free of conflict, and it is refused for a conflict exactly where there is none.
 use Rattle.std.proofs.Common.{ℕ, Bool, true, false, cond, List, ◌↔◌, ⊎_elim, ◌≡◌, refl, sym, ap, ◌∙◌, subst, arith, length}
 use Rattle.policy.specs.Epoch.{Epoch}
 use Rattle.policy.specs.Fault.{refusal}

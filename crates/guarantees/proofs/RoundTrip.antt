@@ -1,4 +1,4 @@
--- Document 02, L1: the text that is written from an image compiles to that image, and tells the policies apart.
+-- The text that is written from an image compiles to that image, and tells the policies apart.
 use Rattle.std.proofs.Common.{ℕ, ◌≤◌, List, ◌++◌, ◌↔◌, ◌≡◌, sym, ap, ◌∙◌, arith, length, drop}
 use Rattle.std.proofs.Math.Option.{some}
 use Rattle.policy.specs.Fill.{Filled, deliver}
@@ -18,8 +18,7 @@ use Rattle.codegen.proofs.Compilation.{text_delivered}
 use Rattle.codegen.specs.Compile.{newest_form, compiled}
 use Rattle.codegen.specs.declared.Compiled.{Compiled}
 use Rattle.decompile.proofs.Decompilation.{text_written, never_short}
-use Rattle.decompile.specs.Decompile.{decompiled}
-use Rattle.guarantees.proofs.Demand3.{image_of_text}
+use Rattle.guarantees.proofs.Agreement.{image_of_text}
 use Rattle.guarantees.proofs.Exactness.{newest_only, printed_compiles}
 use Rattle.guarantees.specs.Claims.{CompilesTo, DecompilesTo}
 

@@ -1,4 +1,4 @@
--- Document 02, L4 and L7: how many words of its image a decision fetches.
+-- How many words of its image a decision fetches, in each mode.
 use Rattle.std.proofs.Common.{ℕ, ◌+◌, ◌*◌, ◌≤◌, Bool, true, false, cond, ◌&&◌, List, ◌≡◌, refl, sym, ap, ◌∙◌, mul-le-mul_right, arith, leb-true, length}
 use Rattle.std.proofs.Math.Dec.{leb, eqb}
 use Rattle.policy.proofs.ListLaws.{and_out}
@@ -76,12 +76,12 @@ module _ (image : List ℕ) (bounded : Bytes image) (contents : Contents) (taken
             ∙ sym (taken_rules_run image bounded contents taken (all_events e.events) e.readings) in
             omega (arith, v, issued_words e, ap (λ (x : ActionSet). size x.bits * N) s)
 
-    -- "is at most P + 64 × N"
+    -- so it is at most P + 64 × N
     pub words_bounded : visited_in (decision image line) ≤ P + 64 * N
     words_bounded =
         omega (arith, words_by_actions, mul-le-mul_right N (size_limit_is (decided_actions (answer_of (decision image line))).bits))
 
-    -- ---- document 02, L7: the second mode
+    -- ---- the second mode
 
     abbrev rule_part : List ℕ
     rule_part = rules_in contents (words_of image)
@@ -107,7 +107,7 @@ module _ (image : List ℕ) (bounded : Bytes image) (contents : Contents) (taken
         go true = omega arith
         go false = omega (arith, trial_words_is e 0, trials_cost_is (clash_by rule_part constraint_part e) (clash_words rule_part constraint_part e) e.events.bits (P + N) (trial_words_is e))
 
-    -- "at most 65 × (P + N)"
+    -- so it is at most 65 × (P + N)
     pub events_words_bounded : visited_in (decision_in Mode.Events image line) ≤ 65 * (P + N)
     unfolding on_epoch_line
     events_words_bounded = go (read_epoch line) refl

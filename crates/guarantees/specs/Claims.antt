@@ -22,7 +22,7 @@ pub record Writes (call : List ℕ → Filled Compiled) (image : List ℕ) : Typ
 abbrev pub CompilesTo : List ℕ → List ℕ → Type 0
 CompilesTo text image = Writes (compiled text) image
 
--- document 02, L6: its call on the maker's and the site's text
+-- its call on the maker's and the site's text
 abbrev pub TextsCompileTo : List ℕ → List ℕ → List ℕ → Type 0
 TextsCompileTo maker site image = Writes (compiled_texts maker site) image
 
@@ -33,11 +33,11 @@ pub record DecompilesTo (image text : List ℕ) : Type 0 where
   pub accepted : (decompiled image buffer).answer ≡ Decompiled.Text size
   pub written : take size (decompiled image buffer).buffer ≡ text
 
--- the decisions on an image, line after line, in document 01's terms
+-- the decisions on an image, line after line, each as an `Answer`
 unfoldable pub answers : List ℕ → List (List ℕ) → List Answer
 answers image lines = map (λ (line : List ℕ). answer_of (decision image line)) lines
 
--- each in its own mode (document 02, L7)
+-- each in its own mode
 unfoldable pub answers_told : List ℕ → List ToldLine → List Answer
 answers_told image lines = map (λ (x : ToldLine). answer_of (decision_in x.mode image x.line)) lines
 

@@ -1,4 +1,4 @@
--- What is claimed of decisions, in document 01's terms: for what one is refused, and what a policy asks of one.
+-- What is claimed of decisions: for what one is refused, and what a policy asks of one.
 use Rattle.std.specs.Prelude.{ℕ, ◌≤◌, true, false, List, ◌≡◌}
 use Rattle.policy.specs.Epoch.{Epoch}
 use Rattle.policy.specs.Fault.{refusal}
@@ -22,7 +22,7 @@ use Rattle.image.specs.declared.load.Contents.{Contents}
 use Rattle.image.specs.declared.load.Loaded.{Loaded}
 use Rattle.exactness.specs.Exact.{RefusalOf}
 
--- ---- demand 1
+-- ---- when a decision is refused
 
 -- for what a decision is refused: the image's fault comes first, and nothing else counts
 pub data RefusedFor (image line : List ℕ) (r : Refusal) : Type 0 where
@@ -30,7 +30,7 @@ pub data RefusedFor (image line : List ℕ) (r : Refusal) : Type 0 where
   the_line : (contents : Contents) → load image ≡ Loaded.Image contents → (fault : Fault) → read_epoch line ≡ refused fault → r ≡ refusal fault 0
       → RefusedFor image line r
 
--- the same in either mode: in the second also where no reduction of the epoch is free of conflict (document 02, L7)
+-- the same in either mode: in the second also where no reduction of the epoch is free of conflict
 pub data RefusedIn (mode : Mode) (image line : List ℕ) (r : Refusal) : Type 0 where
   as_first : RefusedFor image line r → RefusedIn mode image line r
   for_conflict : mode ≡ Mode.Events → (contents : Contents) → load image ≡ Loaded.Image contents → (e : Epoch) → read_epoch line ≡ accepted e
@@ -57,7 +57,7 @@ pub record CheckFailed (a : Answer) : Type 0 where
   pub accepts : a.accepted ≡ no_actions
   pub cancels : a.cancelled ≡ no_actions
 
--- ---- demand 2
+-- ---- what the first mode decides, that of action cancellation
 
 -- what a policy yields on an epoch
 abbrev pub yield_of : Policy → Epoch → Answer
@@ -80,18 +80,18 @@ pub record Obeys (p : Policy) (e : Epoch) (a : Answer) : Type 0 where
   -- where nothing clashes, nothing is cancelled
   pub conservative : Satisfies p.constraints e.readings (proposed p.rules e) → a.cancelled ≡ no_actions
 
--- ---- document 02, L4
+-- ---- how many trials there are
 
 -- the actions that were proposed, of which each was tried once
 abbrev pub decided_actions : Answer → ActionSet
 decided_actions a = union_actions a.accepted a.cancelled
 
--- ---- document 02, L7: the second mode
+-- ---- what the second mode decides, that of event cancellation
 
 -- what a policy asks of an answer to an epoch of which these events are kept
 pub record ObeysEvents (p : Policy) (e : Epoch) (kept : EventSet) (a : Answer) : Type 0 where
   pub issued : a.is_refused ≡ false
-  -- "The kept events are a maximal conflict-free reduction of the epoch."
+  -- the kept events are a maximal reduction of the epoch that is free of conflict
   pub maximal : MaximalReduction p.constraints (proposed_with p.rules) e kept
   -- what they propose is accepted
   pub accepts : a.accepted ≡ proposed_with p.rules e kept

@@ -1,5 +1,5 @@
--- Document 01, "Bench examples", those with a star, and examples of document 02's requests, as rows of one table: a text and epoch
--- lines, with their modes, and the answers, or a text with the words of its image.
+-- Worked examples as rows of one table: a text and epoch lines, with their modes, and the answers, or a text with the words of its
+-- image.
 use Rattle.std.specs.Prelude.{ℕ, true, List, [], ◌∷◌, map}
 use Prim.Native.String.{String}
 use Rattle.std.proofs.Math.Option
@@ -26,7 +26,7 @@ by_events line = record { mode = Mode.Events; line = line }
 pub data Example : Type 0 where
   answers : String → List String → Option (List Answer) → Example
   words : String → Option (List ℕ) → Example
-  -- each line in its own mode (document 02, L7)
+  -- each line in its own mode
   told : String → List Told → Option (List Answer) → Example
 
 abbrev decided : List ℕ → List ℕ → Answer
@@ -45,7 +45,7 @@ patterns =
 
 unfoldable pub examples : List Example
 examples =
-    -- the five epochs
+    -- five epochs of one text, the last of them refused
     answers worked ("E1 E3 R0=41" ∷ "E1 E3 R0=40" ∷ "E1 E2 E3 R0=41" ∷ "" ∷ "E64" ∷ [])
     (some (decided (3 ∷ []) (4 ∷ []) ∷ decided (4 ∷ []) [] ∷ decided (4 ∷ []) [] ∷ decided [] [] ∷ refused_under 13 ∷ []))
     -- the empty text: 01000000, FF000000
@@ -64,7 +64,7 @@ examples =
     -- the worked image, 01007003 to B9FF0FC9
     ∷ words worked
     (some (16805891 ∷ 272629764 ∷ 545259523 ∷ 805339137 ∷ 40 ∷ 1354760192 ∷ 281018369 ∷ 1358954496 ∷ 1623195650 ∷ 1627389953 ∷ 1879048192 ∷ 3120500681 ∷ []))
-    -- L2: the customer's never line with R4 under, at and over its limit, and missing
+    -- a never line with R4 under, at and over its limit, and missing
     ∷ answers "E1 causes A7\nnever A7 if R4 > 90\n" ("E1 R4=89" ∷ "E1 R4=90" ∷ "E1 R4=91" ∷ "E1" ∷ "" ∷ [])
     (some (decided (7 ∷ []) [] ∷ decided (7 ∷ []) [] ∷ decided [] (7 ∷ []) ∷ decided [] (7 ∷ []) ∷ decided [] [] ∷ []))
     -- in a rule no comparison with a missing reading holds; a given 0 is not missing
@@ -74,17 +74,18 @@ examples =
     ∷ answers "E1 causes A1\nE1 causes A2\nE1 causes A3\nE1 causes A4\nnever A1 if R4 != 5\nnever A2 if R4 = R4\nnever A3 if R0 < R4\nnever A4 if R4 > 90 , R0 > 5\n"
     ("E1 R0=5" ∷ "E1 R0=6" ∷ "E1 R0=5 R4=5" ∷ [])
     (some (decided (4 ∷ []) (1 ∷ 2 ∷ 3 ∷ []) ∷ decided [] (1 ∷ 2 ∷ 3 ∷ 4 ∷ []) ∷ decided (1 ∷ 3 ∷ 4 ∷ []) (2 ∷ []) ∷ []))
-    -- L5: patterns stand in the image as they are, and so do the numbers that the writer prints for them
+    -- patterns in hexadecimal stand in the image as they are, and so do the numbers that the writer prints for them
     ∷ words "E1 causes A1 if R0 = 0x8040 , R1 = 0xFFFFFFFF , R2 = 0x80000000 , R3 = 0x7fffffff\n" (some patterns)
     ∷ words "E1 causes A1 if R0 = 32832 , R1 = -1 , R2 = -2147483648 , R3 = 2147483647\n" (some patterns)
     -- a status word, in either form in the text and in the epoch; `0X`, nine digits, and both
     ∷ answers "E1 causes A1 if R0 = 0x8040\nE1 causes A2 if R0 = 32832\nE1 causes A3 if R0 < 0xFFFFFFFF\nnever A1 & A2 if R1 != 0x0\n"
     ("E1 R0=0x8040 R1=0" ∷ "E1 R0=32832 R1=0x00000001" ∷ "E1 R0=0x80000000" ∷ "E1 R0=0X8040" ∷ "E1 R0=0x000008040" ∷ "R0=0x000008040 R1=0x" ∷ [])
     (some (decided (1 ∷ 2 ∷ []) [] ∷ decided (1 ∷ []) (2 ∷ []) ∷ decided (3 ∷ []) [] ∷ refused_under 12 ∷ refused_under 13 ∷ refused_under 12 ∷ []))
-    -- L7: the five epochs in the second mode
+    -- the five epochs in the second mode
     ∷ told worked (by_events "E1 E3 R0=41" ∷ by_events "E1 E3 R0=40" ∷ by_events "E1 E2 E3 R0=41" ∷ by_events "" ∷ by_events "E64" ∷ [])
     (some (decided (3 ∷ []) (4 ∷ []) ∷ decided (4 ∷ []) [] ∷ decided (4 ∷ []) [] ∷ decided [] [] ∷ refused_under 13 ∷ []))
-    -- Example 2 of source document 000: E0 a defective product, E1 an order; A0 stop, A1 mail, A2 charge. By events the order is dropped whole
+    -- Example 2 of Chomicki, Lobo and Naqvi, "Conflict Resolution Using Logic Programming" (TKDE 2003): E0 a defective product, E1 an
+    -- order; A0 stop, A1 mail, A2 charge. By events the order is dropped whole
     ∷ told "E0 causes A0\nE1 causes A1\nE1 causes A2\nnever A0 & A1\n" (by_actions "E0 E1" ∷ by_events "E0 E1" ∷ by_events "E1" ∷ [])
     (some (decided (0 ∷ 2 ∷ []) (1 ∷ []) ∷ decided (0 ∷ []) (1 ∷ 2 ∷ []) ∷ decided (1 ∷ 2 ∷ []) [] ∷ []))
     -- E2, a service call, is charged all the same

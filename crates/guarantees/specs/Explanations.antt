@@ -1,4 +1,4 @@
--- Document 02, L6: what is claimed of explanations: when there is one, what it says became of an action, which line it shows, and that
+-- What is claimed of explanations: when there is one, what it says became of an action, which line it shows, and that
 -- what it shows stands in the text.
 use Rattle.std.specs.Prelude.{ℕ, ◌+◌, ◌<◌, ◌≤◌, true, false, ◌↔◌, ◌≡◌, length, List, [], ◌∷◌, ◌++◌}
 use mathlib.Core.List.{Memᴰ}
@@ -93,7 +93,7 @@ pub record Unspaced (part : List ℕ) : Type 0 where
   pub first : (b : ℕ) (rest : List ℕ) → part ≡ b ∷ rest → ¬ (b ≡ 32)
   pub last : (rest : List ℕ) (b : ℕ) → part ≡ rest ++ b ∷ [] → ¬ (b ≡ 32)
 
--- "trimmed of spaces at both ends"
+-- trimmed of spaces at both ends
 pub record Trimmed (line part : List ℕ) : Type 0 where
   pub ahead : List ℕ
   pub behind : List ℕ
@@ -102,7 +102,7 @@ pub record Trimmed (line part : List ℕ) : Type 0 where
   pub spaces_behind : Spaces behind
   pub unspaced : Unspaced part
 
--- "straight out of the text it came from": from its first byte on it is that part of the text, not empty and within a line
+-- straight out of the text that it stands in: from its first byte on it is that part of the text, not empty and within a line
 pub record Straight (text : List ℕ) (shown : Shown) (part : List ℕ) : Type 0 where
   pub before : List ℕ
   pub behind : List ℕ

@@ -1,5 +1,5 @@
--- Document 01, "What demand 3 compares", and document 02, L7: the reference machine (document 01: the plain machine). It sees a rule
--- text and epoch lines, each with its mode, and no image.
+-- The reference machine. It sees a rule text and epoch lines, each with its mode, and no image. For each line it answers the line's
+-- fault, or what the text's rules and never lines yield on it (docs/REFERENCE.md, "What an epoch yields").
 use Rattle.std.specs.Prelude.{ℕ, cond, List, map}
 use Rattle.std.proofs.Math.Option
 use Rattle.std.proofs.Math.Option.{Option}
@@ -23,11 +23,11 @@ unfoldable pub answer : Mode → Policy → EpochAnswer → Answer
 answer mode p (refused f) = refuses (refusal f 0)
 answer mode p (accepted e) = yield_in mode p e
 
--- "Its step for an epoch line"
+-- its step for an epoch line
 unfoldable pub step_in : Mode → Policy → List ℕ → Answer
 step_in mode p line = answer mode p (read_epoch line)
 
--- "It keeps nothing from one line to the next."
+-- it keeps nothing from one line to the next
 module _ (p : Policy) where
   -- in the first mode
   abbrev pub step : List ℕ → Answer
@@ -45,7 +45,7 @@ pub record ToldLine : Type 0 where
 unfoldable pub steps_told : Policy → List ToldLine → List Answer
 steps_told p lines = map (λ (x : ToldLine). step_in x.mode p x.line) lines
 
--- "From the text it has the rules and the never lines"; there are none where the text is refused
+-- from the text it has the rules and the never lines; there are none where the text is refused
 unfoldable pub machine_of : Option Policy → List (List ℕ) → Option (List Answer)
 machine_of known lines = Option.map (λ (p : Policy). steps p lines) known
 
@@ -58,7 +58,7 @@ machine text lines = machine_of (policy_of text) lines
 abbrev pub machine_told : List ℕ → List ToldLine → Option (List Answer)
 machine_told text lines = machine_told_of (policy_of text) lines
 
--- document 02, L6: the same from the maker's and the site's text
+-- the same from the maker's and the site's text
 abbrev pub machine_of_texts : List ℕ → List ℕ → List (List ℕ) → Option (List Answer)
 machine_of_texts maker site lines = machine_of (policy_of_texts maker site) lines
 

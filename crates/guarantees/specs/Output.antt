@@ -14,7 +14,7 @@ use Rattle.session.specs.Printed.{Session, text_only, with_epochs, split_at_run,
 use Rattle.pdl.specs.Answer.{Answer}
 use Rattle.guarantees.specs.Machine.{step_in}
 
--- "A refused epoch shows its number only."
+-- of a refused epoch the line shows its fault's number and no sets
 unfoldable pub answer_line : ℕ → Answer → ℕ → List ℕ
 answer_line n a words =
     cond a.is_refused (decimal n ++ bytes " refused " ++ decimal a.number ++ words_field words) (accept_line n a.accepted a.cancelled words)
@@ -35,6 +35,6 @@ module _ (words : Mode → Policy → List ℕ → ℕ) where
   unfoldable pub machine_prints : List ℕ → List ℕ
   machine_prints input = let s : Session = split_at_run (lines_of input) in machine_lines (read_text (text_part input s)) s
 
--- the words that the decision on a policy's image fetches (document 02, L4)
+-- the words that the decision on a policy's image fetches
 unfoldable pub fetched : Mode → Policy → List ℕ → ℕ
 fetched mode p line = visited_in (decision_in mode (image_of newest_form p) line)

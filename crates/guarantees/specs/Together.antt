@@ -1,18 +1,29 @@
--- What the function that compiles and decides answers, against the reference machine.
-use Rattle.std.specs.Prelude.{ℕ, List}
-use Rattle.std.proofs.Math.Option.{Option, none, some, map}
+-- What the function that compiles and decides leaves, against the reference machine.
+use Rattle.std.specs.Prelude.{ℕ, List, [], ◌∷◌, ◌≡◌, map, take, length, min}
 use Rattle.policy.specs.Policy.{Policy}
-use Rattle.policy.specs.declared.mode.Mode.{Mode}
-use Rattle.pdl.specs.Answer.{Answer}
-use Rattle.rule_text.specs.Text.{policy_of_texts}
-use Rattle.monitor.specs.Decision.{answer_of}
-use Rattle.guarantees.specs.Machine.{step_in}
-use Rattle.guarantees.specs.declared.Outcome.{Outcome}
+use Rattle.rule_text.specs.Text.{reading, read_texts}
+use Rattle.layout.specs.Layout.{image_of}
+use Rattle.codegen.specs.Compile.{newest_form}
+use Rattle.monitor.specs.Decision.{decision_in, answer_of}
+use Rattle.monitor.specs.declared.decision.Decision.{Decision}
+use Rattle.guarantees.specs.Machine.{ToldLine, steps_told}
+use Rattle.guarantees.specs.declared.Told.{Told}
 
-abbrev pub answer_in : Outcome → Option Answer
-answer_in (Outcome.TextRefused r) = none
-answer_in (Outcome.Decided d) = some (answer_of d)
+-- the lines that are lent, each with its mode
+unfoldable pub told : List Told → List ToldLine
+told lines = map (λ (x : Told). record { mode = x.mode; line = x.line.now }) lines
 
--- the machine's answer to one line in its mode; there is none where a text is refused
-abbrev pub machine_answer : List ℕ → List ℕ → List ℕ → Mode → Option Answer
-machine_answer maker site line mode = map (λ (p : Policy). step_in mode p line) (policy_of_texts maker site)
+-- the decisions after the lines were decided on an image, one after another, as many as there is room for
+unfoldable pub decided_lines : List ℕ → List Told → List Decision → List Decision
+decided_lines image [] ds = ds
+decided_lines image (x ∷ lines) [] = []
+decided_lines image (x ∷ lines) (d ∷ ds) = decision_in x.mode image x.line.now ∷ decided_lines image lines ds
+
+-- two texts were accepted, and each line for which there was room was decided on the image of their policy: as the reference
+-- machine answers it, which sees the policy and no image
+pub record DecidedBy (maker site : List ℕ) (lines : List Told) (old new : List Decision) : Type 0 where
+  pub count : ℕ
+  pub policy : Policy
+  pub read : read_texts maker site ≡ reading count policy
+  pub decided : new ≡ decided_lines (image_of newest_form policy) lines old
+  pub agreed : map answer_of (take (min (length lines) (length old)) new) ≡ steps_told policy (take (length old) (told lines))

@@ -16,6 +16,7 @@ ghost use Rattle.policy.specs.Epoch.{Epoch};
 ghost use Rattle.policy.specs.Policy.{Policy};
 ghost use Rattle.epoch_line.specs.Epoch.{accepted, read_epoch};
 ghost use Rattle.rule_text.specs.Text.{policy_of_texts};
+ghost use Rattle.pdl.specs.Answer.{Answer};
 ghost use Rattle.pdl.specs.Pdl.{Reducible};
 ghost use Rattle.pdl.specs.Reduction.{kept_events, proposed_with};
 ghost use Rattle.policy.specs.declared.fault.Fault.{Fault};
@@ -28,71 +29,64 @@ ghost use Rattle.image.specs.Load.{load};
 /// decisions on those bytes is that of the reference machine, which sees the text and no image.
 pub fn decisions_agree()
     ensures { (text image : List ℕ) → CompilesTo text image → (lines : List ToldLine) → some (answers_told image lines) ≡ machine_told text lines }
-{
-}
+{}
 
 /// The same for the maker's and the site's text as one.
 pub fn texts_decisions_agree()
     ensures { (maker site image : List ℕ) → TextsCompileTo maker site image → (lines : List ToldLine) → some (answers_told image lines) ≡ machine_of_texts_told maker site lines }
-{
-}
+{}
 
 /// Whichever one word of a compiled image is changed, to whatever other value, the decision on every line is refused by a check of the image.
 pub fn change_refused()
     ensures { (text image : List ℕ) → CompilesTo text image → (i v : ℕ) → i < length (words_of image) → v < word_limit → ¬ (v ≡ word_at image i) → (mode : Mode) (line : List ℕ) → CheckFailed (answer_of (decision_in mode (changed image i v) line)) }
-{
-}
+{}
 
 /// The same for the image of two texts.
 pub fn texts_change_refused()
     ensures { (maker site image : List ℕ) → TextsCompileTo maker site image → (i v : ℕ) → i < length (words_of image) → v < word_limit → ¬ (v ≡ word_at image i) → (mode : Mode) (line : List ℕ) → CheckFailed (answer_of (decision_in mode (changed image i v) line)) }
-{
-}
+{}
 
 /// A decision is refused exactly for a fault of the image, then of the line, and then, by events, where no reduction of the epoch is free of conflict.
 pub fn refused_exactly()
     ensures { (mode : Mode) (image line : List ℕ) → Bytes image → (r : Refusal) → (decision_in mode image line ≡ Decision.Refused r) ↔ RefusedIn mode image line r }
-{
-}
+{}
 
 /// A refused decision has empty sets.
 pub fn refused_empty()
     ensures { (mode : Mode) (image line : List ℕ) → (answer_of (decision_in mode image line)).is_refused ≡ true → ((answer_of (decision_in mode image line)).accepted ≡ no_actions) × ((answer_of (decision_in mode image line)).cancelled ≡ no_actions) }
-{
-}
+{}
 
 /// On the image of a text, the decision by actions on an accepted line is a maximal action cancellation of what the text's rules propose, lower numbers kept first.
 pub fn decision_obeys()
     ensures { (maker site image : List ℕ) → TextsCompileTo maker site image → (p : Policy) → policy_of_texts maker site ≡ some p → (line : List ℕ) (e : Epoch) → read_epoch line ≡ accepted e → Obeys p e (answer_of (decision image line)) }
-{
-}
+{}
+
+/// What a policy asks of a decision by actions is met by one accepted and one cancelled set alone.
+pub fn answer_determined()
+    ensures { (p : Policy) (e : Epoch) (a b : Answer) → Obeys p e a → Obeys p e b → (a.accepted ≡ b.accepted) × (a.cancelled ≡ b.cancelled) }
+{}
 
 /// By events: where some reduction of the epoch is free of conflict, the kept events are a maximal one and what they propose is issued.
 pub fn events_decision_obeys()
     ensures { (maker site image : List ℕ) → TextsCompileTo maker site image → (p : Policy) → policy_of_texts maker site ≡ some p → (line : List ℕ) (e : Epoch) → read_epoch line ≡ accepted e → Reducible p.constraints (proposed_with p.rules) e → ObeysEvents p e (kept_events p e) (answer_of (decision_in Mode.Events image line)) }
-{
-}
+{}
 
 /// By events: the epoch is refused exactly where no reduction of it is free of conflict.
 pub fn events_conflict_refused()
     ensures { (maker site image : List ℕ) → TextsCompileTo maker site image → (p : Policy) → policy_of_texts maker site ≡ some p → (line : List ℕ) (e : Epoch) → read_epoch line ≡ accepted e → (decision_in Mode.Events image line ≡ Decision.Refused (refusal Fault.Unavoidable 0)) ↔ ¬ Reducible p.constraints (proposed_with p.rules) e }
-{
-}
+{}
 
 /// A decision by actions fetches at most P + 64 x N words, P and N the words of the rules and of the constraints.
 pub fn words_bounded()
     ensures { (image : List ℕ) → Bytes image → (contents : Contents) → load image ≡ Loaded.Image contents → (line : List ℕ) → visited_in (decision image line) ≤ contents.rule_words + 64 * contents.constraint_words }
-{
-}
+{}
 
 /// A decision by events fetches at most 65 x (P + N) words.
 pub fn events_words_bounded()
     ensures { (image : List ℕ) → Bytes image → (contents : Contents) → load image ≡ Loaded.Image contents → (line : List ℕ) → visited_in (decision_in Mode.Events image line) ≤ 65 * (contents.rule_words + contents.constraint_words) }
-{
-}
+{}
 
 /// A refused decision reports 0 words.
 pub fn refused_fetches_none()
     ensures { (mode : Mode) (image line : List ℕ) → (answer_of (decision_in mode image line)).is_refused ≡ true → visited_in (decision_in mode image line) ≡ 0 }
-{
-}
+{}

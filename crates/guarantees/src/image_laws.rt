@@ -19,41 +19,34 @@ ghost use Rattle.printer.specs.Printed.{text_of};
 /// The loader takes exactly the images that some accepted text compiles to.
 pub fn taken_exactly()
     ensures { (bytes : List ℕ) → Bytes bytes → ((contents : Contents) × (load bytes ≡ Loaded.Image contents)) ↔ SomeText bytes }
-{
-}
+{}
 
 /// Fault 11 is given exactly where the checks before it pass and no accepted text compiles to the bytes.
 pub fn body_exactly()
     ensures { (bytes : List ℕ) → Bytes bytes → ((location : ℕ) × (load bytes ≡ Loaded.Refused (refusal Fault.ImageBody location))) ↔ (Checked bytes × ¬ SomeText bytes) }
-{
-}
+{}
 
 /// A compilation that answers a size has written just the image of the text's policy; loading it yields that policy, and compiling that yields the bytes again.
 pub fn image_written()
     ensures { (text buffer : List ℕ) (size : ℕ) → (compiled text buffer).answer ≡ Compiled.Image size → Written text buffer size }
-{
-}
+{}
 
 /// Two texts give the same image exactly if they have the same rules in the same order and the same constraints in theirs.
 pub fn same_images()
     ensures { (s t out out' : List ℕ) (m n : ℕ) → (compiled s out).answer ≡ Compiled.Image m → (compiled t out').answer ≡ Compiled.Image n → (written_in m s out ≡ written_in n t out') ↔ (policy_of s ≡ policy_of t) }
-{
-}
+{}
 
 /// Compiling the text of what was loaded yields the bytes that were loaded.
 pub fn loaded_compiles()
     ensures { (bytes : List ℕ) → Bytes bytes → (contents : Contents) → load bytes ≡ Loaded.Image contents → CompilesTo (text_of (policy_in bytes)) bytes }
-{
-}
+{}
 
 /// Compiling the text that was written from an image yields the image, byte for byte, in any buffer that has room.
 pub fn text_recompiles()
     ensures { (image text : List ℕ) → Bytes image → DecompilesTo image text → (buffer : List ℕ) → length image ≤ length buffer → ((compiled text buffer).answer ≡ Compiled.Image (length image)) × ((compiled text buffer).buffer ≡ image ++ drop (length image) buffer) }
-{
-}
+{}
 
 /// Two texts are written back as the same text exactly if they have the same rules in the same order and the same constraints in theirs.
 pub fn same_texts()
     ensures { (s t i j u v : List ℕ) → CompilesTo s i → CompilesTo t j → DecompilesTo i u → DecompilesTo j v → (u ≡ v) ↔ (policy_of s ≡ policy_of t) }
-{
-}
+{}

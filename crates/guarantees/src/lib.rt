@@ -7,30 +7,52 @@
 pub mod decision_laws;
 pub mod image_laws;
 pub mod policy_laws;
+pub mod reading_laws;
 
-ghost use Rattle.std.specs.Prelude.{◌≡◌};
-ghost use Rattle.guarantees.specs.Together.{answer_in, machine_answer};
+ghost use Rattle.std.specs.Prelude.{◌≡◌, IfOk, IfErr};
+ghost use Rattle.rule_text.specs.Text.{read_texts, stopped};
+ghost use Rattle.guarantees.specs.Together.{decided_lines, DecidedBy};
 
 use codegen::Compiled;
 use image::IMAGE_SIZE;
-use monitor::Decision;
+use monitor::{Decision, decide};
 use policy::{Mode, Refusal};
 
+/// An epoch line, without its line end, and the mode in which it is decided.
 #[derive(Clone, Copy)]
-pub enum Outcome {
-    TextRefused(Refusal),
-    Decided(Decision),
+pub struct Told<'a> {
+    pub mode: Mode,
+    pub line: &'a [u8],
 }
 
-/// Compiles two texts and decides an epoch line on the bytes that were written: what the reference machine answers, which sees the
-/// texts, the line and its mode alone. A single text has an empty site's text beside it.
-pub fn compile_and_decide(maker: &[u8], site: &[u8], line: &[u8], mode: Mode) -> Outcome
-    ensures { answer_in result ≡ machine_answer maker.now site.now line.now mode }
+/// Decides the lines on an image, one after another, as many as there is room for.
+#[tactic(auto, using(crate::proofs::LineLaws::one_more, crate::proofs::LineLaws::all_done), unfolding(crate::specs::Together::decided_lines))]
+pub fn decide_lines(image: &[u8], lines: &[Told], decisions: &mut [Decision])
+    ensures { decisions.new ≡ decided_lines image.now lines.now decisions.old }
+{
+    for i in 0..lines.len().min(decisions.len()) {
+        decisions[i] = decide(image, lines[i].line, lines[i].mode);
+    }
+}
+
+/// Compiles two texts and decides the lines on the bytes that were written: as the reference machine does, which sees the texts, the lines
+/// and their modes alone. A single text has an empty site's text beside it. Refused texts decide nothing.
+pub fn compile_and_decide(
+    maker: &[u8],
+    site: &[u8],
+    lines: &[Told],
+    decisions: &mut [Decision],
+) -> Result<(), Refusal>
+    ensures ok { IfOk result (λ u. DecidedBy maker.now site.now lines.now decisions.old decisions.new) }
+    ensures err { IfErr result (λ refusal. (read_texts maker.now site.now ≡ stopped refusal) × (decisions.new ≡ decisions.old)) }
 {
     let mut image = [0u8; IMAGE_SIZE];
     let compiled = codegen::compile_texts(maker, site, &mut image);
     match compiled {
-        Compiled::Refused(refusal) => Outcome::TextRefused(refusal),
-        Compiled::Image(size) => Outcome::Decided(monitor::decide(&image[..size], line, mode)),
+        Compiled::Refused(refusal) => Err(refusal),
+        Compiled::Image(size) => {
+            decide_lines(&image[..size], lines, decisions);
+            Ok(())
+        }
     }
 }

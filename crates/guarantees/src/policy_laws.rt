@@ -2,7 +2,7 @@
 
 ghost use Rattle.std.specs.Prelude.{List, ◌≡◌, true, ◌↔◌, false, map};
 ghost use Rattle.pdl.specs.Yield as Yield;
-ghost use Rattle.pdl.specs.Pdl.{DefinedBy, MaximalActionCancellation, NameActions, Violated, ◌⊆◌, MaximalEventCancellation, Reducible};
+ghost use Rattle.pdl.specs.Pdl.{MaximalActionCancellation, NameActions, Violated, ◌⊆◌, MaximalEventCancellation, Reducible};
 ghost use Rattle.policy.specs.Policy.{Rule, Policy};
 ghost use Rattle.pdl.specs.Yield.{proposed};
 ghost use Rattle.policy.specs.Set.{ActionSet};
@@ -13,50 +13,37 @@ ghost use Rattle.policy.specs.Comparison.{NamesMissing, comparison_holds};
 ghost use Rattle.policy.specs.declared.line.Part.{Part};
 ghost use Rattle.guarantees.specs.Examples.{computed, examples};
 
-/// What a policy proposes on an epoch is what its rules entail there.
-pub fn proposed_defined()
-    ensures { (rules : List Rule) → DefinedBy rules (proposed rules) }
-{
-}
-
 /// What is accepted is a maximal action cancellation of what is proposed.
 pub fn maximal_cancellation()
     ensures { (p : Policy) → NameActions p.constraints → MaximalActionCancellation p.constraints (proposed p.rules) (Yield.accepted p) }
-{
-}
+{}
 
 /// Giving back one or more cancelled actions makes a constraint hold.
 pub fn giving_back_violates()
     ensures { (p : Policy) (e : Epoch) (u : ActionSet) → Yield.accepted p e ⊆ u → u ⊆ proposed p.rules e → ¬ (u ≡ Yield.accepted p e) → Violated p.constraints e.readings u }
-{
-}
+{}
 
 /// What is issued by events is a maximal event cancellation of what is proposed.
 pub fn maximal_event_cancellation()
     ensures { (p : Policy) → MaximalEventCancellation p.constraints (proposed_with p.rules) (issued p) }
-{
-}
+{}
 
 /// An epoch is unavoidable exactly if no reduction of it is free of conflict.
 pub fn unavoidable_exactly()
     ensures { (p : Policy) (e : Epoch) → (unavoidable p e ≡ true) ↔ ¬ Reducible p.constraints (proposed_with p.rules) e }
-{
-}
+{}
 
 /// A comparison that names a missing reading does not hold in a rule.
 pub fn missing_in_rule()
     ensures { (rs : Readings) (c : Comparison) → NamesMissing rs c → comparison_holds Part.Rules rs c ≡ false }
-{
-}
+{}
 
 /// A comparison that names a missing reading holds in a constraint.
 pub fn missing_in_constraint()
     ensures { (rs : Readings) (c : Comparison) → NamesMissing rs c → comparison_holds Part.Constraints rs c ≡ true }
-{
-}
+{}
 
 /// The worked examples: texts, epochs and what the reference machine answers to them.
 pub fn examples_hold()
     ensures { map computed examples ≡ examples }
-{
-}
+{}

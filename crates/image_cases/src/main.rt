@@ -1,12 +1,12 @@
-// Runs the loader on cases from standard input and writes what it answers, one line a case, and how many lines are met going over a
-// taken image from line to line. A case is its size in two bytes, the more significant first, and then its bytes.
+//! Runs the loader on cases from standard input and writes what it answers, one line a case, and how many lines are met going over a
+//! taken image from line to line. A case is its size in two bytes, the more significant first, and then its bytes.
 #![tactic(auto)]
 
 use image::{Contents, Loaded};
 use std::io;
 use std::io::{BufWriter, Read, Write};
 
-// How many lines stand between two words, going from each to the next.
+/// How many lines stand between two words, going from each to the next.
 fn count_lines(image: &[u8], start: usize, end: usize) -> usize {
     let mut count = 0;
     let mut at = start;

@@ -1,5 +1,4 @@
--- The answers of the functions for C, as numbers: the fault's number and location (document 01: ground and place), 0 where
--- nothing is refused.
+-- The answers of the functions for C, as numbers: the fault's number and location, 0 where nothing is refused.
 use Rattle.policy.specs.Fault.{fault_number, source_number}
 use Rattle.codegen.specs.declared.Compiled.{Compiled}
 use Rattle.decompile.specs.declared.Decompiled.{Decompiled}
@@ -13,7 +12,7 @@ unfoldable pub compilation_of : Compiled → Compilation
 compilation_of (Compiled.Refused r) = record { fault = fault_number r.fault; line = r.location; size = 0 }
 compilation_of (Compiled.Image size) = record { fault = 0; line = 0; size = size }
 
--- with the text that the fault is in (document 02, L6)
+-- with the text that the fault is in
 unfoldable pub texts_compilation_of : Compiled → TextsCompilation
 texts_compilation_of (Compiled.Refused r) = record { fault = fault_number r.fault; text = source_number r.source; line = r.location; size = 0 }
 texts_compilation_of (Compiled.Image size) = record { fault = 0; text = 0; line = 0; size = size }

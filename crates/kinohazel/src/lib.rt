@@ -1,6 +1,6 @@
-// The functions for C: compile a text or two, write the text of an image, check an image, decide an epoch. Each answers a struct of
-// numbers. Start with specs/Export.antt; include/kinohazel.h is the C side. A slice is never null, not even an empty one: the functions of
-// the header take null pointers and call these. What a controller has no use for stands in kinohazel_tools.
+//! The functions for C: compile a text or two, write the text of an image, check an image, decide an epoch. Each answers a struct of
+//! numbers. Start with specs/Export.antt; include/kinohazel.h is the C side. A slice is never null, not even an empty one: the functions of
+//! the header take null pointers and call these. What a controller has no use for stands in kinohazel_tools.
 #![tactic(auto)]
 
 ghost use Rattle.std.specs.Prelude.{◌≡◌};
@@ -18,7 +18,7 @@ use export::{EpochDecision, epoch_decision, fault_number};
 use image::Loaded;
 use policy::{Mode, Source};
 
-// The fault's number, or 0; its line; how many bytes were written.
+/// What came of a text: the fault's number, or 0; its line, counted from 1; how many bytes of an image were written.
 #[repr(C)]
 #[derive(Clone, Copy)]
 pub struct Compilation {
@@ -27,7 +27,8 @@ pub struct Compilation {
     pub size: u64,
 }
 
-// The fault's number, or 0; its text and its line; how many bytes were written.
+/// What came of two texts: the fault's number, or 0; its text, 1 the maker's, 2 the site's, 0 neither alone, and its line in that text,
+/// counted from 1; how many bytes of an image were written.
 #[repr(C)]
 #[derive(Clone, Copy)]
 pub struct TextsCompilation {
@@ -37,7 +38,7 @@ pub struct TextsCompilation {
     pub size: u64,
 }
 
-// The fault's number, or 0; the word at fault; how many rules and never lines the image has.
+/// What an image holds: the fault's number, or 0; the word at fault, counted from 0; how many rules and never lines the image has.
 #[repr(C)]
 #[derive(Clone, Copy)]
 pub struct ImageCheck {
@@ -47,7 +48,8 @@ pub struct ImageCheck {
     pub constraints: u64,
 }
 
-// The fault's number, or 0; the word of the image at fault; how many bytes of text were written.
+/// What came of writing the text of an image: the fault's number, or 0; the word at fault, counted from 0; how many bytes of text were
+/// written.
 #[repr(C)]
 #[derive(Clone, Copy)]
 pub struct TextWritten {
@@ -56,6 +58,7 @@ pub struct TextWritten {
     pub size: u64,
 }
 
+/// Writes the image of a text from the start of `out` on. A refusal leaves `out` as it is.
 #[unsafe(no_mangle)]
 pub extern "C" fn kinohazel_compile_nonnull(text: &[u8], out: &mut [u8]) -> Compilation
     ensures answer { result ≡ compilation_of (compiled text.now out.old).answer }
@@ -82,6 +85,7 @@ fn source_number(source: Source) -> u64
     source.number() as u64
 }
 
+/// The same for the maker's and the site's text as one.
 #[unsafe(no_mangle)]
 pub extern "C" fn kinohazel_compile_texts_nonnull(
     maker: &[u8],
@@ -111,6 +115,7 @@ pub extern "C" fn kinohazel_compile_texts_nonnull(
     }
 }
 
+/// Checks an image, and counts its lines.
 #[unsafe(no_mangle)]
 pub extern "C" fn kinohazel_check_nonnull(image: &[u8]) -> ImageCheck
     ensures { result ≡ check_of (load image.now) }
@@ -132,6 +137,7 @@ pub extern "C" fn kinohazel_check_nonnull(image: &[u8]) -> ImageCheck
     }
 }
 
+/// Writes the text of an image from the start of `out` on. A refusal leaves `out` as it is; 27,968 bytes are enough for every text.
 #[unsafe(no_mangle)]
 pub extern "C" fn kinohazel_text_nonnull(image: &[u8], out: &mut [u8]) -> TextWritten
     ensures answer { result ≡ text_written_of (decompiled image.now out.old).answer }
@@ -152,6 +158,7 @@ pub extern "C" fn kinohazel_text_nonnull(image: &[u8], out: &mut [u8]) -> TextWr
     }
 }
 
+/// Decides an epoch line, without its line end, on an image, in the first mode, by action cancellation.
 #[unsafe(no_mangle)]
 pub extern "C" fn kinohazel_decide_nonnull(image: &[u8], line: &[u8]) -> EpochDecision
     ensures { result ≡ decision_of (decision image.now line.now) }

@@ -1,5 +1,4 @@
--- The answer of an explanation, as numbers: the fault's number, its text and its location (document 01: ground and place), 0 where
--- nothing is refused.
+-- The answer of an explanation, as numbers: the fault's number, its text and its location, 0 where nothing is refused.
 use Rattle.std.specs.Prelude.{ℕ}
 use Rattle.policy.specs.Fault.{fault_number, source_number}
 use Rattle.explanation.specs.declared.why.Explained.{Explained}

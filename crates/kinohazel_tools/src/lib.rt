@@ -1,6 +1,6 @@
-// The functions for C that a programming station or a fitter's tool calls and a controller does not: explain an action. They are a
-// library of their own, which can be linked beside that of `kinohazel`: in one library a second caller of the run of an image would keep it
-// from being compiled into the decision, which is called in every scan. Start with specs/Export.antt; include/kinohazel.h is the C side.
+//! The functions for C that a programming station or a fitter's tool calls and a controller does not: explain an action. They are a
+//! library of their own, which can be linked beside that of `kinohazel`: in one library a second caller of the run of an image would keep it
+//! from being compiled into the decision, which is called in every scan. Start with specs/Export.antt; include/kinohazel.h is the C side.
 #![tactic(auto)]
 
 ghost use Rattle.std.specs.Prelude.{◌≡◌};
@@ -12,8 +12,9 @@ ghost use Rattle.kinohazel_tools.specs.Export.{outcome_number, explanation_of};
 use explanation::{Explained, Outcome};
 use policy::Source;
 
-// The fault's number, or 0; its text and its line; what became of the action: 1 not proposed, 2 accepted, 3 cancelled, 0 on a refusal;
-// and where the part stands that says why: in which text, from which byte on, and how many bytes it has.
+/// The fault's number, or 0; its text, 1 the maker's, 2 the site's, 0 neither alone, and its line, counted from 1; what became of the
+/// action: 1 not proposed, 2 accepted, 3 cancelled, 0 on a refusal; and where the part stands that says why: in which text, from which
+/// byte on, counted from 0, and how many bytes it has. These three are 0 where nothing is shown.
 #[repr(C)]
 #[derive(Clone, Copy)]
 pub struct ActionExplanation {
@@ -42,13 +43,15 @@ fn outcome_number(outcome: Outcome) -> u64
     }
 }
 
-// A number that no action has is one over the last.
+/// A number that no action has is one over the last.
 fn action_number(action: u64) -> u32
     ensures { check_action result ≡ check_action action }
 {
     if action < 64 { action as u32 } else { 64 }
 }
 
+/// What became of the action of a number on an epoch line, without its line end, by the maker's and the site's text, and why. What is
+/// decided is decided in the first mode, by action cancellation.
 #[unsafe(no_mangle)]
 pub extern "C" fn kinohazel_explain_nonnull(
     maker: &[u8],

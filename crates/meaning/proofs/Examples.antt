@@ -1,4 +1,4 @@
--- Each row of the table of runs is as document 01 says.
+-- Each row of the table of runs is as it says.
 use Rattle.std.proofs.Common.{map, ◌≡◌, refl}
 use Rattle.policy.specs.Comparison.{comparison_holds, relation_holds, operand_value, eq_z, missing_holds, values_relate}
 use Rattle.policy.specs.Epoch.{reading_value}

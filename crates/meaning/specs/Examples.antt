@@ -1,4 +1,4 @@
--- What the words of document 01's worked example do on its epochs, one row each.
+-- What the words of the worked example of `exactness` do on four epochs, one row each.
 use Rattle.std.specs.Prelude.{ℕ, Bool, true, false, List, [], ◌∷◌, ℤ, pos}
 use Rattle.policy.specs.Epoch.{Epoch}
 use Rattle.policy.specs.Set.{ActionSet, all_events, set_of}

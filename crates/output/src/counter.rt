@@ -1,4 +1,4 @@
-// How many bytes are put.
+//! How many bytes are put.
 ghost use Rattle.output.specs.Sink.{counted};
 
 use crate::sink::Sink;

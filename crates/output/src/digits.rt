@@ -1,4 +1,4 @@
-// Numbers in decimal and in hexadecimal digits.
+//! Numbers in decimal and in hexadecimal digits.
 ghost use Rattle.std.specs.Prelude.{◌≡◌, ◌<◌};
 ghost use Rattle.output.specs.Number.{decimal, hex_digit, hex_word, integer};
 ghost use Rattle.output.specs.Sink.{fed};

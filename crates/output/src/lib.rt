@@ -1,5 +1,5 @@
-// What is printed goes into a sink: a counter of bytes, or a page, which is a lent buffer. Numbers are put here, in decimal and in
-// hexadecimal. Start with specs/Number.antt and specs/Sink.antt.
+//! What is printed goes into a sink: a counter of bytes, or a page, which is a lent buffer. Numbers are put here, in decimal and in
+//! hexadecimal. Start with specs/Number.antt and specs/Sink.antt.
 #![tactic(auto)]
 
 mod counter;

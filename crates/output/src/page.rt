@@ -1,4 +1,4 @@
-// A lent buffer, filled from the front.
+//! A lent buffer, filled from the front.
 ghost use Rattle.output.specs.Sink.{stored};
 
 use crate::sink::Sink;

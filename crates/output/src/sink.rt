@@ -1,4 +1,4 @@
-// Where bytes are put, one piece behind another.
+//! Where bytes are put, one piece behind another.
 ghost use Rattle.std.specs.Prelude.{◌≡◌, ℕ, List, [], ◌++◌};
 ghost use Rattle.output.specs.Sink.{fed, fed-none, fed-join};
 

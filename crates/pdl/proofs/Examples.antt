@@ -1,4 +1,4 @@
--- Each row of the tables of examples is as documents 01 and 02 say.
+-- Each row of the tables of examples is as it says.
 use Rattle.std.proofs.Common.{map, ◌≡◌, refl}
 use Rattle.policy.specs.Comparison.{comparison_holds, relation_holds, operand_value, missing_holds, values_relate}
 use Rattle.policy.specs.Epoch.{reading_value}

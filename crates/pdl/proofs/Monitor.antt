@@ -1,5 +1,5 @@
--- The accepted and the cancelled actions of an epoch: a maximal action cancellation of what the rules propose (source
--- document 000, Definition 11), lower numbers kept first.
+-- The accepted and the cancelled actions of an epoch: a maximal action cancellation of what the rules propose, lower numbers kept
+-- first (Definitions 11.1 to 11.3 of Chomicki, Lobo and Naqvi, "Conflict Resolution Using Logic Programming", TKDE 2003).
 use Rattle.std.proofs.Common.{true, false, not, ◌&&◌, List, [], ◌≡◌, sym, ap, ◌∙◌}
 use mathlib.Core.List.Memᴰ
 use mathlib.Core.List.{Memᴰ}

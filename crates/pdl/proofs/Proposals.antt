@@ -1,4 +1,4 @@
--- The proposed set is what Definition 6 of source document 000 says.
+-- The proposed set is what Definition 6 of Chomicki, Lobo and Naqvi, "Conflict Resolution Using Logic Programming" (TKDE 2003), says.
 use Rattle.std.proofs.Common.{◌<◌, ◌^◌, Bool, true, false, not, ◌&&◌, cond, List, [], ◌∷◌, ◌↔◌, ◌⊎◌, inl, inr, ⊎_elim, ◌≡◌, refl, sym, ap, ◌∙◌, subst, lit<}
 use mathlib.Core.List.{foldl, Memᴰ}
 use Rattle.policy.proofs.ListLaws.{true_false, not_true_is, and_in, and_out, all_in, all_out}

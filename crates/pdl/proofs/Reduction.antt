@@ -1,5 +1,6 @@
--- The events that are kept are a maximal reduction free of conflict (source document 000, Definitions 10 and 11.5), lower numbers kept
--- first; and an epoch has no such reduction exactly where a constraint holds already with no event kept.
+-- The events that are kept are a maximal reduction free of conflict, lower numbers kept first; and an epoch has no such reduction
+-- exactly where a constraint holds already with no event kept. Definitions below are those of Chomicki, Lobo and Naqvi, "Conflict
+-- Resolution Using Logic Programming" (TKDE 2003); a maximal reduction is that of Definition 10.
 use Rattle.std.proofs.Common.{ℕ, Bool, true, false, ◌↔◌, ◌≡◌, refl, sym, ap}
 use Rattle.policy.proofs.ListLaws.{true_false, not_true_is, not_false_is}
 use Rattle.policy.proofs.SetLaws.{has_empty, has_limit}

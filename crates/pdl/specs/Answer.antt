@@ -1,5 +1,5 @@
--- What is told of an epoch line, in document 01's terms: whether it is refused, if it is under which number and at which place, which
--- also says which text (document 02, L6), and both sets.
+-- What is told of an epoch line: whether it is refused, if it is under which number and at which place, which also says which of two
+-- texts, and both sets.
 use Rattle.std.specs.Prelude.{ℕ, Bool, true, false}
 use Rattle.policy.specs.Fault.{fault_number, source_number}
 use Rattle.policy.specs.Set.{ActionSet, no_actions}
@@ -13,7 +13,7 @@ pub record Answer : Type 0 where
   pub accepted : ActionSet
   pub cancelled : ActionSet
 
--- "Sets and returned parts are empty"
+-- both sets are empty
 abbrev pub refuses : Refusal → Answer
 refuses r = record { is_refused = true; number = fault_number r.fault; text = source_number r.source; location = r.location; accepted = no_actions; cancelled = no_actions }
 

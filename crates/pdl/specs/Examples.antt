@@ -1,4 +1,4 @@
--- The examples of document 01 that it marks to be proved and that need no text, and examples of document 02's L7, one row each.
+-- Examples of both modes that need no text, one row each.
 use Rattle.std.specs.Prelude.{ℕ, true, false, ℤ, pos, List, [], ◌∷◌, map}
 use mathlib.Core.List.{foldl}
 use Rattle.policy.specs.Epoch.{Epoch}
@@ -57,7 +57,7 @@ yielded x =
 unfoldable pub expected : Example → Resolved
 expected x = record { accepts = actions_from x.accepted_actions; cancels = actions_from x.cancelled_actions }
 
--- ---- document 02, L7: event cancellation
+-- ---- event cancellation
 
 abbrev whenever : ℕ → ℕ → Rule
 whenever event n = record { literals = record { event = record { 0 = event }; negated = false } ∷ []; action = action n; comparisons = [] }
@@ -79,7 +79,7 @@ orders = whenever 0 0 ∷ whenever 1 1 ∷ whenever 1 2 ∷ []
 
 unfoldable pub reductions : List Reduction
 reductions =
-    -- Example 2 of source document 000: the order is dropped whole
+    -- Example 2 of Chomicki, Lobo and Naqvi, "Conflict Resolution Using Logic Programming" (TKDE 2003): the order is dropped whole
     record { rules = orders; constraints = never (0 ∷ 1 ∷ []) [] ∷ []; events = 0 ∷ 1 ∷ []; kept_numbers = 0 ∷ []; issued_actions = 0 ∷ []; withheld_actions = 1 ∷ 2 ∷ [] }
     -- an order alone
     ∷ record { rules = orders; constraints = never (0 ∷ 1 ∷ []) [] ∷ []; events = 1 ∷ []; kept_numbers = 1 ∷ []; issued_actions = 1 ∷ 2 ∷ []; withheld_actions = [] }

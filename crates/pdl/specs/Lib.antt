@@ -1,5 +1,6 @@
--- What a reader must believe of this layer, in this order: `Greedy` and `Yield` (document 01), `Reduction` (document 02, L7), then
--- `Pdl`, source document 000 in its own terms, and `Answer`, what is told of an epoch. `Examples` are rows of document 01.
+-- What a reader must believe of this layer, in this order: `Greedy` and `Yield`, the first mode; `Reduction`, the second; then `Pdl`,
+-- the definitions of Chomicki, Lobo and Naqvi in their own terms; and `Answer`, what is told of an epoch. `Examples` are tables of
+-- both modes.
 pub mod Greedy
 pub mod Yield
 pub mod Reduction

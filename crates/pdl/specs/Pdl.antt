@@ -1,4 +1,5 @@
--- Definitions 5 to 11 of source document 000, in its own terms, for ground rules and an epoch that carries readings.
+-- Definitions 4 to 11 of Chomicki, Lobo and Naqvi, "Conflict Resolution Using Logic Programming" (TKDE 2003), in its own terms, for
+-- ground rules and an epoch that carries readings. Definitions and sections below are the paper's.
 use Rattle.std.specs.Prelude.{Bool, true, false, ◌↔◌, ◌≡◌, ◌<◌, List, [], ◌∷◌}
 use mathlib.Core.List.{Memᴰ}
 use Rattle.policy.specs.Comparison.{comparison_holds}

@@ -1,4 +1,4 @@
--- Document 02, L7: event cancellation. Events of an epoch are dropped, with all that they cause: which are kept, and which actions
+-- Event cancellation, the second mode: events of an epoch are dropped, with all that they cause. Which are kept, and which actions
 -- are then issued and cancelled.
 use Rattle.std.specs.Prelude.{ℕ, Bool, List}
 use Rattle.policy.specs.Epoch.{Epoch}
@@ -7,7 +7,7 @@ use Rattle.policy.specs.Set.{ActionSet, EventSet, keeping, no_events, actions_wi
 use Rattle.pdl.specs.Greedy.{greedy}
 use Rattle.pdl.specs.Yield.{proposals, proposed, conflict}
 
--- what the rules propose where these of the epoch's events are kept: "absence is taken from the full epoch"
+-- what the rules propose where these of the epoch's events are kept: absence is taken from the full epoch
 abbrev pub proposed_with : List Rule → Epoch → EventSet → ActionSet
 proposed_with rules e kept = proposals rules (keeping e.events kept) e.readings
 
@@ -16,15 +16,15 @@ module _ (p : Policy) (e : Epoch) where
   unfoldable pub clashes : EventSet → Bool
   clashes kept = conflict p.constraints e.readings (proposed_with p.rules e kept)
 
-  -- "try events by rising number, keeping each unless the actions then proposed make a never line hold"
+  -- events are tried by rising number, and each is kept unless the actions then proposed make a constraint hold
   unfoldable pub kept_events : EventSet
   kept_events = set_of (greedy (λ (kept : ℕ). clashes (set_of kept)) e.events.bits)
 
-  -- "issue what the kept events propose"
+  -- what the kept events propose
   unfoldable pub issued : ActionSet
   issued = proposed_with p.rules e kept_events
 
-  -- "Cancelled is what the full epoch proposes and isn't issued."
+  -- the cancelled actions: what the full epoch proposes and is not issued
   unfoldable pub withheld : ActionSet
   withheld = actions_without (proposed p.rules e) issued
 

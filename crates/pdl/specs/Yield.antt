@@ -1,5 +1,5 @@
--- Document 01, "What an epoch yields": when a literal, a rule and a constraint hold, and which actions of an epoch are
--- proposed, accepted and cancelled.
+-- What an epoch yields (docs/REFERENCE.md, "What an epoch yields"): when a literal, a rule and a constraint hold, and which actions
+-- of an epoch are proposed, accepted and cancelled.
 use Rattle.std.specs.Prelude.{ℕ, Bool, not, ◌&&◌, cond, List}
 use mathlib.Core.List.{foldl}
 use Rattle.policy.specs.Comparison.{comparison_holds}

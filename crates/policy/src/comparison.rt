@@ -15,6 +15,7 @@ pub struct Literal {
     pub negated: bool,
 }
 
+/// `=`, `!=`, `<`, `<=`, `>` or `>=`.
 #[derive(Clone, Copy)]
 pub enum Relation {
     Equal,
@@ -32,6 +33,7 @@ pub enum Operand {
     Reading(Reading),
 }
 
+/// `R0 > 40`, or `R1 <= R2`.
 #[derive(Clone, Copy)]
 pub struct Comparison {
     pub reading: Reading,
@@ -40,6 +42,7 @@ pub struct Comparison {
 }
 
 impl Relation {
+    /// Whether `left` stands in the relation to `right`. Numbers have a sign.
     #[tactic(auto, unfolding(crate::specs::Comparison::relation_holds), using(crate::proofs::RelationLaws::equal_bits))]
     pub fn holds(self, left: i32, right: i32) -> bool
         ensures { result ≡ relation_holds self left right }

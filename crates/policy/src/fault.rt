@@ -3,6 +3,7 @@
 ghost use Rattle.std.specs.Prelude.{◌≡◌};
 ghost use Rattle.policy.specs.Fault.{fault_number, source_number, refusal, within};
 
+/// What is wrong. The numbers are those that users are told; 16 is none.
 #[derive(Clone, Copy)]
 pub enum Fault {
     /// A rule text or an epoch line is over its length.
@@ -40,6 +41,7 @@ pub enum Fault {
 }
 
 impl Fault {
+    /// The number that users are told.
     pub fn number(self) -> u8
         ensures { result ≡ fault_number self }
     {
@@ -68,6 +70,7 @@ pub enum Source {
 }
 
 impl Source {
+    /// The number of the text that users are told.
     pub fn number(self) -> u8
         ensures { result ≡ source_number self }
     {

@@ -31,12 +31,14 @@ pub enum Test {
     Member(Action),
 }
 
+/// What makes a line a rule or a constraint: the action that it causes, or `never`.
 #[derive(Clone, Copy)]
 pub enum Ending {
     Causes(Action),
     Never,
 }
 
+/// One of up to eight tests of a line.
 #[derive(Clone, Copy)]
 pub struct Head(pub Test);
 

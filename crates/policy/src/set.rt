@@ -35,13 +35,17 @@ pub struct Set<T> {
     pub of: PhantomData<T>,
 }
 
+/// Some of E0 to E63.
 pub type EventSet = Set<Event>;
 
+/// Some of A0 to A63.
 pub type ActionSet = Set<Action>;
 
+/// Some of R0 to R15.
 pub type ReadingSet = Set<Reading>;
 
 impl EventSet {
+    /// No events.
     pub const EMPTY: EventSet = Set {
         bits: 0,
         of: PhantomData,
@@ -66,6 +70,7 @@ impl EventSet {
 }
 
 impl ActionSet {
+    /// No actions.
     pub const EMPTY: ActionSet = Set {
         bits: 0,
         of: PhantomData,
@@ -73,6 +78,7 @@ impl ActionSet {
 }
 
 impl ReadingSet {
+    /// No readings: all are missing.
     pub const EMPTY: ReadingSet = Set {
         bits: 0,
         of: PhantomData,
@@ -92,12 +98,14 @@ impl<T> Set<T> {
 }
 
 impl<T: Numbered> Set<T> {
+    /// Whether it is a member.
     pub fn has(self, x: T) -> bool
         ensures { result ≡ has self.bits (T.number x) }
     {
         member(self.bits, x.number())
     }
 
+    /// The set with it. A number past 63 is not taken in.
     pub fn insert(self, x: T) -> Self
         ensures { result ≡ set_of (insert self.bits (T.number x)) }
     {

@@ -1,4 +1,4 @@
--- The rule text written from a policy (docs/REFERENCE.md, section 2), in one form of its own. The rules come first, then the
+-- The rule text written from a policy (docs/REFERENCE.md, "The rule text"), in one form of its own. The rules come first, then the
 -- constraints, one space stands between tokens, and every line is ended.
 use Prim.Native.Char.{code}
 use Rattle.std.specs.Prelude.{ℕ, suc, cond, List, [], ◌∷◌, ◌++◌, map, ℤ, pos, negsuc}

@@ -1,4 +1,4 @@
-// The text of a line.
+//! The text of a line.
 ghost use Rattle.std.specs.Prelude.{◌≡◌, [], take};
 ghost use Rattle.lexer.specs.Byte.{bytes};
 ghost use Rattle.output.specs.Sink.{fed};
@@ -9,7 +9,7 @@ use line_value::Line;
 use output::Sink;
 use policy::{Comparison, Ending, Head};
 
-// Literals or actions, with `&` between each two.
+/// Literals or actions, with `&` between each two.
 #[tactic(auto, using(crate::proofs::LinkLaws::linked_empty), unfolding(lexer::specs::Byte::bytes))]
 fn put_heads<S: Sink>(sink: &mut S, heads: &[Head])
     ensures { sink.new ≡ fed S.taken sink.old (linked head_text [] (bytes " & ") heads.now) }
@@ -23,7 +23,7 @@ fn put_heads<S: Sink>(sink: &mut S, heads: &[Head])
     }
 }
 
-// Comparisons behind `if`, with a comma between each two.
+/// Comparisons behind `if`, with a comma between each two; nothing where there are none.
 #[tactic(auto, using(crate::proofs::LinkLaws::linked_empty), unfolding(lexer::specs::Byte::bytes))]
 fn put_condition<S: Sink>(sink: &mut S, comparisons: &[Comparison])
     ensures { sink.new ≡ fed S.taken sink.old (linked comparison_text (bytes " if ") (bytes " , ") comparisons.now) }
@@ -54,7 +54,7 @@ fn comparisons_of(line: &Line) -> &[Comparison]
     &comparisons[..line.comparison_count.min(comparisons.len())]
 }
 
-/// Puts the text of a line, with its end.
+/// Puts the text of a line, with its line end. A line of either kind has the parts that are within its counts.
 #[tactic(auto, unfolding(crate::specs::Printed::action_token, crate::specs::Steps::Value::value_text, crate::specs::Steps::Value::ending_text, crate::specs::Steps::Value::heads_text, crate::specs::Steps::Value::condition_text, lexer::specs::Byte::bytes))]
 pub fn put_line<S: Sink>(sink: &mut S, line: &Line)
     ensures { sink.new ≡ fed S.taken sink.old (value_text line.now) }

@@ -1,4 +1,4 @@
-// The parts of a line.
+//! The parts of a line.
 ghost use Rattle.std.specs.Prelude.{◌≡◌, ◌∷◌};
 ghost use Rattle.output.specs.Number.{decimal};
 ghost use Rattle.output.specs.Sink.{fed};
@@ -8,7 +8,7 @@ ghost use Rattle.printer.specs.Steps.Value.{test_token, comparison_text};
 use output::{Sink, put_integer, put_number};
 use policy::{Comparison, Literal, Operand, Relation, Test};
 
-// A letter and a number, as `A3`.
+/// A letter and a number, as `A3`.
 pub(crate) fn put_name<S: Sink>(sink: &mut S, letter: u8, number: u8)
     ensures { sink.new ≡ fed S.taken sink.old (letter ∷ decimal number) }
 {

@@ -21,8 +21,8 @@ module _ (maker site first second : List ℕ) (m : first ≡ take 32769 maker) (
   read_cut = ap₂ read_texts m s ∙ texts_cut maker site
 
   module _ (old new : Known) where
-    pub answers_cut : AnswersTexts (read_texts first second) first second old new → AnswersTexts (read_texts maker site) maker site old new
-    answers_cut h = go (read_texts maker site) (subst (λ p. AnswersTexts p first second old new) read_cut h)
+    pub answered_texts_cut : AnswersTexts (read_texts first second) first second old new → AnswersTexts (read_texts maker site) maker site old new
+    answered_texts_cut h = go (read_texts maker site) (subst (λ p. AnswersTexts p first second old new) read_cut h)
       where
         go : (p : Progress) → AnswersTexts p first second old new → AnswersTexts p maker site old new
         go (stopped r) h = h

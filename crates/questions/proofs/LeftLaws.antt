@@ -96,7 +96,7 @@ module _ (maker site : List ℕ) (m : ℕ) (p : Policy) (r : read_texts maker si
   module _ (last : ℕ → Held → List ℕ) (whole : List ℕ → List ℕ → List ℕ)
       (ends : (n : ℕ) (first : List ℕ) → length first ≡ 1025 → (begins : List ℕ) → all in_line begins ≡ true
       → last n (foldl pushed (held_by start_question first) begins) ≡ answer_lines maker site n (lines_of (whole begins [])))
-      (line_ends : (begins rest : List ℕ) → whole begins (10 ∷ rest) ≡ begins ++ 10 ∷ whole [] rest)
+      (ends_line : (begins rest : List ℕ) → whole begins (10 ∷ rest) ≡ begins ++ 10 ∷ whole [] rest)
       (goes_on : (begins rest : List ℕ) (b : ℕ) → eqb b 10 ≡ false → whole (begins ++ b ∷ []) rest ≡ whole begins (b ∷ rest)) where
     abbrev answers : ℕ → Held → List ℕ → List ℕ
     answers = answers_from maker site image last
@@ -125,7 +125,7 @@ module _ (maker site : List ℕ) (m : ℕ) (p : Policy) (r : read_texts maker si
         go true e =
             let ten : b ≡ 10 = eqb-true b 10 e in
             let lines : lines_of (whole begins (b ∷ rest)) ≡ begins ∷ lines_of (whole [] rest) =
-            ap (λ (c : ℕ). lines_of (whole begins (c ∷ rest))) ten ∙ ap lines_of (line_ends begins rest) ∙ line_ends begins (whole [] rest) h in
+            ap (λ (c : ℕ). lines_of (whole begins (c ∷ rest))) ten ∙ ap lines_of (ends_line begins rest) ∙ line_ends begins (whole [] rest) h in
             ap₂ (λ (x y : List ℕ). x ++ y) (line_answered maker site m p r (next n) begins line (line_says begins first long)) ended
             ∙ sym (ap (answer_lines maker site n) lines)
         go false e =

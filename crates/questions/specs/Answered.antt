@@ -1,5 +1,5 @@
--- Document 02, L6, and what the explaining program prints. A question is an action, one space and an epoch line, as `A4 E1 E3 R0=41`;
--- `A4` alone asks of the empty epoch.
+-- What the explaining program prints (docs/REFERENCE.md, "The programs"). A question is an action, one space and an epoch line, as
+-- `A4 E1 E3 R0=41`; `A4` alone asks of the empty epoch.
 use Prim.Native.Char.{code}
 use Rattle.std.specs.Prelude.{ℕ, ◌+◌, ◌%◌, ◌^◌, Bool, not, cond, List, [], ◌∷◌, ◌++◌, ltb, length, drop}
 use Rattle.std.proofs.Math.Option.{Option, none, some}
@@ -29,7 +29,7 @@ word_of line = take_leading in_word line
 unfoldable pub epoch_of : List ℕ → List ℕ
 epoch_of line = drop (length (word_of line) + 1) line
 
--- "a first token that is not `A` and a number is 12"; as always, 1 comes before it
+-- a first word that is not `A` and a number is refused under 12; as always, 1 comes before it
 unfoldable pub no_action : List ℕ → Explained
 no_action epoch = Explained.Refused (refusal (cond (ltb epoch_limit (length epoch)) Fault.TooLong Fault.EpochSyntax) 0)
 

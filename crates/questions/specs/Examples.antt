@@ -13,7 +13,7 @@ pub record Example : Type 0 where
 abbrev row : String → String → String → String → Example
 row m s i o = record { maker = m; site = s; input = i; output = o }
 
--- document 01's worked text, a rule of it from the site
+-- two lines of the maker's, and one of the site's
 abbrev worked : String → String → Example
 worked = row "E1 & !E2 causes A3 if R0 > 40\nnever A3 & A4" " E3 causes A4 \n"
 

@@ -1,4 +1,4 @@
-// The answer to a question.
+//! The answer to a question.
 ghost use Rattle.std.specs.Prelude.{◌≡◌};
 ghost use Rattle.io.specs.Counts.{IsPrefixLen};
 ghost use Rattle.output.specs.Buffer.{appended, behind};
@@ -11,13 +11,13 @@ use explanation::{Explained, Outcome, Reason, explain_on, part_of};
 use policy::Fault;
 use word::at_most;
 
-// The longest answer: a number of 20 digits, ` cancelled `, the text, a space, a part of a text's length, and the line end.
+/// Bytes of the longest answer: a number of 20 digits, ` cancelled `, the text, a space, a part of a text's length, and the line end.
 pub const ANSWER_SIZE: usize = 32802;
 
-// Bytes of an epoch line.
+/// Bytes of the longest epoch line.
 const EPOCH_LIMIT: usize = 1024;
 
-// Where the first word names no action.
+/// Where the first word names no action.
 fn no_action(epoch: &[u8]) -> Explained
     ensures { result ≡ no_action epoch.now }
 {
@@ -66,7 +66,8 @@ fn put_reason<'t>(
     }
 }
 
-// The answer to the question of that number, whose epoch line is held, on the image of both texts.
+/// Puts the answer to the question of that number, whose epoch line is held, on the image of both texts, at the start of `out`, and
+/// answers how many bytes it has; `ANSWER_SIZE` are enough.
 pub fn put_answer<'t>(
     number: u64,
     question: Question,

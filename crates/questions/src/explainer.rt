@@ -1,4 +1,4 @@
-// The questions on two texts as a machine, and the whole run on them.
+//! The questions on two texts as a machine, and the whole run on them.
 ghost use Rattle.std.specs.Prelude.{◌≡◌, ℕ, ◌≤◌, length, take, OnOk, IfErr};
 ghost use Rattle.rule_text.specs.Text.{read_texts};
 ghost use Rattle.report.specs.Report.{texts_refusal_line};
@@ -7,21 +7,21 @@ ghost use Rattle.stream.specs.Machine.{Sends, IsWriteFailure};
 ghost use Rattle.questions.specs.Run.{AnswersTexts, QuestionsEndBy};
 
 use crate::answer::{ANSWER_SIZE, put_answer};
-use crate::page::put_texts_refusal;
 use crate::line::{EPOCH_HELD, Question, begun, is_open, take_line};
+use crate::page::put_texts_refusal;
 use codegen::Compiled;
 use image::IMAGE_SIZE;
 use policy::Refusal;
 use stream::{Ends, Failure, Machine, converse, write_whole};
 
-// Bytes that are read at once.
+/// Bytes that are read at once.
 pub(crate) const CHUNK_SIZE: usize = 65536;
 
-// Bytes of the longest refusal of a text.
+/// Bytes that the refusal of a text has room in.
 const REFUSAL_SIZE: usize = 64;
 
-// Both texts and their image; how many questions were answered, and the open one, with what is held of its epoch line; and the answer
-// that waits, which has so many bytes.
+/// Both texts and their image; how many questions were answered, and the open one, with what is held of its epoch line; and the answer
+/// that waits, which has `used` bytes.
 #[derive(Drop)]
 struct Explainer<'t> {
     maker: &'t [u8],
@@ -57,7 +57,7 @@ impl<'t> Explainer<'t> {
         }
     }
 
-    // The open line is a question: its answer waits, and the next line begins.
+    /// The open line is a question: its answer waits, and the next line begins.
     fn answer(&mut self)
         ensures { IsAnswered self.old self.new }
     {
@@ -109,7 +109,7 @@ impl<'t> Machine for Explainer<'t> {
     }
 }
 
-// Writes why the texts are refused.
+/// Writes why the texts are refused.
 fn refuse<E: Ends>(refusal: Refusal, ends: &mut E) -> Result<(), Failure>
     ensures ok { OnOk result (Sends (GoOn 0) (E.known ends.old) (E.known ends.new) (texts_refusal_line refusal)) }
     ensures err { IfErr result (λ e. IsWriteFailure e × ((n : ℕ) × Sends (Fails e) (E.known ends.old) (E.known ends.new) (take n (texts_refusal_line refusal)))) }

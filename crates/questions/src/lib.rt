@@ -1,5 +1,5 @@
-// What the explaining program prints: from two texts and all bytes of the input, which are questions, one a line, to all bytes of the
-// output. The input is taken in chunks of any size. Start with specs/Answered.antt; what a whole run leaves is specs/Run.antt.
+//! What the explaining program prints: from two texts and all bytes of the input, which are questions, one a line, to all bytes of the
+//! output. The input is taken in chunks of any size. Start with specs/Answered.antt; what a whole run leaves is specs/Run.antt.
 #![tactic(auto)]
 
 mod answer;

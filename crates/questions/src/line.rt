@@ -1,13 +1,13 @@
-// A question, byte by byte: the word that names the action, and the epoch line behind the first space.
+//! A question, byte by byte: the word that names the action, and the epoch line behind the first space.
 ghost use Rattle.std.specs.Prelude.{◌≡◌};
 ghost use Rattle.questions.specs.Steps.Held.{first_digit, next_digit, scan_byte, start_question, is_open, held_by, pushed, bytes_taken, line_taken};
 
 use lexer::is_digit;
 
-// Bytes of an epoch line that are held: one over its limit, which tells that it is too long.
+/// Bytes of an epoch line that are held: one over its limit, which tells that it is too long.
 pub const EPOCH_HELD: usize = 1025;
 
-// What the bytes before the first space are so far: `A` and a number, or something else. Of a number over 63 only that is kept.
+/// What the bytes before the first space are so far: `A` and a number, or something else. Of a number over 63 only that is kept.
 #[derive(Clone, Copy)]
 pub enum Token {
     Empty,
@@ -17,7 +17,7 @@ pub enum Token {
     Other,
 }
 
-// One byte more of the word.
+/// One byte more of the word.
 fn scanned(token: Token, byte: u8) -> Token
     ensures { result ≡ scan_byte token byte }
 {
@@ -62,7 +62,7 @@ fn next_digit(n: u32, byte: u8) -> Token
     }
 }
 
-// The open line: its word, whether the first space was met, and how many bytes of the epoch line are held.
+/// The open line: its word, whether the first space was met, and how many bytes of the epoch line are held.
 #[derive(Clone, Copy)]
 pub struct Question {
     pub token: Token,
@@ -70,7 +70,7 @@ pub struct Question {
     pub count: usize,
 }
 
-// Before any byte of a line.
+/// The question before any byte of its line.
 pub fn begun() -> Question
     ensures { result ≡ start_question }
 {
@@ -81,7 +81,7 @@ pub fn begun() -> Question
     }
 }
 
-// Whether the line has a byte.
+/// Whether the line has a byte.
 pub fn is_open(question: Question) -> bool
     ensures { result ≡ is_open question }
 {
@@ -98,7 +98,7 @@ pub fn is_open(question: Question) -> bool
     }
 }
 
-// One byte more of the line.
+/// One byte more of the line.
 fn push(question: Question, byte: u8, held: &mut [u8]) -> Question
     ensures answer { result ≡ (pushed (held_by question held.old) byte).question }
     ensures buffer { held.new ≡ (pushed (held_by question held.old) byte).held }
@@ -130,7 +130,7 @@ fn push(question: Question, byte: u8, held: &mut [u8]) -> Question
     }
 }
 
-// What was taken of a chunk: so many bytes, and whether the last of them ended the line.
+/// What was taken of a chunk: so many bytes, and whether the last of them ended the line.
 #[derive(Clone, Copy)]
 pub struct Taken {
     pub question: Question,
@@ -138,7 +138,8 @@ pub struct Taken {
     pub ended: bool,
 }
 
-// The bytes of a chunk to the end of the line, its line end too.
+/// Takes the bytes of a chunk to the end of the line, its line end too, or all of them. The bytes of the epoch line go into `held`, as
+/// many as it has room for; `EPOCH_HELD` are enough.
 pub fn take_line(start: Question, chunk: &[u8], held: &mut [u8]) -> Taken
     ensures answer { result ≡ line_taken start held.old chunk.now }
     ensures buffer { held.new ≡ (bytes_taken start held.old chunk.now).held }

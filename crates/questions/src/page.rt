@@ -1,4 +1,4 @@
-// The answers, put into the buffer that is lent, from an index on. Each answers the index behind its line.
+//! The answers, put into the buffer that is lent, from an index on. Each answers the index behind its line.
 ghost use Rattle.std.specs.Prelude.{◌≡◌};
 ghost use Rattle.output.specs.Buffer.{appended, behind};
 ghost use Rattle.report.specs.Report.{not_proposed_line, shown_line, not_explained_line, texts_refusal_line};
@@ -6,7 +6,7 @@ ghost use Rattle.report.specs.Report.{not_proposed_line, shown_line, not_explain
 use output::Page;
 use policy::{Fault, Refusal, Source};
 
-// An action that was not proposed.
+/// An action that was not proposed.
 #[tactic(auto, using(output::proofs::SinkLaws::stored_all, output::proofs::AppendLaws::append_clipped), unfolding(output::specs::Buffer::behind))]
 pub(crate) fn put_not_proposed(out: &mut [u8], at: usize, number: u64) -> usize
     ensures answer { result ≡ behind out.old at (not_proposed_line number) }
@@ -18,7 +18,7 @@ pub(crate) fn put_not_proposed(out: &mut [u8], at: usize, number: u64) -> usize
     page.end
 }
 
-// What became of an action, and the part of a text that says why.
+/// What became of an action, and the part of a text that says why.
 #[tactic(auto, using(output::proofs::SinkLaws::stored_all, output::proofs::AppendLaws::append_clipped), unfolding(output::specs::Buffer::behind))]
 pub(crate) fn put_shown(
     out: &mut [u8],
@@ -37,7 +37,7 @@ pub(crate) fn put_shown(
     page.end
 }
 
-// A refused question.
+/// A refused question.
 #[tactic(auto, using(output::proofs::SinkLaws::stored_all, output::proofs::AppendLaws::append_clipped), unfolding(output::specs::Buffer::behind))]
 pub(crate) fn put_not_explained(out: &mut [u8], at: usize, number: u64, fault: Fault) -> usize
     ensures answer { result ≡ behind out.old at (not_explained_line number fault) }
@@ -49,7 +49,7 @@ pub(crate) fn put_not_explained(out: &mut [u8], at: usize, number: u64, fault: F
     page.end
 }
 
-// The refusal of a text of two, or of both.
+/// The refusal of a text of two, or of both.
 #[tactic(auto, using(output::proofs::SinkLaws::stored_all, output::proofs::AppendLaws::append_clipped), unfolding(output::specs::Buffer::behind))]
 pub(crate) fn put_texts_refusal(out: &mut [u8], at: usize, refusal: Refusal) -> usize
     ensures answer { result ≡ behind out.old at (texts_refusal_line refusal) }

@@ -1,4 +1,4 @@
-// The explaining program's whole run: both texts are inputs, too.
+//! The explaining program's whole run: both texts are inputs, too.
 ghost use Rattle.std.specs.Prelude.{OnOk, IfErr};
 ghost use Rattle.questions.specs.Run.{ReadsAndAnswers, ExplainEndsBy};
 
@@ -6,14 +6,17 @@ use crate::explainer::{CHUNK_SIZE, answer_questions};
 use std::io;
 use stream::{Ends, Failure, read_front};
 
-// Bytes of a text that are held: one over its limit, which tells that it is too long.
+/// Bytes of a text that are held: one over its limit, which tells that it is too long.
 const TEXT_HELD: usize = 32769;
 
 /// What ended a run before all questions were answered: a read of a text, or a call of the conversation on them.
 #[derive(Debug, Drop)]
 pub enum ExplainFailure {
+    /// A read of the maker's text.
     Maker(io::Error),
+    /// A read of the site's text.
     Site(io::Error),
+    /// A read of the questions, or a write of an answer or of the texts' refusal.
     Questions(Failure),
 }
 

@@ -1,4 +1,4 @@
--- Each row of the table of examples is printed as documents 01 and 02 say.
+-- Each row of the table of examples is printed as it stands.
 use Rattle.std.proofs.Common.{map, ◌≡◌, refl}
 use Rattle.policy.specs.Set.{has, insert}
 use Rattle.report.specs.Examples.{examples, printed_line, expected}

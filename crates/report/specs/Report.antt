@@ -1,4 +1,4 @@
--- The lines that the programs print (docs/REFERENCE.md, section 9).
+-- The lines that the programs print (docs/REFERENCE.md, "The programs").
 use Prim.Native.Char.{code}
 use Rattle.std.specs.Prelude.{ℕ, zero, suc, cond, List, [], ◌∷◌, ◌++◌}
 use Rattle.lexer.specs.Byte.{bytes}

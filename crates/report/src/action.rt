@@ -1,4 +1,4 @@
-// The actions of a set, by rising number.
+//! The actions of a set, by rising number.
 ghost use Rattle.std.specs.Prelude.{◌≡◌, cond, [], ◌∷◌, ◌++◌};
 ghost use Rattle.output.specs.Sink.{fed};
 ghost use Rattle.report.specs.Report.{action_name, action_list};
@@ -14,7 +14,7 @@ fn put_name<S: Sink>(sink: &mut S, number: u8)
     put_number(sink, u64::from(number));
 }
 
-// A comma stands before each but the first.
+/// A comma stands before each but the first.
 fn put_member<S: Sink>(sink: &mut S, number: u8, first: bool)
     ensures { sink.new ≡ fed S.taken sink.old (cond first [] (44 ∷ []) ++ action_name number) }
 {

@@ -1,4 +1,4 @@
-// What the programs print, put into a sink of `output`. Start with specs/Report.antt.
+//! What the programs print, put into a sink of `output`. Start with specs/Report.antt.
 #![tactic(auto)]
 
 mod action;

@@ -1,4 +1,4 @@
-// The lines that the programs print.
+//! The lines that the programs print.
 ghost use Rattle.std.specs.Prelude.{◌≡◌};
 ghost use Rattle.output.specs.Sink.{fed};
 ghost use Rattle.report.specs.Report.{word_line, located_line, refusal_line, texts_refusal_line, image_refusal_line, not_word_line, words_field, accept_line, refused_field, refused_line};
@@ -7,7 +7,7 @@ use crate::action::put_actions;
 use output::{Sink, put_hexadecimal, put_number};
 use policy::{ActionSet, Fault, Refusal, Source};
 
-/// Puts a word of an image.
+/// Puts a word of an image: eight hexadecimal digits and the line end.
 #[tactic(auto, unfolding(crate::specs::Report::word_line))]
 pub fn put_word_line<S: Sink>(sink: &mut S, word: u32)
     ensures { sink.new ≡ fed S.taken sink.old (word_line word) }
@@ -16,7 +16,7 @@ pub fn put_word_line<S: Sink>(sink: &mut S, word: u32)
     sink.put(b"\n");
 }
 
-// A refusal and where the fault is; the unit tells what the location counts.
+/// A refusal and where the fault is; the unit tells what the location counts.
 #[tactic(auto, unfolding(lexer::specs::Byte::bytes))]
 fn put_located<S: Sink>(sink: &mut S, unit: &[u8], refusal: Refusal)
     ensures { sink.new ≡ fed S.taken sink.old (located_line unit.now refusal) }
@@ -28,7 +28,7 @@ fn put_located<S: Sink>(sink: &mut S, unit: &[u8], refusal: Refusal)
     sink.put(b"\n");
 }
 
-/// Puts the refusal of a text.
+/// Puts the refusal of a text, as `refused 3 line 2`.
 #[tactic(auto, unfolding(crate::specs::Report::refusal_line, lexer::specs::Byte::bytes))]
 pub fn put_refusal<S: Sink>(sink: &mut S, refusal: Refusal)
     ensures { sink.new ≡ fed S.taken sink.old (refusal_line refusal) }
@@ -36,7 +36,7 @@ pub fn put_refusal<S: Sink>(sink: &mut S, refusal: Refusal)
     put_located(sink, b" line ", refusal);
 }
 
-/// Puts the refusal of a text of two, or of both.
+/// Puts the refusal of a text of two, or of both, as `refused 3 text 2 line 1`: text 1 is the maker's, 2 the site's, 0 neither alone.
 pub fn put_texts_refusal<S: Sink>(sink: &mut S, refusal: Refusal)
     ensures { sink.new ≡ fed S.taken sink.old (texts_refusal_line refusal) }
 {
@@ -47,7 +47,7 @@ pub fn put_texts_refusal<S: Sink>(sink: &mut S, refusal: Refusal)
     }
 }
 
-/// Puts the refusal of an image.
+/// Puts the refusal of an image, as `refused 11 word 4`.
 #[tactic(auto, unfolding(crate::specs::Report::image_refusal_line, lexer::specs::Byte::bytes))]
 pub fn put_image_refusal<S: Sink>(sink: &mut S, refusal: Refusal)
     ensures { sink.new ≡ fed S.taken sink.old (image_refusal_line refusal) }
@@ -65,7 +65,7 @@ pub fn put_not_word<S: Sink>(sink: &mut S, line: u64)
     sink.put(b"\n");
 }
 
-// How many words of the image an epoch fetched; the line ends.
+/// How many words of the image an epoch fetched; the line ends.
 #[tactic(auto, unfolding(crate::specs::Report::words_field, lexer::specs::Byte::bytes))]
 fn put_words<S: Sink>(sink: &mut S, words: u64)
     ensures { sink.new ≡ fed S.taken sink.old (words_field words) }
@@ -94,7 +94,7 @@ pub fn put_accept<S: Sink>(
     put_words(sink, words);
 }
 
-// That the epoch or the question of the number is refused, and why.
+/// That the epoch or the question of the number is refused, and why.
 #[tactic(auto, unfolding(lexer::specs::Byte::bytes))]
 pub(crate) fn put_fault<S: Sink>(sink: &mut S, number: u64, fault: Fault)
     ensures { sink.new ≡ fed S.taken sink.old (refused_field number fault) }
@@ -104,7 +104,7 @@ pub(crate) fn put_fault<S: Sink>(sink: &mut S, number: u64, fault: Fault)
     put_number(sink, u64::from(fault.number()));
 }
 
-/// Puts that an epoch is refused. It fetched no word.
+/// Puts that an epoch is refused, by the number of its fault. It fetched no word.
 #[tactic(auto, unfolding(crate::specs::Report::refused_line))]
 pub fn put_refused<S: Sink>(sink: &mut S, number: u64, fault: Fault)
     ensures { sink.new ≡ fed S.taken sink.old (refused_line number fault) }

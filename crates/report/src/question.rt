@@ -1,4 +1,4 @@
-// The answers to questions about actions, each with its number, from 1.
+//! The answers to questions about actions, each with its number, from 1.
 ghost use Rattle.std.specs.Prelude.{◌≡◌};
 ghost use Rattle.output.specs.Sink.{fed};
 ghost use Rattle.report.specs.Report.{not_proposed_line, shown_line, not_explained_line};
@@ -16,7 +16,7 @@ pub fn put_not_proposed<S: Sink>(sink: &mut S, number: u64)
     sink.put(b"\n");
 }
 
-/// Puts what became of an action, with the spaces around it, and the part of a text that says why.
+/// Puts what became of an action, as ` accepted ` with the spaces around it, the number of the text that says why, and the part of it.
 #[tactic(auto, unfolding(crate::specs::Report::shown_line, lexer::specs::Byte::bytes))]
 pub fn put_shown<S: Sink>(sink: &mut S, number: u64, became: &[u8], source: Source, part: &[u8])
     ensures { sink.new ≡ fed S.taken sink.old (shown_line number became.now source part.now) }
@@ -29,7 +29,7 @@ pub fn put_shown<S: Sink>(sink: &mut S, number: u64, became: &[u8], source: Sour
     sink.put(b"\n");
 }
 
-/// Puts that a question is refused, and why.
+/// Puts that a question is refused, by the number of its fault.
 #[tactic(auto, unfolding(crate::specs::Report::not_explained_line))]
 pub fn put_not_explained<S: Sink>(sink: &mut S, number: u64, fault: Fault)
     ensures { sink.new ≡ fed S.taken sink.old (not_explained_line number fault) }

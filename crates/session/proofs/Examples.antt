@@ -1,4 +1,4 @@
--- Each row of the tables of examples is as documents 01 and 02 say.
+-- Each row of the tables of examples is as it says.
 use Rattle.std.proofs.Common.{◌≡◌, map, refl}
 use Rattle.std.proofs.Math.Option.{or_else, Option-elim}
 use Rattle.policy.specs.List.{all, any}

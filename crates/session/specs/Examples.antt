@@ -1,5 +1,4 @@
--- Document 01's examples of the two programs, with the words of document 02's L4, the two texts of its L6 and the mode of its L7, and
--- some more, one row each.
+-- What the engine and the compiler print, one row each: in both modes, with the numbers of words, and for a text and for two.
 use Rattle.std.specs.Prelude.{ℕ, List, [], ◌∷◌}
 use Prim.Native.String.{String}
 use Rattle.lexer.specs.Byte.{bytes}
@@ -34,7 +33,8 @@ sessions =
     -- the first row's text and epochs in the second mode
     ∷ row "E1 & !E2 causes A3 if R0 > 40\nE3 causes A4\nnever A3 & A4\nrun events\nE1 E3 R0=41\nE1 E3 R0=40\nE1 E2 E3 R0=41\n\nE64\n"
     "1 accept A3 cancel A4 words 21\n2 accept A4 cancel - words 16\n3 accept A4 cancel - words 16\n4 accept - cancel - words 3\n5 refused 13 words 0\n"
-    -- Example 2 of source document 000: E1, the order, is dropped, and the goods are neither mailed nor charged for
+    -- Example 2 of Chomicki, Lobo and Naqvi, "Conflict Resolution Using Logic Programming" (TKDE 2003): E1, the order, is dropped, and
+    -- the goods are neither mailed nor charged for
     ∷ row "E0 causes A0\nE1 causes A1\nE1 causes A2\nnever A0 & A1\nrun events\nE0 E1\n" "1 accept A0 cancel A1,A2 words 19\n"
     -- absence is taken from the full epoch: no reduction of the blank one is free of conflict
     ∷ row "!E0 causes A0\n!E0 causes A1\nnever A0 & A1\nrun events\n\nE0\n" "1 refused 17 words 0\n2 accept - cancel - words 6\n"

@@ -1,4 +1,4 @@
--- Document 01, "The two programs": what the compiler prints for all of its input, or for two texts.
+-- What the compiler prints for all of its input, or for two texts (docs/REFERENCE.md, "The programs").
 use Rattle.std.specs.Prelude.{ℕ, List, [], ◌∷◌, ◌++◌}
 use Rattle.policy.specs.declared.fault.Refusal.{Refusal}
 use Rattle.rule_text.specs.Text.{Progress, reading, stopped, read_text, read_texts}
@@ -7,7 +7,7 @@ use Rattle.layout.specs.Layout.{image_of}
 use Rattle.codegen.specs.Compile.{newest_form}
 use Rattle.report.specs.Report.{word_line, refusal_line, texts_refusal_line}
 
--- "one word a line"
+-- one word a line
 unfoldable pub word_lines : List ℕ → List ℕ
 word_lines [] = []
 word_lines (w ∷ ws) = word_line w ++ word_lines ws
@@ -21,6 +21,6 @@ listing_of refused (reading n policy) = word_lines (words_of (image_of newest_fo
 unfoldable pub listed : List ℕ → List ℕ
 listed text = listing_of refusal_line (read_text text)
 
--- document 02, L6: the same of the maker's and the site's text as one
+-- the same of the maker's and the site's text as one
 unfoldable pub listed_texts : List ℕ → List ℕ → List ℕ
 listed_texts maker site = listing_of texts_refusal_line (read_texts maker site)

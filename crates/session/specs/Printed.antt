@@ -1,4 +1,4 @@
--- Document 01, "The two programs", and document 02, L4 and L7: what the engine prints for all of its input.
+-- What the engine prints for all of its input (docs/REFERENCE.md, "The programs").
 use Rattle.std.specs.Prelude.{ℕ, ◌+◌, ◌%◌, ◌^◌, Bool, true, false, cond, List, [], ◌∷◌, ◌++◌}
 use Rattle.std.proofs.Math.Option.{Option, none, some, Option-elim}
 use Rattle.policy.specs.declared.mode.Mode.{Mode}
@@ -12,12 +12,12 @@ use Rattle.monitor.specs.declared.decision.Decision.{Decision}
 use Rattle.stream.specs.Lines.{due_by_lines}
 use Rattle.report.specs.Report.{refusal_line, accept_line, refused_line}
 
--- ---- "A line `run events` in place of `run` picks this mode."
+-- ---- a line `run` picks the first mode, and a line `run events` in its place the second
 
 unfoldable pub mode_of : List ℕ → Option Mode
 mode_of line = cond (is "run" line) (some Mode.Actions) (cond (is "run events" line) (some Mode.Events) none)
 
--- ---- "The first line of exactly these three bytes ends the text; without one all input is text." The ten of `run events` likewise.
+-- ---- the first line of exactly the three bytes `run` or the ten bytes `run events` ends the text; without one all input is text
 
 pub data Session : Type 0 where
   text_only : Session
@@ -56,7 +56,7 @@ unfoldable pub epoch_lines : Mode → List ℕ → ℕ → List (List ℕ) → L
 epoch_lines mode image n [] = []
 epoch_lines mode image n (line ∷ lines) = decision_line (next n) (decision_in mode image line) ++ epoch_lines mode image (next n) lines
 
--- ---- "A refused text prints its refusal line and nothing else."
+-- ---- a refused text prints its refusal line and nothing else
 
 unfoldable pub answers_to : Progress → Session → List ℕ
 answers_to (stopped r) s = refusal_line r

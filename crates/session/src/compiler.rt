@@ -1,4 +1,4 @@
-// The compiler's whole runs.
+//! The compiler's whole runs.
 ghost use Rattle.std.specs.Prelude.{◌≤◌, length, OnOk, IfErr};
 ghost use Rattle.stream.specs.Machine.{AnswersAll, EndsBy, nothing};
 ghost use Rattle.session.specs.Listed.{listed};
@@ -9,10 +9,10 @@ use crate::state::TEXT_HELD;
 use std::io;
 use stream::{Ends, Failure, Summary, keep, read_front, summarize, write_whole};
 
-// Bytes that are read at once.
+/// Bytes that are read at once.
 const CHUNK_SIZE: usize = 65536;
 
-// The text as far as it was read, or as much of it as tells that it is too long; and the room for its listing.
+/// The text as far as it was read, or as much of it as tells that it is too long; and the room for its listing.
 #[derive(Drop)]
 struct Compiler {
     text: [u8; TEXT_HELD],
@@ -36,7 +36,7 @@ impl Summary for Compiler {
     }
 }
 
-// Lists the text that is the input. It is read to its end, so that whoever writes it is not cut off.
+/// Lists the text that is the input. It is read to its end, so that whoever writes it is not cut off; the listing is written then.
 pub fn list_input<E: Ends>(ends: &mut E) -> Result<(), Failure>
     ensures ok { OnOk result (AnswersAll listed nothing (E.known ends.old) (E.known ends.new)) }
     ensures err { IfErr result (λ e. EndsBy e nothing listed (E.known ends.old) (E.known ends.new)) }
@@ -53,12 +53,15 @@ pub fn list_input<E: Ends>(ends: &mut E) -> Result<(), Failure>
 /// What ended a run on two texts before their listing was written.
 #[derive(Debug, Drop)]
 pub enum TextsFailure {
+    /// A read of the maker's text.
     Maker(io::Error),
+    /// A read of the site's text.
     Site(io::Error),
+    /// A write of the listing.
     Write(io::Error),
 }
 
-// Lists the maker's and the site's text as one. The site's is not read before the maker's has been, to its end.
+/// Lists the maker's and the site's text as one. The site's is not read before the maker's has been, to its end.
 pub fn list_texts<M: Ends, S: Ends, E: Ends>(
     maker: &mut M,
     site: &mut S,

@@ -1,4 +1,4 @@
-// The engine's session as one value, and its whole run.
+//! The engine's session as one value, and its whole run.
 ghost use Rattle.std.specs.Prelude.{◌≡◌, OnOk, IfErr};
 ghost use Rattle.stream.specs.Machine.{AnswersAll, EndsBy};
 ghost use Rattle.session.specs.Printed.{printed, due};
@@ -9,10 +9,10 @@ use crate::state::{HELD_SIZE, OUT_SIZE, State};
 use image::IMAGE_SIZE;
 use stream::{Ends, Failure, Machine, converse};
 
-// Bytes that are read at once.
+/// Bytes that are read at once.
 const CHUNK_SIZE: usize = 65536;
 
-// A state with its buffers.
+/// A state with its buffers.
 #[derive(Drop)]
 pub struct Engine {
     state: State,
@@ -68,7 +68,8 @@ impl Machine for Engine {
     }
 }
 
-// Answers the epochs of an input. What is printed for the lines that have ended is written before more is read.
+/// Answers the epochs of an input: a rule text, a line `run` or `run events`, and epoch lines. What is printed for the lines that have
+/// ended is written before more is read.
 pub fn answer_epochs<E: Ends>(ends: &mut E) -> Result<(), Failure>
     ensures ok { OnOk result (AnswersAll printed due (E.known ends.old) (E.known ends.new)) }
     ensures err { IfErr result (λ e. EndsBy e due printed (E.known ends.old) (E.known ends.new)) }

@@ -1,4 +1,4 @@
-// The epoch lines of a session.
+//! The epoch lines of a session.
 ghost use Rattle.std.specs.Prelude.{◌≡◌, ◌≤◌, [], ◌∷◌, length};
 ghost use Rattle.session.specs.Owed.{Good, Room, Took};
 ghost use Rattle.session.specs.Steps.Ended.{LineEnded};
@@ -9,7 +9,7 @@ use crate::state::{HELD_SIZE, LINE_HELD, OUT_SIZE, State, push};
 use image::IMAGE_SIZE;
 use monitor::Decision;
 
-// The epoch line is complete.
+/// The epoch line is complete.
 pub(crate) fn end_line(state: State, held: &[u8], image: &[u8], out: &mut [u8; OUT_SIZE]) -> State
     requires start { state.start ≡ 0 }
     requires inside { state.count ≤ length held.now }
@@ -45,7 +45,7 @@ pub(crate) fn end_line(state: State, held: &[u8], image: &[u8], out: &mut [u8; O
     next
 }
 
-// A byte of an epoch line. There is room for a line of the full length and one byte more, which tells that it is too long.
+/// A byte of an epoch line. There is room for a line of the full length and one byte more, which tells that it is too long.
 pub(crate) fn line_byte(
     state: State,
     byte: u8,

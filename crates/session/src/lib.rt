@@ -1,6 +1,6 @@
-// What the compiler and the engine print: from all bytes of the input to all bytes of the output. The engine's session takes its
-// input in chunks of any size and its caller hands the output out whenever it likes. Start with specs/Printed.antt; the compiler's
-// is specs/Listed.antt.
+//! What the compiler and the engine print: from all bytes of the input to all bytes of the output. The engine's session takes its
+//! input in chunks of any size and its caller hands the output out whenever it likes. Start with specs/Printed.antt; the compiler's
+//! is specs/Listed.antt.
 #![tactic(auto)]
 
 mod compiler;
@@ -26,7 +26,7 @@ use state::ROOM_LIMIT;
 pub use state::{HELD_SIZE, OUT_SIZE, Phase, State, TEXT_HELD};
 use text::{at_run, end_text, text_byte};
 
-// Before any input.
+/// The state before any input.
 pub fn begin() -> State
     ensures { result ≡ start_state }
 {
@@ -41,7 +41,7 @@ pub fn begin() -> State
     }
 }
 
-// The caller has handed out the output that waited.
+/// The caller has handed out the output that waited.
 pub fn flushed(state: State) -> State
     ensures { result ≡ emptied state }
 {
@@ -69,14 +69,15 @@ fn step(
     }
 }
 
-// How many bytes of a chunk were taken, and the state behind them.
+/// How many bytes of a chunk were taken, and the state behind them.
 #[derive(Clone, Copy)]
 pub struct Taken {
     pub state: State,
     pub taken: usize,
 }
 
-// The bytes of a chunk, as long as there is room for what they print.
+/// Takes the bytes of a chunk, as long as there is room in `out` for what they print. Where fewer than all are taken, the caller hands
+/// out what waits, which is the first `used` bytes of `out`, and feeds the rest.
 pub fn feed(
     start: State,
     chunk: &[u8],
@@ -99,7 +100,7 @@ pub fn feed(
     Taken { state, taken: i }
 }
 
-// The input has ended.
+/// The input has ended: what is printed then stands in `out` behind what waited.
 pub fn finish(
     state: State,
     held: &[u8],

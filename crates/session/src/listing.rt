@@ -1,4 +1,4 @@
-// The compiler's output: the words of an image, or a refusal.
+//! The compiler's output: the words of an image, or a refusal.
 ghost use Rattle.std.specs.Prelude.{◌≡◌};
 ghost use Rattle.io.specs.Counts.{IsPrefixLen};
 ghost use Rattle.word.specs.Word.{words_of};
@@ -11,7 +11,7 @@ use codegen::Compiled;
 use image::IMAGE_SIZE;
 use output::{Page, Sink};
 
-// The words of an image, each a line.
+/// The words of an image, each a line.
 fn put_words<S: Sink>(sink: &mut S, image: &[u8])
     ensures { sink.new ≡ fed S.taken sink.old (word_lines (words_of image.now)) }
 {
@@ -20,7 +20,7 @@ fn put_words<S: Sink>(sink: &mut S, image: &[u8])
     }
 }
 
-// The same at the start of a buffer; the answer is where they end.
+/// The same at the start of a buffer; the answer is where they end.
 #[tactic(auto, using(output::proofs::SinkLaws::stored_all, output::proofs::AppendLaws::append_clipped), unfolding(output::specs::Buffer::behind))]
 fn put_image(image: &[u8], out: &mut [u8]) -> usize
     ensures answer { result ≡ behind out.old 0 (word_lines (words_of image.now)) }
@@ -31,10 +31,10 @@ fn put_image(image: &[u8], out: &mut [u8]) -> usize
     page.end
 }
 
-// The longest listing: the largest image has 3,266 words, a line of nine bytes each.
+/// Bytes of the longest listing: the largest image has 3,266 words, a line of nine bytes each.
 pub const LISTING_SIZE: usize = 29394;
 
-// What the compiler prints for a text.
+/// Puts what the compiler prints for a text at the start of `out`, and answers how many bytes it has; `LISTING_SIZE` are enough.
 pub fn put_listing(text: &[u8], out: &mut [u8]) -> usize
     ensures prefix_len { IsPrefixLen result out.new }
     ensures answer { result ≡ behind out.old 0 (listed text.now) }
@@ -48,7 +48,7 @@ pub fn put_listing(text: &[u8], out: &mut [u8]) -> usize
     }
 }
 
-// What the compiler prints for the maker's and the site's text as one.
+/// The same for the maker's and the site's text as one.
 pub fn put_texts_listing(maker: &[u8], site: &[u8], out: &mut [u8]) -> usize
     ensures prefix_len { IsPrefixLen result out.new }
     ensures answer { result ≡ behind out.old 0 (listed_texts maker.now site.now) }

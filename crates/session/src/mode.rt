@@ -1,4 +1,4 @@
-// The lines that end the text: each picks a mode.
+//! The lines that end the text: each picks a mode.
 ghost use Rattle.std.specs.Prelude.{◌≡◌};
 ghost use Rattle.lexer.specs.Byte.{bytes_equal};
 ghost use Rattle.session.specs.Printed.{mode_of};
@@ -6,14 +6,14 @@ ghost use Rattle.session.specs.Steps.Picked.{mode_in};
 
 use policy::Mode;
 
-// What a line picks.
+/// What a line picks.
 #[derive(Clone, Copy)]
 pub(crate) enum Picked {
     Mode(Mode),
     Nothing,
 }
 
-// Whether a line is this word.
+/// Whether a line is this word.
 fn same_bytes(line: &[u8], word: &[u8]) -> bool
     ensures { result ≡ bytes_equal line.now word.now }
 {
@@ -30,7 +30,7 @@ fn same_bytes(line: &[u8], word: &[u8]) -> bool
     true
 }
 
-// The mode that a line picks, if it is `run` or `run events`.
+/// The mode that a line picks, if it is `run` or `run events`.
 pub(crate) fn pick_mode(line: &[u8]) -> Picked
     ensures { mode_in result ≡ mode_of line.now }
 {

@@ -1,4 +1,4 @@
-// The lines that a session prints, put into the buffer that it is lent, from an index on. Each answers the index behind its line.
+//! The lines that a session prints, put into the buffer that it is lent, from an index on. Each answers the index behind its line.
 ghost use Rattle.std.specs.Prelude.{◌≡◌};
 ghost use Rattle.output.specs.Buffer.{appended, behind};
 ghost use Rattle.report.specs.Report.{refusal_line, texts_refusal_line, accept_line, refused_line};
@@ -6,7 +6,7 @@ ghost use Rattle.report.specs.Report.{refusal_line, texts_refusal_line, accept_l
 use output::Page;
 use policy::{ActionSet, Fault, Refusal};
 
-// The refusal of a text.
+/// The refusal of a text.
 #[tactic(auto, using(output::proofs::SinkLaws::stored_all, output::proofs::AppendLaws::append_clipped), unfolding(output::specs::Buffer::behind))]
 pub(crate) fn put_refusal(out: &mut [u8], at: usize, refusal: Refusal) -> usize
     ensures answer { result ≡ behind out.old at (refusal_line refusal) }
@@ -18,7 +18,7 @@ pub(crate) fn put_refusal(out: &mut [u8], at: usize, refusal: Refusal) -> usize
     page.end
 }
 
-// The refusal of a text of two, or of both.
+/// The refusal of a text of two, or of both.
 #[tactic(auto, using(output::proofs::SinkLaws::stored_all, output::proofs::AppendLaws::append_clipped), unfolding(output::specs::Buffer::behind))]
 pub(crate) fn put_texts_refusal(out: &mut [u8], at: usize, refusal: Refusal) -> usize
     ensures answer { result ≡ behind out.old at (texts_refusal_line refusal) }
@@ -30,7 +30,7 @@ pub(crate) fn put_texts_refusal(out: &mut [u8], at: usize, refusal: Refusal) -> 
     page.end
 }
 
-// A refused epoch.
+/// A refused epoch.
 #[tactic(auto, using(output::proofs::SinkLaws::stored_all, output::proofs::AppendLaws::append_clipped), unfolding(output::specs::Buffer::behind))]
 pub(crate) fn put_refused(out: &mut [u8], at: usize, number: u64, fault: Fault) -> usize
     ensures answer { result ≡ behind out.old at (refused_line number fault) }
@@ -42,7 +42,7 @@ pub(crate) fn put_refused(out: &mut [u8], at: usize, number: u64, fault: Fault) 
     page.end
 }
 
-// A decided epoch.
+/// A decided epoch.
 #[tactic(auto, using(output::proofs::SinkLaws::stored_all, output::proofs::AppendLaws::append_clipped), unfolding(output::specs::Buffer::behind))]
 pub(crate) fn put_accept(
     out: &mut [u8],

@@ -1,4 +1,4 @@
-// The rule text of a session, up to the line that picks a mode.
+//! The rule text of a session, up to the line that picks a mode.
 ghost use Rattle.std.specs.Prelude.{◌≡◌, ◌≤◌, [], ◌∷◌, length, take};
 ghost use Rattle.session.specs.Printed.{mode_of};
 ghost use Rattle.session.specs.Owed.{current, Good, Room, Took};
@@ -14,7 +14,7 @@ use codegen::Compiled;
 use image::IMAGE_SIZE;
 use policy::Mode;
 
-// What the current line of the text picks.
+/// What the current line of the text picks.
 pub(crate) fn at_run(state: State, held: &[u8]) -> Picked
     requires ordered { state.start ≤ state.count }
     requires inside { state.count ≤ length held.now }
@@ -25,7 +25,7 @@ pub(crate) fn at_run(state: State, held: &[u8]) -> Picked
     pick_mode(&held[start..count])
 }
 
-// The text is complete: the first `end` bytes that are held. Epochs will be decided in `mode`.
+/// The text is complete: the first `end` bytes that are held. Epochs will be decided in `mode`.
 pub(crate) fn end_text(
     state: State,
     mode: Mode,
@@ -63,8 +63,8 @@ pub(crate) fn end_text(
     }
 }
 
-// The next line starts behind what is held. 32,769 bytes tell that a text is too long: the lines behind them are held one over
-// the other.
+/// The next line starts behind what is held. 32,769 bytes tell that a text is too long: the lines behind them are held one over
+/// the other.
 fn line_behind(state: State) -> State
     ensures { result ≡ line_behind state }
 {
@@ -76,8 +76,8 @@ fn line_behind(state: State) -> State
     next
 }
 
-// A byte of the text. Of a line that starts behind a text of the full length or later, at least eleven bytes are held: they tell
-// whether it picks a mode.
+/// A byte of the text. Of a line that starts behind a text of the full length or later, at least eleven bytes are held: they tell
+/// whether it picks a mode.
 pub(crate) fn text_byte(
     state: State,
     byte: u8,

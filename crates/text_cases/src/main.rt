@@ -1,5 +1,5 @@
-// Runs the readers on cases from standard input and writes what they answer, one line a case. A case ends at byte 30. Its
-// first byte says what it is: `T` a rule text, any other an epoch line.
+//! Runs the readers on cases from standard input and writes what they answer, one line a case. A case ends at byte 30. Its
+//! first byte says what it is: `T` a rule text, any other an epoch line.
 #![tactic(auto)]
 
 use epoch_line::EpochStatus;
@@ -7,10 +7,10 @@ use rule_text::{LineCounts, TextRead};
 use std::io;
 use std::io::{BufWriter, Read, Write};
 
-// What ends a case.
+/// What ends a case.
 const END: u8 = 30;
 
-// The words that lines with these counts take in an image.
+/// The words that lines with these counts take in an image.
 fn words(counts: LineCounts) -> usize {
     counts
         .lines
@@ -39,7 +39,7 @@ fn show_text<W: Write>(out: &mut W, text: &[u8]) -> io::Result<()> {
     }
 }
 
-// The values that are not 0.
+/// The values that are not 0.
 fn show_values<W: Write>(out: &mut W, values: &[i32]) -> io::Result<()> {
     for (n, value) in values.iter().enumerate() {
         if *value != 0 {
@@ -54,7 +54,11 @@ fn show_epoch<W: Write>(out: &mut W, line: &[u8]) -> io::Result<()> {
     match read.status {
         EpochStatus::Refused(fault) => write!(out, "refused {}", fault.number())?,
         EpochStatus::Accepted => {
-            write!(out, "events {:x} given {:x}", read.events.bits, read.given.bits)?;
+            write!(
+                out,
+                "events {:x} given {:x}",
+                read.events.bits, read.given.bits
+            )?;
             show_values(out, &read.values)?;
         }
     }

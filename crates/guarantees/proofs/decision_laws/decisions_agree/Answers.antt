@@ -1,4 +1,4 @@
-use Rattle.guarantees.proofs.Demand3 as laws
+use Rattle.guarantees.proofs.Agreement as laws
 use Rattle.guarantees.proofs.decision_laws.decisions_agree.Goals as goal
 
 pub returns : goal.returns

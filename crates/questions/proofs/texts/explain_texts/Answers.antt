@@ -1,5 +1,5 @@
 use Rattle.std.proofs.Common.{◌≡◌, take, refl}
-use Rattle.questions.proofs.CutLaws.{answers_cut, end_cut}
+use Rattle.questions.proofs.CutLaws.{answered_texts_cut, end_cut}
 use Rattle.questions.proofs.texts.explain_texts.Goals as goal
 
 pub returns-in-Err-clause-err : goal.returns-in-Err-clause-err
@@ -16,7 +16,7 @@ returns-in-Ok-answer_questions-clause-ok g c =
     let (second, read', end', kept') = c.in-Ok-read_front.ensures.ok in
     let maker : take c.in-Ok.size c.read_front.new.front ≡ take 32769 first = kept in
     let site : take c.in-Ok-read_front.size c.read_front-2.new.front ≡ take 32769 second = kept' in
-    (first, second, (read, end), (read', end'), answers_cut first second _ _ maker site _ _ c.in-Ok-answer_questions.ensures.ok)
+    (first, second, (read, end), (read', end'), answered_texts_cut first second _ _ maker site _ _ c.in-Ok-answer_questions.ensures.ok)
 
 pub returns-in-Err-answer_questions-clause-err : goal.returns-in-Err-answer_questions-clause-err
 returns-in-Err-answer_questions-clause-err g c =

@@ -1,4 +1,4 @@
--- Demand 3: on the image of a text, or of two as one, the decisions are those of the reference machine on the text, and an image with
+-- On the image of a text, or of two as one, the decisions are those of the reference machine on the text, and an image with
 -- one word changed is refused.
 use Rattle.std.proofs.Common.{ℕ, ◌%◌, ◌<◌, List, [], ◌∷◌, ◌↔◌, ◌≡◌, refl, sym, ap, ap₂, ◌∙◌, arith, length, take}
 use Rattle.std.proofs.Math.Option.{Option, some, map}
@@ -140,7 +140,7 @@ decisions_agree text image c = agrees (policy_of text) image (image_of_text text
 pub texts_decisions_agree : (maker site image : List ℕ) → TextsCompileTo maker site image → (lines : List (List ℕ)) → some (answers image lines) ≡ machine_of_texts maker site lines
 texts_decisions_agree maker site image c = agrees (policy_of_texts maker site) image (image_of_texts maker site image c)
 
--- document 02, L7: the same for every list of epoch lines with the mode of each, mixed freely
+-- the same for every list of epoch lines with the mode of each, mixed freely
 pub told_decisions_agree : (text image : List ℕ) → CompilesTo text image → (lines : List ToldLine) → some (answers_told image lines) ≡ machine_told text lines
 told_decisions_agree text image c = agrees_told (policy_of text) image (image_of_text text image c)
 
@@ -159,7 +159,7 @@ pub texts_change_refused : (maker site image : List ℕ) → TextsCompileTo make
     → (line : List ℕ) → CheckFailed (answer_of (decision (changed image i v) line))
 texts_change_refused maker site image c i v l small other = refuses_change (policy_of_texts maker site) image (image_of_texts maker site image c) i v l small other Mode.Actions
 
--- in either mode (document 02, L7)
+-- in either mode
 pub change_refused_in : (text image : List ℕ) → CompilesTo text image → (i v : ℕ) → i < length (words_of image) → v < word_limit → ¬ (v ≡ word_at image i)
     → (mode : Mode) (line : List ℕ) → CheckFailed (answer_of (decision_in mode (changed image i v) line))
 change_refused_in text image c = refuses_change (policy_of text) image (image_of_text text image c)
@@ -175,7 +175,7 @@ change_only text image c = changes_one (policy_of text) image (image_of_text tex
 pub texts_change_only : (maker site image : List ℕ) → TextsCompileTo maker site image → (i v : ℕ) → v < word_limit → (length (changed image i v) ≡ length image) × (words_of (changed image i v) ≡ set (words_of image) i v)
 texts_change_only maker site image c = changes_one (policy_of_texts maker site) image (image_of_texts maker site image c)
 
--- ---- demand 2 on the image of a text
+-- ---- what the policy asks of a decision, on the image of a text
 
 -- a decision that is not refused is a maximal action cancellation of what the text's rules propose
 pub decision_obeys : (text image : List ℕ) → CompilesTo text image → (p : Policy) → policy_of text ≡ some p → (line : List ℕ) (e : Epoch) → read_epoch line ≡ accepted e → Obeys p e (answer_of (decision image line))
@@ -184,7 +184,7 @@ decision_obeys text image c = obeys (policy_of text) image (image_of_text text i
 pub texts_decision_obeys : (maker site image : List ℕ) → TextsCompileTo maker site image → (p : Policy) → policy_of_texts maker site ≡ some p → (line : List ℕ) (e : Epoch) → read_epoch line ≡ accepted e → Obeys p e (answer_of (decision image line))
 texts_decision_obeys maker site image c = obeys (policy_of_texts maker site) image (image_of_texts maker site image c)
 
--- ---- document 02, L7: the second mode on the image of a text
+-- ---- the second mode on the image of a text
 
 -- a decision is refused under 17 exactly if no reduction of the epoch is free of conflict
 pub events_conflict_refused : (text image : List ℕ) → CompilesTo text image → (p : Policy) → policy_of text ≡ some p → (line : List ℕ) (e : Epoch) → read_epoch line ≡ accepted e

@@ -1,0 +1,52 @@
+-- Which fault a refused text and a refused epoch line have, where there could be several: the first line that has one, and for an
+-- epoch line the first in the order of the tests.
+use Rattle.std.specs.Prelude.{ℕ, ◌≤◌, ◌<◌, ◌⊎◌, true, false, List, ◌∷◌, ◌++◌, ◌≡◌, eqb, length}
+use Rattle.std.proofs.Math.Option.{none, some}
+use mathlib.Core.List.{foldl}
+use Rattle.policy.specs.Limits.{rule_limit, constraint_limit, repeats}
+use Rattle.policy.specs.Line.{rule, constraint}
+use Rattle.policy.specs.List.{all, any}
+use Rattle.policy.specs.Policy.{Policy, Rule, Constraint}
+use Rattle.policy.specs.Fault.{refusal, within}
+use Rattle.policy.specs.declared.fault.Fault.{Fault}
+use Rattle.policy.specs.declared.fault.Refusal.{Refusal}
+use Rattle.policy.specs.declared.fault.Source.{Source}
+use Rattle.lexer.specs.Lines.{lines_of, tokens_of}
+use Rattle.syntax.specs.Judge.{refused, accepted, line_answer}
+use Rattle.rule_text.specs.Text.{reading, read_line, empty_policy, text_limit, policy_of}
+use Rattle.epoch_line.specs.Epoch.{Item, items_of, item_in_range, given_by, epoch_limit}
+
+-- for what a line is refused behind the lines of a policy: for a fault of its own, or as one line too many of its kind
+pub data LineFault (p : Policy) (line : List ℕ) : Fault → Type 0 where
+  own : (f : Fault) → line_answer line ≡ refused f → LineFault p line f
+  one_rule_more : (r : Rule) → line_answer line ≡ accepted (rule r) → rule_limit ≤ length p.rules → LineFault p line Fault.TooManyLines
+  one_constraint_more : (c : Constraint) → line_answer line ≡ accepted (constraint c) → constraint_limit ≤ length p.constraints
+      → LineFault p line Fault.TooManyLines
+
+-- line n of a text behind a policy is the first that is refused: those before it are skipped, or accepted and within the limits
+pub record FirstFault (p : Policy) (text : List ℕ) (f : Fault) (n : ℕ) : Type 0 where
+  pub before : List (List ℕ)
+  pub line : List ℕ
+  pub after : List (List ℕ)
+  pub lines : lines_of text ≡ before ++ line ∷ after
+  pub policy : Policy
+  pub taken : foldl read_line (reading 1 p) before ≡ reading n policy
+  pub fault : LineFault policy line f
+
+-- for what two texts are refused, read as one: the maker's text first, each for its length before its lines, and the site's lines behind
+-- the policy of the maker's
+pub data TextsFault (maker site : List ℕ) : Refusal → Type 0 where
+  maker_long : text_limit < length maker → TextsFault maker site (within Source.Maker (refusal Fault.TooLong 0))
+  in_maker : length maker ≤ text_limit → (f : Fault) (n : ℕ) → FirstFault empty_policy maker f n → TextsFault maker site (within Source.Maker (refusal f n))
+  site_long : (p : Policy) → policy_of maker ≡ some p → text_limit < length site → TextsFault maker site (within Source.Site (refusal Fault.TooLong 0))
+  in_site : (p : Policy) → policy_of maker ≡ some p → length site ≤ text_limit → (f : Fault) (n : ℕ) → FirstFault p site f n
+      → TextsFault maker site (within Source.Site (refusal f n))
+
+-- the tests of an epoch line, one behind another
+pub data EpochFault (line : List ℕ) : Fault → Type 0 where
+  too_long : epoch_limit < length line → EpochFault line Fault.TooLong
+  wrong_shape : length line ≤ epoch_limit → (any (eqb 10) line ≡ true) ⊎ (items_of (tokens_of line) ≡ none) → EpochFault line Fault.EpochSyntax
+  out_of_range : length line ≤ epoch_limit → any (eqb 10) line ≡ false → (is : List Item) → items_of (tokens_of line) ≡ some is → all item_in_range is ≡ false
+      → EpochFault line Fault.EpochRange
+  given_twice : length line ≤ epoch_limit → any (eqb 10) line ≡ false → (is : List Item) → items_of (tokens_of line) ≡ some is → all item_in_range is ≡ true
+      → repeats (given_by is) ≡ true → EpochFault line Fault.DuplicateReading

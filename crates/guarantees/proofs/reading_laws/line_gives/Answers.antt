@@ -1,0 +1,5 @@
+use Rattle.acceptance.proofs.Given as laws
+use Rattle.guarantees.proofs.reading_laws.line_gives.Goals as goal
+
+pub returns : goal.returns
+returns c = laws.line_gives
