@@ -1,4 +1,5 @@
 -- Laws of reading one token of an epoch line: an event, or a reading, `=` and a constant.
+use Rattle.std.specs.Prelude.{Option as Maybe, Some, None}
 use Rattle.std.proofs.Common.{ℕ, ◌+◌, ◌<◌, ◌≤◌, Bool, true, false, ◌&&◌, cond, List, [], ◌∷◌, ◌≡◌, refl, sym, ap, ap₂, ◌∙◌, arith, eqb-true, eq-eqb, ne_eqb, ℤ, length, drop, drop_of_length-le}
 use Rattle.std.proofs.Math.Option.{Option, none, some, or_else}
 use Rattle.std.proofs.Math.Dec.{eqb, ltb}
@@ -8,9 +9,7 @@ use Rattle.policy.specs.Limits.{is_reading_value}
 use Rattle.policy.specs.List.{all}
 use Rattle.policy.specs.Number.{check_event, check_reading}
 use Rattle.policy.specs.declared.number.Event.{Event}
-use Rattle.policy.specs.declared.number.EventCheck.{EventCheck}
 use Rattle.policy.specs.declared.number.Reading.{Reading}
-use Rattle.policy.specs.declared.number.ReadingCheck.{ReadingCheck}
 use Rattle.lexer.proofs.ClassLaws.{digit_bounds}
 use Rattle.lexer.proofs.DigitLaws.{digit_inside, not_number, ending_none, number_end}
 use Rattle.token.proofs.PartLaws as PartLaws
@@ -32,20 +31,20 @@ use Rattle.token.specs.declared.constant.ConstantAt.{ConstantAt}
 -- ---- checked numbers
 
 module _ (n e : ℕ) where
-  pub event_valid : (x : Event) → check_event n ≡ EventCheck.Valid x → ItemAt.Event x e ≡ item_ending e (some (event n))
+  pub event_valid : (x : Event) → check_event n ≡ Some x → ItemAt.Event x e ≡ item_ending e (some (event n))
   unfolding item_ending item_within item_in_range
   event_valid x q = let p = PartLaws.event_valid n x q in rw (p.0, p.1)
 
-  pub event_outside : check_event n ≡ EventCheck.OutOfRange → ItemAt.OutOfRange e ≡ item_ending e (some (event n))
+  pub event_outside : check_event n ≡ None → ItemAt.OutOfRange e ≡ item_ending e (some (event n))
   unfolding item_ending item_in_range
   event_outside q = rw (PartLaws.event_outside n q)
 
   module _ (k : ℤ) where
-    pub value_valid : (r : Reading) → check_reading n ≡ ReadingCheck.Valid r → ItemAt.Value r k e ≡ value_item n (ConstantAt.Value k e)
+    pub value_valid : (r : Reading) → check_reading n ≡ Some r → ItemAt.Value r k e ≡ value_item n (ConstantAt.Value k e)
     unfolding value_item
     value_valid r q = let p = reading_valid n r q in rw (p.0, p.1)
 
-    pub value_outside : check_reading n ≡ ReadingCheck.OutOfRange → ItemAt.OutOfRange e ≡ value_item n (ConstantAt.Value k e)
+    pub value_outside : check_reading n ≡ None → ItemAt.OutOfRange e ≡ value_item n (ConstantAt.Value k e)
     unfolding value_item
     value_outside q = rw (reading_outside n q)
 

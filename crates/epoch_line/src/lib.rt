@@ -10,9 +10,7 @@ ghost use Rattle.epoch_line.specs.Steps.EpochScan.{item_ending, value_item, valu
 ghost use Rattle.epoch_line.specs.Answer.{refused_read, epoch_read};
 
 use lexer::{NumberAt, digits_at, event_at, skip_spaces};
-use policy::{
-    Event, EventCheck, EventSet, Fault, READING_LIMIT, Reading, ReadingCheck, ReadingSet,
-};
+use policy::{Event, EventSet, Fault, READING_LIMIT, Reading, ReadingSet};
 use token::{ConstantAt, constant_at};
 
 #[derive(Clone, Copy)]
@@ -45,8 +43,8 @@ fn event_item(n: u32, end: usize) -> ItemAt
 {
     let check = Event::new(n);
     match check {
-        EventCheck::Valid(event) => ItemAt::Event(event, end),
-        EventCheck::OutOfRange => ItemAt::OutOfRange(end),
+        Some(event) => ItemAt::Event(event, end),
+        None => ItemAt::OutOfRange(end),
     }
 }
 
@@ -58,8 +56,8 @@ fn value_item(n: u32, constant: ConstantAt) -> ItemAt
         ConstantAt::Value(k, end) => {
             let check = Reading::new(n);
             match check {
-                ReadingCheck::Valid(reading) => ItemAt::Value(reading, k, end),
-                ReadingCheck::OutOfRange => ItemAt::OutOfRange(end),
+                Some(reading) => ItemAt::Value(reading, k, end),
+                None => ItemAt::OutOfRange(end),
             }
         }
         ConstantAt::OutOfRange(end) => ItemAt::OutOfRange(end),

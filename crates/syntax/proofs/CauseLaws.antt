@@ -1,4 +1,5 @@
 -- Laws of reading `causes`, the action and the condition of a rule, and of telling the two shapes apart.
+use Rattle.std.specs.Prelude.{Option as Maybe, Some, None}
 use Rattle.std.proofs.Common.{ℕ, Bool, true, false, List, [], ◌∷◌, ◌≡◌, refl, sym, ap, ap₂, ◌∙◌, arith}
 use Rattle.std.proofs.Math.Option.{some}
 use Rattle.std.proofs.Math.Dec.{ltb}
@@ -6,7 +7,6 @@ use Rattle.policy.specs.Limits.{ending_in_range}
 use Rattle.policy.specs.Number.{check_action}
 use Rattle.policy.specs.declared.line.Ending.{Ending}
 use Rattle.policy.specs.declared.number.Action.{Action}
-use Rattle.policy.specs.declared.number.ActionCheck.{ActionCheck}
 use Rattle.token.proofs.PartLaws.{Named, name_some, name_none, action_valid, action_outside, clip_below, clip_same}
 use Rattle.lexer.proofs.TokenLaws.{tokens_after_spaces, tokens_first, tokens_ended, line_past_spaces, line_past_token}
 use Rattle.lexer.proofs.KeywordLaws.{word_token, word_absent}
@@ -94,7 +94,7 @@ module _ (text : List ℕ) (at : ℕ) (heads : Heads) where
       numbers_in_range : ltb v 64 ≡ ltb name.number 64
       numbers_in_range = ap (λ (k : ℕ). ltb k 64) name.clipped ∙ clip_below 64 name.number (omega arith)
 
-      pub cause_valid : (a : Action) → check_action v ≡ ActionCheck.Valid a → assembled_line heads (Ending.Causes a) true (condition_outcome (line_end text e) (condition_from (tokens_at text e))) ≡ outcome
+      pub cause_valid : (a : Action) → check_action v ≡ Some a → assembled_line heads (Ending.Causes a) true (condition_outcome (line_end text e) (condition_from (tokens_at text e))) ≡ outcome
       unfolding ending_in_range small_ending action
       cause_valid a h =
           let p = action_valid v a h in
@@ -105,7 +105,7 @@ module _ (text : List ℕ) (at : ℕ) (heads : Heads) where
           valid_of : (x : Action) → ltb name.number 64 ≡ true → x ≡ record { 0 = name.number } → assembled_line heads (small_ending (Ending.Causes action)) (ending_in_range (Ending.Causes action)) (condition_outcome (line_end text at) (condition_from (tokens_at text e))) ≡ assembled_line heads (Ending.Causes x) true (condition_outcome (line_end text e) (condition_from (tokens_at text e)))
           valid_of x k i = rw (k, i, line)
 
-      pub cause_outside : check_action v ≡ ActionCheck.OutOfRange → assembled_line heads (Ending.Causes (record { 0 = 0 })) false (condition_outcome (line_end text e) (condition_from (tokens_at text e))) ≡ outcome
+      pub cause_outside : check_action v ≡ None → assembled_line heads (Ending.Causes (record { 0 = 0 })) false (condition_outcome (line_end text e) (condition_from (tokens_at text e))) ≡ outcome
       unfolding ending_in_range small_ending action
       cause_outside h =
           let k : ltb name.number 64 ≡ false = sym numbers_in_range ∙ action_outside v h in

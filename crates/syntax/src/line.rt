@@ -18,7 +18,7 @@ use lexer::{
     line_end, never_at, skip_spaces,
 };
 use line_value::Line;
-use policy::{Action, ActionCheck, COMPARISON_LIMIT, Comparison, Ending, Fault, HEAD_LIMIT, Head};
+use policy::{Action, COMPARISON_LIMIT, Comparison, Ending, Fault, HEAD_LIMIT, Head};
 use token::{ComparisonAt, HeadAt, comparison_at, head_at};
 
 // What was read of a line: whether it has the right shape, whether every number is in range, the parts, and the position
@@ -222,8 +222,8 @@ fn read_cause(text: &[u8], heads: Heads) -> ParsedLine
     let condition = read_condition(text, end);
     let check = Action::new(n);
     match check {
-        ActionCheck::Valid(action) => { assembled(heads, Ending::Causes(action), true, condition) }
-        ActionCheck::OutOfRange => { assembled(heads, Ending::Causes(Action(0)), false, condition) }
+        Some(action) => { assembled(heads, Ending::Causes(action), true, condition) }
+        None => { assembled(heads, Ending::Causes(Action(0)), false, condition) }
     }
 }
 

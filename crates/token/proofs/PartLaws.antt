@@ -1,5 +1,6 @@
 -- Laws of reading the parts of a line: what a name, a constant or a relation at a position says of the token there, and
 -- clipped numbers against the limits.
+use Rattle.std.specs.Prelude.{Option as Maybe, Some, None}
 use Rattle.std.proofs.Common.{ℕ, ◌+◌, ◌≤◌, Bool, true, false, ◌&&◌, cond, List, ◌∷◌, ◌≡◌, refl, sym, ap, ap₂, ◌∙◌, arith, lt-ltb, le-ltb, ltb-true, ltb-false, eq-eqb, ne_eqb, ℤ, pos}
 use Rattle.std.proofs.Math.Option.{Option, none, some, map, or_else}
 use Rattle.std.proofs.Math.Dec.{ltb}
@@ -12,11 +13,8 @@ use Rattle.policy.specs.declared.comparison.Operand.{Operand}
 use Rattle.policy.specs.declared.comparison.Relation.{Relation}
 use Rattle.policy.specs.declared.line.Test.{Test}
 use Rattle.policy.specs.declared.number.Action.{Action}
-use Rattle.policy.specs.declared.number.ActionCheck.{ActionCheck}
 use Rattle.policy.specs.declared.number.Event.{Event}
-use Rattle.policy.specs.declared.number.EventCheck.{EventCheck}
 use Rattle.policy.specs.declared.number.Reading.{Reading}
-use Rattle.policy.specs.declared.number.ReadingCheck.{ReadingCheck}
 use Rattle.lexer.proofs.DigitLaws.{ending_none}
 use Rattle.lexer.proofs.KeywordLaws.{token_none, token_first, skip_first}
 use Rattle.lexer.specs.Byte.{is_space}
@@ -98,50 +96,50 @@ module _ {A C : Type 0} (made : C → Option A) (b : Bool) (x : A) (valid outsid
       go true k = let w : ◌≡◌ {A = ℕ} 0 1 = cc in absurd (omega arith)
       go false k = refl
 
-as_reading : ReadingCheck → Option Reading
-as_reading (ReadingCheck.Valid r) = some r
-as_reading ReadingCheck.OutOfRange = none
+as_reading : Maybe Reading → Option Reading
+as_reading (Some r) = some r
+as_reading None = none
 
-as_event : EventCheck → Option Event
-as_event (EventCheck.Valid e) = some e
-as_event EventCheck.OutOfRange = none
+as_event : Maybe Event → Option Event
+as_event (Some e) = some e
+as_event None = none
 
-as_action : ActionCheck → Option Action
-as_action (ActionCheck.Valid a) = some a
-as_action ActionCheck.OutOfRange = none
+as_action : Maybe Action → Option Action
+as_action (Some a) = some a
+as_action None = none
 
-pub reading_valid : (n : ℕ) (r : Reading) → check_reading n ≡ ReadingCheck.Valid r → (ltb n 16 ≡ true) × (r ≡ record { 0 = n })
+pub reading_valid : (n : ℕ) (r : Reading) → check_reading n ≡ Some r → (ltb n 16 ≡ true) × (r ≡ record { 0 = n })
 unfolding as_reading
-reading_valid n r q = check_valid as_reading (ltb n 16) (record { 0 = n }) (ReadingCheck.Valid (record { 0 = n })) ReadingCheck.OutOfRange refl refl r (ap as_reading q)
+reading_valid n r q = check_valid as_reading (ltb n 16) (record { 0 = n }) (Some (record { 0 = n })) None refl refl r (ap as_reading q)
 
-pub reading_outside : (n : ℕ) → check_reading n ≡ ReadingCheck.OutOfRange → ltb n 16 ≡ false
+pub reading_outside : (n : ℕ) → check_reading n ≡ None → ltb n 16 ≡ false
 unfolding as_reading
-reading_outside n q = check_outside as_reading (ltb n 16) (record { 0 = n }) (ReadingCheck.Valid (record { 0 = n })) ReadingCheck.OutOfRange refl refl (ap as_reading q)
+reading_outside n q = check_outside as_reading (ltb n 16) (record { 0 = n }) (Some (record { 0 = n })) None refl refl (ap as_reading q)
 
-pub event_valid : (n : ℕ) (e : Event) → check_event n ≡ EventCheck.Valid e → (ltb n 64 ≡ true) × (e ≡ record { 0 = n })
+pub event_valid : (n : ℕ) (e : Event) → check_event n ≡ Some e → (ltb n 64 ≡ true) × (e ≡ record { 0 = n })
 unfolding as_event
-event_valid n e q = check_valid as_event (ltb n 64) (record { 0 = n }) (EventCheck.Valid (record { 0 = n })) EventCheck.OutOfRange refl refl e (ap as_event q)
+event_valid n e q = check_valid as_event (ltb n 64) (record { 0 = n }) (Some (record { 0 = n })) None refl refl e (ap as_event q)
 
-pub event_outside : (n : ℕ) → check_event n ≡ EventCheck.OutOfRange → ltb n 64 ≡ false
+pub event_outside : (n : ℕ) → check_event n ≡ None → ltb n 64 ≡ false
 unfolding as_event
-event_outside n q = check_outside as_event (ltb n 64) (record { 0 = n }) (EventCheck.Valid (record { 0 = n })) EventCheck.OutOfRange refl refl (ap as_event q)
+event_outside n q = check_outside as_event (ltb n 64) (record { 0 = n }) (Some (record { 0 = n })) None refl refl (ap as_event q)
 
-pub action_valid : (n : ℕ) (a : Action) → check_action n ≡ ActionCheck.Valid a → (ltb n 64 ≡ true) × (a ≡ record { 0 = n })
+pub action_valid : (n : ℕ) (a : Action) → check_action n ≡ Some a → (ltb n 64 ≡ true) × (a ≡ record { 0 = n })
 unfolding as_action
-action_valid n a q = check_valid as_action (ltb n 64) (record { 0 = n }) (ActionCheck.Valid (record { 0 = n })) ActionCheck.OutOfRange refl refl a (ap as_action q)
+action_valid n a q = check_valid as_action (ltb n 64) (record { 0 = n }) (Some (record { 0 = n })) None refl refl a (ap as_action q)
 
-pub action_outside : (n : ℕ) → check_action n ≡ ActionCheck.OutOfRange → ltb n 64 ≡ false
+pub action_outside : (n : ℕ) → check_action n ≡ None → ltb n 64 ≡ false
 unfolding as_action
-action_outside n q = check_outside as_action (ltb n 64) (record { 0 = n }) (ActionCheck.Valid (record { 0 = n })) ActionCheck.OutOfRange refl refl (ap as_action q)
+action_outside n q = check_outside as_action (ltb n 64) (record { 0 = n }) (Some (record { 0 = n })) None refl refl (ap as_action q)
 
 -- ---- operands
 
 module _ (n e : ℕ) where
-  pub operand_valid : (r : Reading) → check_reading n ≡ ReadingCheck.Valid r → OperandAt.Operand (Operand.Reading r) true e ≡ operand_ending e (some (Operand.Reading (record { 0 = n })))
+  pub operand_valid : (r : Reading) → check_reading n ≡ Some r → OperandAt.Operand (Operand.Reading r) true e ≡ operand_ending e (some (Operand.Reading (record { 0 = n })))
   unfolding operand_ending operand_in_range
   operand_valid r q = let p = reading_valid n r q in rw (p.0, p.1)
 
-  pub operand_outside : check_reading n ≡ ReadingCheck.OutOfRange → OperandAt.Operand (Operand.Constant (pos 0)) false e ≡ operand_ending e (some (Operand.Reading (record { 0 = n })))
+  pub operand_outside : check_reading n ≡ None → OperandAt.Operand (Operand.Constant (pos 0)) false e ≡ operand_ending e (some (Operand.Reading (record { 0 = n })))
   unfolding operand_ending operand_in_range
   operand_outside q = rw (reading_outside n q)
 
@@ -194,20 +192,20 @@ module _ (text : List ℕ) (at : ℕ) where
 -- ---- literals and actions
 
 module _ (n e : ℕ) (negated : Bool) where
-  pub literal_valid : (x : Event) → check_event n ≡ EventCheck.Valid x → HeadAt.Head (Test.Occurs (record { event = x; negated = negated })) true e ≡ literal_head (NumberAt.Number n e) negated
+  pub literal_valid : (x : Event) → check_event n ≡ Some x → HeadAt.Head (Test.Occurs (record { event = x; negated = negated })) true e ≡ literal_head (NumberAt.Number n e) negated
   unfolding literal_head head_ending small_test test_in_range test_number
   literal_valid x q = let p = event_valid n x q in rw (p.0, p.1)
 
-  pub literal_outside : check_event n ≡ EventCheck.OutOfRange → HeadAt.Head (Test.Member (record { 0 = 0 })) false e ≡ literal_head (NumberAt.Number n e) negated
+  pub literal_outside : check_event n ≡ None → HeadAt.Head (Test.Member (record { 0 = 0 })) false e ≡ literal_head (NumberAt.Number n e) negated
   unfolding literal_head head_ending small_test test_in_range test_number
   literal_outside q = rw (event_outside n q)
 
 module _ (n e : ℕ) where
-  pub member_valid : (a : Action) → check_action n ≡ ActionCheck.Valid a → HeadAt.Head (Test.Member a) true e ≡ action_head (NumberAt.Number n e)
+  pub member_valid : (a : Action) → check_action n ≡ Some a → HeadAt.Head (Test.Member a) true e ≡ action_head (NumberAt.Number n e)
   unfolding action_head head_ending small_test test_in_range test_number
   member_valid a q = let p = action_valid n a q in rw (p.0, p.1)
 
-  pub member_outside : check_action n ≡ ActionCheck.OutOfRange → HeadAt.Head (Test.Member (record { 0 = 0 })) false e ≡ action_head (NumberAt.Number n e)
+  pub member_outside : check_action n ≡ None → HeadAt.Head (Test.Member (record { 0 = 0 })) false e ≡ action_head (NumberAt.Number n e)
   unfolding action_head head_ending small_test test_in_range test_number
   member_outside q = rw (action_outside n q)
 
@@ -258,15 +256,15 @@ module _ (text : List ℕ) (at : ℕ) where
 -- ---- comparisons
 
 module _ (n e : ℕ) (relation : Relation) (operand : Operand) where
-  pub from_reading_valid : (r : Reading) → check_reading n ≡ ReadingCheck.Valid r → (ok : Bool) → ok ≡ true → ComparisonAt.Comparison (record { reading = r; relation = relation; operand = operand }) true e ≡ comparison_from n relation operand ok e
+  pub from_reading_valid : (r : Reading) → check_reading n ≡ Some r → (ok : Bool) → ok ≡ true → ComparisonAt.Comparison (record { reading = r; relation = relation; operand = operand }) true e ≡ comparison_from n relation operand ok e
   unfolding comparison_from
   from_reading_valid r q ok k = let p = reading_valid n r q in rw (k, p.0, p.1)
 
-  pub from_reading_past : (r : Reading) → check_reading n ≡ ReadingCheck.Valid r → (ok : Bool) → ok ≡ false → ComparisonAt.Comparison no_comparison false e ≡ comparison_from n relation operand ok e
+  pub from_reading_past : (r : Reading) → check_reading n ≡ Some r → (ok : Bool) → ok ≡ false → ComparisonAt.Comparison no_comparison false e ≡ comparison_from n relation operand ok e
   unfolding comparison_from
   from_reading_past r q ok k = let p = reading_valid n r q in rw (k, p.0)
 
-  pub from_reading_outside : check_reading n ≡ ReadingCheck.OutOfRange → (ok : Bool) → ComparisonAt.Comparison no_comparison false e ≡ comparison_from n relation operand ok e
+  pub from_reading_outside : check_reading n ≡ None → (ok : Bool) → ComparisonAt.Comparison no_comparison false e ≡ comparison_from n relation operand ok e
   unfolding comparison_from
   from_reading_outside q ok = rw (reading_outside n q)
 

@@ -11,10 +11,7 @@ ghost use Rattle.lexer.specs.Token.{relation_of};
 
 pub use constant::{ConstantAt, constant_at};
 use lexer::{NumberAt, action_at, at_token_end, event_at, reading_at, skip_spaces};
-use policy::{
-    Action, ActionCheck, Comparison, Event, EventCheck, Literal, Operand, Reading, ReadingCheck,
-    Relation, Test,
-};
+use policy::{Action, Comparison, Event, Literal, Operand, Reading, Relation, Test};
 
 #[derive(Clone, Copy)]
 pub enum RelationAt {
@@ -77,8 +74,8 @@ fn reading_operand(n: u32, end: usize) -> OperandAt
 {
     let check = Reading::new(n);
     match check {
-        ReadingCheck::Valid(reading) => OperandAt::Operand(Operand::Reading(reading), true, end),
-        ReadingCheck::OutOfRange => OperandAt::Operand(Operand::Constant(0), false, end),
+        Some(reading) => OperandAt::Operand(Operand::Reading(reading), true, end),
+        None => OperandAt::Operand(Operand::Constant(0), false, end),
     }
 }
 
@@ -111,10 +108,8 @@ fn literal_head(number: NumberAt, negated: bool) -> HeadAt
         NumberAt::Number(n, end) => {
             let check = Event::new(n);
             match check {
-                EventCheck::Valid(event) => {
-                    HeadAt::Head(Test::Occurs(Literal { event, negated }), true, end)
-                }
-                EventCheck::OutOfRange => HeadAt::Head(Test::Member(Action(0)), false, end),
+                Some(event) => { HeadAt::Head(Test::Occurs(Literal { event, negated }), true, end) }
+                None => HeadAt::Head(Test::Member(Action(0)), false, end),
             }
         }
         NumberAt::Malformed => HeadAt::Malformed,
@@ -128,8 +123,8 @@ fn action_head(number: NumberAt) -> HeadAt
         NumberAt::Number(n, end) => {
             let check = Action::new(n);
             match check {
-                ActionCheck::Valid(action) => HeadAt::Head(Test::Member(action), true, end),
-                ActionCheck::OutOfRange => HeadAt::Head(Test::Member(Action(0)), false, end),
+                Some(action) => HeadAt::Head(Test::Member(action), true, end),
+                None => HeadAt::Head(Test::Member(Action(0)), false, end),
             }
         }
         NumberAt::Malformed => HeadAt::Malformed,
@@ -170,7 +165,7 @@ fn comparison_from(
     ensures { result ≡ comparison_from n relation operand in_range end }
 {
     let check = Reading::new(n);
-    if let ReadingCheck::Valid(reading) = check {
+    if let Some(reading) = check {
         if in_range {
             let comparison = Comparison {
                 reading,

@@ -3,11 +3,11 @@ use Rattle.token.proofs.PartLaws.{member_valid, member_outside}
 use Rattle.token.specs.Steps.PartAt.{action_head}
 use Rattle.token.proofs.action_head.Goals as goal
 
-pub returns-in-Valid : goal.returns-in-Valid
-returns-in-Valid c = member_valid _ _ _ (sym c.new-check.ensures ∙ c.in-Valid.is) ∙ ap action_head (sym c.in-Number.is)
+pub returns-in-Some : goal.returns-in-Some
+returns-in-Some c = member_valid _ _ _ (sym c.new-check.ensures ∙ c.in-Some.is) ∙ ap action_head (sym c.in-Number.is)
 
-pub returns-in-OutOfRange : goal.returns-in-OutOfRange
-returns-in-OutOfRange c = member_outside _ _ (sym c.new-check.ensures ∙ c.in-OutOfRange.is) ∙ ap action_head (sym c.in-Number.is)
+pub returns-in-None : goal.returns-in-None
+returns-in-None c = member_outside _ _ (sym c.new-check.ensures ∙ c.in-None.is) ∙ ap action_head (sym c.in-Number.is)
 
 pub returns-in-Malformed : goal.returns-in-Malformed
 unfolding action_head

@@ -4,11 +4,11 @@ use Rattle.token.specs.Steps.PartAt.{literal_head}
 use Rattle.lexer.specs.declared.scan.NumberAt.{NumberAt}
 use Rattle.token.proofs.literal_head.Goals as goal
 
-pub returns-in-Valid : goal.returns-in-Valid
-returns-in-Valid c = literal_valid _ _ _ _ (sym c.new-check.ensures ∙ c.in-Valid.is) ∙ ap (λ (x : NumberAt). literal_head x c.args.negated) (sym c.in-Number.is)
+pub returns-in-Some : goal.returns-in-Some
+returns-in-Some c = literal_valid _ _ _ _ (sym c.new-check.ensures ∙ c.in-Some.is) ∙ ap (λ (x : NumberAt). literal_head x c.args.negated) (sym c.in-Number.is)
 
-pub returns-in-OutOfRange : goal.returns-in-OutOfRange
-returns-in-OutOfRange c = literal_outside _ _ _ (sym c.new-check.ensures ∙ c.in-OutOfRange.is) ∙ ap (λ (x : NumberAt). literal_head x c.args.negated) (sym c.in-Number.is)
+pub returns-in-None : goal.returns-in-None
+returns-in-None c = literal_outside _ _ _ (sym c.new-check.ensures ∙ c.in-None.is) ∙ ap (λ (x : NumberAt). literal_head x c.args.negated) (sym c.in-Number.is)
 
 pub returns-in-Malformed : goal.returns-in-Malformed
 unfolding literal_head

@@ -15,14 +15,14 @@ returns-in_default-action_at c =
     let q = ap (λ (k : ℕ). name_at c.args.text.now k 65) (sym c.skip_spaces-second.ensures) ∙ sym c.action_at.ensures ∙ c.in_default-action_at.is in
     c.failed-in_default-action_at.ensures ∙ cause_no_action c.args.text.now c.args.heads.at c.args.heads _ w q
 
-pub returns-in-Valid : goal.returns-in-Valid
-returns-in-Valid c =
+pub returns-in-Some : goal.returns-in-Some
+returns-in-Some c =
     let w = ap (λ (k : ℕ). keyword_at c.args.text.now k (bytes "causes")) (sym c.skip_spaces-first.ensures) ∙ sym c.causes_at.ensures ∙ c.in-Found.is in
     let q = ap (λ (k : ℕ). name_at c.args.text.now k 65) (sym c.skip_spaces-second.ensures) ∙ sym c.action_at.ensures ∙ c.in-Number.is in
-    c.assembled.ensures ∙ rw c.read_condition-condition.ensures (cause_valid c.args.text.now c.args.heads.at c.args.heads _ w _ _ q _ (sym c.new-check.ensures ∙ c.in-Valid.is))
+    c.assembled.ensures ∙ rw c.read_condition-condition.ensures (cause_valid c.args.text.now c.args.heads.at c.args.heads _ w _ _ q _ (sym c.new-check.ensures ∙ c.in-Some.is))
 
-pub returns-in-OutOfRange : goal.returns-in-OutOfRange
-returns-in-OutOfRange c =
+pub returns-in-None : goal.returns-in-None
+returns-in-None c =
     let w = ap (λ (k : ℕ). keyword_at c.args.text.now k (bytes "causes")) (sym c.skip_spaces-first.ensures) ∙ sym c.causes_at.ensures ∙ c.in-Found.is in
     let q = ap (λ (k : ℕ). name_at c.args.text.now k 65) (sym c.skip_spaces-second.ensures) ∙ sym c.action_at.ensures ∙ c.in-Number.is in
-    c.assembled-in-OutOfRange.ensures ∙ rw c.read_condition-condition.ensures (cause_outside c.args.text.now c.args.heads.at c.args.heads _ w _ _ q (sym c.new-check.ensures ∙ c.in-OutOfRange.is))
+    c.assembled-in-None.ensures ∙ rw c.read_condition-condition.ensures (cause_outside c.args.text.now c.args.heads.at c.args.heads _ w _ _ q (sym c.new-check.ensures ∙ c.in-None.is))
