@@ -5,9 +5,8 @@
 mod class;
 mod hex;
 mod scan;
-mod table;
 
-pub use class::{Class, class_of, hex_value, is_digit};
+pub use class::{Class, hex_value, is_digit};
 pub use hex::hex_digits;
 pub use scan::{
     Digits, KeywordAt, NumberAt, action_at, ampersand_at, at_token_end, causes_at, comma_at,

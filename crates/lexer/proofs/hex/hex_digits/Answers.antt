@@ -1,4 +1,4 @@
-use Rattle.std.proofs.Common.{ℕ, ◌+◌, ◌*◌, ◌-◌, ◌%◌, true, false, ◌≡◌, ap, ◌∙◌, lt-ltb, le-ltb, drop, arith}
+use Rattle.std.proofs.Common.{ℕ, ◌+◌, ◌*◌, ◌%◌, true, false, ◌≡◌, ap, ◌∙◌, lt-ltb, le-ltb, drop, arith}
 use Rattle.std.proofs.Math.ListN.{get_or}
 use Rattle.lexer.proofs.HexLaws.{hex_past, hex_none}
 use Rattle.lexer.proofs.WhileLaws.{while_here, while_end, skip_here, skip_past, skip_end}

@@ -1,4 +1,4 @@
-use Rattle.std.proofs.Common.{◌-◌, ◌+◌, ◌≡◌, sym, ap, ◌∙◌, length, arith}
+use Rattle.std.proofs.Common.{◌+◌, ◌≡◌, sym, ap, ◌∙◌, length, arith}
 use Rattle.lexer.proofs.KeywordLaws.{word_short, word_differs, word_goes_on, word_ends}
 use Rattle.lexer.specs.Steps.Scan.{token_at, keyword_at}
 use Rattle.lexer.specs.declared.scan.KeywordAt.{KeywordAt}

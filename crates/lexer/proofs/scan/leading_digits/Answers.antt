@@ -1,4 +1,4 @@
-use Rattle.std.proofs.Common.{◌-◌, true, false, ◌≡◌, sym, ◌∙◌, arith}
+use Rattle.std.proofs.Common.{true, false, ◌≡◌, sym, ◌∙◌, arith}
 use Rattle.std.proofs.Math.ListN.{get_or}
 use Rattle.lexer.proofs.WhileLaws.{skip_here, skip_past, skip_end}
 use Rattle.lexer.proofs.DigitLaws.{digits_past, digits_here, digits_end}

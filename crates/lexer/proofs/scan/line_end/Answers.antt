@@ -1,4 +1,4 @@
-use Rattle.std.proofs.Common.{◌-◌, not, sym, ap, ◌∙◌, eq-eqb, ne_eqb}
+use Rattle.std.proofs.Common.{not, sym, ap, ◌∙◌, eq-eqb, ne_eqb}
 use Rattle.lexer.proofs.WhileLaws.{skip_here, skip_past, skip_end}
 use Rattle.lexer.specs.Lines.{in_line, line_end}
 use Rattle.lexer.proofs.scan.line_end.Goals as goal

@@ -1,4 +1,4 @@
-use Rattle.std.proofs.Common.{◌-◌, sym, ◌∙◌}
+use Rattle.std.proofs.Common.{sym, ◌∙◌}
 use Rattle.lexer.proofs.WhileLaws.{skip_here, skip_past, skip_end}
 use Rattle.lexer.specs.Byte.{is_space}
 use Rattle.lexer.proofs.scan.skip_spaces.Goals as goal
