@@ -1,6 +1,6 @@
 -- Putting word 0, the lines and the check words into a buffer with room for them leaves the image of the text's policy in it.
 use Rattle.std.proofs.Common.{ℕ, ◌+◌, ◌*◌, ◌/◌, ◌≤◌, ◌<◌, List, [], ◌∷◌, ◌++◌, map, ◌≡◌, refl, sym, ap, ap₂, ◌∙◌, zero-add, arith, le-leb, length, take, drop, length-append, take_at}
-use borrow.Author.Tests.{lt-leb}
+use Rattle.std.proofs.lemmas.Bool.{lt-leb}
 use Rattle.policy.specs.Line.{PolicyLine, rule, constraint, ending_of}
 use Rattle.policy.specs.Policy.{Policy, Rule, Constraint}
 use Rattle.policy.specs.Fault.{refusal}

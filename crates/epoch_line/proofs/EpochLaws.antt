@@ -1,11 +1,10 @@
 -- Laws of scanning an epoch line, token by token, and of its judgement against the definition.
 use Rattle.std.specs.Prelude.{Option as Maybe, Some, None}
-use Rattle.std.proofs.Common.{ℕ, suc, ◌<◌, ◌≤◌, Bool, true, false, not, ◌&&◌, ◌||◌, cond, List, [], ◌∷◌, ◌≡◌, refl, sym, ap, ap₂, ◌∙◌, arith, eqb-true, eq-eqb, ne_eqb, ltb-true, lt-ltb, le-ltb, ℤ, pos, length, drop, drop_of_length-le, length-drop, replicate}
+use Rattle.std.proofs.Common.{ℕ, suc, ◌<◌, ◌≤◌, Bool, true, false, not, ◌&&◌, ◌||◌, cond, List, [], ◌∷◌, ◌≡◌, refl, sym, ap, ap₂, ◌∙◌, arith, eqb-true, eq-eqb, ne_eqb, ltb-true, lt-ltb, le-ltb, ℤ, pos, length, drop, drop_of_length-le, length-drop, replicate, fold}
 use Rattle.std.proofs.Math.Bool.{or-true, or_assoc, or-false}
 use Rattle.std.proofs.Math.Option.{Option, none, some, or_else}
 use Rattle.std.proofs.Math.Dec.{eqb, ltb}
 use Rattle.std.proofs.Math.ListN.{set}
-use mathlib.Core.List.{foldl}
 use Rattle.policy.proofs.ListLaws.{true_false, and_in, and_out}
 use Rattle.policy.proofs.SeenLaws.{seen_repeats}
 use Rattle.policy.specs.Epoch.{Epoch}
@@ -85,7 +84,7 @@ closed out_of_range twice e = cond out_of_range (refused_read Fault.EpochRange) 
 
 module _ (s : Scanned) (is : List Item) where
   abbrev after : Scanned → List Item → EpochRead
-  after s is = closed (s.out_of_range || not (all item_in_range is)) (s.twice || seen_in s.epoch.readings.given.bits (given_by is)) (foldl add_item s.epoch is)
+  after s is = closed (s.out_of_range || not (all item_in_range is)) (s.twice || seen_in s.epoch.readings.given.bits (given_by is)) (fold add_item s.epoch is)
 
   one_more : (i : Item) → after (take_item s i) is ≡ after s (i ∷ is)
   unfolding take_item add_scanned closed all seen_in given_by add_item
@@ -96,7 +95,7 @@ module _ (s : Scanned) (is : List Item) where
       go (value n k) true e = rw (e, or_assoc s.twice (has_reading s.epoch.readings.given (record { 0 = n })) (seen_in (insert_reading s.epoch.readings.given (record { 0 = n })).bits (given_by is)))
       go i false e = rw (e, or-true s.out_of_range)
 
-collected : (s : Scanned) (is : List Item) → finish_read (foldl take_item s is) ≡ closed (s.out_of_range || not (all item_in_range is)) (s.twice || seen_in s.epoch.readings.given.bits (given_by is)) (foldl add_item s.epoch is)
+collected : (s : Scanned) (is : List Item) → finish_read (fold take_item s is) ≡ closed (s.out_of_range || not (all item_in_range is)) (s.twice || seen_in s.epoch.readings.given.bits (given_by is)) (fold add_item s.epoch is)
 unfolding finish_read closed all seen_in given_by
 collected s [] = rw (or-false s.out_of_range, or-false s.twice)
 collected s (i ∷ is) = collected (take_item s i) is ∙ one_more s is i
@@ -118,11 +117,11 @@ unfolding items_read judge_epoch answer_read closed
 judged none = refl
 judged (some is) = collected nothing is ∙ go (all item_in_range is) refl
   where
-    twice : (r : Bool) → cond r (refused_read Fault.DuplicateReading) (accepted_read (foldl add_item empty_epoch is)) ≡ answer_read (cond r (refused Fault.DuplicateReading) (accepted (foldl add_item empty_epoch is)))
+    twice : (r : Bool) → cond r (refused_read Fault.DuplicateReading) (accepted_read (fold add_item empty_epoch is)) ≡ answer_read (cond r (refused Fault.DuplicateReading) (accepted (fold add_item empty_epoch is)))
     twice true = refl
     twice false = refl
 
-    go : (a : Bool) → all item_in_range is ≡ a → closed (not a) (seen_in 0 (given_by is)) (foldl add_item empty_epoch is) ≡ answer_read (cond (not a) (refused Fault.EpochRange) (cond (repeats (given_by is)) (refused Fault.DuplicateReading) (accepted (foldl add_item empty_epoch is))))
+    go : (a : Bool) → all item_in_range is ≡ a → closed (not a) (seen_in 0 (given_by is)) (fold add_item empty_epoch is) ≡ answer_read (cond (not a) (refused Fault.EpochRange) (cond (repeats (given_by is)) (refused Fault.DuplicateReading) (accepted (fold add_item empty_epoch is))))
     go true e = rw (seen_repeats (given_by is) (given_small is e)) (twice (repeats (given_by is)))
     go false e = refl
 

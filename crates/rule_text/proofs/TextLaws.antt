@@ -1,8 +1,8 @@
 -- Laws of reading a text line by line.
-use Rattle.std.proofs.Common.{ℕ, suc, ◌+◌, ◌<◌, ◌≤◌, Bool, true, false, not, cond, List, [], ◌∷◌, ◌++◌, map, ◌≡◌, refl, sym, ap, ap₂, ◌∙◌, add-one, arith, lt-ltb, le-ltb, ltb-true, ltb-false, length, drop, length-append, drop_of_length-le, drop-drop}
+use Rattle.std.proofs.Common.{ℕ, suc, ◌+◌, ◌<◌, ◌≤◌, Bool, true, false, not, cond, List, [], ◌∷◌, ◌++◌, map, ◌≡◌, refl, sym, ap, ap₂, ◌∙◌, add-one, arith, lt-ltb, le-ltb, ltb-true, ltb-false, length, drop, length-append, drop_of_length-le, drop-drop, fold}
+use Rattle.std.proofs.lemmas.List.{map-append}
 use Rattle.std.proofs.Math.Dec.{eqb, ltb}
 use Rattle.std.proofs.Math.ListN.{length-map}
-use mathlib.Core.List.{foldl, map-append}
 use Rattle.policy.proofs.ListLaws.{or_out}
 use Rattle.policy.specs.Fault.{refusal}
 use Rattle.policy.specs.Limits.{crowded, rule_limit, constraint_limit, head_limit, comparison_limit}
@@ -130,11 +130,11 @@ view_line (reading n p) line = go (line_answer line)
         room true = ap₂ going (sym (add-one n)) made
         room false = refl
 
-view_lines : (s : Progress) (ls : List (List ℕ)) → view (foldl read_line s ls) ≡ foldl count_line (view s) ls
+view_lines : (s : Progress) (ls : List (List ℕ)) → view (fold read_line s ls) ≡ fold count_line (view s) ls
 view_lines s [] = refl
-view_lines s (l ∷ ls) = view_lines (read_line s l) ls ∙ ap (λ (x : Counting). foldl count_line x ls) (view_line s l)
+view_lines s (l ∷ ls) = view_lines (read_line s l) ls ∙ ap (λ (x : Counting). fold count_line x ls) (view_line s l)
 
-stays : (r : Refusal) (ls : List (List ℕ)) → foldl count_line (halted r) ls ≡ halted r
+stays : (r : Refusal) (ls : List (List ℕ)) → fold count_line (halted r) ls ≡ halted r
 unfolding count_line
 stays r [] = refl
 stays r (l ∷ ls) = stays r ls
@@ -232,9 +232,9 @@ module _ (text : List ℕ) (n : ℕ) (c : TextCounts) (at : ℕ) where
     unfolding line_read
     taken = rw q (turn c (behind_line text (line_end text at)) answer (λ l e. accepted_uncrowded (rest_of_line text at) l e))
 
-    here : count_from text n c at ≡ foldl count_line (counted_step n (stepped c answer)) (lines_of (drop (behind_line text (line_end text at)) text))
+    here : count_from text n c at ≡ fold count_line (counted_step n (stepped c answer)) (lines_of (drop (behind_line text (line_end text at)) text))
     unfolding count_from count_line
-    here = ap (foldl count_line (going n c)) (lines_here text at h)
+    here = ap (fold count_line (going n c)) (lines_here text at h)
 
     pub count_stop : (f : Fault) → step_of c r.status r.line ≡ Tally.Stop f → count_from text n c at ≡ halted (refusal f n)
     unfolding counted_step
@@ -299,7 +299,7 @@ counts_behind : (p : Policy) (text : List ℕ) → count_behind (counts_of p) te
 unfolding count_behind read_text_behind count_from view
 counts_behind p text = go (ltb text_limit (length text))
   where
-    go : (b : Bool) → cond b (halted (refusal Fault.TooLong 0)) (foldl count_line (going 1 (counts_of p)) (lines_of text)) ≡ view (cond b (stopped (refusal Fault.TooLong 0)) (foldl read_line (reading 1 p) (lines_of text)))
+    go : (b : Bool) → cond b (halted (refusal Fault.TooLong 0)) (fold count_line (going 1 (counts_of p)) (lines_of text)) ≡ view (cond b (stopped (refusal Fault.TooLong 0)) (fold read_line (reading 1 p) (lines_of text)))
     go true = refl
     go false = sym (view_lines (reading 1 p) (lines_of text))
 
@@ -340,12 +340,12 @@ module _ (maker site : List ℕ) where
 step_small : (c d : TextCounts) (line : List ℕ) → Small c → stepped c (line_answer line) ≡ Tally.Go d → Small d
 step_small c d line s e = ((turn c 0 (line_answer line) (accepted_uncrowded line)).goes d e).1 s
 
-lines_small : (ls : List (List ℕ)) (n m : ℕ) (c d : TextCounts) → Small c → foldl count_line (going n c) ls ≡ going m d → Small d
+lines_small : (ls : List (List ℕ)) (n m : ℕ) (c d : TextCounts) → Small c → fold count_line (going n c) ls ≡ going m d → Small d
 unfolding count_line counted_step
 lines_small [] n m c d s e = let q : c ≡ d = cc in rw (← q) s
 lines_small (l ∷ ls) n m c d s e = go (stepped c (line_answer l)) refl (λ x. lines_small ls (n + 1) m x d) e
   where
-    go : (t : Tally) → stepped c (line_answer l) ≡ t → ((x : TextCounts) → Small x → foldl count_line (going (n + 1) x) ls ≡ going m d → Small d) → foldl count_line (counted_step n t) ls ≡ going m d → Small d
+    go : (t : Tally) → stepped c (line_answer l) ≡ t → ((x : TextCounts) → Small x → fold count_line (going (n + 1) x) ls ≡ going m d → Small d) → fold count_line (counted_step n t) ls ≡ going m d → Small d
     go (Tally.Go x) q later k = later x (step_small c x l s q) k
     go (Tally.Stop f) q later k =
         let h : halted (refusal f n) ≡ going m d = sym (stays (refusal f n) ls) ∙ k in
@@ -360,6 +360,6 @@ read_small text c e = go (ltb text_limit (length text)) (text_read_is text ∙ e
     kept (going n d) q s = let m : d ≡ c = cc in rw (← m) (s n d refl)
     kept (halted r) q s = let w : ◌≡◌ {A = ℕ} 0 1 = cc in absurd (omega arith)
 
-    go : (b : Bool) → sourced_in Source.Maker (count_read (cond b (halted (refusal Fault.TooLong 0)) (foldl count_line (going 1 no_counts) (lines_of text)))) ≡ TextRead.Accepted c → Small c
+    go : (b : Bool) → sourced_in Source.Maker (count_read (cond b (halted (refusal Fault.TooLong 0)) (fold count_line (going 1 no_counts) (lines_of text)))) ≡ TextRead.Accepted c → Small c
     go true q = kept (halted (refusal Fault.TooLong 0)) q (λ n d h. absurd (let w : ◌≡◌ {A = ℕ} 0 1 = cc in omega arith))
-    go false q = kept (foldl count_line (going 1 no_counts) (lines_of text)) q (λ n d h. lines_small (lines_of text) 1 n no_counts d none_small h)
+    go false q = kept (fold count_line (going 1 no_counts) (lines_of text)) q (λ n d h. lines_small (lines_of text) 1 n no_counts d none_small h)

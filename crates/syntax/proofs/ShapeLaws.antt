@@ -2,7 +2,7 @@
 use Rattle.std.proofs.Common.{ℕ, Bool, true, false, ◌&&◌, cond, List, [], ◌∷◌, map, ◌≡◌, refl, sym, ap, ◌∙◌, arith}
 use Rattle.std.specs.Prelude.{Option as Maybe, Some, None}
 use Rattle.std.proofs.Math.Option.{Option, none, some}
-use mathlib.Core.Option
+use Rattle.std.proofs.Math.Option
 use Rattle.policy.specs.Limits.{in_range, comparison_in_range, ending_in_range, head_limit, comparison_limit}
 use Rattle.policy.specs.Line.{PolicyLine, heads_of, comparisons_of, ending_of}
 use Rattle.line_value.specs.Value.{head, padded, line_of, line_value, counted, no_head, no_comparison}

@@ -1,10 +1,10 @@
 -- Laws of reading decimal constants: signs, the range of readings, and clipped numbers.
 use Rattle.std.proofs.Common.{ℕ, zero, suc, ◌+◌, ◌-◌, ◌<◌, ◌≤◌, Bool, true, false, ◌&&◌, List, ◌≡◌, refl, sym, ap, ap₂, ◌∙◌, arith, le-leb, eq-eqb, ne_eqb, leb-true, leb-false, ℤ, pos, negsuc, ◌-ℤ◌, length, w32, SFits, of_z, to_z, to_z-of_z}
+use Rattle.std.proofs.lemmas.Bool.{lt-leb}
 use Rattle.std.specs.Prelude.{Option as Maybe, Some, None}
 use Rattle.std.proofs.Math.Option.{some}
 use Rattle.std.proofs.Math.Dec.{leb}
 use Rattle.std.proofs.Math.ListN.{get_or}
-use borrow.Author.Tests.{lt-leb}
 use Rattle.policy.specs.Limits.{is_reading_value}
 use Rattle.lexer.proofs.WhileLaws.{skip_past}
 use Rattle.lexer.proofs.KeywordLaws.{token_past, First, nothing, byte, first}

@@ -1,9 +1,9 @@
 -- Laws of reading patterns, which are hexadecimal digits behind `0x`, and of a constant as one of both forms.
 use Rattle.std.proofs.Common.{ℕ, ◌+◌, ◌-◌, ◌^◌, ◌<◌, ◌≤◌, Bool, true, false, ◌&&◌, cond, List, [], ◌∷◌, ◌≡◌, refl, sym, ap, ap₂, ◌∙◌, arith, eqb-true, le-leb, ℤ, pos, length, drop, w32, to_z}
+use Rattle.std.proofs.lemmas.Bool.{lt-leb}
 use Rattle.std.proofs.Math.Option.{Option, none, some, or_else}
 use Rattle.std.proofs.Math.Dec.{eqb}
 use Rattle.std.proofs.Math.ListN.{get_or}
-use borrow.Author.Tests.{lt-leb}
 use Rattle.policy.proofs.ConstantLaws.{reading_limit_is}
 use Rattle.policy.specs.Limits.{is_reading_value}
 use Rattle.policy.specs.List.{all}

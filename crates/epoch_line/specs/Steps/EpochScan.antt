@@ -1,6 +1,5 @@
 -- What stands at a position of an epoch line, and what was collected up to there.
-use Rattle.std.specs.Prelude.{ℕ, Bool, true, ◌||◌, cond, eqb, ℤ, drop, List, Option as Maybe, Some, None}
-use mathlib.Core.List.{foldl}
+use Rattle.std.specs.Prelude.{ℕ, Bool, true, ◌||◌, cond, eqb, ℤ, drop, List, Option as Maybe, Some, None, fold}
 use Rattle.std.proofs.Math.Option.{Option, none, some}
 use Rattle.policy.specs.Epoch.{Epoch}
 use Rattle.policy.specs.List.{any}
@@ -73,7 +72,7 @@ finish_read s =
 
 unfoldable pub items_read : Scanned → Option (List Item) → EpochRead
 items_read s none = refused_read Fault.EpochSyntax
-items_read s (some is) = finish_read (foldl take_item s is)
+items_read s (some is) = finish_read (fold take_item s is)
 
 -- the answer, after what was collected up to a position
 unfoldable pub epoch_from : Scanned → List ℕ → ℕ → EpochRead

@@ -1,6 +1,5 @@
 -- Counting the lines of a text instead of collecting them.
-use Rattle.std.specs.Prelude.{ℕ, ◌+◌, cond, ltb, length, drop, List}
-use mathlib.Core.List.{foldl}
+use Rattle.std.specs.Prelude.{ℕ, ◌+◌, cond, ltb, length, drop, List, fold}
 use Rattle.policy.specs.Fault.{refusal, within}
 use Rattle.policy.specs.Line.{PolicyLine, heads_of, comparisons_of, ending_of, constant_count}
 use Rattle.policy.specs.declared.fault.Fault.{Fault}
@@ -40,7 +39,7 @@ count_line (halted r) line = halted r
 
 -- the lines from a position on, counted
 unfoldable pub count_from : List ℕ → ℕ → TextCounts → ℕ → Counting
-count_from text n c at = foldl count_line (going n c) (lines_of (drop at text))
+count_from text n c at = fold count_line (going n c) (lines_of (drop at text))
 
 -- the lines of a text, counted behind those before it
 unfoldable pub count_behind : TextCounts → List ℕ → Counting
