@@ -1,4 +1,5 @@
 -- The lines of two accepted texts make up their policy, and how many words they take.
+use Rattle.std.specs.Prelude.{Ok}
 use Rattle.std.proofs.Common.{ℕ, suc, ◌+◌, ◌≤◌, Bool, true, false, cond, List, [], ◌∷◌, ◌++◌, map, append_assoc, append-nil, ◌≡◌, refl, sym, ap, ◌∙◌, arith, ltb-false, length, length-append, fold}
 use Rattle.std.proofs.Math.Dec.{ltb}
 use Rattle.policy.specs.Fault.{refusal, within}
@@ -22,7 +23,6 @@ use Rattle.lexer.specs.Lines.{lines_of}
 use Rattle.syntax.specs.Judge.{LineAnswer, skipped, refused, accepted, line_answer}
 use Rattle.rule_text.specs.Text.{Progress, reading, stopped, with_rule, with_constraint, advance, read_line, empty_policy, text_limit, read_text_behind, in_text, read_text, read_site, read_texts}
 use Rattle.rule_text.specs.declared.TextCounts.{TextCounts}
-use Rattle.rule_text.specs.declared.TextRead.{TextRead}
 use Rattle.codegen.specs.Compile.{newest_form}
 use Rattle.codegen.specs.Steps.Put.{word_count, accepted_line, accepted_lines, lines_of_both}
 
@@ -140,7 +140,7 @@ pub record AcceptedTexts (maker site : List ℕ) (counts : TextCounts) : Type 0 
   pub rules : rules_in (lines_of_both maker site) ≡ policy.rules
   pub constraints : constraints_in (lines_of_both maker site) ≡ policy.constraints
 
-pub accepted_texts : (maker site : List ℕ) (counts : TextCounts) → texts_read maker site ≡ TextRead.Accepted counts → AcceptedTexts maker site counts
+pub accepted_texts : (maker site : List ℕ) (counts : TextCounts) → texts_read maker site ≡ Ok counts → AcceptedTexts maker site counts
 unfolding texts_read text_read_of read_texts read_site read_text counts_of rule_part_words constraint_part_words
 accepted_texts maker site counts e = first (read_text maker) refl e
   where
@@ -167,10 +167,10 @@ accepted_texts maker site counts e = first (read_text maker) refl e
               ∙ ap (λ (x : List Constraint). x ++ constraints_in (accepted_lines (lines_of site))) (sym f.lines.constraints) ∙ sym g.lines.constraints;
         }
 
-    second : (m : ℕ) (a : Policy) → read_text maker ≡ reading m a → (s : Progress) → in_text Source.Site (read_text_behind a site) ≡ s → text_read_of s ≡ TextRead.Accepted counts → AcceptedTexts maker site counts
+    second : (m : ℕ) (a : Policy) → read_text maker ≡ reading m a → (s : Progress) → in_text Source.Site (read_text_behind a site) ≡ s → text_read_of s ≡ Ok counts → AcceptedTexts maker site counts
     second m a j (reading n p) r k = let c : counts_of p ≡ counts = cc in found n m a p j r c
     second m a j (stopped x) r k = let w : ◌≡◌ {A = ℕ} 0 1 = cc in absurd (omega arith)
 
-    first : (s : Progress) → read_text maker ≡ s → text_read_of (read_site s site) ≡ TextRead.Accepted counts → AcceptedTexts maker site counts
+    first : (s : Progress) → read_text maker ≡ s → text_read_of (read_site s site) ≡ Ok counts → AcceptedTexts maker site counts
     first (reading m a) j k = second m a j (in_text Source.Site (read_text_behind a site)) refl k
     first (stopped x) j k = let w : ◌≡◌ {A = ℕ} 0 1 = cc in absurd (omega arith)

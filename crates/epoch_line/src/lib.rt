@@ -36,6 +36,7 @@ pub enum Entry {
 }
 
 // The event of a number; none where it is out of range.
+#[inline(always)]
 #[tactic(auto, unfolding(crate::specs::Steps::EpochScan::event_with))]
 fn event_entry(n: u32) -> Option<Entry>
     ensures { result ≡ event_with (check_event n) }
@@ -45,6 +46,7 @@ fn event_entry(n: u32) -> Option<Entry>
 }
 
 // The value of the reading with this number; none where one of both is out of range.
+#[inline(always)]
 #[tactic(auto, unfolding(crate::specs::Steps::EpochScan::value_with))]
 fn value_entry(n: u32, constant: Option<i32>) -> Option<Entry>
     ensures { result ≡ value_with (check_reading n) constant }
@@ -71,6 +73,7 @@ fn value_at(line: &[u8], at: usize) -> Option<(Option<Entry>, usize)>
 }
 
 // What the token at the position gives, and the position behind it; the position alone where a number is out of range.
+#[inline(always)]
 fn item_at(line: &[u8], at: usize) -> Option<(Option<Entry>, usize)>
     ensures { result ≡ item_at line.now at }
 {
