@@ -1,4 +1,4 @@
--- Each row of the tables of examples is as document 01 says.
+-- Each row of the tables of examples is as it says.
 use Rattle.std.proofs.Common.{map, ◌≡◌, refl}
 use Rattle.std.proofs.Math.Option.{or_else}
 use Rattle.policy.specs.Limits.{is_reading_value, test_number, operand_in_range, comparison_in_range, ending_in_range, in_range, crowded, repeats, repeated}

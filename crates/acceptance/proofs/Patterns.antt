@@ -1,4 +1,4 @@
--- Document 02, L5: constants in hexadecimal digits, and that no other token is a constant that was none before.
+-- Constants in hexadecimal digits, and that no other token is a constant that was none before.
 use Rattle.std.proofs.Common.{ℕ, ◌≤◌, ◌<◌, ◌^◌, Bool, true, false, ◌&&◌, cond, List, [], ◌∷◌, ◌⊎◌, inl, inr, ◌≡◌, refl, sym, ap, ap₂, ◌∙◌, arith, eqb-true, ℤ, length, to_z-of_z, w32, to_z}
 use Rattle.std.proofs.Math.Bool.{and-false}
 use Rattle.std.proofs.Math.Option.{Option, none, some, map, or_else}

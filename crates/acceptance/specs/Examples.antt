@@ -1,4 +1,4 @@
--- Texts and epoch lines of document 01, and lines that are easily read wrong, one row each.
+-- The worked texts and epoch lines, and lines that are easily read wrong, one row each.
 use Rattle.std.specs.Prelude.{ℕ, true, false, List, [], ◌∷◌, ℤ, pos, negsuc, set, replicate}
 use Prim.Native.String.{String}
 use Rattle.policy.specs.Fault.{refusal, within}
@@ -34,7 +34,7 @@ worked =
 abbrev equals : ℕ → ℤ → Comparison
 equals r k = record { reading = record { 0 = r }; relation = Relation.Equal; operand = Operand.Constant k }
 
--- L5: the words of drives; below them leading zeros and digits of either case
+-- the words of drives; below them leading zeros and digits of either case
 abbrev patterns : Policy
 patterns =
     record {
@@ -113,7 +113,7 @@ texts =
     ∷ row "never A1 & A2 & A1" (refused_at Source.Maker Fault.Duplicate 1)
     ∷ []
 
--- ---- two texts as one (document 02, L6)
+-- ---- two texts as one
 
 pub record PairExample : Type 0 where
   pub maker : String

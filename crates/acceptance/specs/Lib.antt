@@ -1,4 +1,4 @@
--- What a reader must believe of this layer. `Examples` are rows of document 01, and lines that are easily read wrong.
+-- What a reader must believe of this layer. `Examples` are worked texts and lines, and such as are easily read wrong.
 pub mod Refusals
 pub mod FirstFault
 pub mod Texts

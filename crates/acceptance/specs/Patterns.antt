@@ -1,4 +1,4 @@
--- Document 02, L5: what is claimed of constants in hexadecimal digits.
+-- What is claimed of constants in hexadecimal digits.
 use Rattle.std.specs.Prelude.{ℕ, ◌≤◌, true, List, ◌++◌, ◌≡◌, ℤ, length}
 use Rattle.std.specs.Int.{w32}
 use Rattle.std.proofs.Common.{of_z}

@@ -1,4 +1,4 @@
--- Document 01, "Grounds for refusing": which faults a text and an epoch line have, and at which locations.
+-- Which faults a text and an epoch line have, and at which locations.
 use Rattle.std.specs.Prelude.{ℕ, ◌≤◌, true, List, [], ◌∷◌, ◌≡◌, eqb, length}
 use Rattle.std.proofs.Math.Option.{some}
 use Rattle.policy.specs.Fault.{fault_number, refusal, within}
@@ -15,7 +15,7 @@ pub data OfText (source : Source) (text : List ℕ) : Refusal → Type 0 where
   too_long : OfText source text (within source (refusal Fault.TooLong 0))
   in_line_is : (f : Fault) (n : ℕ) → 2 ≤ fault_number f → fault_number f ≤ 6 → 1 ≤ n → n ≤ length (lines_of text) → OfText source text (within source (refusal f n))
 
--- document 02, L6: of two texts, one of the maker's, or, where the maker's text is accepted alone, one of the site's
+-- of two texts, one of the maker's, or, where the maker's text is accepted alone, one of the site's
 pub data OfTexts (maker site : List ℕ) (r : Refusal) : Type 0 where
   of_maker : read_text maker ≡ stopped r → OfText Source.Maker maker r → OfTexts maker site r
   of_site : (p : Policy) → policy_of maker ≡ some p → OfText Source.Site site r → OfTexts maker site r

@@ -1,4 +1,4 @@
--- Document 02, L6: what two accepted texts have as one.
+-- What two accepted texts have as one.
 use Rattle.std.specs.Prelude.{ℕ, ◌≤◌, List, ◌++◌, ◌≡◌, length}
 use Rattle.std.proofs.Math.Option.{some}
 use Rattle.policy.specs.Limits.{rule_limit, constraint_limit}

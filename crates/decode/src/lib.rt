@@ -1,4 +1,4 @@
-// The lines of an image: whether a whole line that an accepted text may have stands at a word, and its value.
+//! The lines of an image: whether a whole line that an accepted text may have stands at a word, and its value.
 #![tactic(auto)]
 
 ghost use Rattle.std.specs.Prelude.{◌≡◌, [], ◌+◌, ◌-◌, ◌/◌, ◌<◌, ◌≤◌, length, drop};
@@ -31,7 +31,7 @@ const READINGS: u32 = 16;
 // The relations that there are, of a field's 8.
 const RELATIONS: u32 = 6;
 
-// A line, and the word at which the next one starts: the same word where no line stands.
+/// A line, and the word at which the next one starts: the same word where no line stands.
 #[derive(Clone, Copy)]
 pub struct LineAt {
     pub line: Line,
@@ -169,8 +169,8 @@ fn comparisons_sound(image: &[u8], from: usize, last: usize) -> bool
     true
 }
 
-// How many words the line has that starts at the word `at` and ends before the word `end`: 0 where no line that an
-// accepted text may have does.
+/// How many words the line has that starts at the word `at` and ends before the word `end`: 0 where no line that an
+/// accepted text may have does.
 pub fn line_length(image: &[u8], part: Part, at: usize, end: usize) -> usize
     ensures { result ≡ line_length (line_at part (between at end (words_of image.now))) }
 {
@@ -280,8 +280,8 @@ fn read_line(image: &[u8], start: usize, end: usize) -> Line
     }
 }
 
-// The line that starts at the word `at`: its first skip tells where it ends. Nothing is checked, so it is for images that the loader
-// takes.
+/// The line that starts at the word `at`: its first skip tells where it ends. Nothing is checked, so it is for images that the loader
+/// takes.
 pub fn line_at(image: &[u8], at: usize) -> LineAt
     ensures { result ≡ line_answer (words_of image.now) at }
 {

@@ -1,4 +1,4 @@
--- What `read_epoch` answers for every epoch line, by the definitions of `Epoch`, and what the answer says in the terms of document 01:
+-- What `read_epoch` answers for every epoch line, by the definitions of `Epoch`, and what the answer says:
 -- the fault, if it is a refusal, and the epoch, which is empty in a refusal.
 use Rattle.std.specs.Prelude.{ℕ, List, pos, replicate}
 use Rattle.std.proofs.Math.Option.{Option, none, some}

@@ -1,4 +1,4 @@
--- Document 01, the epoch line: its tokens `E5` and `R0=41`, what it is refused for (1, 12, 13, 14, each over the whole
+-- The epoch line: its tokens `E5` and `R0=41`, what it is refused for (1, 12, 13, 14, each over the whole
 -- line), and the epoch that an accepted one has.
 use Prim.Native.Char.{code}
 use Rattle.std.specs.Prelude.{ℕ, Bool, not, ◌&&◌, cond, eqb, ltb, ℤ, pos, length, set, replicate, List, [], ◌∷◌, fold}

@@ -18,7 +18,7 @@ pub enum EpochStatus {
     Accepted,
 }
 
-// The answer to an epoch line. Where the line is refused, the sets are empty and all values are 0.
+/// The answer to an epoch line. Where the line is refused, the sets are empty and all values are 0.
 #[derive(Clone, Copy)]
 pub struct EpochRead {
     pub status: EpochStatus,
@@ -157,7 +157,7 @@ fn read_items(line: &[u8]) -> EpochRead
 // Bytes of an epoch line.
 const EPOCH_LIMIT: usize = 1024;
 
-// An epoch line, without its line end.
+/// An epoch line, without its line end.
 pub fn read_epoch(line: &[u8]) -> EpochRead
     ensures { result ≡ epoch_read line.now }
 {

@@ -1,4 +1,4 @@
--- Document 01's faults 7 to 10: the size of an image, its form, its counts and its sum.
+-- The faults 7 to 10: the size of an image, its form, its counts and its sum.
 use Rattle.std.specs.Prelude.{ℕ, ◌+◌, ◌%◌, Bool, ◌&&◌, List, eqb, leb, length, get_or}
 use Rattle.word.specs.Word.{word_limit}
 use Rattle.layout.specs.Header.{form_of, rule_count_of, constraint_count_of}

@@ -1,4 +1,4 @@
--- The loader's answer: document 01's faults 7 to 11 in their order, each with its location, or what stands in the image.
+-- The loader's answer: the faults 7 to 11 in their order, each with its location, or what stands in the image.
 use Rattle.std.specs.Prelude.{ℕ, Bool, cond, List, length}
 use Rattle.std.proofs.Math.Option.{Option, none, some}
 use Rattle.policy.specs.Fault.{refusal}

@@ -1,4 +1,4 @@
-// Which images the loader takes, and going over the lines of one. Start with specs/Check.antt.
+//! Which images the loader takes, and going over the lines of one. Start with specs/Check.antt.
 #![tactic(auto)]
 
 mod load;

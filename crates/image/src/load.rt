@@ -1,4 +1,4 @@
-// The loader: which bytes are an image, and where its parts stand.
+//! The loader: which bytes are an image, and where its parts stand.
 ghost use Rattle.std.specs.Prelude.{◌≡◌, ◌+◌, ◌/◌, ◌≤◌, length};
 ghost use Rattle.word.specs.Word.{words_of, between};
 ghost use Rattle.image.specs.Check.{well_sized};
@@ -17,17 +17,17 @@ const RULE_WORD_LIMIT: usize = 2176;
 // Words of the constraints: 64 such lines.
 const CONSTRAINT_WORD_LIMIT: usize = 1088;
 
-// Bytes of the largest image: both parts, word 0 and the check word, of four bytes each.
+/// Bytes of the largest image: both parts, word 0 and the check word, of four bytes each.
 pub const IMAGE_SIZE: usize = 13064;
 
-// The lines of a part: how many there are, or the first word at which none fits.
+/// The lines of a part: how many there are, or the first word at which none fits.
 #[derive(Clone, Copy)]
 pub enum PartCheck {
     Lines(usize),
     Fault(usize),
 }
 
-// What stands in an image that the loader took: its form, and how many words and lines each part has.
+/// What stands in an image that the loader took: its form, and how many words and lines each part has.
 #[derive(Clone, Copy)]
 pub struct Contents {
     pub form: u32,
@@ -37,7 +37,7 @@ pub struct Contents {
     pub constraints: usize,
 }
 
-// The loader's answer.
+/// The loader's answer.
 #[derive(Clone, Copy)]
 pub enum Loaded {
     Refused(Refusal),
@@ -108,7 +108,7 @@ fn load_body(image: &[u8], form: u32, rule_words: usize, constraint_words: usize
     }
 }
 
-// The parts of an image, or why and where it is refused.
+/// The parts of an image, or why and where it is refused.
 pub fn load_image(image: &[u8]) -> Loaded
     ensures { result ≡ load image.now }
 {

@@ -1,5 +1,5 @@
-// A walker over an image: it refers to the lent bytes and stands at one of their words, given by its index. What it answers is
-// answered by the functions on the bytes and the index.
+//! A walker over an image: it refers to the lent bytes and stands at one of their words, given by its index. What it answers is
+//! answered by the functions on the bytes and the index.
 ghost use Rattle.std.specs.Prelude.{◌≡◌, ◌+◌, ◌/◌, min, length};
 ghost use Rattle.word.specs.Word.{words_of, between};
 ghost use Rattle.decode.specs.Decode.{line_at, line_length};
@@ -35,14 +35,14 @@ impl<'a> Walker<'a> {
         Walker { image, at }
     }
 
-    // How many words the line has that starts here and ends before the word `end`: 0 where none does.
+    /// How many words the line has that starts here and ends before the word `end`: 0 where none does.
     pub fn line_length(self, part: Part, end: usize) -> usize
         ensures { result ≡ line_length (line_at part (between self.entry.at end (words_of self.entry.image.now))) }
     {
         line_length(self.image, part, self.at, end)
     }
 
-    // The walker so many words on; at the end of the image where it has fewer.
+    /// The walker so many words on; at the end of the image where it has fewer.
     pub fn moved(self, words: usize) -> Walker<'a>
         ensures { result ≡ record { image = self.entry.image; at = min (self.entry.at + words) (length self.entry.image.now / 4) } }
     {

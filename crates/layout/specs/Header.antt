@@ -1,4 +1,4 @@
--- Document 01, "Image": the fields of word 0: form (8 bits), number of rule words (12), number of constraint words (12).
+-- The fields of word 0: form (8 bits), number of rule words (12), number of constraint words (12).
 use Rattle.std.specs.Prelude.{ℕ, ◌+◌, ◌*◌, ◌/◌, ◌%◌, ◌^◌}
 
 unfoldable pub pack_header : ℕ → ℕ → ℕ → ℕ

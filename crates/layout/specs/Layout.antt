@@ -1,4 +1,4 @@
--- Document 01, "Image": the words of a line, and the image of a policy. The form is an argument, and word 0 holds it; nothing else
+-- The words of a line, and the image of a policy. The form is an argument, and word 0 holds it; nothing else
 -- of layout, limits and check words depends on it today, for form 1 is the only one that is known.
 use Rattle.std.specs.Prelude.{ℕ, ◌+◌, ◌-◌, ◌%◌, Bool, List, [], ◌∷◌, ◌++◌, map, length, ◌==◌}
 use Rattle.policy.specs.Line.{PolicyLine, rule, constraint, heads_of, comparisons_of, ending_of}

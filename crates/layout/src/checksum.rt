@@ -1,4 +1,4 @@
-// The check words of an image: what brings the sum of its words to 0 modulo 2 ^ 32.
+//! The check words of an image: what brings the sum of its words to 0 modulo 2 ^ 32.
 ghost use Rattle.std.specs.Prelude.{◌≡◌, ◌%◌, take};
 ghost use Rattle.word.specs.Word.{word_limit, words_of};
 ghost use Rattle.layout.specs.Layout.{sum, check_words, check_count};
@@ -6,7 +6,7 @@ ghost use Rattle.word.specs.Steps.Write.{fits, put_words};
 
 use word::{at_most, put_word, word_at};
 
-// The sum of the words before the index `end`.
+/// The sum of the words before the index `end`.
 pub fn sum_words(bytes: &[u8], end: usize) -> u32
     ensures { result ≡ sum (take end (words_of bytes.now)) % word_limit }
 {
@@ -20,7 +20,7 @@ pub fn sum_words(bytes: &[u8], end: usize) -> u32
     total
 }
 
-// The check words for the words before `index`, put in there, and whether they fit.
+/// The check words for the words before `index`, put in there, and whether they fit.
 pub fn put_check_words(buffer: &mut [u8], form: u8, index: usize) -> bool
     ensures answer { result ≡ fits buffer.old index (check_count form) }
     ensures buffer { buffer.new ≡ put_words buffer.old index (check_words form (take index (words_of buffer.old))) }

@@ -1,4 +1,4 @@
-// The layout of an image: word 0, the words of a line, the check words, and writing them. Start with specs/Layout.antt.
+//! The layout of an image: word 0, the words of a line, the check words, and writing them. Start with specs/Layout.antt.
 #![tactic(auto)]
 
 mod checksum;

@@ -1,4 +1,4 @@
-// Writing a line: its words into a lent buffer.
+//! Writing a line: its words into a lent buffer.
 ghost use Rattle.std.specs.Prelude.{◌≡◌, ◌+◌, ◌/◌, ◌<◌, ◌≤◌, length, take};
 ghost use Rattle.operation.specs.Parts.{comparison_words};
 ghost use Rattle.word.specs.Steps.Write.{put_words};
@@ -99,7 +99,7 @@ fn condition_size(comparisons: [Comparison; COMPARISON_LIMIT], count: usize) -> 
     size
 }
 
-// The words of a line put in at a word index, and how many they are. Where they do not fit, the buffer stays as it is.
+/// The words of a line put in at a word index, and how many they are. Where they do not fit, the buffer stays as it is.
 pub fn put_line(buffer: &mut [u8], index: usize, line: Line) -> usize
     ensures answer { result ≡ length (value_words line) }
     ensures buffer { buffer.new ≡ put_words buffer.old index (value_words line) }

@@ -1,8 +1,8 @@
-// Word 0 of an image: its form, and how many words each part has.
+//! Word 0 of an image: its form, and how many words each part has.
 ghost use Rattle.std.specs.Prelude.{◌≡◌, ◌%◌};
 ghost use Rattle.layout.specs.Header.{pack_header, form_of, rule_count_of, constraint_count_of};
 
-// Word 0, of counts that fit their fields.
+/// Word 0, of counts that fit their fields.
 pub fn header(form: u8, rule_words: usize, constraint_words: usize) -> u32
     ensures { result ≡ pack_header form (rule_words % 4096) (constraint_words % 4096) }
 {

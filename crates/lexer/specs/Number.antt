@@ -35,7 +35,7 @@ unfoldable pub decimal_of : List ℕ → Option ℤ
 decimal_of [] = none
 decimal_of (b ∷ bs) = cond (eqb b (code "-")) (negative (number_of bs)) (positive (number_of (b ∷ bs)))
 
--- ---- document 02, L5: hexadecimal digits, a pattern of 32 bits in two's complement
+-- ---- hexadecimal digits, a pattern of 32 bits in two's complement
 
 -- the value of hexadecimal digits, the most significant first
 abbrev pub hex_number : List ℕ → ℕ

@@ -1,4 +1,4 @@
--- Document 01, "Rule text": what one token is read as, and a comparison, which is three. Numbers of any size have the right
+-- What one token is read as, and a comparison, which is three. Numbers of any size have the right
 -- shape; ranges are tested afterwards.
 use Prim.Native.Char.{code}
 use Rattle.std.specs.Prelude.{ℕ, Bool, true, false, cond, List, [], ◌∷◌, eqb}

@@ -1,4 +1,4 @@
--- Each row of the table of decisions is as document 01 says.
+-- Each row of the table of decisions is as it says.
 use Rattle.std.proofs.Common.{map, ◌≡◌, refl}
 use Rattle.std.proofs.Math.Option.{or_else}
 use Rattle.policy.specs.List.{all, any}

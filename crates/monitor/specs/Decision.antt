@@ -1,4 +1,4 @@
--- Document 01, and document 02, L7: what is decided on an image and an epoch line, in each mode. Past the faults for which it is
+-- What is decided on an image and an epoch line, in each mode. Past the faults for which it is
 -- refused it speaks of what the image's words do when they are run, and not of a policy.
 use Rattle.std.specs.Prelude.{ℕ, ◌+◌, Bool, cond, List}
 use Rattle.std.proofs.Math.Option.{Option, none, some}
@@ -41,7 +41,7 @@ trial_words constraints rs s = trial_fetches rs (set_of s) constraints
 unfoldable pub tried_words : List ℕ → Readings → ActionSet → ℕ
 tried_words constraints rs s = trials_cost (conflict_by constraints rs) (trial_words constraints rs) s.bits
 
--- document 02, L4: "each rule word fetched, each never word fetched in each trial"
+-- each rule word that is fetched, and each constraint word that is fetched in each trial
 abbrev pub visited_by : List ℕ → List ℕ → Epoch → ℕ
 visited_by rules constraints e = rule_fetches (all_events e.events) e.readings rules + tried_words constraints e.readings (proposed_by rules e)
 
@@ -53,7 +53,7 @@ unfoldable pub yielded_by : List ℕ → List ℕ → Epoch → Actions
 yielded_by rules constraints e =
     actions_of (proposed_by rules e) (kept_by constraints e.readings (proposed_by rules e)) (visited_by rules constraints e)
 
--- ---- the same in the second mode (document 02, L7)
+-- ---- the same in the second mode
 
 -- what rule words propose where these of the epoch's events are kept
 abbrev pub proposed_with_by : List ℕ → Epoch → EventSet → ActionSet
@@ -120,7 +120,7 @@ decision_in mode image line = on_image mode (load image) (words_of image) (read_
 abbrev pub decision : List ℕ → List ℕ → Decision
 decision = decision_in Mode.Actions
 
--- ---- what a decision says, in document 01's terms
+-- ---- what a decision says
 
 abbrev pub refusal_in : Decision → Option Refusal
 refusal_in (Decision.Refused r) = some r

@@ -1,5 +1,5 @@
--- What document 01's worked image decides on its epochs and how many words are fetched for it, which of two faults comes first, and
--- what the images of texts for document 02's L2, L4 and L7 decide, one row each.
+-- What the worked image decides on its epochs and how many words are fetched for it, which of two faults comes first, and what the
+-- images of further texts decide: missing readings, fetched words and the second mode. One row each.
 use Rattle.std.specs.Prelude.{ℕ, true, false, List, [], ◌∷◌, map, pos, set}
 use Prim.Native.String.{String}
 use Rattle.policy.specs.Policy.{Policy, Rule, Constraint}

@@ -1,4 +1,4 @@
-// The first mode: actions are cancelled (document 01).
+//! The first mode: actions are cancelled.
 ghost use Rattle.std.specs.Prelude.{◌≡◌, ◌<◌, length};
 ghost use Rattle.word.specs.Chunk.{words_in};
 ghost use Rattle.monitor.specs.Decision.{kept_by, tried_words, yielded_by};
@@ -7,7 +7,7 @@ use crate::decision::Actions;
 use policy::{Action, ActionSet, EventSet, READING_LIMIT, ReadingSet};
 use run::{run_constraints, run_rules};
 
-// What is kept of the proposed actions, and how many words all trials fetched.
+/// What is kept of the proposed actions, and how many words all trials fetched.
 #[derive(Clone, Copy)]
 pub struct Kept {
     pub actions: ActionSet,

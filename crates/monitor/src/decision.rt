@@ -1,4 +1,4 @@
-// The decision on an epoch. The image is refused or run where it stands: nothing of it is copied.
+//! The decision on an epoch. The image is refused or run where it stands: nothing of it is copied.
 ghost use Rattle.std.specs.Prelude.{◌≡◌, ◌+◌, ◌<◌, ◌≤◌, length};
 ghost use Rattle.word.specs.Chunk.{words_in};
 ghost use Rattle.monitor.specs.Decision.{decided_by, decision_in};
@@ -10,8 +10,8 @@ use image::{Contents, Loaded, load_image};
 use policy::{ActionSet, EventSet, Mode, READING_LIMIT, ReadingSet, Refusal};
 use word::{part, words};
 
-// What was decided: of the proposed actions, those to be executed and all others; and how many words of the image were fetched to
-// decide it.
+/// What was decided: of the proposed actions, those to be executed and all others; and how many words of the image were fetched to
+/// decide it.
 #[derive(Clone, Copy)]
 pub struct Actions {
     pub accepted: ActionSet,
@@ -48,7 +48,7 @@ fn decide_epoch(
     }
 }
 
-// The decision of an image on an epoch line, without its line end.
+/// The decision of an image on an epoch line, without its line end.
 pub fn decide(image: &[u8], line: &[u8], mode: Mode) -> Decision
     ensures { result ≡ decision_in mode image.now line.now }
 {

@@ -1,4 +1,4 @@
-// The second mode: events are dropped, with all that they cause (document 02, L7).
+//! The second mode: events are dropped, with all that they cause.
 ghost use Rattle.std.specs.Prelude.{◌≡◌, ◌<◌, length};
 ghost use Rattle.policy.specs.Set.{keeping, no_events};
 ghost use Rattle.word.specs.Chunk.{words_in};
@@ -9,8 +9,8 @@ use crate::decision::{Actions, Decision};
 use policy::{ActionSet, Event, EventSet, Events, Fault, READING_LIMIT, ReadingSet};
 use run::{run_constraints, run_rules};
 
-// What the trial of events answers: the actions that they propose, whether a constraint holds on these, and how many words were
-// fetched.
+/// What the trial of events answers: the actions that they propose, whether a constraint holds on these, and how many words were
+/// fetched.
 #[derive(Clone, Copy)]
 pub struct EventTrial {
     pub actions: ActionSet,
@@ -40,7 +40,7 @@ fn try_events(
     }
 }
 
-// The events that are kept, what they propose, and how many words all trials fetched.
+/// The events that are kept, what they propose, and how many words all trials fetched.
 #[derive(Clone, Copy)]
 pub struct KeptEvents {
     pub events: EventSet,

@@ -1,4 +1,4 @@
-// The monitor: what is decided on an image and an epoch line. Start with specs/Decision.antt.
+//! The monitor: what is decided on an image and an epoch line. Start with specs/Decision.antt.
 #![tactic(auto)]
 
 mod actions;

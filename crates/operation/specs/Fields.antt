@@ -1,4 +1,4 @@
--- Document 01, "Image": the fields of a word, packed most significant first.
+-- The fields of a word, packed most significant first.
 use Rattle.std.specs.Prelude.{ℕ, ◌+◌, ◌*◌, ◌/◌, ◌%◌, ◌^◌, ◌<◌}
 use Rattle.operation.specs.Operation.{opcode, operation_from}
 use Rattle.operation.specs.declared.operation.Operation.{Operation}

@@ -1,4 +1,4 @@
--- Document 01, "Image": the tables of operations and relations, each number both ways.
+-- The tables of operations and relations, each number both ways.
 use Rattle.std.specs.Prelude.{ℕ, zero, suc}
 use Rattle.policy.specs.declared.comparison.Relation.{Relation}
 use Rattle.operation.specs.declared.operation.Operation.{Operation}

@@ -1,4 +1,4 @@
--- Document 01, "Image": the words of the parts of a line, and what a word stands for. Packing and unpacking stand side by side;
+-- The words of the parts of a line, and what a word stands for. Packing and unpacking stand side by side;
 -- that each undoes the other is proved (proofs/PartsLaws.antt).
 use Rattle.std.specs.Prelude.{ℕ, cond, List, [], ◌∷◌}
 use Rattle.std.specs.Int.{w32}

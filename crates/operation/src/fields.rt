@@ -1,4 +1,4 @@
-// The fields of a word.
+//! The fields of a word.
 ghost use Rattle.std.specs.Prelude.{◌≡◌};
 ghost use Rattle.operation.specs.Fields.{opcode_of, first_of, second_of, relation_code_of, skip_of};
 

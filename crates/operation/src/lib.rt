@@ -1,5 +1,5 @@
-// What a word of an image says: its fields, and the operations, relations, constants and parts of a line that the fields stand
-// for, both ways. Start with specs/Operation.antt.
+//! What a word of an image says: its fields, and the operations, relations, constants and parts of a line that the fields stand
+//! for, both ways. Start with specs/Operation.antt.
 #![tactic(auto)]
 
 mod fields;

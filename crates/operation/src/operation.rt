@@ -1,4 +1,4 @@
-// What the fields of a word stand for, both ways: operations, relations, constants, and the words of the parts of a line.
+//! What the fields of a word stand for, both ways: operations, relations, constants, and the words of the parts of a line.
 ghost use Rattle.std.specs.Prelude.{◌≡◌, ◌<◌};
 ghost use Rattle.policy.specs.Epoch.{reading_value};
 ghost use Rattle.policy.specs.Comparison.{relation_holds, comparison_holds};
@@ -12,8 +12,8 @@ use policy::{
     constant_from,
 };
 
-// The operations of document 01, in the order of their numbers, and one for all numbers that are none. It comes last: with it
-// first, a decision took up to 7% more instructions.
+/// The operations, in the order of their numbers, and one for all numbers that are none. It comes last: with it
+/// first, a decision took up to 7% more instructions.
 #[derive(Clone, Copy)]
 pub enum Operation {
     Present,
@@ -27,7 +27,7 @@ pub enum Operation {
 }
 
 impl Operation {
-    // The operation of a word.
+    /// The operation of a word.
     pub fn of(word: u32) -> Operation
         ensures { result ≡ operation_of word }
     {
@@ -97,7 +97,7 @@ fn pack_word(operation: Operation, first: u8, second: u8, relation: u32, skip: u
         + (skip as u32)
 }
 
-// The word of a head.
+/// The word of a head.
 pub fn test_word(test: Test, skip: u8) -> u32
     ensures { result ≡ test_word test skip }
 {
@@ -113,7 +113,7 @@ pub fn test_word(test: Test, skip: u8) -> u32
     }
 }
 
-// The first word of a comparison; a constant stands in a second one.
+/// The first word of a comparison; a constant stands in a second one.
 pub fn comparison_word(comparison: Comparison, skip: u8) -> u32
     ensures { result ≡ comparison_word comparison skip }
 {
@@ -138,7 +138,7 @@ pub fn ending_word(ending: Ending) -> u32
     }
 }
 
-// A comparison with a constant, from its word and the constant word behind it.
+/// A comparison with a constant, from its word and the constant word behind it.
 pub fn constant_comparison(word: u32, constant: u32) -> Comparison
     ensures { result ≡ constant_comparison word constant }
 {
@@ -149,7 +149,7 @@ pub fn constant_comparison(word: u32, constant: u32) -> Comparison
     }
 }
 
-// A comparison with a reading.
+/// A comparison with a reading.
 pub fn reading_comparison(word: u32) -> Comparison
     ensures { result ≡ reading_comparison word }
 {
@@ -187,7 +187,7 @@ fn value(reading: Reading, given: ReadingSet, values: &[i32; READING_LIMIT]) -> 
     }
 }
 
-// Whether a comparison with a constant, by its word and the constant word, holds on the readings of an epoch in a line of the part.
+/// Whether a comparison with a constant, by its word and the constant word, holds on the readings of an epoch in a line of the part.
 pub fn constant_holds(
     part: Part,
     word: u32,
@@ -203,7 +203,7 @@ pub fn constant_holds(
     relation_holds(relation_code_of(word), left, constant_from(constant))
 }
 
-// The same for a comparison with a reading.
+/// The same for a comparison with a reading.
 pub fn reading_holds(
     part: Part,
     word: u32,

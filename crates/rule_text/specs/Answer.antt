@@ -1,4 +1,4 @@
--- What `read_text` and `read_texts` answer for every text, by `Text`, and what the answer says in the terms of document 01: the fault with its location,
+-- What `read_text` and `read_texts` answer for every text, by `Text`, and what the answer says: the fault with its location,
 -- if it is a refusal, and the counts of what was read, which are 0 in a refusal.
 use Rattle.std.specs.Prelude.{Result, Ok, Err}
 use Rattle.std.specs.Prelude.{ℕ, ◌+◌, List, [], ◌∷◌, map, length}

@@ -1,5 +1,5 @@
--- Document 01, "Grounds for refusing" 1 to 6 (a ground is a fault here, a place a location): what a rule text is refused for, and the
--- policy that an accepted text has. Document 02, L6: the same of a maker's and a site's text as one.
+-- What a rule text is refused for (faults 1 to 6), and the policy that an accepted text has; and the same of a maker's and a site's text
+-- as one.
 use Rattle.std.specs.Prelude.{ℕ, suc, cond, ltb, length, List, [], ◌∷◌, ◌++◌, fold}
 use Rattle.std.proofs.Math.Option.{Option, none, some}
 use Rattle.policy.specs.Fault.{refusal, within}
@@ -44,7 +44,7 @@ text_limit = 32768
 unfoldable pub read_text_behind : Policy → List ℕ → Progress
 read_text_behind p text = cond (ltb text_limit (length text)) (stopped (refusal Fault.TooLong 0)) (fold read_line (reading 1 p) (lines_of text))
 
--- document 02, L6: "a place now also says which text"
+-- a location also says which text it is in
 unfoldable pub in_text : Source → Progress → Progress
 in_text source (reading n p) = reading n p
 in_text source (stopped r) = stopped (within source r)
@@ -53,7 +53,7 @@ in_text source (stopped r) = stopped (within source r)
 unfoldable pub read_text : List ℕ → Progress
 read_text text = in_text Source.Maker (read_text_behind empty_policy text)
 
--- ---- document 02, L6: two texts as one, "maker's lines before the site's in each part, line limits counted together, lengths apart"
+-- ---- two texts as one: the maker's lines before the site's in each part, line limits counted together, lengths apart
 
 -- "maker's text before the site's"
 unfoldable pub read_site : Progress → List ℕ → Progress

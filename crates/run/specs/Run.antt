@@ -1,5 +1,4 @@
--- Document 01, "Image": what words do when they are run, by their operations and skips; and document 02, L4: how many are fetched. Any
--- words can be run.
+-- What words do when they are run, by their operations and skips, and how many are fetched. Any words can be run.
 use Rattle.std.specs.Prelude.{ℕ, zero, suc, ◌+◌, Bool, true, false, not, cond, get_or, List, [], ◌∷◌, fold}
 use Rattle.policy.specs.Comparison.{comparison_holds}
 use Rattle.policy.specs.Epoch.{Readings}
@@ -107,7 +106,7 @@ ends_constraint w = is_never (operation_of w)
 unfoldable pub run_constraints : Readings → ActionSet → List ℕ → Bool
 run_constraints rs s ws = any ends_constraint (ran (constraint_test rs s) 0 ws)
 
--- ---- how many words are fetched (document 02, L4)
+-- ---- how many words are fetched
 
 -- a word that is run is fetched, and its constant with it
 abbrev pub fetches_of : Operation → ℕ

@@ -1,2 +1,2 @@
--- Notions of the functions, not of document 01.
+-- Notions of the functions, which nobody need believe.
 pub mod Test

@@ -1,4 +1,4 @@
-// The constraint part of an image.
+//! The constraint part of an image.
 ghost use Rattle.std.specs.Prelude.{◌≡◌, ◌<◌, ◌≤◌, length, get_or, true, MatchOption};
 ghost use Rattle.word.specs.Chunk.{words_in};
 ghost use Rattle.operation.specs.Fields.{operation_of};
@@ -72,7 +72,7 @@ fn test_constraint(
     }
 }
 
-// What the trial of a set of actions answers: whether a constraint holds on it, and how many words were fetched.
+/// What the trial of a set of actions answers: whether a constraint holds on it, and how many words were fetched.
 #[derive(Clone, Copy)]
 pub struct Trial {
     pub conflict: bool,

@@ -1,5 +1,5 @@
-// What the words of an image do when they are run by their operations and skips, and how many are fetched: the rule part on the
-// events and readings of an epoch, the constraint part on a set of actions. Start with specs/Run.antt.
+//! What the words of an image do when they are run by their operations and skips, and how many are fetched: the rule part on the
+//! events and readings of an epoch, the constraint part on a set of actions. Start with specs/Run.antt.
 #![tactic(auto)]
 
 mod constraints;

@@ -1,4 +1,4 @@
-// The rule part of an image.
+//! The rule part of an image.
 ghost use Rattle.std.specs.Prelude.{◌≡◌, ◌≤◌, get_or, length, MatchOption};
 ghost use Rattle.word.specs.Chunk.{words_in};
 ghost use Rattle.operation.specs.Fields.{operation_of};
@@ -75,7 +75,7 @@ fn with_proposal(set: ActionSet, word: u32) -> ActionSet
     }
 }
 
-// What the run of rules answers: the actions that they propose, and how many words were fetched.
+/// What the run of rules answers: the actions that they propose, and how many words were fetched.
 #[derive(Clone, Copy)]
 pub struct Proposals {
     pub actions: ActionSet,

@@ -1,4 +1,4 @@
-// The test of a word, which both runs share: whether it holds, and where the run goes on.
+//! The test of a word, which both runs share: whether it holds, and where the run goes on.
 ghost use Rattle.std.specs.Prelude.{◌≡◌, ◌-◌, ◌≤◌};
 ghost use Rattle.operation.specs.Parts.{constant_comparison, reading_comparison};
 ghost use Rattle.operation.specs.declared.operation.Operation.{Operation};
@@ -9,7 +9,7 @@ ghost use Rattle.run.specs.Steps.Test.{tested};
 use operation::{Operation, constant_holds, reading_holds};
 use policy::{Part, READING_LIMIT, ReadingSet};
 
-// Whether the test of a word holds, and the word behind it and its constant.
+/// Whether the test of a word holds, and the word behind it and its constant.
 #[derive(Clone, Copy)]
 pub struct Tested {
     pub holds: bool,

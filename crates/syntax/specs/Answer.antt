@@ -1,4 +1,4 @@
--- What `read_line` answers for every text and position, by `Judge`, and what the answer says in the terms of document 01: the fault, if
+-- What `read_line` answers for every text and position, by `Judge`, and what the answer says: the fault, if
 -- it is a refusal, and the line that was read, which is empty in a refusal.
 use Rattle.std.specs.Prelude.{ℕ, ◌+◌, cond, List, [], ltb, length}
 use Rattle.std.proofs.Math.Option.{Option, none, some}

@@ -1,4 +1,4 @@
--- Document 01, "Rule text": the two shapes of a line, over its tokens. Numbers of any size and lists of any length have
+-- The two shapes of a line, over its tokens. Numbers of any size and lists of any length have
 -- the right shape; ranges and counts are tested afterwards.
 use Rattle.std.specs.Prelude.{cond, List, [], ◌∷◌}
 use Rattle.std.proofs.Math.Option.{Option, none, some, map}

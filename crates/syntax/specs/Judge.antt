@@ -1,4 +1,4 @@
--- Document 01, "Grounds for refusing" 2, 3, 4 and 6 (a ground is a fault here): what a line of a rule text is.
+-- What a line of a rule text is: skipped, accepted, or refused for one of the faults 2, 3, 4 and 6.
 use Prim.Native.Char.{code}
 use Rattle.std.specs.Prelude.{ℕ, Bool, false, not, cond, List, [], ◌∷◌, eqb}
 use Rattle.std.proofs.Math.Option.{Option, none, some}

@@ -1,5 +1,5 @@
-// Reading a line of a rule text. Start with specs/Grammar.antt (the shapes of a line) and specs/Judge.antt (what a line is refused
-// for).
+//! Reading a line of a rule text. Start with specs/Grammar.antt (the shapes of a line) and specs/Judge.antt (what a line is refused
+//! for).
 #![tactic(auto)]
 
 mod line;

@@ -238,8 +238,8 @@ pub enum LineStatus {
     Accepted,
 }
 
-// The line at a position: what it is, its value where it is accepted, and where the next line starts unless it is
-// refused.
+/// The line at a position: what it is, its value where it is accepted, and where the next line starts unless it is
+/// refused.
 #[derive(Clone, Copy)]
 pub struct LineRead {
     pub status: LineStatus,
@@ -274,7 +274,7 @@ fn refused(fault: Fault) -> LineRead
     }
 }
 
-// The line that starts at a position.
+/// The line that starts at a position.
 pub fn read_line(text: &[u8], at: usize) -> LineRead
     ensures { result ≡ line_read text.now at }
 {

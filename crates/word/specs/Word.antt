@@ -1,4 +1,4 @@
--- Document 01, "Image": words of 32 bits, each stored most significant byte first.
+-- Words of 32 bits, each stored most significant byte first.
 use Rattle.std.specs.Prelude.{ℕ, ◌+◌, ◌*◌, ◌/◌, ◌%◌, ◌^◌, ◌<◌, List, [], ◌∷◌, ◌++◌, get_or, take, drop}
 
 abbrev pub word_limit : ℕ

@@ -1,4 +1,4 @@
-// Words of 32 bits in a slice of bytes, most significant byte first. Start with specs/Word.antt.
+//! Words of 32 bits in a slice of bytes, most significant byte first. Start with specs/Word.antt.
 #![tactic(auto)]
 
 ghost use Rattle.std.specs.Prelude.{◌≡◌, [], ◌∷◌, ◌/◌, ◌-◌, ◌<◌, ◌≤◌, min, length, get_or};
@@ -44,14 +44,14 @@ fn swapped(word: u32) -> u32
         + (word >> 24) % 256
 }
 
-// 0 past the last whole word. The load and the swap are apart, so that each is one instruction where it is inlined.
+/// 0 past the last whole word. The load and the swap are apart, so that each is one instruction where it is inlined.
 pub fn word_at(bytes: &[u8], index: usize) -> u32
     ensures { result ≡ word_at bytes.now index }
 {
     swapped(reversed_at(bytes, index))
 }
 
-// A word that is there, with no test.
+/// A word that is there, with no test.
 pub fn word_in(bytes: &[u8], index: usize) -> u32
     requires { index < length bytes.now / 4 }
     ensures { result ≡ word_at bytes.now index }
@@ -59,7 +59,7 @@ pub fn word_in(bytes: &[u8], index: usize) -> u32
     swapped(reversed_in(bytes, index))
 }
 
-// Whether the word fits at the index. Where it does not, the buffer stays as it is.
+/// Whether the word fits at the index. Where it does not, the buffer stays as it is.
 pub fn put_word(buffer: &mut [u8], index: usize, word: u32) -> bool
     ensures answer { result ≡ fits buffer.old index 1 }
     ensures buffer { buffer.new ≡ put_words buffer.old index (word ∷ []) }
