@@ -1,10 +1,10 @@
 -- What an accepted text has: lines within the limits, and not too many of them.
-use Rattle.std.proofs.Common.{ℕ, suc, ◌≤◌, ◌<◌, Bool, true, false, not, ◌&&◌, cond, List, [], ◌∷◌, ◌++◌, map, ◌≡◌, refl, sym, ap, ◌∙◌, arith, ltb-true, lt-ltb, le-ltb, length, length-append}
+use Rattle.std.proofs.Common.{ℕ, suc, ◌≤◌, ◌<◌, Bool, true, false, not, ◌&&◌, cond, List, [], ◌∷◌, ◌++◌, map, ◌≡◌, refl, sym, ap, ◌∙◌, arith, ltb-true, lt-ltb, le-ltb, length, length-append, fold}
+use Rattle.std.proofs.lemmas.List.{map-append}
 use Rattle.std.proofs.Math.Option.{Option, none, some}
 use Rattle.std.proofs.Math.Dec.{ltb}
 use Rattle.std.proofs.Math.ListN.{length-map}
-use mathlib.Core.List.{foldl, map-append}
-use mathlib.Core.Option
+use Rattle.std.proofs.Math.Option
 use Rattle.policy.proofs.ListLaws.{and_in, all_append}
 use Rattle.policy.specs.Fault.{refusal}
 use Rattle.policy.specs.Limits.{valid, in_range, crowded, repeated, rule_limit, constraint_limit, Acceptable}
@@ -173,7 +173,7 @@ unfolding read_line still
 keeps_line (reading n p) line w = keeps n p (line_answer line) (accepted_valid line) w
 keeps_line (stopped r) line w = tt
 
-keeps_lines : (ls : List (List ℕ)) (s : Progress) → still s → still (foldl read_line s ls)
+keeps_lines : (ls : List (List ℕ)) (s : Progress) → still s → still (fold read_line s ls)
 keeps_lines [] s w = w
 keeps_lines (l ∷ ls) s w = keeps_lines ls (read_line s l) (keeps_line s l w)
 
@@ -181,7 +181,7 @@ keeps_behind : (p : Policy) (text : List ℕ) → Acceptable p → still (read_t
 unfolding read_text_behind still
 keeps_behind p text w = go (ltb text_limit (length text))
   where
-    go : (b : Bool) → still (cond b (stopped (refusal Fault.TooLong 0)) (foldl read_line (reading 1 p) (lines_of text)))
+    go : (b : Bool) → still (cond b (stopped (refusal Fault.TooLong 0)) (fold read_line (reading 1 p) (lines_of text)))
     go true = tt
     go false = keeps_lines (lines_of text) (reading 1 p) w
 
@@ -217,4 +217,4 @@ texts_acceptable maker site n p e = still_acceptable (read_site (read_text maker
 -- two texts within the length with the same lines have the same answer
 pub lines_decide : (s t : List ℕ) → length s ≤ text_limit → length t ≤ text_limit → lines_of s ≡ lines_of t → read_text s ≡ read_text t
 unfolding read_text read_text_behind
-lines_decide s t h k e = rw (le-ltb text_limit (length s) h, le-ltb text_limit (length t) k) (ap (λ (ls : List (List ℕ)). in_text Source.Maker (foldl read_line (reading 1 empty_policy) ls)) e)
+lines_decide s t h k e = rw (le-ltb text_limit (length s) h, le-ltb text_limit (length t) k) (ap (λ (ls : List (List ℕ)). in_text Source.Maker (fold read_line (reading 1 empty_policy) ls)) e)

@@ -1,8 +1,7 @@
 -- The events of an epoch that a line names are E0 to E63.
-use Rattle.std.proofs.Common.{ℕ, Bool, true, false, not, cond, List, [], ◌∷◌, ◌≡◌, subst, lit<, length}
+use Rattle.std.proofs.Common.{ℕ, Bool, true, false, not, cond, List, [], ◌∷◌, ◌≡◌, subst, lit<, length, fold}
 use Rattle.std.proofs.Math.Option.{Option, none, some}
 use Rattle.std.proofs.Math.Dec.{ltb, eqb}
-use mathlib.Core.List.{foldl}
 use Rattle.policy.proofs.SetLaws.{insert_limit}
 use Rattle.policy.specs.Epoch.{Epoch, InAlphabet}
 use Rattle.policy.specs.List.{all, any}
@@ -11,7 +10,7 @@ use Rattle.policy.specs.declared.fault.Fault.{Fault}
 use Rattle.lexer.specs.Lines.{tokens_of}
 use Rattle.epoch_line.specs.Epoch.{Item, event, value, items_of, item_in_range, given_by, add_item, empty_epoch, EpochAnswer, refused, accepted, judge_epoch, epoch_limit, read_epoch}
 
-added : (is : List Item) (e : Epoch) → InAlphabet e → InAlphabet (foldl add_item e is)
+added : (is : List Item) (e : Epoch) → InAlphabet e → InAlphabet (fold add_item e is)
 unfolding add_item
 added [] e h = h
 added (event n ∷ is) e h = added is (add_item e (event n)) (insert_limit e.events.bits n h)
@@ -26,7 +25,7 @@ inside : (line : List ℕ) → Inside (read_epoch line)
 unfolding read_epoch judge_epoch
 inside line = go (ltb epoch_limit (length line)) (any (eqb 10) line) (items_of (tokens_of line))
   where
-    judged : (a b : Bool) (is : List Item) → Inside (cond (not a) (refused Fault.EpochRange) (cond b (refused Fault.DuplicateReading) (accepted (foldl add_item empty_epoch is))))
+    judged : (a b : Bool) (is : List Item) → Inside (cond (not a) (refused Fault.EpochRange) (cond b (refused Fault.DuplicateReading) (accepted (fold add_item empty_epoch is))))
     judged true true is = tt
     judged true false is = added is empty_epoch (lit< tt)
     judged false b is = tt

@@ -1,8 +1,8 @@
 -- A refused text has the first fault of its lines, a refused epoch line the first of its tests.
-use Rattle.std.proofs.Common.{ℕ, suc, ◌≤◌, ◌<◌, Bool, true, false, cond, not, List, [], ◌∷◌, ◌++◌, ◌⊎◌, inl, inr, ◌≡◌, refl, sym, ap, ◌∙◌, length, subst, ltb-true, ltb-false, le-ltb, lt-ltb, ◌↔◌}
+use Rattle.std.proofs.Common.{ℕ, suc, ◌≤◌, ◌<◌, Bool, true, false, cond, not, List, [], ◌∷◌, ◌++◌, ◌⊎◌, inl, inr, ◌≡◌, refl, sym, ap, ◌∙◌, length, subst, ltb-true, ltb-false, le-ltb, lt-ltb, ◌↔◌, fold}
+use Rattle.std.proofs.lemmas.List.Sums.{fold-append}
 use Rattle.std.proofs.Math.Dec.{eqb, ltb}
 use Rattle.std.proofs.Math.Option.{Option, none, some}
-use mathlib.Core.List.{foldl, foldl-append}
 use Rattle.policy.proofs.ListLaws.{true_false}
 use Rattle.policy.specs.Fault.{refusal, within}
 use Rattle.policy.specs.Limits.{rule_limit, constraint_limit, repeats}
@@ -31,7 +31,7 @@ goes_on : {A : Type 0} (n : ℕ) (p : Policy) (r : Refusal) → reading n p ≡ 
 goes_on n p r h = absurd (true_false refl (sym (ap is_stopped h)))
 
 -- what has stopped stays so
-stays : (r : Refusal) (ls : List (List ℕ)) → foldl read_line (stopped r) ls ≡ stopped r
+stays : (r : Refusal) (ls : List (List ℕ)) → fold read_line (stopped r) ls ≡ stopped r
 unfolding read_line
 stays r [] = refl
 stays r (l ∷ ls) = stays r ls
@@ -72,22 +72,22 @@ record First (n : ℕ) (p : Policy) (ls : List (List ℕ)) (r : Refusal) : Type 
   lines : ls ≡ before ++ line ∷ after
   number : ℕ
   policy : Policy
-  taken : foldl read_line (reading n p) before ≡ reading number policy
+  taken : fold read_line (reading n p) before ≡ reading number policy
   kind : Fault
   fault : LineFault policy line kind
   same : refusal kind number ≡ r
 
-first_among : (ls : List (List ℕ)) (n : ℕ) (p : Policy) (r : Refusal) → foldl read_line (reading n p) ls ≡ stopped r → First n p ls r
+first_among : (ls : List (List ℕ)) (n : ℕ) (p : Policy) (r : Refusal) → fold read_line (reading n p) ls ≡ stopped r → First n p ls r
 first_among [] n p r h = goes_on n p r h
 first_among (l ∷ ls) n p r h = go (first_among ls) (read_line (reading n p) l) refl
   where
-    go : ((m : ℕ) (q : Policy) (r : Refusal) → foldl read_line (reading m q) ls ≡ stopped r → First m q ls r) → (s : Progress) → read_line (reading n p) l ≡ s → First n p (l ∷ ls) r
+    go : ((m : ℕ) (q : Policy) (r : Refusal) → fold read_line (reading m q) ls ≡ stopped r → First m q ls r) → (s : Progress) → read_line (reading n p) l ≡ s → First n p (l ∷ ls) r
     go later (stopped x) e =
-        let q : x ≡ r = ap (refusal_of r) (sym (stays x ls) ∙ ap (λ (s : Progress). foldl read_line s ls) (sym e) ∙ h) in
+        let q : x ≡ r = ap (refusal_of r) (sym (stays x ls) ∙ ap (λ (s : Progress). fold read_line s ls) (sym e) ∙ h) in
         let here = refused_here n p l r (e ∙ ap stopped q) in
         record { before = []; line = l; after = ls; lines = refl; number = n; policy = p; taken = refl; kind = here.0; fault = here.1; same = here.2 }
     go later (reading m q) e =
-        let f = later m q r (ap (λ (s : Progress). foldl read_line s ls) (sym e) ∙ h) in
+        let f = later m q r (ap (λ (s : Progress). fold read_line s ls) (sym e) ∙ h) in
         record {
           before = l ∷ f.before;
           line = f.line;
@@ -95,7 +95,7 @@ first_among (l ∷ ls) n p r h = go (first_among ls) (read_line (reading n p) l)
           lines = ap (λ (x : List (List ℕ)). l ∷ x) f.lines;
           number = f.number;
           policy = f.policy;
-          taken = ap (λ (s : Progress). foldl read_line s f.before) e ∙ f.taken;
+          taken = ap (λ (s : Progress). fold read_line s f.before) e ∙ f.taken;
           kind = f.kind;
           fault = f.fault;
           same = f.same;
@@ -115,9 +115,9 @@ module _ (p : Policy) (text : List ℕ) where
   unfolding read_text_behind
   first_behind f n short t =
       rw (le-ltb _ _ short)
-      (ap (foldl read_line (reading 1 p)) t.lines ∙ foldl-append read_line (reading 1 p) t.before (t.line ∷ t.after)
-      ∙ ap (λ (s : Progress). foldl read_line s (t.line ∷ t.after)) t.taken
-      ∙ ap (λ (s : Progress). foldl read_line s t.after) (here_refused n t.policy t.line f t.fault)
+      (ap (fold read_line (reading 1 p)) t.lines ∙ fold-append read_line (reading 1 p) t.before (t.line ∷ t.after)
+      ∙ ap (λ (s : Progress). fold read_line s (t.line ∷ t.after)) t.taken
+      ∙ ap (λ (s : Progress). fold read_line s t.after) (here_refused n t.policy t.line f t.fault)
       ∙ stays (refusal f n) t.after)
 
 long_behind : (p : Policy) (text : List ℕ) → text_limit < length text → read_text_behind p text ≡ stopped (refusal Fault.TooLong 0)
@@ -216,7 +216,7 @@ module _ (line : List ℕ) where
       go false p false q (some is) i h = judged (all item_in_range is) refl (repeats (given_by is)) refl h
         where
           judged : (c : Bool) → all item_in_range is ≡ c → (d : Bool) → repeats (given_by is) ≡ d
-              → cond (not c) (EpochAnswer.refused Fault.EpochRange) (cond d (EpochAnswer.refused Fault.DuplicateReading) (EpochAnswer.accepted (foldl Epoch.add_item Epoch.empty_epoch is))) ≡ EpochAnswer.refused f
+              → cond (not c) (EpochAnswer.refused Fault.EpochRange) (cond d (EpochAnswer.refused Fault.DuplicateReading) (EpochAnswer.accepted (fold Epoch.add_item Epoch.empty_epoch is))) ≡ EpochAnswer.refused f
               → EpochFault line f
           judged false r d t h = so Fault.EpochRange (EpochFault.out_of_range (ltb-false _ _ p) q is i r) h
           judged true r true t h = so Fault.DuplicateReading (EpochFault.given_twice (ltb-false _ _ p) q is i r t) h

@@ -1,11 +1,11 @@
 -- The readings of an accepted epoch line: one that it gives has the value that stands there, and no other is given.
-use Rattle.std.proofs.Common.{ℕ, zero, suc, ◌<◌, Bool, true, false, not, cond, List, [], ◌∷◌, ◌≢◌, ◌≡◌, refl, sym, ap, ◌∙◌, subst, arith, ltb-true, ℤ, length, length-set, slice_get, lt-length-set, get_or-set_same, Some}
+use Rattle.std.proofs.Common.{ℕ, zero, suc, ◌<◌, Bool, true, false, not, cond, List, [], ◌∷◌, ◌≢◌, ◌≡◌, refl, sym, ap, ◌∙◌, subst, arith, ltb-true, ℤ, length, length-set, slice_get, lt-length-set, get_or-set_same, Some, fold}
+use Rattle.std.proofs.lemmas.Bool.{eqb-false}
 use Rattle.std.proofs.Math.Option.{some}
 use Rattle.std.proofs.Math.Dec.{ltb, eqb}
 use Rattle.std.proofs.Math.ListN.{set}
 use Rattle.std.proofs.lemmas.Option.{slice_get-get_or}
-use mathlib.Core.List.{foldl, Memᴰ}
-use borrow.Author.Tests.{eqb-false}
+use mathlib.Core.List.{Memᴰ}
 use Rattle.policy.proofs.ListLaws.{true_false, and_out, or_out}
 use Rattle.policy.proofs.SetLaws.{has_empty, has_insert_same, has_insert_other}
 use Rattle.policy.specs.Epoch.{Epoch, reading_value}
@@ -38,7 +38,7 @@ module _ (n : ℕ) where
 
   -- items that do not give the reading
   module _ {A : Type 0} (look : Epoch → A) (events : (e : Epoch) (m : ℕ) → look (add_item e (event m)) ≡ look e) (values : (e : Epoch) (m : ℕ) (k : ℤ) → n ≢ m → look (add_item e (value m k)) ≡ look e) where
-    kept : (is : List Item) (e : Epoch) → any (eqb n) (given_by is) ≡ false → look (foldl add_item e is) ≡ look e
+    kept : (is : List Item) (e : Epoch) → any (eqb n) (given_by is) ≡ false → look (fold add_item e is) ≡ look e
     unfolding any given_by
     kept [] e h = refl
     kept (event m ∷ is) e h = kept is (add_item e (event m)) h ∙ events e m
@@ -46,11 +46,11 @@ module _ (n : ℕ) where
         let o = or_out (eqb n m) (any (eqb n) (given_by is)) h in
         kept is (add_item e (value m k)) o.1 ∙ values e m k (eqb-false n m o.0)
 
-  given_kept : (is : List Item) (e : Epoch) → any (eqb n) (given_by is) ≡ false → has_reading (foldl add_item e is).readings.given this ≡ has_reading e.readings.given this
+  given_kept : (is : List Item) (e : Epoch) → any (eqb n) (given_by is) ≡ false → has_reading (fold add_item e is).readings.given this ≡ has_reading e.readings.given this
   unfolding add_item
   given_kept = kept (λ (e : Epoch). has_reading e.readings.given this) (λ e m. refl) (λ e m k h. has_insert_other e.readings.given.bits m n h)
 
-  value_kept : (is : List Item) (e : Epoch) → any (eqb n) (given_by is) ≡ false → reading_value (foldl add_item e is).readings this ≡ reading_value e.readings this
+  value_kept : (is : List Item) (e : Epoch) → any (eqb n) (given_by is) ≡ false → reading_value (fold add_item e is).readings this ≡ reading_value e.readings this
   unfolding add_item reading_value
   value_kept =
       kept (λ (e : Epoch). reading_value e.readings this) (λ e m. refl)
@@ -70,7 +70,7 @@ module _ (n : ℕ) where
         rw (has_insert_same e.readings.given.bits n (omega arith)) (value_set_same e.readings.values n k (omega arith))
 
     abbrev Gives : Epoch → List Item → Type 0
-    Gives e is = reading_value (foldl add_item e is).readings this ≡ Some k
+    Gives e is = reading_value (fold add_item e is).readings this ≡ Some k
 
     gives : (is : List Item) (e : Epoch) → length e.readings.values ≡ reading_limit → all item_in_range is ≡ true → repeats (given_by is) ≡ false → Memᴰ (value n k) is → Gives e is
     unfolding all given_by repeats
@@ -101,14 +101,14 @@ module _ (e : Epoch) where
   pub record Read (is : List Item) : Type 0 where
     pub ranges : all item_in_range is ≡ true
     pub once : repeats (given_by is) ≡ false
-    pub whole : foldl add_item empty_epoch is ≡ e
+    pub whole : fold add_item empty_epoch is ≡ e
 
   judged : (is : List Item) → judge_epoch (some is) ≡ accepted e → Read is
   unfolding judge_epoch
   judged is = go (all item_in_range is) refl (repeats (given_by is)) refl
     where
       go : (a : Bool) → all item_in_range is ≡ a → (b : Bool) → repeats (given_by is) ≡ b
-          → cond (not a) (refused Fault.EpochRange) (cond b (refused Fault.DuplicateReading) (accepted (foldl add_item empty_epoch is))) ≡ accepted e → Read is
+          → cond (not a) (refused Fault.EpochRange) (cond b (refused Fault.DuplicateReading) (accepted (fold add_item empty_epoch is))) ≡ accepted e → Read is
       go false p b q h = absurd (true_false (ap is_accepted h) refl)
       go true p true q h = absurd (true_false (ap is_accepted h) refl)
       go true p false q h = record { ranges = p; once = q; whole = ap epoch_of h }

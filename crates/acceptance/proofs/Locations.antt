@@ -1,7 +1,6 @@
 -- The location of a refused text is not past its last line.
-use Rattle.std.proofs.Common.{ℕ, suc, ◌+◌, ◌≤◌, Bool, true, false, cond, List, [], ◌∷◌, ◌≡◌, refl, ap, arith, ltb-false, length}
+use Rattle.std.proofs.Common.{ℕ, suc, ◌+◌, ◌≤◌, Bool, true, false, cond, List, [], ◌∷◌, ◌≡◌, refl, ap, arith, ltb-false, length, fold}
 use Rattle.std.proofs.Math.Dec.{eqb, ltb}
-use mathlib.Core.List.{foldl}
 use Rattle.policy.specs.Limits.{rule_limit, constraint_limit}
 use Rattle.policy.specs.Line.{rule, constraint}
 use Rattle.policy.specs.Policy.{Policy}
@@ -33,7 +32,7 @@ unfolding read_line
 line_location (reading n p) line = advance_location n p (line_answer line)
 line_location (stopped x) line = omega arith
 
-lines_location : (s : Progress) (lines : List (List ℕ)) → reached_line (foldl read_line s lines) ≤ reached_line s + length lines
+lines_location : (s : Progress) (lines : List (List ℕ)) → reached_line (fold read_line s lines) ≤ reached_line s + length lines
 lines_location s [] = omega arith
 lines_location s (line ∷ lines) = omega (arith, lines_location (read_line s line) lines, line_location s line)
 
@@ -59,11 +58,11 @@ behind_location source p text = go (ltb text_limit (length text)) refl
     same (reading n q) = refl
     same (stopped x) = refl
 
-    go : (b : Bool) → ltb text_limit (length text) ≡ b → reached_line (in_text source (cond b (stopped (refusal Fault.TooLong 0)) (foldl read_line (reading 1 p) (pieces 10 text)))) ≤ 32769
+    go : (b : Bool) → ltb text_limit (length text) ≡ b → reached_line (in_text source (cond b (stopped (refusal Fault.TooLong 0)) (fold read_line (reading 1 p) (pieces 10 text)))) ≤ 32769
     go true h = omega arith
     go false h =
         let k : length text ≤ 32768 = ltb-false 32768 (length text) h in
-        omega (arith, same (foldl read_line (reading 1 p) (pieces 10 text)), lines_location (reading 1 p) (pieces 10 text), pieces_count 10 text)
+        omega (arith, same (fold read_line (reading 1 p) (pieces 10 text)), lines_location (reading 1 p) (pieces 10 text), pieces_count 10 text)
 
 text_location : (text : List ℕ) → reached_line (read_text text) ≤ 32769
 unfolding read_text

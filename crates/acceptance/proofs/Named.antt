@@ -1,9 +1,8 @@
 -- The events of an accepted epoch line are those that it names.
-use Rattle.std.proofs.Common.{ℕ, ◌<◌, Bool, true, false, ◌||◌, List, [], ◌∷◌, ◌≡◌, refl, sym, ap, ◌∙◌, eqb-true, ltb-true}
+use Rattle.std.proofs.Common.{ℕ, ◌<◌, Bool, true, false, ◌||◌, List, [], ◌∷◌, ◌≡◌, refl, sym, ap, ◌∙◌, eqb-true, ltb-true, fold}
+use Rattle.std.proofs.lemmas.Bool.{eqb-false}
 use Rattle.std.proofs.Math.Option.{some}
 use Rattle.std.proofs.Math.Dec.{eqb}
-use mathlib.Core.List.{foldl}
-use borrow.Author.Tests.{eqb-false}
 use Rattle.policy.proofs.ListLaws.{and_out}
 use Rattle.policy.proofs.SetLaws.{has_empty, has_insert_same, has_insert_other}
 use Rattle.policy.specs.Epoch.{Epoch}
@@ -32,7 +31,7 @@ module _ (n : ℕ) where
       go false e = ap (λ (x : Bool). named || x) (has_insert_other s m n (eqb-false n m e))
 
   names : (is : List Item) (e : Epoch) → all item_in_range is ≡ true
-      → has (foldl add_item e is).events.bits n ≡ any (eqb n) (named_by is) || has e.events.bits n
+      → has (fold add_item e is).events.bits n ≡ any (eqb n) (named_by is) || has e.events.bits n
   unfolding all any named_by add_item item_in_range
   names [] e r = refl
   names (event m ∷ is) e r =

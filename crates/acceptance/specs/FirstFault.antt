@@ -1,8 +1,7 @@
 -- Which fault a refused text and a refused epoch line have, where there could be several: the first line that has one, and for an
 -- epoch line the first in the order of the tests.
-use Rattle.std.specs.Prelude.{ℕ, ◌≤◌, ◌<◌, ◌⊎◌, true, false, List, ◌∷◌, ◌++◌, ◌≡◌, eqb, length}
+use Rattle.std.specs.Prelude.{ℕ, ◌≤◌, ◌<◌, ◌⊎◌, true, false, List, ◌∷◌, ◌++◌, ◌≡◌, eqb, length, fold}
 use Rattle.std.proofs.Math.Option.{none, some}
-use mathlib.Core.List.{foldl}
 use Rattle.policy.specs.Limits.{rule_limit, constraint_limit, repeats}
 use Rattle.policy.specs.Line.{rule, constraint}
 use Rattle.policy.specs.List.{all, any}
@@ -30,7 +29,7 @@ pub record FirstFault (p : Policy) (text : List ℕ) (f : Fault) (n : ℕ) : Typ
   pub after : List (List ℕ)
   pub lines : lines_of text ≡ before ++ line ∷ after
   pub policy : Policy
-  pub taken : foldl read_line (reading 1 p) before ≡ reading n policy
+  pub taken : fold read_line (reading 1 p) before ≡ reading n policy
   pub fault : LineFault policy line f
 
 -- for what two texts are refused, read as one: the maker's text first, each for its length before its lines, and the site's lines behind

@@ -1,7 +1,7 @@
 -- The lines of two accepted texts make up their policy, and how many words they take.
-use Rattle.std.proofs.Common.{ℕ, suc, ◌+◌, ◌≤◌, Bool, true, false, cond, List, [], ◌∷◌, ◌++◌, map, append_assoc, append-nil, ◌≡◌, refl, sym, ap, ◌∙◌, arith, ltb-false, length, length-append}
+use Rattle.std.specs.Prelude.{Ok}
+use Rattle.std.proofs.Common.{ℕ, suc, ◌+◌, ◌≤◌, Bool, true, false, cond, List, [], ◌∷◌, ◌++◌, map, append_assoc, append-nil, ◌≡◌, refl, sym, ap, ◌∙◌, arith, ltb-false, length, length-append, fold}
 use Rattle.std.proofs.Math.Dec.{ltb}
-use mathlib.Core.List.{foldl}
 use Rattle.policy.specs.Fault.{refusal, within}
 use Rattle.policy.specs.Limits.{rule_limit, constraint_limit, Acceptable}
 use Rattle.policy.specs.Line.{PolicyLine, rule, constraint, heads_of, comparisons_of, ending_of, operand_constants, constant_count}
@@ -23,13 +23,12 @@ use Rattle.lexer.specs.Lines.{lines_of}
 use Rattle.syntax.specs.Judge.{LineAnswer, skipped, refused, accepted, line_answer}
 use Rattle.rule_text.specs.Text.{Progress, reading, stopped, with_rule, with_constraint, advance, read_line, empty_policy, text_limit, read_text_behind, in_text, read_text, read_site, read_texts}
 use Rattle.rule_text.specs.declared.TextCounts.{TextCounts}
-use Rattle.rule_text.specs.declared.TextRead.{TextRead}
 use Rattle.codegen.specs.Compile.{newest_form}
 use Rattle.codegen.specs.Steps.Put.{word_count, accepted_line, accepted_lines, lines_of_both}
 
 -- ---- the lines that were accepted are those of the policy
 
-stays : (r : Refusal) (ls : List (List ℕ)) → foldl read_line (stopped r) ls ≡ stopped r
+stays : (r : Refusal) (ls : List (List ℕ)) → fold read_line (stopped r) ls ≡ stopped r
 unfolding read_line
 stays r [] = refl
 stays r (l ∷ ls) = stays r ls
@@ -43,24 +42,24 @@ record Extends (p : Policy) (ls : List PolicyLine) (q : Policy) : Type 0 where
   constraints : q.constraints ≡ p.constraints ++ constraints_in ls
 
 abbrev Extending : List (List ℕ) → Type 0
-Extending ls = (n m : ℕ) (p q : Policy) → foldl read_line (reading n p) ls ≡ reading m q → Extends p (accepted_lines ls) q
+Extending ls = (n m : ℕ) (p q : Policy) → fold read_line (reading n p) ls ≡ reading m q → Extends p (accepted_lines ls) q
 
 extends : (ls : List (List ℕ)) → Extending ls
 unfolding accepted_lines accepted_line rules_in constraints_in read_line advance
 extends [] n m p q e = let s : p ≡ q = cc in record { rules = ap (λ (x : Policy). x.rules) (sym s) ∙ sym (append-nil p.rules); constraints = ap (λ (x : Policy). x.constraints) (sym s) ∙ sym (append-nil p.constraints) }
 extends (l ∷ ls) n m p q e = go (line_answer l) (extends ls) e
   where
-    go : (a : LineAnswer) → Extending ls → foldl read_line (advance n p a) ls ≡ reading m q → Extends p (accepted_line a (accepted_lines ls)) q
+    go : (a : LineAnswer) → Extending ls → fold read_line (advance n p a) ls ≡ reading m q → Extends p (accepted_line a (accepted_lines ls)) q
     go skipped later k = later (suc n) m p q k
     go (refused f) later k = absurd (no_reading (refusal f n) m q (sym (stays (refusal f n) ls) ∙ k))
     go (accepted (rule r)) later k = room (ltb (length p.rules) rule_limit) k
       where
-        room : (b : Bool) → foldl read_line (cond b (reading (suc n) (with_rule p r)) (stopped (refusal Fault.TooManyLines n))) ls ≡ reading m q → Extends p (rule r ∷ accepted_lines ls) q
+        room : (b : Bool) → fold read_line (cond b (reading (suc n) (with_rule p r)) (stopped (refusal Fault.TooManyLines n))) ls ≡ reading m q → Extends p (rule r ∷ accepted_lines ls) q
         room true h = let x = later (suc n) m (with_rule p r) q h in record { rules = x.rules ∙ append_assoc p.rules (r ∷ []) (rules_in (accepted_lines ls)); constraints = x.constraints }
         room false h = absurd (no_reading (refusal Fault.TooManyLines n) m q (sym (stays (refusal Fault.TooManyLines n) ls) ∙ h))
     go (accepted (constraint c)) later k = room (ltb (length p.constraints) constraint_limit) k
       where
-        room : (b : Bool) → foldl read_line (cond b (reading (suc n) (with_constraint p c)) (stopped (refusal Fault.TooManyLines n))) ls ≡ reading m q → Extends p (constraint c ∷ accepted_lines ls) q
+        room : (b : Bool) → fold read_line (cond b (reading (suc n) (with_constraint p c)) (stopped (refusal Fault.TooManyLines n))) ls ≡ reading m q → Extends p (constraint c ∷ accepted_lines ls) q
         room true h = let x = later (suc n) m (with_constraint p c) q h in record { rules = x.rules; constraints = x.constraints ∙ append_assoc p.constraints (c ∷ []) (constraints_in (accepted_lines ls)) }
         room false h = absurd (no_reading (refusal Fault.TooManyLines n) m q (sym (stays (refusal Fault.TooManyLines n) ls) ∙ h))
 
@@ -119,13 +118,13 @@ lined : (source : Source) (p : Policy) (text : List ℕ) (n : ℕ) (q : Policy) 
 unfolding read_text_behind in_text
 lined source p text n q e = go (ltb text_limit (length text)) refl e
   where
-    read : ltb text_limit (length text) ≡ false → (s : Progress) → foldl read_line (reading 1 p) (lines_of text) ≡ s → in_text source s ≡ reading n q → Lined p text q
+    read : ltb text_limit (length text) ≡ false → (s : Progress) → fold read_line (reading 1 p) (lines_of text) ≡ s → in_text source s ≡ reading n q → Lined p text q
     read h (reading m x) k v = let i : x ≡ q = cc in record { short = ltb-false text_limit (length text) h; lines = extends (lines_of text) 1 m p q (k ∙ ap (reading m) i) }
     read h (stopped r) k v = absurd (no_reading (within source r) n q v)
 
-    go : (b : Bool) → ltb text_limit (length text) ≡ b → in_text source (cond b (stopped (refusal Fault.TooLong 0)) (foldl read_line (reading 1 p) (lines_of text))) ≡ reading n q → Lined p text q
+    go : (b : Bool) → ltb text_limit (length text) ≡ b → in_text source (cond b (stopped (refusal Fault.TooLong 0)) (fold read_line (reading 1 p) (lines_of text))) ≡ reading n q → Lined p text q
     go true h k = absurd (no_reading (within source (refusal Fault.TooLong 0)) n q k)
-    go false h k = read h (foldl read_line (reading 1 p) (lines_of text)) refl k
+    go false h k = read h (fold read_line (reading 1 p) (lines_of text)) refl k
 
 pub record AcceptedTexts (maker site : List ℕ) (counts : TextCounts) : Type 0 where
   pub number : ℕ
@@ -141,7 +140,7 @@ pub record AcceptedTexts (maker site : List ℕ) (counts : TextCounts) : Type 0 
   pub rules : rules_in (lines_of_both maker site) ≡ policy.rules
   pub constraints : constraints_in (lines_of_both maker site) ≡ policy.constraints
 
-pub accepted_texts : (maker site : List ℕ) (counts : TextCounts) → texts_read maker site ≡ TextRead.Accepted counts → AcceptedTexts maker site counts
+pub accepted_texts : (maker site : List ℕ) (counts : TextCounts) → texts_read maker site ≡ Ok counts → AcceptedTexts maker site counts
 unfolding texts_read text_read_of read_texts read_site read_text counts_of rule_part_words constraint_part_words
 accepted_texts maker site counts e = first (read_text maker) refl e
   where
@@ -168,10 +167,10 @@ accepted_texts maker site counts e = first (read_text maker) refl e
               ∙ ap (λ (x : List Constraint). x ++ constraints_in (accepted_lines (lines_of site))) (sym f.lines.constraints) ∙ sym g.lines.constraints;
         }
 
-    second : (m : ℕ) (a : Policy) → read_text maker ≡ reading m a → (s : Progress) → in_text Source.Site (read_text_behind a site) ≡ s → text_read_of s ≡ TextRead.Accepted counts → AcceptedTexts maker site counts
+    second : (m : ℕ) (a : Policy) → read_text maker ≡ reading m a → (s : Progress) → in_text Source.Site (read_text_behind a site) ≡ s → text_read_of s ≡ Ok counts → AcceptedTexts maker site counts
     second m a j (reading n p) r k = let c : counts_of p ≡ counts = cc in found n m a p j r c
     second m a j (stopped x) r k = let w : ◌≡◌ {A = ℕ} 0 1 = cc in absurd (omega arith)
 
-    first : (s : Progress) → read_text maker ≡ s → text_read_of (read_site s site) ≡ TextRead.Accepted counts → AcceptedTexts maker site counts
+    first : (s : Progress) → read_text maker ≡ s → text_read_of (read_site s site) ≡ Ok counts → AcceptedTexts maker site counts
     first (reading m a) j k = second m a j (in_text Source.Site (read_text_behind a site)) refl k
     first (stopped x) j k = let w : ◌≡◌ {A = ℕ} 0 1 = cc in absurd (omega arith)

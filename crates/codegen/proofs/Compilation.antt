@@ -1,8 +1,8 @@
 -- What a compilation has done: the statements about `compiled` and `compiled_texts`.
 use Rattle.std.proofs.Common.{ℕ, ◌≤◌, ◌<◌, List, ◌↔◌, ◌≡◌, refl, sym, ap, ◌∙◌, arith, le-leb, leb-true, length}
+use Rattle.std.proofs.lemmas.Bool.{lt-leb}
 use Rattle.std.proofs.Math.Option.{some}
 use Rattle.std.proofs.Math.Dec.{leb}
-use borrow.Author.Tests.{lt-leb}
 use Rattle.policy.proofs.ListLaws.{and_out}
 use Rattle.policy.proofs.FillLaws.{Delivered, fill_delivered, fill_unchanged}
 use Rattle.policy.specs.Fill.{Filled, deliver}

@@ -1,6 +1,7 @@
 -- Putting word 0, the lines and the check words into a buffer with room for them leaves the image of the text's policy in it.
+use Rattle.std.specs.Prelude.{Err}
 use Rattle.std.proofs.Common.{ℕ, ◌+◌, ◌*◌, ◌/◌, ◌≤◌, ◌<◌, List, [], ◌∷◌, ◌++◌, map, ◌≡◌, refl, sym, ap, ap₂, ◌∙◌, zero-add, arith, le-leb, length, take, drop, length-append, take_at}
-use borrow.Author.Tests.{lt-leb}
+use Rattle.std.proofs.lemmas.Bool.{lt-leb}
 use Rattle.policy.specs.Line.{PolicyLine, rule, constraint, ending_of}
 use Rattle.policy.specs.Policy.{Policy, Rule, Constraint}
 use Rattle.policy.specs.Fault.{refusal}
@@ -19,7 +20,6 @@ use Rattle.rule_text.specs.Answer.{text_read_of, texts_read}
 use Rattle.acceptance.proofs.Texts.{restarted, site_empty}
 use Rattle.rule_text.specs.Text.{Progress, reading, stopped, read_text, read_texts}
 use Rattle.rule_text.specs.declared.TextCounts.{TextCounts}
-use Rattle.rule_text.specs.declared.TextRead.{TextRead}
 use Rattle.codegen.proofs.AcceptedLaws.{newest_known, AcceptedTexts}
 use Rattle.codegen.specs.Compile.{newest_form, output_of, compiled, compiled_texts}
 use Rattle.codegen.specs.Steps.Put.{word_count, cursor_for, cursors_after, lines_of_both, put_lines, put_content, put_image}
@@ -135,11 +135,11 @@ module _ (maker site : List ℕ) (counts : TextCounts) (t : AcceptedTexts maker 
         let done : after ≡ image ++ drop (length image) buffer = e ∙ ap₂ (λ (m n : ℕ). put_image (lines_of_both maker site) m n buffer) (r ∙ t.rule_count_is) (k ∙ t.constraint_count_is) ∙ image_written room in
         rw (t.read, le-leb (length image) (length buffer) room) (ap Compiled.Image size_is, done)
 
-pub compiled_refused : (maker site buffer : List ℕ) (r : Refusal) → texts_read maker site ≡ TextRead.Refused r → (Compiled.Refused r ≡ (compiled_texts maker site buffer).answer) × (buffer ≡ (compiled_texts maker site buffer).buffer)
+pub compiled_refused : (maker site buffer : List ℕ) (r : Refusal) → texts_read maker site ≡ Err r → (Compiled.Refused r ≡ (compiled_texts maker site buffer).answer) × (buffer ≡ (compiled_texts maker site buffer).buffer)
 unfolding texts_read text_read_of compiled_texts output_of
 compiled_refused maker site buffer r e = go (read_texts maker site) e
   where
-    go : (s : Progress) → text_read_of s ≡ TextRead.Refused r → (Compiled.Refused r ≡ (output_of s buffer).answer) × (buffer ≡ (output_of s buffer).buffer)
+    go : (s : Progress) → text_read_of s ≡ Err r → (Compiled.Refused r ≡ (output_of s buffer).answer) × (buffer ≡ (output_of s buffer).buffer)
     go (reading m p) k = let w : ◌≡◌ {A = ℕ} 0 1 = cc in absurd (omega arith)
     go (stopped x) k = let a : Compiled.Refused r ≡ Compiled.Refused x = cc in (a, refl)
 

@@ -11,7 +11,7 @@ ghost use Rattle.codegen.specs.Steps.Put.{word_count, cursor_for, cursors_after,
 use layout::{header, put_check_words, put_line};
 use line_value::Line;
 use policy::{Ending, Fault, Refusal};
-use rule_text::{LineCounts, TextRead, read_texts};
+use rule_text::{LineCounts, read_texts};
 use syntax::{LineStatus, read_line};
 use word::put_word;
 
@@ -123,8 +123,8 @@ pub fn compile_texts(maker: &[u8], site: &[u8], out: &mut [u8]) -> Compiled
 {
     let read = read_texts(maker, site);
     match read {
-        TextRead::Refused(refusal) => Compiled::Refused(refusal),
-        TextRead::Accepted(counts) => {
+        Err(refusal) => Compiled::Refused(refusal),
+        Ok(counts) => {
             let rule_words = words(counts.rules);
             let constraint_words = words(counts.constraints);
             let size = (rule_words + constraint_words + 2) * 4;

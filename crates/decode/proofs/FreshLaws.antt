@@ -1,7 +1,7 @@
 -- Numbers that stand once, told by the set of those seen so far.
 use Rattle.std.proofs.Common.{ℕ, ◌<◌, Bool, true, false, ◌||◌, List, [], ◌∷◌, ◌≡◌, refl, sym, ap, ap₂, ◌∙◌, eqb-true}
+use Rattle.std.proofs.lemmas.Bool.{eqb-false}
 use Rattle.std.proofs.Math.Dec.{eqb}
-use borrow.Author.Tests.{eqb-false}
 use Rattle.policy.proofs.ListLaws.{or_out}
 use Rattle.policy.proofs.SetLaws.{has_insert_same, has_insert_other, has_empty}
 use Rattle.policy.specs.Limits.{repeats}

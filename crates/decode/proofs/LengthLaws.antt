@@ -1,8 +1,8 @@
 -- The length of a line as the code finds it: the first word's skip, the ending word, the heads, and the comparisons behind them.
 use Rattle.std.proofs.Common.{ℕ, zero, suc, ◌+◌, ◌-◌, ◌≤◌, ◌<◌, Bool, true, false, not, cond, ◌&&◌, ◌||◌, List, ◌≡◌, refl, sym, ap, ap₂, ◌∙◌, add-zero, arith, lt-ltb, le-ltb, ltb-true, ltb-false, le-leb, eq-eqb, ne_eqb, eqb-true, length, take, drop, length-drop, length-take, drop_of_length-le, drop-drop, get_or-drop, get_or-take}
+use Rattle.std.proofs.lemmas.Bool.{lt-leb, eqb-false}
 use Rattle.std.proofs.Math.Dec.{ltb, leb, eqb}
 use Rattle.std.proofs.Math.ListN.{get_or, get_or-eq_default}
-use borrow.Author.Tests.{lt-leb, eqb-false}
 use Rattle.policy.specs.Set.{insert}
 use Rattle.decode.proofs.ScanLaws.{scan_by, Sized, sized_constant, sized_reading, sized_none, sized}
 use Rattle.decode.proofs.ScanLines.{scan_line_is}

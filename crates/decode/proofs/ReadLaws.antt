@@ -1,8 +1,8 @@
 -- The value of a line read from its words is the value that the line has.
 use Rattle.std.proofs.Common.{ℕ, zero, suc, ◌+◌, ◌-◌, ◌/◌, ◌≤◌, ◌<◌, min, Bool, true, false, List, [], ◌∷◌, ◌++◌, map, append-nil, ◌≡◌, refl, sym, ap, ap₂, ◌∙◌, arith, lt-ltb, le-ltb, ltb-true, length, drop, length-append, length-drop, get_or-drop, drop-drop}
+use Rattle.std.proofs.lemmas.List.{map-append}
 use Rattle.std.proofs.Math.ListN.{get_or, length-map}
 use Rattle.std.proofs.Math.Seq.{append_snoc}
-use mathlib.Core.List.{map-append}
 use Rattle.line_value.proofs.LineLaws.{room_counted, item_more, count_more}
 use Rattle.policy.proofs.ListLaws.{and_out}
 use Rattle.policy.specs.Limits.{valid, test_number, comparison_in_range, ending_in_range}

@@ -1,9 +1,9 @@
 -- Going over a line: the words of a valid line pass, and what passes is a valid line.
 use Rattle.std.proofs.Common.{ℕ, zero, suc, ◌+◌, ◌-◌, ◌*◌, ◌/◌, ◌%◌, ◌^◌, ◌≤◌, ◌<◌, Bool, true, false, not, cond, ◌&&◌, ◌||◌, List, [], ◌∷◌, ◌++◌, map, append_assoc, ◌⊎◌, inl, inr, ◌≡◌, refl, sym, ap, ap₂, ◌∙◌, subst, arith, ltb-true, lt-ltb, eqb-true, eq-eqb, ne_eqb, le-leb, leb-true, length, drop, length-append, pow_mono, shr_lt, lt_of_lt_of_le}
+use Rattle.std.proofs.lemmas.Bool.{not-true}
 use Rattle.std.proofs.Math.Dec.{ltb, leb, eqb}
 use Rattle.std.proofs.Math.ListN.{get_or}
 use Rattle.std.proofs.Math.Seq.{get_or_at}
-use borrow.Author.Tests.{not-true}
 use Rattle.policy.proofs.ListLaws.{true_false, and_in, and_out}
 use Rattle.policy.specs.Limits.{valid, test_number, comparison_in_range, ending_in_range}
 use Rattle.policy.specs.Line.{PolicyLine, rule, constraint, heads_of, comparisons_of, ending_of}

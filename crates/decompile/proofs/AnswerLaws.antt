@@ -1,6 +1,6 @@
 -- Each way through `decompile`.
 use Rattle.std.proofs.Common.{ℕ, ◌+◌, ◌≤◌, ◌<◌, min, List, ◌++◌, ◌≡◌, sym, ap, ◌∙◌, arith, le-leb, length, drop}
-use borrow.Author.Tests.{lt-leb}
+use Rattle.std.proofs.lemmas.Bool.{lt-leb}
 use Rattle.policy.specs.Fault.{refusal}
 use Rattle.policy.specs.Fill.{Filled}
 use Rattle.policy.specs.declared.fault.Fault.{Fault}

@@ -1,7 +1,7 @@
 -- What holds of every decompilation: what it has written, and when it is refused.
 use Rattle.std.proofs.Common.{ℕ, ◌≤◌, ◌<◌, List, ◌≡◌, refl, ap, ◌∙◌, arith, le-leb, length}
+use Rattle.std.proofs.lemmas.Bool.{lt-leb}
 use Rattle.std.proofs.Math.Option.{some}
-use borrow.Author.Tests.{lt-leb}
 use Rattle.policy.proofs.FillLaws.{fill_delivered, fill_unchanged}
 use Rattle.policy.specs.Fault.{refusal}
 use Rattle.policy.specs.declared.fault.Fault.{Fault}

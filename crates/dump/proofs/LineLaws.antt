@@ -1,8 +1,8 @@
 -- Laws of lines that are read byte by byte, and of a line as a word.
 use Rattle.std.proofs.Common.{◌≡◌, ℕ, ◌+◌, ◌*◌, ◌≤◌, true, false, List, [], ◌∷◌, ◌++◌, length, sym, refl, ap, ◌∙◌, append_assoc, arith, length-append, eq-eqb, ne_eqb}
+use Rattle.std.proofs.lemmas.List.Sums.{fold-append}
 use Rattle.std.proofs.Math.Bool.{and-false}
 use Rattle.std.proofs.Math.Option.{none, some}
-use mathlib.Core.List.{foldl-append}
 use Rattle.policy.specs.List.{all}
 use Rattle.lexer.proofs.RunLaws.{all_broken}
 use Rattle.lexer.specs.Byte.{hex_value, is_hex_digit}
@@ -65,7 +65,7 @@ pub word_over : (line : List ℕ) (b : ℕ) (rest : List ℕ) → 8 ≤ length l
 word_over line b rest h = word_none (line ++ b ∷ rest) (λ e. omega (arith, length-append line (b ∷ rest)))
 
 pub number_more : (line : List ℕ) (b : ℕ) → hex_number (line ++ b ∷ []) ≡ hex_number line * 16 + hex_value b
-number_more line b = foldl-append (λ (v d : ℕ). v * 16 + hex_value d) 0 line (b ∷ [])
+number_more line b = fold-append (λ (v d : ℕ). v * 16 + hex_value d) 0 line (b ∷ [])
 
 -- ---- words before words
 

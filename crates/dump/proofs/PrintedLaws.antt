@@ -1,8 +1,8 @@
 -- What the compiler prints of an image, its words one a line, is read as those words.
-use Rattle.std.proofs.Common.{◌≡◌, ℕ, zero, suc, ◌+◌, ◌-◌, ◌*◌, ◌/◌, ◌%◌, ◌^◌, ◌<◌, Bool, true, false, ltb, List, [], ◌∷◌, ◌++◌, map, length, refl, ap, ◌∙◌, append_assoc, append-nil, arith, ltb-true, le-ltb, lt-ltb, ne_eqb, le-leb}
+use Rattle.std.proofs.Common.{◌≡◌, ℕ, zero, suc, ◌+◌, ◌-◌, ◌*◌, ◌/◌, ◌%◌, ◌^◌, ◌<◌, Bool, true, false, ltb, List, [], ◌∷◌, ◌++◌, map, length, refl, ap, ◌∙◌, append_assoc, append-nil, arith, ltb-true, le-ltb, lt-ltb, ne_eqb, le-leb, fold}
+use Rattle.std.proofs.lemmas.Bool.{lt-leb}
 use Rattle.std.proofs.Math.Option.{some}
-use mathlib.Core.List.{flatten, foldl}
-use borrow.Author.Tests.{lt-leb}
+use mathlib.Core.List.{flatten}
 use Rattle.policy.specs.List.{all}
 use Rattle.policy.proofs.ListLaws.{and_in, and_out, true_false}
 use Rattle.lexer.specs.Byte.{hex_value, is_hex_digit}
@@ -40,11 +40,11 @@ unfolding hex_digits
 digits_length zero w = refl
 digits_length (suc k) w = ap suc (digits_length k w)
 
-digits_number : (k v w : ℕ) → foldl (λ (x b : ℕ). x * 16 + hex_value b) v (hex_digits k w) ≡ foldl (λ (x b : ℕ). x * 16 + hex_digit_value b) v (hex_digits k w)
+digits_number : (k v w : ℕ) → fold (λ (x b : ℕ). x * 16 + hex_value b) v (hex_digits k w) ≡ fold (λ (x b : ℕ). x * 16 + hex_digit_value b) v (hex_digits k w)
 unfolding hex_digits
 digits_number zero v w = refl
 digits_number (suc k) v w =
-    ap (λ (x : ℕ). foldl (λ (y b : ℕ). y * 16 + hex_value b) (v * 16 + x) (hex_digits k w)) (digit_read (w / 2 ^ (4 * k) % 16) (omega arith)).1
+    ap (λ (x : ℕ). fold (λ (y b : ℕ). y * 16 + hex_value b) (v * 16 + x) (hex_digits k w)) (digit_read (w / 2 ^ (4 * k) % 16) (omega arith)).1
     ∙ digits_number k (v * 16 + hex_digit_value (hex_digit (w / 2 ^ (4 * k) % 16))) w
 
 pub word_number : (w : ℕ) → w < word_limit → hex_number (hex_word w) ≡ w

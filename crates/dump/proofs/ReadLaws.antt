@@ -1,8 +1,8 @@
 -- The steps over the bytes of the input read its lines.
 use Rattle.std.proofs.Common.{◌≡◌, ℕ, ◌+◌, ◌/◌, ◌^◌, ◌<◌, ◌≤◌, min, Bool, true, false, cond, eqb, ltb, List, [], ◌∷◌, ◌++◌, length, take, sym, refl, ap, ◌∙◌, append-nil, arith, length-append, length-take, take_all, ltb-false, ltb-true, lt-ltb, ne_eqb, eqb-true}
+use Rattle.std.proofs.lemmas.Bool.{eqb-false}
 use Rattle.std.proofs.Math.Option.{none, some}
 use Rattle.std.proofs.Math.Seq.{take-append-le}
-use borrow.Author.Tests.{eqb-false}
 use Rattle.policy.specs.List.{all}
 use Rattle.policy.proofs.ListLaws.{and_in, all_append}
 use Rattle.lexer.proofs.HexLaws.{hex_bound}

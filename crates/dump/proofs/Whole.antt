@@ -1,7 +1,8 @@
 -- However the input is cut into chunks, what is printed at its end is what the definition says for all of it.
-use Rattle.std.proofs.Common.{◌≡◌, ℕ, ◌+◌, ◌*◌, ◌/◌, ◌%◌, ◌^◌, ◌<◌, ◌≤◌, min, Bool, true, false, cond, ◌&&◌, eqb, leb, List, [], ◌∷◌, ◌++◌, length, take, drop, sym, refl, ap, ◌∙◌, arith, length-append, length-take, take_all, take_at, le-leb, leb-false, leb-true}
+use Rattle.std.proofs.Common.{◌≡◌, ℕ, ◌+◌, ◌*◌, ◌/◌, ◌%◌, ◌^◌, ◌<◌, ◌≤◌, min, Bool, true, false, cond, ◌&&◌, eqb, leb, List, [], ◌∷◌, ◌++◌, length, take, drop, sym, refl, ap, ◌∙◌, arith, length-append, length-take, take_all, take_at, le-leb, leb-false, leb-true, fold}
+use Rattle.std.proofs.lemmas.List.Sums.{fold-append}
 use Rattle.std.proofs.Math.Option.{Option, none, some}
-use mathlib.Core.List.{flatten, foldl, foldl-append}
+use mathlib.Core.List.{flatten}
 use Rattle.policy.specs.Fault.{fault_number, refusal}
 use Rattle.policy.specs.declared.fault.Fault.{Fault}
 use Rattle.policy.specs.declared.fault.Refusal.{Refusal}
@@ -82,10 +83,10 @@ ends_answer buffer (words ws) h room long large (b, s) =
     rw b (ap (image_within room) (stored_bytes buffer ws h.state.words h.image s) ∙ image_whole (kept buffer ws) room large ∙ kept_answer buffer ws long)
 ends_answer buffer (not_word n) h room long large (b, e) = rw b (ap not_word_line e)
 
-fed_joined : (h : Held) (chunks : List (List ℕ)) → foldl fed h chunks ≡ fed h (flatten chunks)
+fed_joined : (h : Held) (chunks : List (List ℕ)) → fold fed h chunks ≡ fed h (flatten chunks)
 unfolding flatten
 fed_joined h [] = refl
-fed_joined h (chunk ∷ chunks) = fed_joined (fed h chunk) chunks ∙ sym (foldl-append stepped h chunk (flatten chunks))
+fed_joined h (chunk ∷ chunks) = fed_joined (fed h chunk) chunks ∙ sym (fold-append stepped h chunk (flatten chunks))
 
 -- ---- all of it has room
 
@@ -146,13 +147,13 @@ restored_short input = go (read_dump 0 (lines_of input)) refl
 -- `begin`, `feed` on each chunk, and `finish`, as their contracts have it: the output holds just what is to be printed, from its start up
 -- to the position that is answered
 pub all_restored : (chunks : List (List ℕ)) (image out after : List ℕ) (end : ℕ) → 13068 ≤ length image → 27968 ≤ length out
-    → end ≡ behind out 0 (finished (length out) (closed (foldl fed (held start_state image) chunks)))
-    → after ≡ appended out 0 (finished (length out) (closed (foldl fed (held start_state image) chunks)))
+    → end ≡ behind out 0 (finished (length out) (closed (fold fed (held start_state image) chunks)))
+    → after ≡ appended out 0 (finished (length out) (closed (fold fed (held start_state image) chunks)))
     → take end after ≡ restored (flatten chunks)
 unfolding restored behind
 all_restored chunks image out after end long large p q =
     let input : List ℕ = flatten chunks in
-    let e : finished (length out) (closed (foldl fed (held start_state image) chunks)) ≡ restored input =
+    let e : finished (length out) (closed (fold fed (held start_state image) chunks)) ≡ restored input =
     ap (λ (h : Held). finished (length out) (closed h)) (fed_joined (held start_state image) chunks)
     ∙ ends_answer image (read_dump 0 (lines_of input)) (closed (fed (held start_state image) input)) (length out) long large (reads_all image input) in
     let short = restored_short input in

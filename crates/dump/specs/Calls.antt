@@ -1,6 +1,5 @@
 -- What the functions do: with a byte of the input, with the bytes of a chunk, and at the end of the input.
-use Rattle.std.specs.Prelude.{ℕ, ◌+◌, ◌*◌, ◌/◌, ◌%◌, ◌^◌, min, true, false, cond, ◌&&◌, ◌||◌, List, [], ◌∷◌, length, take, ◌==◌, nat_le, nat_lt}
-use mathlib.Core.List.{foldl}
+use Rattle.std.specs.Prelude.{ℕ, ◌+◌, ◌*◌, ◌/◌, ◌%◌, ◌^◌, min, true, false, cond, ◌&&◌, ◌||◌, List, [], ◌∷◌, length, take, ◌==◌, nat_le, nat_lt, fold}
 use Rattle.lexer.specs.Byte.{is_line_end, hex_value}
 use Rattle.word.specs.Steps.Write.{fits, put_words}
 use Rattle.policy.specs.Fault.{refusal}
@@ -56,7 +55,7 @@ stepped h b =
 
 -- the bytes of a chunk
 abbrev pub fed : Held → List ℕ → Held
-fed h chunk = foldl stepped h chunk
+fed h chunk = fold stepped h chunk
 
 -- the input has ended: an open line has ended with it
 unfoldable pub closed : Held → Held

@@ -1,10 +1,10 @@
 -- Laws of scanning an epoch line, token by token, and of its judgement against the definition.
-use Rattle.std.proofs.Common.{ℕ, suc, ◌<◌, ◌≤◌, Bool, true, false, not, ◌&&◌, ◌||◌, cond, List, [], ◌∷◌, ◌≡◌, refl, sym, ap, ap₂, ◌∙◌, arith, eqb-true, eq-eqb, ne_eqb, ltb-true, lt-ltb, le-ltb, ℤ, pos, length, drop, drop_of_length-le, length-drop, replicate}
+use Rattle.std.specs.Prelude.{Option as Maybe, Some, None}
+use Rattle.std.proofs.Common.{ℕ, suc, ◌<◌, ◌≤◌, Bool, true, false, not, ◌&&◌, ◌||◌, cond, List, [], ◌∷◌, ◌≡◌, refl, sym, ap, ap₂, ◌∙◌, arith, eqb-true, eq-eqb, ne_eqb, ltb-true, lt-ltb, le-ltb, ℤ, pos, length, drop, drop_of_length-le, length-drop, replicate, fold}
 use Rattle.std.proofs.Math.Bool.{or-true, or_assoc, or-false}
 use Rattle.std.proofs.Math.Option.{Option, none, some, or_else}
 use Rattle.std.proofs.Math.Dec.{eqb, ltb}
 use Rattle.std.proofs.Math.ListN.{set}
-use mathlib.Core.List.{foldl}
 use Rattle.policy.proofs.ListLaws.{true_false, and_in, and_out}
 use Rattle.policy.proofs.SeenLaws.{seen_repeats}
 use Rattle.policy.specs.Epoch.{Epoch}
@@ -21,14 +21,14 @@ use Rattle.lexer.proofs.TokenLaws.{tokens_after_spaces, tokens_first, tokens_end
 use Rattle.lexer.proofs.KeywordLaws.{empty_end, token_inside, skip_grows}
 use Rattle.lexer.specs.Byte.{is_space}
 use Rattle.epoch_line.specs.Epoch.{Item, event, value, item_of, items_of, item_in_range, given_by, add_item, empty_epoch, judge_epoch, refused, accepted, epoch_limit, read_epoch, at_equals, assignment_of}
-use Rattle.epoch_line.specs.Steps.EpochScan.{item_within, item_ending, item_at, Scanned, scanned, add_scanned, flagged, take_item, finish_read, items_read, epoch_from}
+use Rattle.epoch_line.specs.Steps.EpochScan.{entry_as, entry_of, item_ending, item_at, Scanned, scanned, add_scanned, flagged, take_item, finish_read, items_read, epoch_from}
 use Rattle.epoch_line.specs.Answer.{refused_read, accepted_read, answer_read, epoch_read}
 use Rattle.lexer.specs.Token.{Token, named, both}
 use Rattle.lexer.specs.Lines.{tokens_of, take_leading, skip_while, in_line, rest_of_line}
 use Rattle.lexer.specs.Number.{is_empty}
 use Rattle.lexer.specs.Steps.Scan.{in_token, token_at, tokens_at}
 use Rattle.epoch_line.specs.declared.EpochRead.{EpochRead}
-use Rattle.epoch_line.specs.declared.ItemAt.{ItemAt}
+use Rattle.epoch_line.specs.declared.Entry.{Entry}
 
 -- ---- a line end among bytes
 
@@ -84,7 +84,7 @@ closed out_of_range twice e = cond out_of_range (refused_read Fault.EpochRange) 
 
 module _ (s : Scanned) (is : List Item) where
   abbrev after : Scanned → List Item → EpochRead
-  after s is = closed (s.out_of_range || not (all item_in_range is)) (s.twice || seen_in s.epoch.readings.given.bits (given_by is)) (foldl add_item s.epoch is)
+  after s is = closed (s.out_of_range || not (all item_in_range is)) (s.twice || seen_in s.epoch.readings.given.bits (given_by is)) (fold add_item s.epoch is)
 
   one_more : (i : Item) → after (take_item s i) is ≡ after s (i ∷ is)
   unfolding take_item add_scanned closed all seen_in given_by add_item
@@ -95,7 +95,7 @@ module _ (s : Scanned) (is : List Item) where
       go (value n k) true e = rw (e, or_assoc s.twice (has_reading s.epoch.readings.given (record { 0 = n })) (seen_in (insert_reading s.epoch.readings.given (record { 0 = n })).bits (given_by is)))
       go i false e = rw (e, or-true s.out_of_range)
 
-collected : (s : Scanned) (is : List Item) → finish_read (foldl take_item s is) ≡ closed (s.out_of_range || not (all item_in_range is)) (s.twice || seen_in s.epoch.readings.given.bits (given_by is)) (foldl add_item s.epoch is)
+collected : (s : Scanned) (is : List Item) → finish_read (fold take_item s is) ≡ closed (s.out_of_range || not (all item_in_range is)) (s.twice || seen_in s.epoch.readings.given.bits (given_by is)) (fold add_item s.epoch is)
 unfolding finish_read closed all seen_in given_by
 collected s [] = rw (or-false s.out_of_range, or-false s.twice)
 collected s (i ∷ is) = collected (take_item s i) is ∙ one_more s is i
@@ -117,11 +117,11 @@ unfolding items_read judge_epoch answer_read closed
 judged none = refl
 judged (some is) = collected nothing is ∙ go (all item_in_range is) refl
   where
-    twice : (r : Bool) → cond r (refused_read Fault.DuplicateReading) (accepted_read (foldl add_item empty_epoch is)) ≡ answer_read (cond r (refused Fault.DuplicateReading) (accepted (foldl add_item empty_epoch is)))
+    twice : (r : Bool) → cond r (refused_read Fault.DuplicateReading) (accepted_read (fold add_item empty_epoch is)) ≡ answer_read (cond r (refused Fault.DuplicateReading) (accepted (fold add_item empty_epoch is)))
     twice true = refl
     twice false = refl
 
-    go : (a : Bool) → all item_in_range is ≡ a → closed (not a) (seen_in 0 (given_by is)) (foldl add_item empty_epoch is) ≡ answer_read (cond (not a) (refused Fault.EpochRange) (cond (repeats (given_by is)) (refused Fault.DuplicateReading) (accepted (foldl add_item empty_epoch is))))
+    go : (a : Bool) → all item_in_range is ≡ a → closed (not a) (seen_in 0 (given_by is)) (fold add_item empty_epoch is) ≡ answer_read (cond (not a) (refused Fault.EpochRange) (cond (repeats (given_by is)) (refused Fault.DuplicateReading) (accepted (fold add_item empty_epoch is))))
     go true e = rw (seen_repeats (given_by is) (given_small is e)) (twice (repeats (given_by is)))
     go false e = refl
 
@@ -150,66 +150,65 @@ record ItemRead (line : List ℕ) (at e : ℕ) (i : Item) : Type 0 where
   read : item_of (token_at line at) ≡ some i
   behind : e ≡ skip_while in_token line at
 
+entry_item : Entry → Item
+entry_item (Entry.Event x) = event x.0
+entry_item (Entry.Value x k) = value x.0 k
+
+item_again : (i : Item) → entry_item (entry_as i) ≡ i
+unfolding entry_item entry_as
+item_again (event n) = refl
+item_again (value n k) = refl
+
+-- what an answer says of the token
+record Entered (line : List ℕ) (at : ℕ) (m : Maybe Entry) (e : ℕ) : Type 0 where
+  item : Item
+  read : ItemRead line at e item
+  made : m ≡ entry_of item
+
 module _ (line : List ℕ) (at : ℕ) where
-  item_none : item_at line at ≡ ItemAt.Malformed → item_of (token_at line at) ≡ none
-  unfolding item_at item_ending item_within
+  item_none : item_at line at ≡ None → item_of (token_at line at) ≡ none
+  unfolding item_at item_ending
   item_none = go (item_of (token_at line at))
     where
-      made : (i : Item) (b : Bool) → cond b (item_within (skip_while in_token line at) i) (ItemAt.OutOfRange (skip_while in_token line at)) ≡ ItemAt.Malformed → ⊥
-      made (event n) true q = let w : ◌≡◌ {A = ℕ} 0 1 = cc in omega arith
-      made (value n k) true q = let w : ◌≡◌ {A = ℕ} 0 1 = cc in omega arith
-      made i false q = let w : ◌≡◌ {A = ℕ} 0 1 = cc in omega arith
-
-      go : (o : Option Item) → item_ending (skip_while in_token line at) o ≡ ItemAt.Malformed → o ≡ none
+      go : (o : Option Item) → item_ending (skip_while in_token line at) o ≡ None → o ≡ none
       go none q = refl
-      go (some i) q = absurd (made i (item_in_range i) q)
+      go (some i) q = let w : ◌≡◌ {A = ℕ} 0 1 = cc in absurd (omega arith)
 
-  module _ (e : ℕ) where
-    item_event : (x : Event) → item_at line at ≡ ItemAt.Event x e → ItemRead line at e (event x.0) × (item_in_range (event x.0) ≡ true)
-    unfolding item_at item_ending item_within
-    item_event x = go (item_of (token_at line at)) refl
+  module _ (m : Maybe Entry) (e : ℕ) (q : item_at line at ≡ Some (m, e)) where
+    entered : Entered line at m e
+    unfolding item_at item_ending
+    entered = go (item_of (token_at line at)) refl q
       where
-        made : (i : Item) → item_of (token_at line at) ≡ some i → (b : Bool) → item_in_range i ≡ b → cond b (item_within (skip_while in_token line at) i) (ItemAt.OutOfRange (skip_while in_token line at)) ≡ ItemAt.Event x e → ItemRead line at e (event x.0) × (item_in_range (event x.0) ≡ true)
-        made (event n) p true r q =
-            let k : record { 0 = n } ≡ x = cc in
-            let m : n ≡ x.0 = ap (λ (y : Event). y.0) k in
-            (record { read = p ∙ ap (λ (y : ℕ). some (event y)) m; behind = cc }, sym (ap (λ (y : ℕ). item_in_range (event y)) m) ∙ r)
-        made (value n k) p true r q = let w : ◌≡◌ {A = ℕ} 0 1 = cc in absurd (omega arith)
-        made i p false r q = let w : ◌≡◌ {A = ℕ} 0 1 = cc in absurd (omega arith)
+        part_in : Maybe (Maybe Entry × ℕ) → Maybe Entry
+        part_in None = None
+        part_in (Some p) = p.0
 
-        go : (o : Option Item) → item_of (token_at line at) ≡ o → item_ending (skip_while in_token line at) o ≡ ItemAt.Event x e → ItemRead line at e (event x.0) × (item_in_range (event x.0) ≡ true)
-        go none p q = let w : ◌≡◌ {A = ℕ} 0 1 = cc in absurd (omega arith)
-        go (some i) p q = made i p (item_in_range i) refl q
+        end_in : Maybe (Maybe Entry × ℕ) → ℕ
+        end_in None = 0
+        end_in (Some p) = p.1
 
-    item_value : (x : Reading) (k : ℤ) → item_at line at ≡ ItemAt.Value x k e → ItemRead line at e (value x.0 k) × (item_in_range (value x.0 k) ≡ true)
-    unfolding item_at item_ending item_within
-    item_value x k = go (item_of (token_at line at)) refl
+        go : (o : Option Item) → item_of (token_at line at) ≡ o → item_ending (skip_while in_token line at) o ≡ Some (m, e) → Entered line at m e
+        go none p k = let w : ◌≡◌ {A = ℕ} 0 1 = cc in absurd (omega arith)
+        go (some i) p k = record { item = i; read = record { read = p; behind = sym (ap end_in k) }; made = sym (ap part_in k) }
+
+    item_entry : (x : Entry) → m ≡ Some x → ItemRead line at e (entry_item x) × (item_in_range (entry_item x) ≡ true)
+    item_entry x h = go (item_in_range entered.item) refl (sym entered.made ∙ h)
       where
-        made : (i : Item) → item_of (token_at line at) ≡ some i → (b : Bool) → item_in_range i ≡ b → cond b (item_within (skip_while in_token line at) i) (ItemAt.OutOfRange (skip_while in_token line at)) ≡ ItemAt.Value x k e → ItemRead line at e (value x.0 k) × (item_in_range (value x.0 k) ≡ true)
-        made (event n) p true r q = let w : ◌≡◌ {A = ℕ} 0 1 = cc in absurd (omega arith)
-        made (value n l) p true r q =
-            let j : record { 0 = n } ≡ x = cc in
-            let m : n ≡ x.0 = ap (λ (y : Reading). y.0) j in
-            let v : l ≡ k = cc in
-            (record { read = p ∙ ap₂ (λ (y : ℕ) (z : ℤ). some (value y z)) m v; behind = cc }, sym (ap₂ (λ (y : ℕ) (z : ℤ). item_in_range (value y z)) m v) ∙ r)
-        made i p false r q = let w : ◌≡◌ {A = ℕ} 0 1 = cc in absurd (omega arith)
+        same : {y : Entry} → Some y ≡ Some x → y ≡ x
+        same k = cc
 
-        go : (o : Option Item) → item_of (token_at line at) ≡ o → item_ending (skip_while in_token line at) o ≡ ItemAt.Value x k e → ItemRead line at e (value x.0 k) × (item_in_range (value x.0 k) ≡ true)
-        go none p q = let w : ◌≡◌ {A = ℕ} 0 1 = cc in absurd (omega arith)
-        go (some i) p q = made i p (item_in_range i) refl q
+        go : (b : Bool) → item_in_range entered.item ≡ b → cond b (Some (entry_as entered.item)) None ≡ Some x → ItemRead line at e (entry_item x) × (item_in_range (entry_item x) ≡ true)
+        go true r k =
+            let i : entered.item ≡ entry_item x = sym (item_again entered.item) ∙ ap entry_item (same k) in
+            (record { read = entered.read.read ∙ ap (λ (j : Item). some j) i; behind = entered.read.behind }, sym (ap item_in_range i) ∙ r)
+        go false r k = let w : ◌≡◌ {A = ℕ} 0 1 = cc in absurd (omega arith)
 
-    item_outside : item_at line at ≡ ItemAt.OutOfRange e → (i : Item) × ItemRead line at e i × (item_in_range i ≡ false)
-    unfolding item_at item_ending item_within
-    item_outside = go (item_of (token_at line at)) refl
+    item_outside : m ≡ None → item_in_range entered.item ≡ false
+    item_outside h = go (item_in_range entered.item) (sym entered.made ∙ h)
       where
-        made : (i : Item) → item_of (token_at line at) ≡ some i → (b : Bool) → item_in_range i ≡ b → cond b (item_within (skip_while in_token line at) i) (ItemAt.OutOfRange (skip_while in_token line at)) ≡ ItemAt.OutOfRange e → (j : Item) × ItemRead line at e j × (item_in_range j ≡ false)
-        made (event n) p true r q = let w : ◌≡◌ {A = ℕ} 0 1 = cc in absurd (omega arith)
-        made (value n k) p true r q = let w : ◌≡◌ {A = ℕ} 0 1 = cc in absurd (omega arith)
-        made i p false r q = (i, record { read = p; behind = cc }, r)
-
-        go : (o : Option Item) → item_of (token_at line at) ≡ o → item_ending (skip_while in_token line at) o ≡ ItemAt.OutOfRange e → (j : Item) × ItemRead line at e j × (item_in_range j ≡ false)
-        go none p q = let w : ◌≡◌ {A = ℕ} 0 1 = cc in absurd (omega arith)
-        go (some i) p q = made i p (item_in_range i) refl q
+        go : (b : Bool) → cond b (Some (entry_as entered.item)) None ≡ None → b ≡ false
+        go true k = let w : ◌≡◌ {A = ℕ} 0 1 = cc in absurd (omega arith)
+        go false k = refl
 
 -- ---- a turn of scanning
 
@@ -233,7 +232,7 @@ module _ (line : List ℕ) (at : ℕ) (s : Scanned) where
   read_ended h =
       sym (read_skipped ∙ rw (drop_of_length-le line h, tokens_ended line at (sym (empty_end line start h))))
 
-  pub read_malformed : start < length line → item_at line start ≡ ItemAt.Malformed → refused_read Fault.EpochSyntax ≡ epoch_from s line at
+  pub read_malformed : start < length line → item_at line start ≡ None → refused_read Fault.EpochSyntax ≡ epoch_from s line at
   unfolding epoch_from items_of items_read both has_end skip_while token_at
   read_malformed h q = sym (read_skipped ∙ go (is_empty (token_at line start)) refl)
     where
@@ -274,35 +273,29 @@ module _ (line : List ℕ) (at : ℕ) (s : Scanned) where
         let g : e ≡ skip_while in_token line start = r.behind in
         (omega (arith, skip_ge is_space line at), omega (arith, skip_ge is_space line at, skip_grows line start solid))
 
-  pub read_outside : (e : ℕ) → item_at line start ≡ ItemAt.OutOfRange e → epoch_from s line at ≡ epoch_from (flagged s) line e
-  unfolding take_item
-  read_outside e q =
-      let p = item_outside line start e q in
-      read_taken e p.0 p.1 ∙ ap (λ (b : Bool). epoch_from (cond b (add_scanned s p.0) (flagged s)) line e) p.2
+  module _ (m : Maybe Entry) (e : ℕ) (q : item_at line start ≡ Some (m, e)) where
+    pub entry_on : (at < length line) × (at < e)
+    entry_on = read_on e (entered line start m e q).item (entered line start m e q).read
 
-  pub outside_on : (e : ℕ) → item_at line start ≡ ItemAt.OutOfRange e → (at < length line) × (at < e)
-  outside_on e q = let p = item_outside line start e q in read_on e p.0 p.1
+    pub read_outside : m ≡ None → epoch_from s line at ≡ epoch_from (flagged s) line e
+    unfolding take_item
+    read_outside h =
+        let p = entered line start m e q in
+        read_taken e p.item p.read ∙ ap (λ (b : Bool). epoch_from (cond b (add_scanned s p.item) (flagged s)) line e) (item_outside line start m e q h)
 
-  module _ (x : Event) (e : ℕ) (q : item_at line start ≡ ItemAt.Event x e) where
-    pub read_event : epoch_from s line at ≡ epoch_from (scanned s.out_of_range s.twice (insert_event s.epoch.events x) s.epoch.readings.given s.epoch.readings.values) line e
-    unfolding take_item add_scanned add_item
-    read_event =
-        let p = item_event line start e x q in
+    pub read_event : (x : Event) → m ≡ Some (Entry.Event x) → epoch_from s line at ≡ epoch_from (scanned s.out_of_range s.twice (insert_event s.epoch.events x) s.epoch.readings.given s.epoch.readings.values) line e
+    unfolding take_item add_scanned add_item entry_item
+    read_event x h =
+        let p = item_entry line start m e q (Entry.Event x) h in
         read_taken e (event x.0) p.0 ∙ ap (λ (b : Bool). epoch_from (cond b (add_scanned s (event x.0)) (flagged s)) line e) p.1
 
-    pub event_on : (at < length line) × (at < e)
-    event_on = read_on e (event x.0) (item_event line start e x q).0
+    module _ (x : Reading) (k : ℤ) (h : m ≡ Some (Entry.Value x k)) where
+      pub read_value : epoch_from s line at ≡ epoch_from (scanned s.out_of_range (s.twice || has_reading s.epoch.readings.given x) s.epoch.events (insert_reading s.epoch.readings.given x) (set s.epoch.readings.values x.0 k)) line e
+      unfolding take_item add_scanned add_item entry_item
+      read_value =
+          let p = item_entry line start m e q (Entry.Value x k) h in
+          read_taken e (value x.0 k) p.0 ∙ ap (λ (b : Bool). epoch_from (cond b (add_scanned s (value x.0 k)) (flagged s)) line e) p.1
 
-  module _ (x : Reading) (k : ℤ) (e : ℕ) (q : item_at line start ≡ ItemAt.Value x k e) where
-    pub read_value : epoch_from s line at ≡ epoch_from (scanned s.out_of_range (s.twice || has_reading s.epoch.readings.given x) s.epoch.events (insert_reading s.epoch.readings.given x) (set s.epoch.readings.values x.0 k)) line e
-    unfolding take_item add_scanned add_item
-    read_value =
-        let p = item_value line start e x k q in
-        read_taken e (value x.0 k) p.0 ∙ ap (λ (b : Bool). epoch_from (cond b (add_scanned s (value x.0 k)) (flagged s)) line e) p.1
-
-    pub value_on : (at < length line) × (at < e)
-    value_on = read_on e (value x.0 k) (item_value line start e x k q).0
-
-    pub value_small : x.0 < 16
-    unfolding item_in_range
-    value_small = ltb-true x.0 16 (and_out (ltb x.0 16) (is_reading_value k) (item_value line start e x k q).1).0
+      pub value_small : x.0 < 16
+      unfolding item_in_range entry_item
+      value_small = ltb-true x.0 16 (and_out (ltb x.0 16) (is_reading_value k) (item_entry line start m e q (Entry.Value x k) h).1).0

@@ -1,4 +1,5 @@
 -- Laws of reading one token of an epoch line: an event, or a reading, `=` and a constant.
+use Rattle.std.specs.Prelude.{Option as Maybe, Some, None}
 use Rattle.std.proofs.Common.{ℕ, ◌+◌, ◌<◌, ◌≤◌, Bool, true, false, ◌&&◌, cond, List, [], ◌∷◌, ◌≡◌, refl, sym, ap, ap₂, ◌∙◌, arith, eqb-true, eq-eqb, ne_eqb, ℤ, length, drop, drop_of_length-le}
 use Rattle.std.proofs.Math.Option.{Option, none, some, or_else}
 use Rattle.std.proofs.Math.Dec.{eqb, ltb}
@@ -7,59 +8,41 @@ use Rattle.policy.proofs.ListLaws.{true_false}
 use Rattle.policy.specs.Limits.{is_reading_value}
 use Rattle.policy.specs.List.{all}
 use Rattle.policy.specs.Number.{check_event, check_reading}
-use Rattle.policy.specs.declared.number.Event.{Event}
-use Rattle.policy.specs.declared.number.EventCheck.{EventCheck}
 use Rattle.policy.specs.declared.number.Reading.{Reading}
-use Rattle.policy.specs.declared.number.ReadingCheck.{ReadingCheck}
 use Rattle.lexer.proofs.ClassLaws.{digit_bounds}
-use Rattle.lexer.proofs.DigitLaws.{digit_inside, not_number, ending_none, number_end}
-use Rattle.token.proofs.PartLaws as PartLaws
-use Rattle.token.proofs.PartLaws.{reading_valid, reading_outside, name_some, name_none, clip_below, clip_same}
+use Rattle.lexer.proofs.DigitLaws.{digit_inside, not_number, Ended, ending_none, ending_some, number_end, Named, name_some, name_none}
+use Rattle.token.proofs.PartLaws.{Parted, part_none, part_some, below_clipped}
 use Rattle.lexer.proofs.WhileLaws.{at_byte, skip_past, drop_skip, skip_on}
 use Rattle.lexer.proofs.KeywordLaws.{token_end, token_here, token_past}
 use Rattle.lexer.specs.Byte.{is_digit}
 use Rattle.epoch_line.specs.Epoch.{Item, event, value, Halves, to_left, at_equals, assignment_of, item_of, item_in_range}
-use Rattle.epoch_line.specs.Steps.EpochScan.{item_within, item_ending, value_item, value_at, item_at}
+use Rattle.epoch_line.specs.Steps.EpochScan.{event_with, value_with, entry_as, entry_of, item_ending, value_at, item_at}
 use Rattle.lexer.specs.Token.{named, both}
 use Rattle.lexer.specs.Number.{number_of, constant_of}
-use Rattle.token.specs.Steps.PartAt.{constant_ending, constant_at}
-use Rattle.lexer.specs.Steps.Scan.{in_token, token_at, clip, number_ending, digits_at, name_at}
+use Rattle.token.specs.Steps.PartAt.{kept, constant_at}
+use Rattle.lexer.specs.Steps.Scan.{in_token, token_at, clip, digits_at, name_at}
 use Rattle.lexer.specs.Lines.{take_leading, skip_while}
-use Rattle.epoch_line.specs.declared.ItemAt.{ItemAt}
-use Rattle.lexer.specs.declared.scan.NumberAt.{NumberAt}
-use Rattle.token.specs.declared.constant.ConstantAt.{ConstantAt}
+use Rattle.epoch_line.specs.declared.Entry.{Entry}
+use Rattle.lexer.specs.declared.scan.Number.{Number}
 
--- ---- checked numbers
+-- ---- clipped numbers
 
-module _ (n e : ℕ) where
-  pub event_valid : (x : Event) → check_event n ≡ EventCheck.Valid x → ItemAt.Event x e ≡ item_ending e (some (event n))
-  unfolding item_ending item_within item_in_range
-  event_valid x q = let p = PartLaws.event_valid n x q in rw (p.0, p.1)
-
-  pub event_outside : check_event n ≡ EventCheck.OutOfRange → ItemAt.OutOfRange e ≡ item_ending e (some (event n))
-  unfolding item_ending item_in_range
-  event_outside q = rw (PartLaws.event_outside n q)
-
-  module _ (k : ℤ) where
-    pub value_valid : (r : Reading) → check_reading n ≡ ReadingCheck.Valid r → ItemAt.Value r k e ≡ value_item n (ConstantAt.Value k e)
-    unfolding value_item
-    value_valid r q = let p = reading_valid n r q in rw (p.0, p.1)
-
-    pub value_outside : check_reading n ≡ ReadingCheck.OutOfRange → ItemAt.OutOfRange e ≡ value_item n (ConstantAt.Value k e)
-    unfolding value_item
-    value_outside q = rw (reading_outside n q)
-
--- a value is read from a clipped number and a constant as from the number and the constant
-value_clipped : (n e : ℕ) (o : Option ℤ) → value_item (clip n) (constant_ending e o) ≡ item_ending e (both value (some n) o)
-unfolding value_item constant_ending item_ending item_in_range item_within both
-value_clipped n e none = refl
-value_clipped n e (some k) = go (ltb n 16) refl (is_reading_value k)
+event_clipped : (n : ℕ) → event_with (check_event (clip n)) ≡ entry_of (event n)
+unfolding event_with entry_as item_in_range
+event_clipped n = go (ltb (clip n) 64) ∙ below_clipped 64 (omega arith) (λ (k : ℕ). Entry.Event (record { 0 = k })) n
   where
-    go : (b : Bool) → ltb n 16 ≡ b → (v : Bool) → value_item (clip n) (cond v (ConstantAt.Value k e) (ConstantAt.OutOfRange e)) ≡ cond (b && v) (ItemAt.Value (record { 0 = n }) k e) (ItemAt.OutOfRange e)
-    go true p true = rw (clip_below 16 n (omega arith), p) (ap (λ (m : ℕ). ItemAt.Value (record { 0 = m }) k e) (clip_same 16 n (omega arith) p))
-    go true p false = refl
-    go false p true = rw (clip_below 16 n (omega arith), p)
-    go false p false = refl
+    go : (b : Bool) → event_with (cond b (Some (record { 0 = clip n })) None) ≡ cond b (Some (Entry.Event (record { 0 = clip n }))) None
+    go true = refl
+    go false = refl
+
+value_clipped : (n : ℕ) (k : ℤ) → value_with (check_reading (clip n)) (kept is_reading_value k) ≡ entry_of (value n k)
+unfolding value_with entry_as item_in_range
+value_clipped n k = ap (λ (r : Maybe Reading). value_with r (kept is_reading_value k)) (below_clipped 16 (omega arith) (λ (m : ℕ). record { 0 = m }) n) ∙ go (ltb n 16) (is_reading_value k)
+  where
+    go : (b v : Bool) → value_with (cond b (Some (record { 0 = n })) None) (cond v (Some k) None) ≡ cond (b && v) (Some (Entry.Value (record { 0 = n }) k)) None
+    go true true = refl
+    go true false = refl
+    go false v = refl
 
 -- ---- the first `=` of a token that begins with digits
 
@@ -162,12 +145,12 @@ from_malformed s e = go (drop (length (take_leading is_digit s)) s) refl
 -- ---- the token at a position
 
 module _ (line : List ℕ) (at : ℕ) where
-  pub value_end : length line ≤ at → ItemAt.Malformed ≡ value_at line at
+  pub value_end : length line ≤ at → None ≡ value_at line at
   unfolding value_at assignment_of at_equals item_ending
   value_end h = rw (token_end line at h)
 
   -- another byte than `R`
-  pub value_other : at < length line → (get_or line at 0 ≡ 82 → ⊥) → ItemAt.Malformed ≡ value_at line at
+  pub value_other : at < length line → (get_or line at 0 ≡ 82 → ⊥) → None ≡ value_at line at
   unfolding value_at item_ending assignment_of at_equals
   value_other h q = sym (ap (item_ending (skip_while in_token line at)) (go (in_token (get_or line at 0)) refl))
     where
@@ -185,66 +168,76 @@ module _ (line : List ℕ) (at : ℕ) where
         ap₂ item_ending (skip_past in_token line at h inside)
         (ap (λ (t : List ℕ). assignment_of (at_equals t)) (token_past line at h inside ∙ ap (λ (b : ℕ). b ∷ token_at line (at + 1)) q))
 
-    no_value : value_from (drop (at + 1) line) ≡ none → ItemAt.Malformed ≡ value_at line at
+    no_value : value_from (drop (at + 1) line) ≡ none → None ≡ value_at line at
     unfolding item_ending
     no_value e = sym (from_first ∙ ap (item_ending (skip_while in_token line (at + 1))) e)
 
-    pub value_no_number : digits_at line (at + 1) ≡ NumberAt.Malformed → ItemAt.Malformed ≡ value_at line at
+    pub value_no_number : digits_at line (at + 1) ≡ None → None ≡ value_at line at
     unfolding digits_at
     value_no_number d = no_value (from_malformed (drop (at + 1) line) (ending_none (skip_while is_digit line (at + 1)) (number_of (take_leading is_digit (drop (at + 1) line))) d))
 
-    module _ (v e : ℕ) (d : digits_at line (at + 1) ≡ NumberAt.Number v e) where
-      left : drop (length (take_leading is_digit (drop (at + 1) line))) (drop (at + 1) line) ≡ drop e line
-      left = sym (drop_skip is_digit line (at + 1)) ∙ ap (λ (k : ℕ). drop k line) (number_end line (at + 1) v e d)
+    module _ (d : Number) (r : digits_at line (at + 1) ≡ Some d) where
+      left : drop (length (take_leading is_digit (drop (at + 1) line))) (drop (at + 1) line) ≡ drop d.end line
+      left = sym (drop_skip is_digit line (at + 1)) ∙ ap (λ (k : ℕ). drop k line) (number_end line (at + 1) d.value d.end r)
 
-      pub value_ended : length line ≤ e → ItemAt.Malformed ≡ value_at line at
-      value_ended l = no_value (from_none (drop (at + 1) line) (λ r k. nothing (sym (drop_of_length-le line l) ∙ sym left ∙ k)))
+      pub value_ended : length line ≤ d.end → None ≡ value_at line at
+      value_ended l = no_value (from_none (drop (at + 1) line) (λ t k. nothing (sym (drop_of_length-le line l) ∙ sym left ∙ k)))
         where
-          nothing : {r : List ℕ} → [] ≡ 61 ∷ r → ⊥
+          nothing : {t : List ℕ} → [] ≡ 61 ∷ t → ⊥
           nothing k = let w : ◌≡◌ {A = ℕ} 0 1 = cc in omega arith
 
-      pub value_no_equals : e < length line → (get_or line e 0 ≡ 61 → ⊥) → ItemAt.Malformed ≡ value_at line at
-      value_no_equals l z = no_value (from_none (drop (at + 1) line) (λ r k. z (first (sym (at_byte line e l) ∙ sym left ∙ k))))
+      pub value_no_equals : d.end < length line → (get_or line d.end 0 ≡ 61 → ⊥) → None ≡ value_at line at
+      value_no_equals l z = no_value (from_none (drop (at + 1) line) (λ t k. z (first (sym (at_byte line d.end l) ∙ sym left ∙ k))))
         where
-          first : {r : List ℕ} → get_or line e 0 ∷ drop (e + 1) line ≡ 61 ∷ r → get_or line e 0 ≡ 61
+          first : {t : List ℕ} → get_or line d.end 0 ∷ drop (d.end + 1) line ≡ 61 ∷ t → get_or line d.end 0 ≡ 61
           first k = cc
 
-      pub value_read : e < length line → get_or line e 0 ≡ 61 → value_item v (constant_at line (e + 1)) ≡ value_at line at
-      unfolding constant_at token_at digits_at number_ending
-      value_read l z = go (number_of (take_leading is_digit (drop (at + 1) line))) refl d
-        where
-          ends : skip_while in_token line (at + 1) ≡ skip_while in_token line (e + 1)
-          ends =
-              sym (skip_on in_token is_digit digit_inside line (at + 1)) ∙ ap (skip_while in_token line) (number_end line (at + 1) v e d)
-              ∙ skip_past in_token line e l (ap in_token z)
+      module _ (l : d.end < length line) (z : get_or line d.end 0 ≡ 61) where
+        abbrev number : Option ℕ
+        number = number_of (take_leading is_digit (drop (at + 1) line))
 
-          equals : drop (length (take_leading is_digit (drop (at + 1) line))) (drop (at + 1) line) ≡ 61 ∷ drop (e + 1) line
-          equals = left ∙ at_byte line e l ∙ ap (λ (b : ℕ). b ∷ drop (e + 1) line) z
+        ended : Ended (skip_while is_digit line (at + 1)) number d
+        unfolding digits_at
+        ended = ending_some (skip_while is_digit line (at + 1)) number d r
 
-          go : (o : Option ℕ) → number_of (take_leading is_digit (drop (at + 1) line)) ≡ o → number_ending (skip_while is_digit line (at + 1)) o ≡ NumberAt.Number v e → value_item v (constant_at line (e + 1)) ≡ value_at line at
-          go none p k = let w : ◌≡◌ {A = ℕ} 0 1 = cc in absurd (omega arith)
-          go (some n) p k =
-              let c : v ≡ clip n = cc in
-              ap (λ (m : ℕ). value_item m (constant_at line (e + 1))) c
-              ∙ value_clipped n (skip_while in_token line (e + 1)) (constant_of (token_at line (e + 1)))
-              ∙ sym (from_first ∙ ap₂ item_ending ends (from_some (drop (at + 1) line) (drop (e + 1) line) equals ∙ ap (λ (o : Option ℕ). both value o (constant_of (token_at line (e + 1)))) p))
+        ends : skip_while in_token line (at + 1) ≡ skip_while in_token line (d.end + 1)
+        ends =
+            sym (skip_on in_token is_digit digit_inside line (at + 1)) ∙ ap (skip_while in_token line) (number_end line (at + 1) d.value d.end r)
+            ∙ skip_past in_token line d.end l (ap in_token z)
+
+        equals : drop (length (take_leading is_digit (drop (at + 1) line))) (drop (at + 1) line) ≡ 61 ∷ drop (d.end + 1) line
+        equals = left ∙ at_byte line d.end l ∙ ap (λ (b : ℕ). b ∷ drop (d.end + 1) line) z
+
+        value_is : value_at line at ≡ item_ending (skip_while in_token line (d.end + 1)) (both value (some ended.number) (constant_of (token_at line (d.end + 1))))
+        unfolding token_at
+        value_is = from_first ∙ ap₂ item_ending ends (from_some (drop (at + 1) line) (drop (d.end + 1) line) equals ∙ ap (λ (o : Option ℕ). both value o (constant_of (token_at line (d.end + 1)))) ended.is)
+
+        pub value_no_constant : constant_at line (d.end + 1) ≡ None → None ≡ value_at line at
+        unfolding constant_at item_ending both
+        value_no_constant q = sym (value_is ∙ rw (part_none is_reading_value (skip_while in_token line (d.end + 1)) (constant_of (token_at line (d.end + 1))) q))
+
+        pub value_read : (k : Maybe ℤ) (e : ℕ) → constant_at line (d.end + 1) ≡ Some (k, e) → Some (value_with (check_reading d.value) k, e) ≡ value_at line at
+        unfolding constant_at item_ending both
+        value_read k e q = sym (value_is ∙ go (part_some is_reading_value (skip_while in_token line (d.end + 1)) (constant_of (token_at line (d.end + 1))) k e q))
+          where
+            go : Parted ℤ is_reading_value (skip_while in_token line (d.end + 1)) (constant_of (token_at line (d.end + 1))) k e → item_ending (skip_while in_token line (d.end + 1)) (both value (some ended.number) (constant_of (token_at line (d.end + 1)))) ≡ Some (value_with (check_reading d.value) k, e)
+            go c =
+                rw c.is
+                (ap₂ (λ (m : Maybe Entry) (n : ℕ). Some (m, n))
+                (sym (value_clipped ended.number c.part) ∙ ap₂ (λ (v : ℕ) (m : Maybe ℤ). value_with (check_reading v) m) (sym ended.clipped) (sym c.made))
+                (sym c.behind))
 
   -- ---- an event, or else a value
 
-  event_clipped : (n e : ℕ) → item_ending e (some (event (clip n))) ≡ item_ending e (some (event n))
-  unfolding item_ending item_in_range item_within
-  event_clipped n e = rw (clip_below 64 n (omega arith)) (go (ltb n 64) refl)
+  pub item_event : (d : Number) → name_at line at 69 ≡ Some d → Some (event_with (check_event d.value), d.end) ≡ item_at line at
+  unfolding item_at item_of or_else item_ending
+  item_event d q = go (name_some 69 line at d q)
     where
-      go : (b : Bool) → ltb n 64 ≡ b → cond b (ItemAt.Event (record { 0 = clip n }) e) (ItemAt.OutOfRange e) ≡ cond b (ItemAt.Event (record { 0 = n }) e) (ItemAt.OutOfRange e)
-      go true p = ap (λ (m : ℕ). ItemAt.Event (record { 0 = m }) e) (clip_same 64 n (omega arith) p)
-      go false p = refl
+      go : Named 69 line at d → Some (event_with (check_event d.value), d.end) ≡ item_ending (skip_while in_token line at) (item_of (token_at line at))
+      go p =
+          ap₂ (λ (v e : ℕ). Some (event_with (check_event v), e)) p.clipped p.behind
+          ∙ rw p.is (ap (λ (m : Maybe Entry). Some (m, skip_while in_token line at)) (event_clipped p.number))
 
-  pub item_event : (v e : ℕ) → name_at line at 69 ≡ NumberAt.Number v e → item_ending e (some (event v)) ≡ item_at line at
-  unfolding item_at item_of or_else
-  item_event v e q =
-      let p = name_some 69 line at v e q in
-      ap₂ (λ (k n : ℕ). item_ending k (some (event n))) p.behind p.clipped ∙ event_clipped p.number (skip_while in_token line at) ∙ sym (rw p.is)
-
-  pub item_value : name_at line at 69 ≡ NumberAt.Malformed → value_at line at ≡ item_at line at
+  pub item_value : name_at line at 69 ≡ None → value_at line at ≡ item_at line at
   unfolding item_at item_of or_else value_at
   item_value q = rw (name_none 69 line at q)

@@ -1,8 +1,7 @@
 -- Document 01, the epoch line: its tokens `E5` and `R0=41`, what it is refused for (1, 12, 13, 14, each over the whole
 -- line), and the epoch that an accepted one has.
 use Prim.Native.Char.{code}
-use Rattle.std.specs.Prelude.{ℕ, Bool, not, ◌&&◌, cond, eqb, ltb, ℤ, pos, length, set, replicate, List, [], ◌∷◌}
-use mathlib.Core.List.{foldl}
+use Rattle.std.specs.Prelude.{ℕ, Bool, not, ◌&&◌, cond, eqb, ltb, ℤ, pos, length, set, replicate, List, [], ◌∷◌, fold}
 use Rattle.std.proofs.Math.Option.{Option, none, some, map, or_else}
 use Rattle.policy.specs.Epoch.{Epoch}
 use Rattle.policy.specs.Limits.{is_reading_value, repeats}
@@ -73,7 +72,7 @@ unfoldable pub judge_epoch : Option (List Item) → EpochAnswer
 judge_epoch none = refused Fault.EpochSyntax
 judge_epoch (some is) =
     cond (not (all item_in_range is)) (refused Fault.EpochRange)
-    (cond (repeats (given_by is)) (refused Fault.DuplicateReading) (accepted (foldl add_item empty_epoch is)))
+    (cond (repeats (given_by is)) (refused Fault.DuplicateReading) (accepted (fold add_item empty_epoch is)))
 
 abbrev pub epoch_limit : ℕ
 epoch_limit = 1024

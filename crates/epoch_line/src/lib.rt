@@ -1,19 +1,16 @@
-// The epoch line: events and values of readings. The line is scanned once: what it names is collected with two flags, a
-// number out of range and a reading given twice, and the line is judged at its end.
+//! The epoch line: events and values of readings. The line is scanned once: what it names is collected with two flags, a
+//! number out of range and a reading given twice, and the line is judged at its end.
 #![tactic(auto)]
 
 ghost use Rattle.std.specs.Prelude.{◌≡◌, false, pos, replicate};
-ghost use Rattle.std.proofs.Math.Option.{some};
-ghost use Rattle.epoch_line.specs.Epoch.{event};
+ghost use Rattle.policy.specs.Number.{check_event, check_reading};
 ghost use Rattle.policy.specs.Set.{no_events, no_readings};
-ghost use Rattle.epoch_line.specs.Steps.EpochScan.{item_ending, value_item, value_at, item_at, scanned, finish_read, epoch_from};
+ghost use Rattle.epoch_line.specs.Steps.EpochScan.{event_with, value_with, value_at, item_at, scanned, finish_read, epoch_from};
 ghost use Rattle.epoch_line.specs.Answer.{refused_read, epoch_read};
 
-use lexer::{NumberAt, digits_at, event_at, skip_spaces};
-use policy::{
-    Event, EventCheck, EventSet, Fault, READING_LIMIT, Reading, ReadingCheck, ReadingSet,
-};
-use token::{ConstantAt, constant_at};
+use lexer::{digits_at, event_at, skip_spaces};
+use policy::{Event, EventSet, Fault, READING_LIMIT, Reading, ReadingSet};
+use token::constant_at;
 
 #[derive(Clone, Copy)]
 pub enum EpochStatus {
@@ -31,72 +28,58 @@ pub struct EpochRead {
     pub values: [i32; READING_LIMIT],
 }
 
+/// What a token of the line gives: an event, or a reading its value.
 #[derive(Clone, Copy)]
-pub enum ItemAt {
-    // What the token names, and the position behind it.
-    Event(Event, usize),
-    Value(Reading, i32, usize),
-    OutOfRange(usize),
-    Malformed,
+pub enum Entry {
+    Event(Event),
+    Value(Reading, i32),
 }
 
-fn event_item(n: u32, end: usize) -> ItemAt
-    ensures { result ≡ item_ending end (some (event n)) }
+// The event of a number; none where it is out of range.
+#[inline(always)]
+#[tactic(auto, unfolding(crate::specs::Steps::EpochScan::event_with))]
+fn event_entry(n: u32) -> Option<Entry>
+    ensures { result ≡ event_with (check_event n) }
 {
-    let check = Event::new(n);
-    match check {
-        EventCheck::Valid(event) => ItemAt::Event(event, end),
-        EventCheck::OutOfRange => ItemAt::OutOfRange(end),
-    }
+    let event = Event::new(n)?;
+    Some(Entry::Event(event))
 }
 
-// The value of the reading with this number.
-fn value_item(n: u32, constant: ConstantAt) -> ItemAt
-    ensures { result ≡ value_item n constant }
+// The value of the reading with this number; none where one of both is out of range.
+#[inline(always)]
+#[tactic(auto, unfolding(crate::specs::Steps::EpochScan::value_with))]
+fn value_entry(n: u32, constant: Option<i32>) -> Option<Entry>
+    ensures { result ≡ value_with (check_reading n) constant }
 {
-    match constant {
-        ConstantAt::Value(k, end) => {
-            let check = Reading::new(n);
-            match check {
-                ReadingCheck::Valid(reading) => ItemAt::Value(reading, k, end),
-                ReadingCheck::OutOfRange => ItemAt::OutOfRange(end),
-            }
-        }
-        ConstantAt::OutOfRange(end) => ItemAt::OutOfRange(end),
-        ConstantAt::Malformed => ItemAt::Malformed,
-    }
+    let reading = Reading::new(n)?;
+    let value = constant?;
+    Some(Entry::Value(reading, value))
 }
 
 // `R`, a number, `=` and a constant.
-fn value_at(line: &[u8], at: usize) -> ItemAt
+fn value_at(line: &[u8], at: usize) -> Option<(Option<Entry>, usize)>
     ensures { result ≡ value_at line.now at }
 {
-    if line.len() <= at {
-        return ItemAt::Malformed;
+    if line.len() <= at || line[at] != b'R' {
+        return None;
     }
-    if line[at] != b'R' {
-        return ItemAt::Malformed;
+    let name = digits_at(line, at + 1)?;
+    let equals = name.end;
+    if line.len() <= equals || line[equals] != b'=' {
+        return None;
     }
-    let NumberAt::Number(n, end) = digits_at(line, at + 1) else {
-        return ItemAt::Malformed;
-    };
-    if line.len() <= end {
-        return ItemAt::Malformed;
-    }
-    if line[end] != b'=' {
-        return ItemAt::Malformed;
-    }
-    value_item(n, constant_at(line, end + 1))
+    let (constant, end) = constant_at(line, equals + 1)?;
+    Some((value_entry(name.value, constant), end))
 }
 
-// What the token at the position names.
-fn item_at(line: &[u8], at: usize) -> ItemAt
+// What the token at the position gives, and the position behind it; the position alone where a number is out of range.
+#[inline(always)]
+fn item_at(line: &[u8], at: usize) -> Option<(Option<Entry>, usize)>
     ensures { result ≡ item_at line.now at }
 {
-    let name = event_at(line, at);
-    match name {
-        NumberAt::Number(n, end) => event_item(n, end),
-        NumberAt::Malformed => value_at(line, at),
+    match event_at(line, at) {
+        Some(name) => Some((event_entry(name.value), name.end)),
+        None => value_at(line, at),
     }
 }
 
@@ -150,23 +133,23 @@ fn read_items(line: &[u8]) -> EpochRead
         if line.len() <= start {
             return finished(out_of_range, twice, events, given, values);
         }
-        let item = item_at(line, start);
-        match item {
-            ItemAt::Event(event, end) => {
+        let Some((item, end)) = item_at(line, start) else {
+            return refused(Fault::EpochSyntax);
+        };
+        at = end;
+        let Some(entry) = item else {
+            out_of_range = true;
+            continue;
+        };
+        match entry {
+            Entry::Event(event) => {
                 events = events.insert(event);
-                at = end;
             }
-            ItemAt::Value(reading, value, end) => {
+            Entry::Value(reading, value) => {
                 twice = twice || given.has(reading);
                 given = given.insert(reading);
                 values[reading.0 as usize] = value;
-                at = end;
             }
-            ItemAt::OutOfRange(end) => {
-                out_of_range = true;
-                at = end;
-            }
-            ItemAt::Malformed => return refused(Fault::EpochSyntax),
         }
     }
 }

@@ -1,8 +1,8 @@
 -- A line is judged by running its words: they are read back from the small buffer as they were put there, and they say what the
 -- line says.
 use Rattle.std.proofs.Common.{ℕ, ◌+◌, ◌*◌, ◌/◌, ◌≤◌, ◌<◌, Bool, true, false, cond, ◌&&◌, ◌||◌, List, [], ◌∷◌, append-nil, ◌≡◌, refl, sym, ap, ap₂, ◌∙◌, arith, ltb-true, eqb-true, ℤ, length, take, drop, take_at}
+use Rattle.std.proofs.lemmas.Bool.{eqb-false}
 use Rattle.std.proofs.Math.Dec.{eqb}
-use borrow.Author.Tests.{eqb-false}
 use Rattle.policy.proofs.ListLaws.{and_in}
 use Rattle.policy.proofs.SetLaws.{has_empty, has_insert_same, has_insert_other}
 use Rattle.policy.proofs.ValidLaws.{valid_out}

@@ -1,4 +1,5 @@
 -- What became of an action: each way through the functions that answer it.
+use Rattle.std.specs.Prelude.{Option as Maybe, Some, None}
 use Rattle.std.proofs.Common.{ℕ, ◌+◌, ◌≤◌, Bool, true, false, cond, List, [], ◌∷◌, ◌≡◌, refl, sym, ap, ap₂, ◌∙◌, arith, length, take}
 use Rattle.std.proofs.Math.Option.{Option, none, some}
 use Rattle.policy.specs.Epoch.{Epoch}
@@ -13,7 +14,6 @@ use Rattle.policy.specs.declared.fault.Refusal.{Refusal}
 use Rattle.policy.specs.declared.fault.Source.{Source}
 use Rattle.policy.specs.declared.line.Part.{Part}
 use Rattle.policy.specs.declared.number.Action.{Action}
-use Rattle.policy.specs.declared.number.ActionCheck.{ActionCheck}
 use Rattle.lexer.specs.Lines.{lines_of}
 use Rattle.syntax.specs.Judge.{LineAnswer, skipped, refused, accepted, line_answer}
 use Rattle.acceptance.proofs.Accepted.{accepted_valid, texts_acceptable}
@@ -126,12 +126,12 @@ module _ (maker site line : List ℕ) (n : ℕ) (image : List ℕ) (d : Decision
   unfolding explained_on on_decision
   on_refused r e = rw (sym made ∙ e)
 
-  module _ (actions : Actions) (e : d ≡ Decision.Issued actions) (check : ActionCheck) (c : check ≡ check_action n) where
-    pub on_over : check ≡ ActionCheck.OutOfRange → (r : Refusal) → r ≡ refusal Fault.EpochRange 0 → Explained.Refused r ≡ explained_on maker site line n image
+  module _ (actions : Actions) (e : d ≡ Decision.Issued actions) (check : Maybe Action) (c : check ≡ check_action n) where
+    pub on_over : check ≡ None → (r : Refusal) → r ≡ refusal Fault.EpochRange 0 → Explained.Refused r ≡ explained_on maker site line n image
     unfolding explained_on on_decision on_action
     on_over k r h = rw (sym made ∙ e, sym c ∙ k) (ap Explained.Refused h)
 
-    pub on_action_is : (a : Action) → check ≡ ActionCheck.Valid a → (why : Reason) → why ≡ reason_for maker site actions.accepted actions.cancelled (epoch_of line) a
+    pub on_action_is : (a : Action) → check ≡ Some a → (why : Reason) → why ≡ reason_for maker site actions.accepted actions.cancelled (epoch_of line) a
         → Explained.Because why ≡ explained_on maker site line n image
     unfolding explained_on on_decision on_action
     on_action_is a k why h = rw (sym made ∙ e, sym c ∙ k) (ap Explained.Because h)

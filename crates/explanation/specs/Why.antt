@@ -1,4 +1,5 @@
 -- For an epoch and an action: whether the action is not proposed, accepted, or cancelled, and which line is shown for it.
+use Rattle.std.specs.Prelude.{Option as Maybe, Some, None}
 use Rattle.std.specs.Prelude.{ℕ, Bool, false, cond, ◌&&◌, List, eqb}
 use Rattle.std.proofs.Math.Option.{Option, none, some}
 use Rattle.policy.specs.Epoch.{Epoch, Readings}
@@ -10,7 +11,6 @@ use Rattle.policy.specs.Set.{ActionSet, all_events, has_action, insert_action, a
 use Rattle.policy.specs.declared.fault.Fault.{Fault}
 use Rattle.policy.specs.declared.fault.Refusal.{Refusal}
 use Rattle.policy.specs.declared.number.Action.{Action}
-use Rattle.policy.specs.declared.number.ActionCheck.{ActionCheck}
 use Rattle.pdl.specs.Yield as Yield
 use Rattle.pdl.specs.Yield.{rule_holds, constraint_holds}
 use Rattle.epoch_line.specs.Epoch.{EpochAnswer, refused, accepted, read_epoch}
@@ -47,9 +47,9 @@ module _ (maker site : List ℕ) where
 
   -- ---- an action over 63 is refused under 13, after all other checks
 
-  unfoldable pub on_action : ActionSet → ActionSet → Epoch → ActionCheck → Explained
-  on_action accepts cancels e ActionCheck.OutOfRange = Explained.Refused (refusal Fault.EpochRange 0)
-  on_action accepts cancels e (ActionCheck.Valid a) = Explained.Because (reason_for accepts cancels e a)
+  unfoldable pub on_action : ActionSet → ActionSet → Epoch → Maybe Action → Explained
+  on_action accepts cancels e None = Explained.Refused (refusal Fault.EpochRange 0)
+  on_action accepts cancels e (Some a) = Explained.Because (reason_for accepts cancels e a)
 
   -- the epoch's faults, in no text and at no line
   unfoldable pub on_epoch : Policy → ℕ → EpochAnswer → Explained

@@ -94,7 +94,12 @@ pub enum Search {
 }
 
 /// The first line that is sought. A text that is refused at a line has none from there on.
-pub(crate) fn find(text: &[u8], source: Source, sought: Sought, values: &[i32; READING_LIMIT]) -> Search
+pub(crate) fn find(
+    text: &[u8],
+    source: Source,
+    sought: Sought,
+    values: &[i32; READING_LIMIT],
+) -> Search
     ensures { result ≡ search_of (first_from (sought_by sought values.now) source 0 (lines_of text.now)) }
 {
     let mut at = 0;

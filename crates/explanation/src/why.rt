@@ -11,7 +11,7 @@ use codegen::{Compiled, compile_texts};
 use epoch_line::read_epoch;
 use image::IMAGE_SIZE;
 use monitor::{Decision, decide};
-use policy::{Action, ActionCheck, ActionSet, Fault, Mode, Part, READING_LIMIT, Refusal, Source};
+use policy::{Action, ActionSet, Fault, Mode, Part, READING_LIMIT, Refusal, Source};
 
 /// What became of an action.
 #[derive(Clone, Copy)]
@@ -123,8 +123,8 @@ pub fn explain_on(image: &[u8], maker: &[u8], site: &[u8], line: &[u8], number: 
         Decision::Issued(actions) => {
             let check = Action::new(number);
             match check {
-                ActionCheck::OutOfRange => Explained::Refused(Fault::EpochRange.at(0)),
-                ActionCheck::Valid(action) => {
+                None => Explained::Refused(Fault::EpochRange.at(0)),
+                Some(action) => {
                     let why = reason_for(
                         maker,
                         site,

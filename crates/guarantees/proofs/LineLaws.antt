@@ -1,6 +1,6 @@
 -- Deciding a list of lines one after another.
 use Rattle.std.proofs.Common.{ℕ, ◌≡◌, ◌<◌, ◌+◌, List, [], ◌∷◌, take, map, length, min, refl, ap, ap₂, arith, suc, zero, slice_index_or, slice_set}
-use native.Mathlib.Numerals.{unary_clauses}
+use Rattle.std.proofs.Math.Numerals.{unary_clauses}
 use Rattle.policy.specs.Policy.{Policy}
 use Rattle.policy.specs.Limits.{Acceptable}
 use Rattle.layout.specs.Layout.{image_of}

@@ -1,10 +1,10 @@
 -- What is shown of a line: it stands in its text, without line end and trimmed of spaces at both ends.
 use Rattle.std.proofs.Common.{ℕ, suc, ◌+◌, ◌-◌, ◌≤◌, Bool, true, false, cond, List, [], ◌∷◌, ◌++◌, append_assoc, ⊎_elim, ◌≡◌, refl, sym, ap, ◌∙◌, arith, eqb-true, eq-eqb, le-ltb, length, take, drop, length-append, length-drop, take-append-drop, drop-drop, length-take-le}
+use Rattle.std.proofs.lemmas.Bool.{eqb-false}
 use Rattle.std.proofs.Math.Dec.{eqb}
 use Rattle.std.proofs.Math.Seq.{drop-append_seam, drop-append-add, take-append_seam}
 use mathlib.Core.List.Memᴰ
 use mathlib.Core.List.{Memᴰ}
-use borrow.Author.Tests.{eqb-false}
 use Rattle.policy.proofs.ListLaws.{all_out}
 use Rattle.policy.specs.Line.{PolicyLine}
 use Rattle.policy.specs.declared.fault.Source.{Source}

@@ -1,7 +1,7 @@
 -- The loader's answer, fault by fault, as the code goes through them.
 use Rattle.std.proofs.Common.{ℕ, ◌+◌, ◌/◌, ◌%◌, ◌≤◌, ◌<◌, true, false, List, ◌≡◌, sym, ap, ap₂, ◌∙◌, zero-add, arith, le-leb, eq-eqb, ne_eqb, length, take, take_all}
+use Rattle.std.proofs.lemmas.Bool.{lt-leb}
 use Rattle.std.proofs.Math.Dec.{eqb}
-use borrow.Author.Tests.{lt-leb}
 use Rattle.policy.specs.Fault.{refusal}
 use Rattle.policy.specs.declared.fault.Fault.{Fault}
 use Rattle.word.proofs.WordLaws.{words_length}

@@ -1,4 +1,5 @@
 -- Laws of reading numbers: clipping early or late is the same, and the digits of a token against the token.
+use Rattle.std.specs.Prelude.{Option as Maybe, Some, None}
 use Rattle.std.proofs.Common.{ℕ, ◌+◌, ◌*◌, ◌-◌, ◌<◌, ◌≤◌, Bool, true, false, not, ◌&&◌, ◌||◌, cond, List, [], ◌∷◌, ◌≡◌, refl, sym, ap, ap₂, ◌∙◌, arith, eq-eqb, ne_eqb, ltb-true, ltb-false, length, drop}
 use Rattle.std.proofs.Math.Bool.{or-true}
 use Rattle.std.proofs.Math.Option.{Option, none, some}
@@ -13,10 +14,9 @@ use Rattle.lexer.proofs.KeywordLaws.{token_end, token_here, token_past}
 use Rattle.lexer.specs.Byte.{is_digit}
 use Rattle.lexer.specs.Token.{named}
 use Rattle.lexer.specs.Number.{decimal_from, is_empty, number_of}
-use Rattle.lexer.specs.Steps.Scan.{in_token, token_at, clip, clip_limit, number_ending, leading_digits, digits_at, number_at, name_at}
+use Rattle.lexer.specs.Steps.Scan.{in_token, token_at, clip, clip_limit, number_ending, ends_at, leading_digits, digits_at, number_at, name_at}
 use Rattle.lexer.specs.Lines.{take_leading, skip_while}
-use Rattle.lexer.specs.declared.scan.Digits.{Digits}
-use Rattle.lexer.specs.declared.scan.NumberAt.{NumberAt}
+use Rattle.lexer.specs.declared.scan.Number.{Number}
 
 -- ---- clipping
 
@@ -78,12 +78,12 @@ module _ (text : List ℕ) (at : ℕ) where
       go false e = absurd (omega (arith, ap length (while_here is_digit text at (digits_inside h) e)))
 
   -- more than one digit, the first 0
-  pub digits_zero : at < skip_while is_digit text at → (skip_while is_digit text at - at ≡ 1 → ⊥) → get_or text at 0 ≡ 48 → number_of (take_leading is_digit (drop at text)) ≡ none
+  pub digits_zero : at < skip_while is_digit text at → 1 < skip_while is_digit text at - at → get_or text at 0 ≡ 48 → number_of (take_leading is_digit (drop at text)) ≡ none
   unfolding number_of is_empty skip_while
   digits_zero h k z = ap number_of (first h) ∙ go (take_leading is_digit (drop (at + 1) text)) refl
     where
       go : (l : List ℕ) → take_leading is_digit (drop (at + 1) text) ≡ l → number_of (get_or text at 0 ∷ l) ≡ none
-      go [] e = absurd (k (omega (arith, ap length (first h), ap length e)))
+      go [] e = absurd (omega (arith, ap length (first h), ap length e))
       go (d ∷ ds) e = rw (eq-eqb (get_or text at 0) 48 z) (none_of (all is_digit (get_or text at 0 ∷ d ∷ ds)))
         where
           none_of : (b : Bool) → cond (b && false) (some (decimal_from 0 (get_or text at 0 ∷ d ∷ ds))) none ≡ none
@@ -117,30 +117,64 @@ not_number (d ∷ ds) e = rw e
 
 -- ---- the answers
 
-pub ending_none : (e : ℕ) (o : Option ℕ) → number_ending e o ≡ NumberAt.Malformed → o ≡ none
+pub ending_none : (e : ℕ) (o : Option ℕ) → number_ending e o ≡ None → o ≡ none
 unfolding number_ending
 ending_none e none k = refl
 ending_none e (some n) k = let w : ◌≡◌ {A = ℕ} 0 1 = cc in absurd (omega arith)
 
+abbrev value_of : Maybe Number → ℕ
+value_of None = 0
+value_of (Some d) = d.value
+
+abbrev end_of : Maybe Number → ℕ
+end_of None = 0
+end_of (Some d) = d.end
+
+-- what a number that was read says of the digits
+pub record Ended (e : ℕ) (o : Option ℕ) (d : Number) : Type 0 where
+  pub number : ℕ
+  pub is : o ≡ some number
+  pub clipped : d.value ≡ clip number
+  pub behind : d.end ≡ e
+
+pub ending_some : (e : ℕ) (o : Option ℕ) (d : Number) → number_ending e o ≡ Some d → Ended e o d
+unfolding number_ending
+ending_some e none d q = let w : ◌≡◌ {A = ℕ} 0 1 = cc in absurd (omega arith)
+ending_some e (some n) d q = record { number = n; is = refl; clipped = sym (ap value_of q); behind = sym (ap end_of q) }
+
+-- ---- the answers of reading a name
+
+abbrev pub Named : ℕ → List ℕ → ℕ → Number → Type 0
+Named letter text at d = Ended (skip_while in_token text at) (named letter (token_at text at)) d
+
+module _ (letter : ℕ) (text : List ℕ) (at : ℕ) where
+  pub name_some : (d : Number) → name_at text at letter ≡ Some d → Named letter text at d
+  unfolding name_at
+  name_some d q = ending_some (skip_while in_token text at) (named letter (token_at text at)) d q
+
+  pub name_none : name_at text at letter ≡ None → named letter (token_at text at) ≡ none
+  unfolding name_at
+  name_none q = ending_none (skip_while in_token text at) (named letter (token_at text at)) q
+
 module _ (text : List ℕ) (at : ℕ) where
-  pub digits_malformed : number_of (take_leading is_digit (drop at text)) ≡ none → NumberAt.Malformed ≡ digits_at text at
+  pub digits_malformed : number_of (take_leading is_digit (drop at text)) ≡ none → None ≡ digits_at text at
   unfolding digits_at number_ending
   digits_malformed e = rw e
 
-  pub digits_number : (d : Digits) → d ≡ leading_digits text at → number_of (take_leading is_digit (drop at text)) ≡ some (decimal_from 0 (take_leading is_digit (drop at text))) → NumberAt.Number d.value d.end ≡ digits_at text at
+  pub digits_number : (d : Number) → d ≡ leading_digits text at → number_of (take_leading is_digit (drop at text)) ≡ some (decimal_from 0 (take_leading is_digit (drop at text))) → Some d ≡ digits_at text at
   unfolding digits_at leading_digits number_ending
   digits_number d q e = rw (e, q)
 
-  pub number_end : (v e : ℕ) → digits_at text at ≡ NumberAt.Number v e → skip_while is_digit text at ≡ e
+  pub number_end : (v e : ℕ) → digits_at text at ≡ Some (ends_at v e) → skip_while is_digit text at ≡ e
   unfolding digits_at number_ending
   number_end v e = go (number_of (take_leading is_digit (drop at text)))
     where
-      go : (o : Option ℕ) → number_ending (skip_while is_digit text at) o ≡ NumberAt.Number v e → skip_while is_digit text at ≡ e
+      go : (o : Option ℕ) → number_ending (skip_while is_digit text at) o ≡ Some (ends_at v e) → skip_while is_digit text at ≡ e
       go none k = let w : ◌≡◌ {A = ℕ} 0 1 = cc in absurd (omega arith)
-      go (some n) k = cc
+      go (some n) k = ap end_of k
 
   -- a number that ends where its token does is the token's; otherwise the token is no number
-  pub token_number : (v e : ℕ) → digits_at text at ≡ NumberAt.Number v e → is_empty (token_at text e) ≡ true → NumberAt.Number v e ≡ number_at text at
+  pub token_number : (v e : ℕ) → digits_at text at ≡ Some (ends_at v e) → is_empty (token_at text e) ≡ true → Some (ends_at v e) ≡ number_at text at
   unfolding digits_at number_at
   token_number v e q h =
       let w : is_empty (token_at text (skip_while is_digit text at)) ≡ true = ap (λ (k : ℕ). is_empty (token_at text k)) (number_end v e q) ∙ h in
@@ -149,26 +183,26 @@ module _ (text : List ℕ) (at : ℕ) where
   broken : is_empty (token_at text (skip_while is_digit text at)) ≡ false → number_of (token_at text at) ≡ none
   broken h = not_number (token_at text at) (broken_token is_digit digit_inside text at h)
 
-  pub token_longer : (v e : ℕ) → digits_at text at ≡ NumberAt.Number v e → is_empty (token_at text e) ≡ false → NumberAt.Malformed ≡ number_at text at
+  pub token_longer : (v e : ℕ) → digits_at text at ≡ Some (ends_at v e) → is_empty (token_at text e) ≡ false → None ≡ number_at text at
   unfolding number_at number_ending
   token_longer v e q h = rw (broken (ap (λ (k : ℕ). is_empty (token_at text k)) (number_end v e q) ∙ h))
 
-  pub token_malformed : digits_at text at ≡ NumberAt.Malformed → NumberAt.Malformed ≡ number_at text at
+  pub token_malformed : digits_at text at ≡ None → None ≡ number_at text at
   unfolding digits_at number_at number_ending
   token_malformed q = go (is_empty (token_at text (skip_while is_digit text at))) refl
     where
-      go : (b : Bool) → is_empty (token_at text (skip_while is_digit text at)) ≡ b → NumberAt.Malformed ≡ number_ending (skip_while in_token text at) (number_of (token_at text at))
+      go : (b : Bool) → is_empty (token_at text (skip_while is_digit text at)) ≡ b → None ≡ number_ending (skip_while in_token text at) (number_of (token_at text at))
       go true h = rw (ap number_of (whole_token is_digit digit_inside text at h) ∙ ending_none (skip_while is_digit text at) (number_of (take_leading is_digit (drop at text))) q)
       go false h = rw (broken h)
 
 -- ---- a letter and a number
 
 module _ (text : List ℕ) (at letter : ℕ) where
-  pub name_end : length text ≤ at → NumberAt.Malformed ≡ name_at text at letter
+  pub name_end : length text ≤ at → None ≡ name_at text at letter
   unfolding name_at named number_ending
   name_end h = rw (token_end text at h)
 
-  pub name_other : at < length text → (get_or text at 0 ≡ letter → ⊥) → NumberAt.Malformed ≡ name_at text at letter
+  pub name_other : at < length text → (get_or text at 0 ≡ letter → ⊥) → None ≡ name_at text at letter
   unfolding name_at number_ending named
   name_other h q = rw (none_named (in_token (get_or text at 0)) refl)
     where

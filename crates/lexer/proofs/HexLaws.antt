@@ -1,9 +1,8 @@
 -- Laws of hexadecimal digits: the loop that reads them keeps the last eight, and they are bytes of a token.
-use Rattle.std.proofs.Common.{ℕ, zero, suc, ◌+◌, ◌*◌, ◌%◌, ◌^◌, ◌<◌, ◌≤◌, Bool, true, false, List, [], ◌∷◌, ◌≡◌, refl, ap, ◌∙◌, mul-le-mul_left, mul-le-mul_right, arith, eqb-true, ltb-true, length, drop}
+use Rattle.std.proofs.Common.{ℕ, zero, suc, ◌+◌, ◌*◌, ◌%◌, ◌^◌, ◌<◌, ◌≤◌, Bool, true, false, List, [], ◌∷◌, ◌≡◌, refl, ap, ◌∙◌, mul-le-mul_left, mul-le-mul_right, arith, eqb-true, ltb-true, length, drop, fold}
 use Rattle.std.proofs.Math.Nat.{pow-succ', one-le-pow}
 use Rattle.std.proofs.Math.Dec.{eqb}
 use Rattle.std.proofs.Math.ListN.{get_or}
-use mathlib.Core.List.{foldl}
 use Rattle.policy.proofs.ListLaws.{true_false, and_out}
 use Rattle.policy.specs.List.{all}
 use Rattle.lexer.proofs.WhileLaws.{while_past}
@@ -14,7 +13,7 @@ use Rattle.lexer.specs.Lines.{take_leading}
 
 -- the value of further digits, as a word
 abbrev pub hex_from : ℕ → List ℕ → ℕ
-hex_from v ds = foldl (λ (x d : ℕ). x * 16 + hex_value d) v ds
+hex_from v ds = fold (λ (x d : ℕ). x * 16 + hex_value d) v ds
 
 -- only the last eight digits count in a word
 word_shift : (v w d : ℕ) → v % 2 ^ 32 ≡ w % 2 ^ 32 → (v * 16 + d) % 2 ^ 32 ≡ (w * 16 + d) % 2 ^ 32

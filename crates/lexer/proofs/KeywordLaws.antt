@@ -1,4 +1,5 @@
 -- Laws of comparing the token at a position with a word, byte by byte.
+use Rattle.std.specs.Prelude.{Some, None}
 use Rattle.std.proofs.Common.{ℕ, zero, suc, ◌+◌, ◌<◌, ◌≤◌, Bool, true, false, not, cond, List, [], ◌∷◌, ◌≡◌, refl, sym, ap, ap₂, ◌∙◌, arith, eqb-true, eq-eqb, ne_eqb, ltb-true, ltb-false, length, drop, drop_of_length-le}
 use Rattle.std.proofs.Math.Dec.{eqb, ltb}
 use Rattle.std.proofs.Math.ListN.{get_or}
@@ -9,7 +10,6 @@ use Rattle.lexer.specs.Byte.{bytes_equal, ends_token}
 use Rattle.lexer.specs.Number.{is_empty}
 use Rattle.lexer.specs.Steps.Scan.{in_token, token_at, keyword_at}
 use Rattle.lexer.specs.Lines.{skip_while}
-use Rattle.lexer.specs.declared.scan.KeywordAt.{KeywordAt}
 
 -- the test that a byte ends the token, against the byte being in it
 pub ends_here : (b : ℕ) → ends_token b ≡ true → in_token b ≡ false
@@ -113,6 +113,22 @@ module _ (text : List ℕ) (i : ℕ) where
   pub skip_first : is_empty (token_at text i) ≡ false → skip_while in_token text i ≡ skip_while in_token text (i + 1)
   skip_first e = skip_past in_token text i (token_inside e) (first_inside e)
 
+-- the token at a position, by the byte there
+pub data First (text : List ℕ) (at : ℕ) : Type 0 where
+  nothing : token_at text at ≡ [] → First text at
+  byte : at < length text → token_at text at ≡ get_or text at 0 ∷ token_at text (at + 1) → First text at
+
+pub first : (text : List ℕ) (at : ℕ) → First text at
+first text at = go (ltb at (length text)) refl
+  where
+    inside : at < length text → (b : Bool) → in_token (get_or text at 0) ≡ b → First text at
+    inside h true e = byte h (token_past text at h e)
+    inside h false e = nothing (token_here text at h e)
+
+    go : (b : Bool) → ltb at (length text) ≡ b → First text at
+    go true e = inside (ltb-true at (length text) e) (in_token (get_or text at 0)) refl
+    go false e = nothing (token_end text at (ltb-false at (length text) e))
+
 pub skip_grows : (text : List ℕ) (i : ℕ) → is_empty (token_at text i) ≡ false → i < skip_while in_token text i
 skip_grows text i e = omega (arith, skip_first text i e, skip_ge in_token text (i + 1))
 
@@ -130,24 +146,24 @@ same_bytes (x ∷ xs) [] e = absurd (true_false e refl)
 same_bytes (x ∷ xs) (y ∷ ys) e = let p = and_out (eqb x y) (bytes_equal xs ys) e in ap₂ ◌∷◌ (eqb-true x y p.0) (same_bytes xs ys p.1)
 
 module _ (text : List ℕ) (at : ℕ) (word : List ℕ) where
-  pub word_token : (e : ℕ) → keyword_at text at word ≡ KeywordAt.Found e → (token_at text at ≡ word) × (e ≡ skip_while in_token text at)
+  pub word_token : (e : ℕ) → keyword_at text at word ≡ Some e → (token_at text at ≡ word) × (e ≡ skip_while in_token text at)
   unfolding keyword_at
   word_token e = go (bytes_equal (token_at text at) word) refl
     where
-      go : (b : Bool) → bytes_equal (token_at text at) word ≡ b → cond b (KeywordAt.Found (at + length word)) KeywordAt.Absent ≡ KeywordAt.Found e → (token_at text at ≡ word) × (e ≡ skip_while in_token text at)
+      go : (b : Bool) → bytes_equal (token_at text at) word ≡ b → cond b (Some (at + length word)) None ≡ Some e → (token_at text at ≡ word) × (e ≡ skip_while in_token text at)
       go true p q = let s = same_bytes (token_at text at) word p in (s, behind_word s (found q))
         where
-          found : KeywordAt.Found (at + length word) ≡ KeywordAt.Found e → at + length word ≡ e
+          found : Some (at + length word) ≡ Some e → at + length word ≡ e
           found k = cc
 
           behind_word : token_at text at ≡ word → at + length word ≡ e → e ≡ skip_while in_token text at
           behind_word s k = sym k ∙ sym (skip_token text at word s)
       go false p q = let w : ◌≡◌ {A = ℕ} 0 1 = cc in absurd (omega arith)
 
-  pub word_absent : keyword_at text at word ≡ KeywordAt.Absent → bytes_equal (token_at text at) word ≡ false
+  pub word_absent : keyword_at text at word ≡ None → bytes_equal (token_at text at) word ≡ false
   unfolding keyword_at
   word_absent = go (bytes_equal (token_at text at) word)
     where
-      go : (b : Bool) → cond b (KeywordAt.Found (at + length word)) KeywordAt.Absent ≡ KeywordAt.Absent → b ≡ false
+      go : (b : Bool) → cond b (Some (at + length word)) None ≡ None → b ≡ false
       go true q = let w : ◌≡◌ {A = ℕ} 0 1 = cc in absurd (omega arith)
       go false q = refl

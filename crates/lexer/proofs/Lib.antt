@@ -3,6 +3,5 @@ pub mod DigitLaws
 pub mod HexLaws
 pub mod KeywordLaws
 pub mod RunLaws
-pub mod TableLaws
 pub mod TokenLaws
 pub mod WhileLaws

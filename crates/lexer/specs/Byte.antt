@@ -1,7 +1,6 @@
 -- Bytes: their classes, and texts written out.
 use Prim.Native.Char.{code}
 use Rattle.std.specs.Prelude.{ℕ, ◌+◌, ◌-◌, Bool, true, false, ◌&&◌, ◌||◌, cond, List, [], ◌∷◌, eqb, leb, ltb}
-use Prim.Native.String as String
 use Prim.Native.String.{String}
 use Rattle.policy.specs.List.{any}
 use Rattle.lexer.specs.declared.class.Class.{Class}

@@ -1,7 +1,6 @@
 -- Numbers and constants, of any length.
 use Prim.Native.Char.{code}
-use Rattle.std.specs.Prelude.{ℕ, zero, suc, ◌+◌, ◌*◌, ◌-◌, Bool, true, false, not, ◌&&◌, ◌||◌, cond, eqb, leb, ℤ, pos, negsuc, length, List, [], ◌∷◌}
-use mathlib.Core.List.{foldl}
+use Rattle.std.specs.Prelude.{ℕ, zero, suc, ◌+◌, ◌*◌, ◌-◌, Bool, true, false, not, ◌&&◌, ◌||◌, cond, eqb, leb, ℤ, pos, negsuc, length, List, [], ◌∷◌, fold}
 use Rattle.std.proofs.Math.Option.{Option, none, some, or_else}
 use Rattle.std.specs.Int.{w32}
 use Rattle.std.proofs.Common.{to_z}
@@ -40,7 +39,7 @@ decimal_of (b ∷ bs) = cond (eqb b (code "-")) (negative (number_of bs)) (posit
 
 -- the value of hexadecimal digits, the most significant first
 abbrev pub hex_number : List ℕ → ℕ
-hex_number ds = foldl (λ (v d : ℕ). v * 16 + hex_value d) 0 ds
+hex_number ds = fold (λ (v d : ℕ). v * 16 + hex_value d) 0 ds
 
 -- the most digits of a pattern
 abbrev pub pattern_digits : ℕ

@@ -1,4 +1,2 @@
--- What the reading functions find at a position of a text, and the table of the classes. Nothing here needs to be read to believe
--- the statements.
+-- What the reading functions find at a position of a text. Nothing here needs to be read to believe the statements.
 pub mod Scan
-pub mod Table

@@ -1,7 +1,8 @@
 -- Laws of the lists that the value of a line holds: a list with one item more, and a list within its limit.
-use Rattle.std.proofs.Common.{ℕ, suc, ◌+◌, ◌-◌, ◌≤◌, ◌<◌, min, Bool, true, false, List, [], ◌∷◌, ◌++◌, ◌≡◌, refl, sym, ap, ap₂, ◌∙◌, arith, lt-ltb, le-ltb, ltb-true, ltb-false, length, take, replicate, length-append, take_all}
+use Rattle.std.proofs.Common.{ℕ, suc, ◌+◌, ◌-◌, ◌≤◌, ◌<◌, min, Bool, true, false, List, [], ◌∷◌, ◌++◌, ◌≡◌, refl, sym, ap, ap₂, ◌∙◌, arith, lt-ltb, le-ltb, ltb-true, ltb-false, length, take, drop, drop-cons, add-one, replicate, length-append, take_all}
 use Rattle.std.proofs.Math.Dec.{ltb}
-use Rattle.std.proofs.Math.ListN.{set}
+use Rattle.std.proofs.Math.ListN.{set, get_or}
+use Rattle.std.proofs.lemmas.List.{take_min}
 use Rattle.std.proofs.Math.Seq.{take-append-le, take-append_seam, set_at, append_snoc}
 use Rattle.line_value.specs.Steps.Push.{push_item, push_count}
 use Rattle.line_value.specs.Value.{padded, counted}
@@ -80,3 +81,12 @@ module _ {A : Type 0} (limit : ℕ) (filler : A) (xs : List A) (few : length xs 
   all_held =
       let n : min (length xs) (suc limit) ≡ length xs = omega arith in
       ap₂ (λ (k : ℕ) (l : List A). take k (l ++ replicate (limit - length xs) filler)) n (take_all limit xs few) ∙ take-append_seam xs (replicate (limit - length xs) filler)
+
+-- ---- the items that are held, one after another
+
+pub items_past : {A : Type 0} (xs : List A) (i : ℕ) (d : A) → i < length xs → drop i xs ≡ get_or xs i d ∷ drop (i + 1) xs
+items_past xs i d h = drop-cons xs i d h ∙ ap (λ (n : ℕ). get_or xs i d ∷ drop n xs) (sym (add-one i))
+
+-- a count of more items than there are takes all
+pub taken_all : {A : Type 0} (xs : List A) (count n limit : ℕ) → count ≡ min n limit → length xs ≡ limit → take count xs ≡ take n xs
+taken_all xs count n limit e h = ap (λ (k : ℕ). take k xs) (e ∙ ap (min n) (sym h)) ∙ take_min n xs

@@ -1,4 +1,4 @@
-// A line of a rule text by value: a rule or a constraint, with its parts in text order.
+//! A line of a rule text by value: a rule or a constraint, with its parts in text order.
 #![tactic(auto)]
 
 ghost use Rattle.std.specs.Prelude.{◌≡◌, [], map, ◌≤◌, take};
@@ -12,8 +12,8 @@ use policy::{
     Test, member, with_member,
 };
 
-// Up to eight heads and four comparisons. What is past the counts is filler. A count of nine or five says that there
-// were more, which are not held.
+/// Up to eight heads and four comparisons. What is past the counts is filler. A count of nine or five says that there
+/// were more, which are not held.
 #[derive(Clone, Copy)]
 pub struct Line {
     pub heads: [Head; HEAD_LIMIT],
@@ -24,52 +24,40 @@ pub struct Line {
 }
 
 impl Line {
-    // Whether some event or action stands twice among the heads.
+    /// Whether some event or action stands twice among the heads.
     pub fn has_repeats(self) -> bool
         ensures { result ≡ seen_in 0 (map head_number (take self.head_count self.heads)) }
     {
         let heads = self.heads;
-        let count = self.head_count;
+        let count = self.head_count.min(HEAD_LIMIT);
         let mut seen = 0;
-        let mut i = 0;
-        while i < HEAD_LIMIT {
-            if count <= i {
-                return false;
-            }
-            let head = heads[i];
+        for head in &heads[..count] {
             let test = head.0;
             let n = test.number();
             if member(seen, n) {
                 return true;
             }
             seen = with_member(seen, n);
-            i += 1;
         }
         false
     }
 
-    // How many of the comparisons that the line holds have a constant.
+    /// How many of the comparisons that the line holds have a constant.
     pub fn constants(self) -> usize
         ensures value { result ≡ constant_count (take self.comparison_count self.comparisons) }
         ensures upper_bound { result ≤ 4 }
     {
         let comparisons = self.comparisons;
-        let count = self.comparison_count;
+        let count = self.comparison_count.min(COMPARISON_LIMIT);
         let mut constants = 0;
-        let mut i = 0;
-        while i < COMPARISON_LIMIT {
-            if count <= i {
-                return constants;
-            }
-            let comparison = comparisons[i];
+        for comparison in &comparisons[..count] {
             let operand = comparison.operand;
             constants += operand.constants();
-            i += 1;
         }
         constants
     }
 
-    // A line with no part yet.
+    /// A line with no part yet.
     pub fn new() -> Line
         ensures { result ≡ line_of [] [] Ending.Never }
     {

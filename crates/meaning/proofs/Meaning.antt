@@ -1,8 +1,7 @@
 -- What the words of a policy do when they are run is what the policy yields.
-use Rattle.std.proofs.Common.{ℕ, suc, ◌+◌, ◌<◌, Bool, true, false, not, cond, ◌&&◌, ◌||◌, List, [], ◌∷◌, ◌++◌, map, ◌≡◌, refl, sym, ap, ◌∙◌, arith, ltb-true, length, drop, drop_at}
+use Rattle.std.proofs.Common.{ℕ, suc, ◌+◌, ◌<◌, Bool, true, false, not, cond, ◌&&◌, ◌||◌, List, [], ◌∷◌, ◌++◌, map, ◌≡◌, refl, sym, ap, ◌∙◌, arith, ltb-true, length, drop, drop_at, fold}
 use Rattle.std.proofs.Math.Bool.{and_assoc}
 use Rattle.std.proofs.Math.ListN.{get_or, length-map}
-use mathlib.Core.List.{foldl}
 use Rattle.policy.proofs.ListLaws.{and_out}
 use Rattle.policy.specs.Comparison.{comparison_holds}
 use Rattle.policy.specs.Epoch.{Readings}
@@ -115,24 +114,24 @@ module _ (test : Operation → ℕ → ℕ → Bool) where
 module _ (ev : Events) (rs : Readings) where
   -- what is proposed in the end, with what is proposed so far
   abbrev more : ActionSet → ℕ → List ℕ → ActionSet
-  more s n ws = foldl proposing s (ran (rule_test ev rs) n ws)
+  more s n ws = fold proposing s (ran (rule_test ev rs) n ws)
 
   -- a word that proposes nothing
-  idle : (s : ActionSet) (w : ℕ) (rest : List ℕ) (op : Operation) → operation_of w ≡ op → proposes_at op w s ≡ s → foldl proposing s (w ∷ rest) ≡ foldl proposing s rest
-  idle s w rest op o e = ap (λ (x : ActionSet). foldl proposing x rest) (ap (λ (p : Operation). proposes_at p w s) o ∙ e)
+  idle : (s : ActionSet) (w : ℕ) (rest : List ℕ) (op : Operation) → operation_of w ≡ op → proposes_at op w s ≡ s → fold proposing s (w ∷ rest) ≡ fold proposing s rest
+  idle s w rest op o e = ap (λ (x : ActionSet). fold proposing x rest) (ap (λ (p : Operation). proposes_at p w s) o ∙ e)
 
   -- a word other than a comparison with a constant, which proposes nothing
   quiet : (s : ActionSet) (w : ℕ) (ws : List ℕ) (op : Operation) → operation_of w ≡ op → constant_count op ≡ 0 → proposes_at op w s ≡ s
       → more s 0 (w ∷ ws) ≡ more s (passed (rule_test ev rs op w (get_or ws 0 0)) w) ws
-  quiet s w ws op o z e = ap (foldl proposing s) (ran_other (rule_test ev rs) w ws op o z) ∙ idle s w (ran (rule_test ev rs) (passed (rule_test ev rs op w (get_or ws 0 0)) w) ws) op o e
+  quiet s w ws op o z e = ap (fold proposing s) (ran_other (rule_test ev rs) w ws op o z) ∙ idle s w (ran (rule_test ev rs) (passed (rule_test ev rs op w (get_or ws 0 0)) w) ws) op o e
 
   module _ (s : ActionSet) where
     rules_pass : (n : ℕ) (ws : List ℕ) → more s n ws ≡ more s 0 (drop n ws)
-    rules_pass n ws = ap (foldl proposing s) (ran_pass (rule_test ev rs) n ws)
+    rules_pass n ws = ap (fold proposing s) (ran_pass (rule_test ev rs) n ws)
 
     rules_constant : (w k : ℕ) (ws : List ℕ) → operation_of w ≡ Operation.AgainstConstant → more s 0 (w ∷ k ∷ ws) ≡ more s (passed (comparison_holds Part.Rules rs (constant_comparison w k)) w) ws
     unfolding rule_test comparison_test proposes_at
-    rules_constant w k ws o = ap (foldl proposing s) (ran_constant (rule_test ev rs) w k ws o) ∙ idle s w (ran (rule_test ev rs) (passed (rule_test ev rs Operation.AgainstConstant w k) w) ws) Operation.AgainstConstant o refl
+    rules_constant w k ws o = ap (fold proposing s) (ran_constant (rule_test ev rs) w k ws o) ∙ idle s w (ran (rule_test ev rs) (passed (rule_test ev rs Operation.AgainstConstant w k) w) ws) Operation.AgainstConstant o refl
 
     rules_reading : (w : ℕ) (ws : List ℕ) → operation_of w ≡ Operation.AgainstReading → more s 0 (w ∷ ws) ≡ more s (passed (comparison_holds Part.Rules rs (reading_comparison w)) w) ws
     unfolding rule_test comparison_test proposes_at
@@ -141,7 +140,7 @@ module _ (ev : Events) (rs : Readings) where
     rules_ends : (a : Action) → a.0 < 64 → (ws : List ℕ) → more s 0 (ending_word (Ending.Causes a) ∷ ws) ≡ more (insert_action s a) 0 ws
     unfolding rule_test proposes_at
     rules_ends a h ws =
-        ap (foldl proposing s) (ran_other (rule_test ev rs) (ending_word (Ending.Causes a)) ws Operation.Proposes (causes_operation a h) refl)
+        ap (fold proposing s) (ran_other (rule_test ev rs) (ending_word (Ending.Causes a)) ws Operation.Proposes (causes_operation a h) refl)
         ∙ ap (λ (x : ActionSet). more x 0 ws) (ap (λ (p : Operation). proposes_at p (ending_word (Ending.Causes a)) s) (causes_operation a h) ∙ ap (insert_action s) (causes_action a h))
 
     rules_head : (l : Literal) (k : ℕ) (ws : List ℕ) → test_number (Test.Occurs l) < 64 → k < 32
@@ -178,7 +177,7 @@ module _ (ev : Events) (rs : Readings) where
         go true = refl
         go false = refl
 
-  rules_run_from : (rules : List Rule) (s : ActionSet) → all valid (map rule rules) ≡ true → more s 0 (lines_words (map rule rules)) ≡ foldl (propose ev rs) s rules
+  rules_run_from : (rules : List Rule) (s : ActionSet) → all valid (map rule rules) ≡ true → more s 0 (lines_words (map rule rules)) ≡ fold (propose ev rs) s rules
   unfolding lines_words all ran
   rules_run_from [] s v = refl
   rules_run_from (r ∷ rest) s v =

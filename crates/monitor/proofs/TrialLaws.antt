@@ -1,8 +1,8 @@
 -- Trying candidates bit by bit, from the lowest on, until none is left: actions in the first mode, events in the second.
 use Rattle.std.proofs.Common.{ℕ, zero, suc, ◌+◌, ◌-◌, ◌*◌, ◌/◌, ◌%◌, ◌^◌, ◌≤◌, ◌<◌, Bool, true, false, not, cond, List, ◌≢◌, ◌≡◌, refl, sym, ap, ◌∙◌, zero-add, add-zero, suc-add, add_comm, add-one, arith, eq-eqb, ne_eqb, eqb-true, length, take, length-take, length-drop, pow_pos, shr-shr}
+use Rattle.std.proofs.lemmas.Bool.{eqb-false}
 use Rattle.std.proofs.Math.Nat.{div-eq_of_lt}
 use Rattle.std.proofs.Math.Dec.{eqb}
-use borrow.Author.Tests.{eqb-false}
 use Rattle.pdl.proofs.CostLaws.{cost_below_limit}
 use Rattle.pdl.specs.Greedy.{try_next, kept_below, greedy, cost_below, trials_cost}
 use Rattle.policy.specs.Set.{has, insert}

@@ -62,7 +62,14 @@ pub fn decide(image: &[u8], line: &[u8], mode: Mode) -> Decision
                 EpochStatus::Refused(fault) => Decision::Refused(fault.at(0)),
                 EpochStatus::Accepted => {
                     let values = epoch.values;
-                    decide_epoch(words(image), contents, epoch.events, epoch.given, &values, mode)
+                    decide_epoch(
+                        words(image),
+                        contents,
+                        epoch.events,
+                        epoch.given,
+                        &values,
+                        mode,
+                    )
                 }
             }
         }

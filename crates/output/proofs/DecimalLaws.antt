@@ -2,8 +2,7 @@
 use Rattle.std.proofs.Math.Dec.{ltb}
 use Rattle.std.proofs.Math.ListN.{get_or}
 use Prim.Native.Char.{code}
-use mathlib.Core.List.{foldl}
-use Rattle.std.proofs.Common.{ℤ, pos, negsuc, FitsSigned, w32, ℕ, zero, suc, ◌+◌, ◌*◌, ◌/◌, ◌%◌, ◌^◌, ◌≤◌, ◌<◌, Bool, true, false, List, [], ◌∷◌, ◌++◌, ◌≡◌, refl, sym, ap, ◌∙◌, arith, lt-ltb, le-ltb, ltb-true, ltb-false, length, length-append}
+use Rattle.std.proofs.Common.{ℤ, pos, negsuc, FitsSigned, w32, ℕ, zero, suc, ◌+◌, ◌*◌, ◌/◌, ◌%◌, ◌^◌, ◌≤◌, ◌<◌, Bool, true, false, List, [], ◌∷◌, ◌++◌, ◌≡◌, refl, sym, ap, ◌∙◌, arith, lt-ltb, le-ltb, ltb-true, ltb-false, length, length-append, fold}
 use Rattle.std.specs.Fmt
 use Rattle.std.proofs.lemmas.Fmt.{decimal_by_steps}
 use Rattle.output.specs.Number.{digit, digits, decimal, integer, value_in_base, digit_value}
@@ -65,7 +64,7 @@ module _ (P : ℕ → List ℕ → Type 0) (one : (n : ℕ) → n < 10 → P n (
 -- ---- the digits are those of the number
 
 value_snoc : (v : ℕ) (ds : List ℕ) (d : ℕ)
-    → foldl (λ (x e : ℕ). x * 10 + digit_value e) v (ds ++ d ∷ []) ≡ foldl (λ (x e : ℕ). x * 10 + digit_value e) v ds * 10 + digit_value d
+    → fold (λ (x e : ℕ). x * 10 + digit_value e) v (ds ++ d ∷ []) ≡ fold (λ (x e : ℕ). x * 10 + digit_value e) v ds * 10 + digit_value d
 value_snoc v [] d = refl
 value_snoc v (e ∷ ds) d = value_snoc (v * 10 + digit_value e) ds d
 

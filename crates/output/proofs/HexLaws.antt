@@ -1,8 +1,7 @@
 -- Laws of the hexadecimal digits of a word: their value is the word; and the loop that puts them.
-use Rattle.std.proofs.Common.{ℕ, zero, suc, ◌+◌, ◌-◌, ◌*◌, ◌/◌, ◌%◌, ◌^◌, ◌≤◌, ◌<◌, Bool, true, false, [], ◌∷◌, ◌≡◌, refl, ◌∙◌, arith, lt-ltb, le-ltb, ltb-true, ltb-false, pow-add}
+use Rattle.std.proofs.Common.{ℕ, zero, suc, ◌+◌, ◌-◌, ◌*◌, ◌/◌, ◌%◌, ◌^◌, ◌≤◌, ◌<◌, Bool, true, false, [], ◌∷◌, ◌≡◌, refl, ◌∙◌, arith, lt-ltb, le-ltb, ltb-true, ltb-false, pow-add, fold}
 use Rattle.std.proofs.Math.Dec.{ltb}
 use Rattle.std.proofs.Math.Pow.{mod-pow-add}
-use mathlib.Core.List.{foldl}
 use Rattle.output.specs.Number.{hex_digit, hex_digits, hex_word, value_in_base, hex_digit_value}
 
 -- ---- the digits are those of the word
@@ -16,7 +15,7 @@ digit_value d h = go (ltb d 10) refl
     go false e = rw (e, le-ltb (65 + (d - 10)) 65 (omega arith)) (omega (arith, ltb-false d 10 e))
 
 digits_value : (k v w : ℕ)
-    → foldl (λ (x b : ℕ). x * 16 + hex_digit_value b) v (hex_digits k w) ≡ v * 2 ^ (4 * k) + w % 2 ^ (4 * k)
+    → fold (λ (x b : ℕ). x * 16 + hex_digit_value b) v (hex_digits k w) ≡ v * 2 ^ (4 * k) + w % 2 ^ (4 * k)
 unfolding hex_digits
 digits_value zero v w = omega arith
 digits_value (suc k) v w =

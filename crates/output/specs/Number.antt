@@ -1,7 +1,6 @@
 -- Numbers in decimal and in hexadecimal digits.
 use Prim.Native.Char.{code}
-use Rattle.std.specs.Prelude.{ℕ, zero, suc, ◌+◌, ◌*◌, ◌-◌, ◌/◌, ◌%◌, ◌^◌, ℤ, pos, negsuc, Bool, true, false, cond, ltb, List, [], ◌∷◌, ◌++◌}
-use mathlib.Core.List.{foldl}
+use Rattle.std.specs.Prelude.{ℕ, zero, suc, ◌+◌, ◌*◌, ◌-◌, ◌/◌, ◌%◌, ◌^◌, ℤ, pos, negsuc, Bool, true, false, cond, ltb, List, [], ◌∷◌, ◌++◌, fold}
 
 -- ---- decimal
 
@@ -39,7 +38,7 @@ hex_word w = hex_digits 8 w
 -- ---- the value of digits of a base, which the laws of proofs/DecimalLaws.antt and HexLaws.antt show to be the number
 
 abbrev pub value_in_base : ℕ → (ℕ → ℕ) → List ℕ → ℕ
-value_in_base base value ds = foldl (λ (v d : ℕ). v * base + value d) 0 ds
+value_in_base base value ds = fold (λ (v d : ℕ). v * base + value d) 0 ds
 
 abbrev pub digit_value : ℕ → ℕ
 digit_value b = b - code "0"

@@ -1,7 +1,7 @@
 -- Laws of keeping candidates by rising number: what is kept lies within the candidates, is not bad, and is maximal.
 use Rattle.std.proofs.Common.{ℕ, zero, suc, ◌+◌, ◌-◌, ◌^◌, ◌≤◌, ◌<◌, Bool, true, false, not, ◌&&◌, cond, ◌≢◌, ⊎_elim, ◌≡◌, refl, sym, ap, ◌∙◌, zero-add, suc-add, arith, ltb-true, ltb-false}
+use Rattle.std.proofs.lemmas.Bool.{not-true}
 use Rattle.std.proofs.Math.Dec.{ltb}
-use borrow.Author.Tests.{not-true}
 use Rattle.policy.proofs.ListLaws.{true_false, and_in, and_out, bool_ext, not_false_is}
 use Rattle.policy.proofs.SetLaws.{has_empty, has_insert_same, has_insert_other, has_insert_cases, has_limit, set_ext, has_below, has_below_past}
 use Rattle.pdl.specs.Greedy.{try_next, kept_below, greedy}

@@ -1,6 +1,6 @@
 -- The proposed set is what Definition 6 of Chomicki, Lobo and Naqvi, "Conflict Resolution Using Logic Programming" (TKDE 2003), says.
-use Rattle.std.proofs.Common.{◌<◌, ◌^◌, Bool, true, false, not, ◌&&◌, cond, List, [], ◌∷◌, ◌↔◌, ◌⊎◌, inl, inr, ⊎_elim, ◌≡◌, refl, sym, ap, ◌∙◌, subst, lit<}
-use mathlib.Core.List.{foldl, Memᴰ}
+use Rattle.std.proofs.Common.{◌<◌, ◌^◌, Bool, true, false, not, ◌&&◌, cond, List, [], ◌∷◌, ◌↔◌, ◌⊎◌, inl, inr, ⊎_elim, ◌≡◌, refl, sym, ap, ◌∙◌, subst, lit<, fold}
+use mathlib.Core.List.{Memᴰ}
 use Rattle.policy.proofs.ListLaws.{true_false, not_true_is, and_in, and_out, all_in, all_out}
 use Rattle.policy.proofs.SetLaws.{has_empty, has_limit, has_insert_same, has_insert_old, has_insert_cases, insert_limit}
 use Rattle.policy.proofs.MissingLaws.{missing_in_rule, fewer_in_rule}
@@ -81,16 +81,16 @@ module _ (ev : Events) (rs : Readings) (s : ActionSet) (r : Rule) (a : Action) w
 
 -- a member of what the rules add to a set was in the set, or some rule derives it
 module _ (ev : Events) (rs : Readings) (a : Action) where
-  more_old : (rules : List Rule) (s : ActionSet) → has_action s a ≡ true → has_action (foldl (propose ev rs) s rules) a ≡ true
+  more_old : (rules : List Rule) (s : ActionSet) → has_action s a ≡ true → has_action (fold (propose ev rs) s rules) a ≡ true
   more_old [] s h = h
   more_old (r ∷ rest) s h = more_old rest (propose ev rs s r) (propose_old ev rs s r a h)
 
-  more_new : (rules : List Rule) (s : ActionSet) (r : Rule) → Memᴰ r rules → a.0 < set_limit → r.action ≡ a → rule_holds ev rs r ≡ true → has_action (foldl (propose ev rs) s rules) a ≡ true
+  more_new : (rules : List Rule) (s : ActionSet) (r : Rule) → Memᴰ r rules → a.0 < set_limit → r.action ≡ a → rule_holds ev rs r ≡ true → has_action (fold (propose ev rs) s rules) a ≡ true
   more_new [] s r x4 l q h = elim x4 [ ]
   more_new (x ∷ xs) s r (Memᴰ.head p) l q h = more_old xs (propose ev rs s x) (propose_new ev rs s x a l (sym (ap (λ (y : Rule). y.action) p) ∙ q) (sym (ap (rule_holds ev rs) p) ∙ h))
   more_new (x ∷ xs) s r (Memᴰ.tail m) l q h = more_new xs (propose ev rs s x) r m l q h
 
-  more_cases : (rules : List Rule) (s : ActionSet) → has_action (foldl (propose ev rs) s rules) a ≡ true → (has_action s a ≡ true) ⊎ ((r : Rule) × Memᴰ r rules × (r.action ≡ a) × (rule_holds ev rs r ≡ true))
+  more_cases : (rules : List Rule) (s : ActionSet) → has_action (fold (propose ev rs) s rules) a ≡ true → (has_action s a ≡ true) ⊎ ((r : Rule) × Memᴰ r rules × (r.action ≡ a) × (rule_holds ev rs r ≡ true))
   more_cases [] s h = inl h
   more_cases (x ∷ xs) s h = go (more_cases xs (propose ev rs s x) h)
     where
@@ -106,7 +106,7 @@ pub proposals_derived : (rules : List Rule) (ev : Events) (rs : Readings) (a : A
 unfolding proposals
 proposals_derived rules ev rs a l = (out, λ d. more_new ev rs a rules no_actions d.rule d.listed l d.causes (rule_holds_is ev rs d.rule d.event d.condition))
   where
-    out : has_action (foldl (propose ev rs) no_actions rules) a ≡ true → Derives rules ev rs a
+    out : has_action (fold (propose ev rs) no_actions rules) a ≡ true → Derives rules ev rs a
     out h =
         ⊎_elim (λ k. absurd (true_false k (has_empty a.0))) (λ f. rw (← f.2) (rule_derives rules ev rs f.0 f.1 f.3))
         (more_cases ev rs a rules no_actions h)
@@ -144,7 +144,7 @@ proposals_limit rules ev rs = more rules no_actions (lit< tt)
         go true = insert_limit s.bits r.action.0 h
         go false = h
 
-    more : (rules : List Rule) (s : ActionSet) → s.bits < 2 ^ 64 → (foldl (propose ev rs) s rules).bits < 2 ^ 64
+    more : (rules : List Rule) (s : ActionSet) → s.bits < 2 ^ 64 → (fold (propose ev rs) s rules).bits < 2 ^ 64
     more [] s h = h
     more (r ∷ rest) s h = more rest (propose ev rs s r) (step s r h)
 

@@ -1,6 +1,5 @@
 -- Examples of both modes that need no text, one row each.
-use Rattle.std.specs.Prelude.{ℕ, true, false, ℤ, pos, List, [], ◌∷◌, map}
-use mathlib.Core.List.{foldl}
+use Rattle.std.specs.Prelude.{ℕ, true, false, ℤ, pos, List, [], ◌∷◌, map, fold}
 use Rattle.policy.specs.Epoch.{Epoch}
 use Rattle.policy.specs.Policy.{Policy, Rule, Constraint}
 use Rattle.policy.specs.Set.{ActionSet, EventSet, no_events, insert_event, actions_from, no_readings, set_of}
@@ -95,7 +94,7 @@ pub record Reduced : Type 0 where
   pub withholds : ActionSet
 
 abbrev events_from : List ℕ → EventSet
-events_from ns = foldl insert_event no_events (map (λ (n : ℕ). record { 0 = n }) ns)
+events_from ns = fold insert_event no_events (map (λ (n : ℕ). record { 0 = n }) ns)
 
 unfoldable pub reduced_of : Reduction → Reduced
 reduced_of x =

@@ -1,7 +1,6 @@
 -- What an epoch yields (docs/REFERENCE.md, "What an epoch yields"): when a literal, a rule and a constraint hold, and which actions
 -- of an epoch are proposed, accepted and cancelled.
-use Rattle.std.specs.Prelude.{ℕ, Bool, not, ◌&&◌, cond, List}
-use mathlib.Core.List.{foldl}
+use Rattle.std.specs.Prelude.{ℕ, Bool, not, ◌&&◌, cond, List, fold}
 use Rattle.policy.specs.Comparison.{comparison_holds}
 use Rattle.policy.specs.Epoch.{Epoch, Readings}
 use Rattle.policy.specs.List.{all, any}
@@ -26,7 +25,7 @@ unfoldable pub propose : Events → Readings → ActionSet → Rule → ActionSe
 propose ev rs s r = cond (rule_holds ev rs r) (insert_action s r.action) s
 
 unfoldable pub proposals : List Rule → Events → Readings → ActionSet
-proposals rules ev rs = foldl (propose ev rs) no_actions rules
+proposals rules ev rs = fold (propose ev rs) no_actions rules
 
 -- what the rules propose on an epoch: none of its events is left out
 abbrev pub proposed : List Rule → Epoch → ActionSet

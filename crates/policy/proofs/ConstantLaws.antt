@@ -1,7 +1,7 @@
 -- A word as a constant: which constants are words, and as the code computes it, where half of the range is taken away.
 use Rattle.std.proofs.Common.{ℕ, suc, ◌-◌, ◌^◌, ◌<◌, ◌≤◌, Bool, true, false, ◌&&◌, ◌≡◌, refl, arith, lt-ltb, le-ltb, ltb-true, ltb-false, le-leb, leb-true, ℤ, pos, negsuc, ◌+ℤ◌, w32, SFits, to_z}
+use Rattle.std.specs.Int.Signed.{le_z}
 use Rattle.std.proofs.Math.Dec.{ltb, leb}
-use lib.Signed.{le_z}
 use mir.Val.{sel}
 use Rattle.policy.proofs.ListLaws.{and_out}
 use Rattle.policy.specs.Limits.{is_reading_value}

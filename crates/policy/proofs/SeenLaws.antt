@@ -1,8 +1,8 @@
 -- Laws of going over the parts of a line: repeats by the numbers seen so far, and how many constants there are.
 use Rattle.std.proofs.Common.{ℕ, ◌+◌, ◌<◌, ◌≤◌, Bool, true, false, ◌||◌, List, [], ◌∷◌, map, ◌≡◌, refl, sym, ap, ap₂, ◌∙◌, add-one, arith, ltb-true, eqb-true, length, take, drop, length-take, drop_of_length-le, drop-cons, get_or-take}
+use Rattle.std.proofs.lemmas.Bool.{eqb-false}
 use Rattle.std.proofs.Math.Dec.{eqb, ltb}
 use Rattle.std.proofs.Math.ListN.{get_or, length-map}
-use borrow.Author.Tests.{eqb-false}
 use Rattle.policy.proofs.ListLaws.{and_out}
 use Rattle.policy.proofs.SetLaws.{has_empty, has_insert_same, has_insert_other}
 use Rattle.policy.specs.Limits.{repeats}

@@ -1,11 +1,11 @@
 -- Laws of sets: what is a member of each, and that two sets with the same members are equal.
 use Rattle.std.proofs.Common.{ℕ, zero, suc, ◌+◌, ◌-◌, ◌*◌, ◌/◌, ◌%◌, ◌^◌, ◌≤◌, ◌<◌, Bool, true, false, not, ◌&&◌, ◌||◌, ◌⊎◌, inl, inr, ◌≢◌, ◌≡◌, refl, sym, ap, ◌∙◌, one-mul, mod-eq_of_lt, mod-lt, lt_of_lt_of_le, add_comm, zero-lt-suc, arith, lt-ltb, le-ltb, eqb-true, ltb-true, ltb-false, bit_and, bit_or, bit_xor, lit<, shl_exact, pow_pos, pow_mono, pow-add, shr-shr}
+use Rattle.std.proofs.lemmas.Nat.{and_shr, or_shr, xor_shr, and_mod, or_mod, xor_mod, or_lt}
+use Rattle.std.proofs.lemmas.Bool.{eqb-false}
 use Rattle.std.proofs.Math.Nat.{div-eq_of_lt}
 use Rattle.std.proofs.Math.Arith.{bin_ind}
 use Rattle.std.proofs.Math.Dec.{ltb, eqb}
 use Rattle.std.proofs.Math.Pow.{pow-lt, shl-shr, field, mod-mod-pow}
-use borrow.Author.Tests.{eqb-false}
-use lib.Bits.{and_shr, or_shr, xor_shr, and_mod, or_mod, xor_mod, or_lt}
 use Rattle.policy.specs.Number.{set_limit}
 use Rattle.policy.specs.Set.{has, insert, union, difference, below}
 

@@ -1,6 +1,6 @@
 -- A constant below zero with half of the range added, and a constant that is not below zero.
 use Rattle.std.proofs.Common.{suc, ◌+◌, ◌-◌, ◌<◌, true, false, ◌≡◌, refl, arith, le-ltb, ℤ, pos, negsuc, ◌-ℤ◌, to_z-of_z, w32, SFits, of_z, to_z}
-use lib.Signed.{lt_z, mag}
+use Rattle.std.specs.Int.Signed.{lt_z, mag}
 use Rattle.policy.proofs.ListLaws.{true_false}
 
 abbrev raised : ℤ → ℤ

@@ -1,7 +1,7 @@
 -- What it says that a line is one that an accepted text may have, as facts of its parts.
 use Rattle.std.proofs.Common.{◌≤◌, ◌<◌, Bool, true, false, not, ◌&&◌, List, map, ◌≡◌, ltb-true, ltb-false, lt-ltb, le-ltb, length}
+use Rattle.std.proofs.lemmas.Bool.{not-true}
 use Rattle.std.proofs.Math.Dec.{ltb}
-use borrow.Author.Tests.{not-true}
 use Rattle.policy.proofs.ListLaws.{and_out, or_out}
 use Rattle.policy.specs.Limits.{valid, in_range, crowded, repeated, repeats, test_number, comparison_in_range, ending_in_range}
 use Rattle.policy.specs.Line.{PolicyLine, heads_of, comparisons_of, ending_of}

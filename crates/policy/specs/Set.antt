@@ -1,6 +1,5 @@
 -- Sets of numbers below 64. A set is a number whose bit n says whether n is in it.
-use Rattle.std.specs.Prelude.{ℕ, zero, suc, ◌+◌, ◌/◌, ◌%◌, ◌^◌, Bool, cond, ltb, eqb, List, map}
-use mathlib.Core.List.{foldl}
+use Rattle.std.specs.Prelude.{ℕ, zero, suc, ◌+◌, ◌/◌, ◌%◌, ◌^◌, Bool, cond, ltb, eqb, List, map, fold}
 use Rattle.std.specs.Int.Bits.{bit_and, bit_or, bit_xor}
 use Rattle.policy.specs.Number.{set_limit}
 use Rattle.policy.specs.declared.number.Event.{Event}
@@ -91,7 +90,7 @@ actions_below s a = set_of (below s.bits a.0)
 
 -- the set of the actions with these numbers
 abbrev pub actions_from : List ℕ → ActionSet
-actions_from ns = foldl insert_action no_actions (map (λ (n : ℕ). record { 0 = n }) ns)
+actions_from ns = fold insert_action no_actions (map (λ (n : ℕ). record { 0 = n }) ns)
 
 abbrev pub no_readings : ReadingSet
 no_readings = set_of 0

@@ -17,5 +17,5 @@ pub use fault::{Fault, Refusal, Source};
 pub use limit::{COMPARISON_LIMIT, CONSTRAINT_LIMIT, HEAD_LIMIT, READING_LIMIT, RULE_LIMIT};
 pub use line::{Ending, Head, Part, Test};
 pub use mode::Mode;
-pub use number::{Action, ActionCheck, Event, EventCheck, Numbered, Reading, ReadingCheck};
+pub use number::{Action, Event, Numbered, Reading};
 pub use set::{ActionSet, EventSet, Events, ReadingSet, Set, member, members_below, with_member};

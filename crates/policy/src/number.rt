@@ -37,24 +37,12 @@ impl Numbered for Event {
     }
 }
 
-#[derive(Clone, Copy)]
-pub enum EventCheck {
-    Valid(Event),
-    OutOfRange,
-}
-
 impl Numbered for Action {
     ghost number = { λ a. a.0 };
 
     fn number(self) -> u8 {
         self.0
     }
-}
-
-#[derive(Clone, Copy)]
-pub enum ActionCheck {
-    Valid(Action),
-    OutOfRange,
 }
 
 impl Numbered for Reading {
@@ -65,44 +53,41 @@ impl Numbered for Reading {
     }
 }
 
-#[derive(Clone, Copy)]
-pub enum ReadingCheck {
-    Valid(Reading),
-    OutOfRange,
-}
-
 impl Event {
-    pub fn new(n: u32) -> EventCheck
+    /// The event with a number; none past the last.
+    pub fn new(n: u32) -> Option<Event>
         ensures { result ≡ check_event n }
     {
         if n < EVENTS {
-            EventCheck::Valid(Event(n as u8))
+            Some(Event(n as u8))
         } else {
-            EventCheck::OutOfRange
+            None
         }
     }
 }
 
 impl Action {
-    pub fn new(n: u32) -> ActionCheck
+    /// The action with a number; none past the last.
+    pub fn new(n: u32) -> Option<Action>
         ensures { result ≡ check_action n }
     {
         if n < ACTIONS {
-            ActionCheck::Valid(Action(n as u8))
+            Some(Action(n as u8))
         } else {
-            ActionCheck::OutOfRange
+            None
         }
     }
 }
 
 impl Reading {
-    pub fn new(n: u32) -> ReadingCheck
+    /// The reading with a number; none past the last.
+    pub fn new(n: u32) -> Option<Reading>
         ensures { result ≡ check_reading n }
     {
         if n < READINGS {
-            ReadingCheck::Valid(Reading(n as u8))
+            Some(Reading(n as u8))
         } else {
-            ReadingCheck::OutOfRange
+            None
         }
     }
 }

@@ -1,10 +1,9 @@
 -- Reading the decimal digits of a number back yields it.
-use Rattle.std.proofs.Common.{ℕ, zero, suc, ◌+◌, ◌*◌, ◌%◌, ◌<◌, true, false, List, [], ◌∷◌, ◌++◌, ◌≡◌, refl, sym, ap, ◌∙◌, arith, le-leb, ne_eqb, ℤ, pos, negsuc}
+use Rattle.std.proofs.Common.{ℕ, zero, suc, ◌+◌, ◌*◌, ◌%◌, ◌<◌, true, false, List, [], ◌∷◌, ◌++◌, ◌≡◌, refl, sym, ap, ◌∙◌, arith, le-leb, ne_eqb, ℤ, pos, negsuc, fold}
 use Rattle.std.proofs.Math.Bool.{or-true}
 use Rattle.std.proofs.Math.Option.{Option, none, some, or_else}
 use Rattle.std.proofs.Math.Dec.{eqb}
 use Rattle.std.proofs.Math.ListN.{get_or}
-use mathlib.Core.List.{foldl}
 use Rattle.policy.proofs.ListLaws.{true_false, and_in, and_out, all_append}
 use Rattle.policy.specs.List.{all}
 use Rattle.lexer.specs.Byte.{is_digit}
@@ -16,7 +15,7 @@ use Rattle.printer.specs.Printed.{constant_token}
 
 -- ---- the digits are those of the number
 
-decimal_fold : (v : ℕ) (ds : List ℕ) → decimal_from v ds ≡ foldl (λ (x d : ℕ). x * 10 + digit_value d) v ds
+decimal_fold : (v : ℕ) (ds : List ℕ) → decimal_from v ds ≡ fold (λ (x d : ℕ). x * 10 + digit_value d) v ds
 unfolding decimal_from
 decimal_fold v [] = refl
 decimal_fold v (d ∷ ds) = decimal_fold (v * 10 + digit_value d) ds

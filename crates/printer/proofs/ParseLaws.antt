@@ -1,7 +1,7 @@
 -- Laws of reading back: the tokens of each part of a line are read as that part, and those of a valid line as the line.
 use Rattle.std.proofs.Common.{◌<◌, Bool, true, false, not, cond, List, [], ◌∷◌, ◌++◌, map, ◌≡◌, refl, sym, ap, ◌∙◌, arith, ℤ, pos, negsuc, length}
+use Rattle.std.proofs.lemmas.Bool.{not-true}
 use Rattle.std.proofs.Math.Option.{Option, none, some, or_else}
-use borrow.Author.Tests.{not-true}
 use Rattle.policy.specs.Limits.{valid, in_range, crowded, repeated}
 use Rattle.policy.specs.Line.{PolicyLine, rule, constraint, heads_of}
 use Rattle.policy.specs.declared.comparison.Comparison.{Comparison}

@@ -1,8 +1,9 @@
 -- The text of an acceptable policy: it is within the limit, reading it back yields the policy, and no other policy has it.
-use Rattle.std.proofs.Common.{ℕ, suc, ◌+◌, ◌*◌, ◌≤◌, ◌<◌, true, List, [], ◌∷◌, ◌++◌, map, append_assoc, append-nil, ◌↔◌, ◌≡◌, refl, sym, ap, ◌∙◌, arith, lt-ltb, le-ltb, length, length-append}
+use Rattle.std.proofs.Common.{ℕ, suc, ◌+◌, ◌*◌, ◌≤◌, ◌<◌, true, List, [], ◌∷◌, ◌++◌, map, append_assoc, append-nil, ◌↔◌, ◌≡◌, refl, sym, ap, ◌∙◌, arith, lt-ltb, le-ltb, length, length-append, fold}
+use Rattle.std.proofs.lemmas.List.{map-append}
+use Rattle.std.proofs.lemmas.List.Sums.{fold-append}
 use Rattle.std.proofs.Math.Option.{some}
 use Rattle.std.proofs.Math.Seq.{append_snoc}
-use mathlib.Core.List.{foldl, foldl-append, map-append}
 use Rattle.policy.proofs.ListLaws.{and_out}
 use Rattle.policy.specs.Limits.{valid, rule_limit, constraint_limit, Acceptable}
 use Rattle.policy.specs.Line.{PolicyLine, rule, constraint}
@@ -55,14 +56,14 @@ module _ {A : Type 0} (line : A → PolicyLine) (part : List A → Policy) (limi
   Adds = (n : ℕ) (xs : List A) (x : A) → length xs < limit → advance n (part xs) (accepted (line x)) ≡ reading (suc n) (part (xs ++ x ∷ []))
 
   part_read : Adds → (xs read : List A) (n : ℕ) → all valid (map line xs) ≡ true → length read + length xs ≤ limit
-      → foldl read_line (reading n (part read)) (map line_bytes (map line xs)) ≡ reading (n + length xs) (part (read ++ xs))
+      → fold read_line (reading n (part read)) (map line_bytes (map line xs)) ≡ reading (n + length xs) (part (read ++ xs))
   unfolding all read_line
   part_read add [] read n v h = rw (append-nil read) (ap (λ (k : ℕ). reading k (part read)) (omega arith))
   part_read add (x ∷ xs) read n v h =
       let r = and_out (valid (line x)) (all valid (map line xs)) v in
       let one : read_line (reading n (part read)) (line_bytes (line x)) ≡ reading (suc n) (part (read ++ x ∷ [])) =
       ap (advance n (part read)) (line_read (line x) r.0) ∙ add n read x (omega arith) in
-      ap (λ (s : Progress). foldl read_line s (map line_bytes (map line xs))) one
+      ap (λ (s : Progress). fold read_line s (map line_bytes (map line xs))) one
       ∙ part_read add xs (read ++ x ∷ []) (suc n) r.1 (omega (arith, length-append read (x ∷ [])))
       ∙ rw (append_snoc read x xs) (ap (λ (m : ℕ). reading m (part (read ++ x ∷ xs))) (omega arith))
 
@@ -78,13 +79,13 @@ unfolding advance
 add_constraint rs n cs c h = rw (lt-ltb (length cs) constraint_limit h)
 
 lines_read : (p : Policy) → Acceptable p
-    → foldl read_line (reading 1 empty_policy) (map line_bytes (policy_lines p)) ≡ reading (1 + length p.rules + length p.constraints) p
+    → fold read_line (reading 1 empty_policy) (map line_bytes (policy_lines p)) ≡ reading (1 + length p.rules + length p.constraints) p
 lines_read p a =
     let rs : List (List ℕ) = map line_bytes (map rule p.rules) in
     let cs : List (List ℕ) = map line_bytes (map constraint p.constraints) in
-    ap (foldl read_line (reading 1 empty_policy)) (map-append line_bytes (map rule p.rules) (map constraint p.constraints))
-    ∙ foldl-append read_line (reading 1 empty_policy) rs cs
-    ∙ ap (λ (s : Progress). foldl read_line s cs)
+    ap (fold read_line (reading 1 empty_policy)) (map-append line_bytes (map rule p.rules) (map constraint p.constraints))
+    ∙ fold-append read_line (reading 1 empty_policy) rs cs
+    ∙ ap (λ (s : Progress). fold read_line s cs)
     (part_read rule (λ rs. policy_with rs []) rule_limit add_rule p.rules [] 1 a.rules_valid (omega (arith, a.few_rules)))
     ∙ part_read constraint (policy_with p.rules) constraint_limit (add_constraint p.rules) p.constraints [] (1 + length p.rules)
     a.constraints_valid (omega (arith, a.few_constraints))

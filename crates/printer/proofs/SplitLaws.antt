@@ -1,7 +1,7 @@
 -- Laws of joining and splitting: tokens joined by spaces are the tokens of the line, and ended lines are the lines of the text.
 use Rattle.std.proofs.Common.{ℕ, suc, Bool, true, false, not, ◌&&◌, ◌||◌, cond, List, [], ◌∷◌, ◌++◌, map, ◌≡◌, refl, ap, ◌∙◌, arith, eq-eqb, lt-ltb, leb-true, pos, negsuc}
+use Rattle.std.proofs.lemmas.Bool.{not-true}
 use Rattle.std.proofs.Math.Dec.{eqb, leb, ltb}
-use borrow.Author.Tests.{not-true}
 use Rattle.policy.proofs.ListLaws.{true_false, and_in, and_out, all_append}
 use Rattle.policy.specs.Line.{PolicyLine, rule, constraint}
 use Rattle.policy.specs.List.{all}

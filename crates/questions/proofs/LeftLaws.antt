@@ -1,7 +1,7 @@
 -- What is answered along the rest of the input is what is printed for it by lines.
-use Rattle.std.proofs.Common.{◌≡◌, ℕ, Bool, true, false, cond, eqb, List, [], ◌∷◌, ◌++◌, length, take, refl, sym, ap, ap₂, ◌∙◌, append_assoc, eqb-true}
-use mathlib.Core.List.{foldl, foldl-append}
-use borrow.Author.Tests.{not-true}
+use Rattle.std.proofs.Common.{◌≡◌, ℕ, Bool, true, false, cond, eqb, List, [], ◌∷◌, ◌++◌, length, take, refl, sym, ap, ap₂, ◌∙◌, append_assoc, eqb-true, fold}
+use Rattle.std.proofs.lemmas.Bool.{not-true}
+use Rattle.std.proofs.lemmas.List.Sums.{fold-append}
 use Rattle.policy.proofs.ListLaws.{and_out, all_append}
 use Rattle.policy.specs.List.{all}
 use Rattle.policy.specs.Policy.{Policy}
@@ -25,7 +25,7 @@ module _ (maker site image : List ℕ) (last : ℕ → Held → List ℕ) where
   abbrev from : ℕ → Held → List ℕ → List ℕ
   from = answers_from maker site image last
 
-  along : (w rest : List ℕ) (n : ℕ) (h : Held) → all in_line w ≡ true → from n h (w ++ rest) ≡ from n (foldl pushed h w) rest
+  along : (w rest : List ℕ) (n : ℕ) (h : Held) → all in_line w ≡ true → from n h (w ++ rest) ≡ from n (fold pushed h w) rest
   unfolding answers_from all
   along [] rest n h e = refl
   along (b ∷ w) rest n h e =
@@ -95,7 +95,7 @@ module _ (maker site : List ℕ) (m : ℕ) (p : Policy) (r : read_texts maker si
 
   module _ (last : ℕ → Held → List ℕ) (whole : List ℕ → List ℕ → List ℕ)
       (ends : (n : ℕ) (first : List ℕ) → length first ≡ 1025 → (begins : List ℕ) → all in_line begins ≡ true
-      → last n (foldl pushed (held_by start_question first) begins) ≡ answer_lines maker site n (lines_of (whole begins [])))
+      → last n (fold pushed (held_by start_question first) begins) ≡ answer_lines maker site n (lines_of (whole begins [])))
       (ends_line : (begins rest : List ℕ) → whole begins (10 ∷ rest) ≡ begins ++ 10 ∷ whole [] rest)
       (goes_on : (begins rest : List ℕ) (b : ℕ) → eqb b 10 ≡ false → whole (begins ++ b ∷ []) rest ≡ whole begins (b ∷ rest)) where
     abbrev answers : ℕ → Held → List ℕ → List ℕ
@@ -104,14 +104,14 @@ module _ (maker site : List ℕ) (m : ℕ) (p : Policy) (r : read_texts maker si
     -- where these bytes of a line were read, and are held: what is answered from here is printed for the lines of the whole
     abbrev ByLines : List ℕ → Type 0
     ByLines rest = (begins first : List ℕ) (n : ℕ) → length first ≡ 1025 → all in_line begins ≡ true
-        → answers n (foldl pushed (held_by start_question first) begins) rest ≡ answer_lines maker site n (lines_of (whole begins rest))
+        → answers n (fold pushed (held_by start_question first) begins) rest ≡ answer_lines maker site n (lines_of (whole begins rest))
 
     by_byte : (b : ℕ) (rest : List ℕ) → ByLines rest → ByLines (b ∷ rest)
     unfolding answers_from answer_lines all
     by_byte b rest same begins first n long h = go (eqb b 10) refl
       where
         line : Held
-        line = foldl pushed (held_by start_question first) begins
+        line = fold pushed (held_by start_question first) begins
 
         line_long : length line.held ≡ 1025
         line_long = fold_length begins (held_by start_question first) ∙ long
@@ -129,7 +129,7 @@ module _ (maker site : List ℕ) (m : ℕ) (p : Policy) (r : read_texts maker si
             ap₂ (λ (x y : List ℕ). x ++ y) (line_answered maker site m p r (next n) begins line (line_says begins first long)) ended
             ∙ sym (ap (answer_lines maker site n) lines)
         go false e =
-            ap (λ (x : Held). answers n x rest) (sym (foldl-append pushed (held_by start_question first) begins (b ∷ [])))
+            ap (λ (x : Held). answers n x rest) (sym (fold-append pushed (held_by start_question first) begins (b ∷ [])))
             ∙ same (begins ++ b ∷ []) first n long (line_more begins b h e)
             ∙ ap (λ (l : List ℕ). answer_lines maker site n (lines_of l)) (goes_on begins rest b e)
 

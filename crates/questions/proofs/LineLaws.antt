@@ -1,6 +1,5 @@
 -- A question byte by byte.
-use Rattle.std.proofs.Common.{ℕ, ◌+◌, ◌*◌, ◌-◌, ◌≤◌, ◌<◌, Bool, true, false, not, cond, List, [], ◌∷◌, ◌≡◌, refl, sym, ap, ap₂, ◌∙◌, arith, eq-eqb, ne_eqb, lt-ltb, le-ltb, leb-true, ltb-true, ltb-false, leb, ltb, length, get_or, set, drop, length-set}
-use mathlib.Core.List.{foldl}
+use Rattle.std.proofs.Common.{ℕ, ◌+◌, ◌*◌, ◌-◌, ◌≤◌, ◌<◌, Bool, true, false, not, cond, List, [], ◌∷◌, ◌≡◌, refl, sym, ap, ap₂, ◌∙◌, arith, eq-eqb, ne_eqb, lt-ltb, le-ltb, leb-true, ltb-true, ltb-false, leb, ltb, length, get_or, set, drop, length-set, fold}
 use Rattle.policy.proofs.ListLaws.{and_out}
 use Rattle.lexer.proofs.WhileLaws.{while_end, while_here, while_past, skip_inside}
 use Rattle.lexer.specs.Byte.{is_space, is_digit}
@@ -81,7 +80,7 @@ module _ (q₀ : Question) (held₀ chunk : List ℕ) where
     pub long : length held ≡ length held₀
     pub inside : i ≤ length chunk
     pub count : i + length (left i) ≡ length (left 0)
-    pub same : foldl pushed (held_by q held) (left i) ≡ foldl pushed (held_by q₀ held₀) (left 0)
+    pub same : fold pushed (held_by q held) (left i) ≡ fold pushed (held_by q₀ held₀) (left 0)
 
   pub taking_none : Taking q₀ held₀ 0
   taking_none = record { long = refl; inside = omega arith; count = omega arith; same = refl }
@@ -95,12 +94,12 @@ module _ (q₀ : Question) (held₀ chunk : List ℕ) where
           long = ap length f ∙ push_length (held_by q held) (get_or chunk i 0) ∙ t.long;
           inside = omega arith;
           count = omega (arith, t.count, ap length w);
-          same = ap (λ (x : Held). foldl pushed x (left (i + 1))) (ap₂ held_by e f) ∙ sym (ap (foldl pushed (held_by q held)) w) ∙ t.same;
+          same = ap (λ (x : Held). fold pushed x (left (i + 1))) (ap₂ held_by e f) ∙ sym (ap (fold pushed (held_by q held)) w) ∙ t.same;
         }
 
     -- no byte of the line is left
-    done : left i ≡ [] → (i ≡ length (left 0)) × (held_by q held ≡ foldl pushed (held_by q₀ held₀) (left 0))
-    done e = (omega (arith, t.count, ap length e), sym (ap (foldl pushed (held_by q held)) e) ∙ t.same)
+    done : left i ≡ [] → (i ≡ length (left 0)) × (held_by q held ≡ fold pushed (held_by q₀ held₀) (left 0))
+    done e = (omega (arith, t.count, ap length e), sym (ap (fold pushed (held_by q held)) e) ∙ t.same)
 
     pub taking_end : i < length chunk → get_or chunk i 0 ≡ 10 → (record { question = q; taken = i + 1; ended = true } ≡ line_taken q₀ held₀ chunk) × (held ≡ (bytes_taken q₀ held₀ chunk).held)
     unfolding line_taken bytes_taken

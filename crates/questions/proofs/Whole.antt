@@ -1,9 +1,9 @@
 -- What is held of a question answers it as the whole line does, and what the program prints for all of its input.
-use Rattle.std.proofs.Common.{ℕ, suc, ◌+◌, ◌*◌, ◌-◌, min, ◌≤◌, ◌<◌, Bool, true, false, not, cond, ◌&&◌, ◌||◌, List, [], ◌∷◌, ◌++◌, append_assoc, append-nil, ◌⊎◌, inl, inr, ◌≡◌, refl, sym, ap, ap₂, ◌∙◌, add-one, arith, lt-ltb, le-ltb, ltb-true, ltb-false, eqb-true, eqb, ltb, length, take, drop, set, length-set, length-append, length-take, take_all, take-suc-set, length-take-le}
+use Rattle.std.proofs.Common.{ℕ, suc, ◌+◌, ◌*◌, ◌-◌, min, ◌≤◌, ◌<◌, Bool, true, false, not, cond, ◌&&◌, ◌||◌, List, [], ◌∷◌, ◌++◌, append_assoc, append-nil, ◌⊎◌, inl, inr, ◌≡◌, refl, sym, ap, ap₂, ◌∙◌, add-one, arith, lt-ltb, le-ltb, ltb-true, ltb-false, eqb-true, eqb, ltb, length, take, drop, set, length-set, length-append, length-take, take_all, take-suc-set, length-take-le, fold}
+use Rattle.std.proofs.lemmas.Bool.{not-true}
+use Rattle.std.proofs.lemmas.List.Sums.{fold-append}
 use Rattle.std.proofs.Math.Path.{subst⁻¹}
-use mathlib.Core.List.{foldl, foldl-append}
 use Rattle.std.proofs.Math.Option.{Option, none, some}
-use borrow.Author.Tests.{not-true}
 use Rattle.std.proofs.Math.Seq.{take-append-le, take-append-add}
 use Rattle.policy.proofs.ListLaws.{and_in, and_out, all_append}
 use Rattle.policy.specs.declared.fault.Fault.{Fault}
@@ -32,7 +32,7 @@ use Rattle.questions.specs.declared.line.Token.{Token}
 
 -- ---- the word
 
-stays_other : (w : List ℕ) → foldl scan_byte Token.Other w ≡ Token.Other
+stays_other : (w : List ℕ) → fold scan_byte Token.Other w ≡ Token.Other
 unfolding scan_byte
 stays_other [] = refl
 stays_other (b ∷ w) = stays_other w
@@ -71,13 +71,13 @@ like_more n v b l = go (ltb n 64) refl l
     go false h (inl e) = let k = ltb-false n 64 h in inr (k, omega arith)
     go false h (inr (i, j)) = inr (i, omega arith)
 
-digits : (ds : List ℕ) (n v : ℕ) → Like n v → Agrees (number_in (foldl scan_byte (Token.Number n) ds)) (cond (all is_digit ds) (some (decimal_from v ds)) none)
+digits : (ds : List ℕ) (n v : ℕ) → Like n v → Agrees (number_in (fold scan_byte (Token.Number n) ds)) (cond (all is_digit ds) (some (decimal_from v ds)) none)
 unfolding number_in Agrees scan_byte next_digit decimal_from all
 digits [] n v l = like_check n v l
 digits (d ∷ ds) n v l = go (is_digit d) (digits ds (more_digits n d) (v * 10 + (d - 48)) (like_more n v d l))
   where
-    go : (x : Bool) → Agrees (number_in (foldl scan_byte (Token.Number (more_digits n d)) ds)) (cond (all is_digit ds) (some (decimal_from (v * 10 + (d - 48)) ds)) none)
-        → Agrees (number_in (foldl scan_byte (cond x (Token.Number (more_digits n d)) Token.Other) ds)) (cond (x && all is_digit ds) (some (decimal_from (v * 10 + (d - 48)) ds)) none)
+    go : (x : Bool) → Agrees (number_in (fold scan_byte (Token.Number (more_digits n d)) ds)) (cond (all is_digit ds) (some (decimal_from (v * 10 + (d - 48)) ds)) none)
+        → Agrees (number_in (fold scan_byte (cond x (Token.Number (more_digits n d)) Token.Other) ds)) (cond (x && all is_digit ds) (some (decimal_from (v * 10 + (d - 48)) ds)) none)
     go true h = h
     go false h = rw (stays_other ds) tt
 
@@ -90,7 +90,7 @@ or_any true true = refl
 or_any true false = refl
 or_any false b = refl
 
-letter_number : (w : List ℕ) → Agrees (number_in (foldl scan_byte Token.Letter w)) (number_of w)
+letter_number : (w : List ℕ) → Agrees (number_in (fold scan_byte Token.Letter w)) (number_of w)
 unfolding number_in Agrees scan_byte first_digit number_of is_empty all decimal_from Like
 letter_number [] = tt
 letter_number (d ∷ ds) = go (eqb d 48) (is_digit d) refl refl ds
@@ -99,7 +99,7 @@ letter_number (d ∷ ds) = go (eqb d 48) (is_digit d) refl refl ds
     zero_digit e = rw e
 
     go : (x y : Bool) → eqb d 48 ≡ x → is_digit d ≡ y → (ds : List ℕ)
-        → Agrees (number_in (foldl scan_byte (cond x Token.Zero (cond y (Token.Number (d - 48)) Token.Other)) ds)) (cond ((y && all is_digit ds) && (is_empty ds || not x)) (some (decimal_from (0 * 10 + (d - 48)) ds)) none)
+        → Agrees (number_in (fold scan_byte (cond x Token.Zero (cond y (Token.Number (d - 48)) Token.Other)) ds)) (cond ((y && all is_digit ds) && (is_empty ds || not x)) (some (decimal_from (0 * 10 + (d - 48)) ds)) none)
     go true true e f [] = let k : d ≡ 48 = eqb-true d 48 e in rw k refl
     go true true e f (c ∷ cs) = rw (stays_other cs, and_none (true && (is_digit c && all is_digit cs))) tt
     go true false e f ds = let k : d ≡ 48 = eqb-true d 48 e in let w : false ≡ true = sym f ∙ zero_digit k in let z : ◌≡◌ {A = ℕ} 0 1 = cc in absurd (omega arith)
@@ -109,12 +109,12 @@ letter_number (d ∷ ds) = go (eqb d 48) (is_digit d) refl refl ds
         same h = inl h
     go false false e f ds = rw (stays_other ds) tt
 
-pub word_number : (w : List ℕ) → Agrees (number_in (foldl scan_byte Token.Empty w)) (named 65 w)
+pub word_number : (w : List ℕ) → Agrees (number_in (fold scan_byte Token.Empty w)) (named 65 w)
 unfolding number_in Agrees scan_byte named
 word_number [] = tt
 word_number (b ∷ w) = go (eqb b 65)
   where
-    go : (x : Bool) → Agrees (number_in (foldl scan_byte (cond x Token.Letter Token.Other) w)) (cond x (number_of w) none)
+    go : (x : Bool) → Agrees (number_in (fold scan_byte (cond x Token.Letter Token.Other) w)) (cond x (number_of w) none)
     go true = letter_number w
     go false = rw (stays_other w) tt
 
@@ -122,15 +122,15 @@ word_number (b ∷ w) = go (eqb b 65)
 
 -- bytes without a space
 word_held : (w : List ℕ) (t : Token) (held : List ℕ) → all in_word w ≡ true
-    → foldl pushed (held_by (record { token = t; spaced = false; count = 0 }) held) w ≡ held_by (record { token = foldl scan_byte t w; spaced = false; count = 0 }) held
+    → fold pushed (held_by (record { token = t; spaced = false; count = 0 }) held) w ≡ held_by (record { token = fold scan_byte t w; spaced = false; count = 0 }) held
 unfolding all pushed
 word_held [] t held h = refl
 word_held (b ∷ w) t held h =
     let p = and_out (in_word b) (all in_word w) h in
     go (is_space b) p.0 (word_held w (scan_byte t b) held p.1)
   where
-    go : (x : Bool) → not x ≡ true → foldl pushed (held_by (record { token = scan_byte t b; spaced = false; count = 0 }) held) w ≡ held_by (record { token = foldl scan_byte (scan_byte t b) w; spaced = false; count = 0 }) held
-        → foldl pushed (cond x (held_by (record { token = t; spaced = true; count = 0 }) held) (held_by (record { token = scan_byte t b; spaced = false; count = 0 }) held)) w ≡ held_by (record { token = foldl scan_byte (scan_byte t b) w; spaced = false; count = 0 }) held
+    go : (x : Bool) → not x ≡ true → fold pushed (held_by (record { token = scan_byte t b; spaced = false; count = 0 }) held) w ≡ held_by (record { token = fold scan_byte (scan_byte t b) w; spaced = false; count = 0 }) held
+        → fold pushed (cond x (held_by (record { token = t; spaced = true; count = 0 }) held) (held_by (record { token = scan_byte t b; spaced = false; count = 0 }) held)) w ≡ held_by (record { token = fold scan_byte (scan_byte t b) w; spaced = false; count = 0 }) held
     go true n k = let z : ◌≡◌ {A = ℕ} 0 1 = cc in absurd (omega arith)
     go false n k = k
 
@@ -182,7 +182,7 @@ one_more b before t h k = go h.question.spaced (ltb h.question.count (length h.h
         record { token = k.token; spaced = k.spaced; count = k.count; long = k.long; bytes = full_bytes h.held before h.question.count b k.long k.bytes l k.count }
     go false x y e = let z : ◌≡◌ {A = ℕ} 0 1 = cc in absurd (omega arith)
 
-epoch_held : (e before : List ℕ) (t : Token) (h : Held) → Holds t before h → Holds t (before ++ e) (foldl pushed h e)
+epoch_held : (e before : List ℕ) (t : Token) (h : Held) → Holds t before h → Holds t (before ++ e) (fold pushed h e)
 epoch_held [] before t h k = rw (append-nil before) k
 epoch_held (b ∷ e) before t h k = rw (← append_assoc before (b ∷ []) e) (epoch_held e (before ++ b ∷ []) t (pushed h b) (one_more b before t h k))
 
@@ -190,7 +190,7 @@ epoch_held (b ∷ e) before t h k = rw (← append_assoc before (b ∷ []) e) (e
 
 -- what a question says: its word as scanned, and its epoch line, cut
 pub record Says (line : List ℕ) (h : Held) : Type 0 where
-  pub token : h.question.token ≡ foldl scan_byte Token.Empty (word_of line)
+  pub token : h.question.token ≡ fold scan_byte Token.Empty (word_of line)
   pub count : h.question.count ≤ length h.held
   pub bytes : take h.question.count h.held ≡ take 1025 (epoch_of line)
 
@@ -224,7 +224,7 @@ word_words (b ∷ s) = go (is_space b) refl (word_words s)
     go true e k = refl
     go false e k = and_in (ap not e) k
 
-pub line_says : (line held : List ℕ) → length held ≡ 1025 → Says line (foldl pushed (held_by start_question held) line)
+pub line_says : (line held : List ℕ) → length held ≡ 1025 → Says line (fold pushed (held_by start_question held) line)
 unfolding pushed
 line_says line held long = go (split line)
   where
@@ -232,21 +232,21 @@ line_says line held long = go (split line)
     w = word_of line
 
     t : Token
-    t = foldl scan_byte Token.Empty w
+    t = fold scan_byte Token.Empty w
 
-    worded : foldl pushed (held_by start_question held) w ≡ held_by (record { token = t; spaced = false; count = 0 }) held
+    worded : fold pushed (held_by start_question held) w ≡ held_by (record { token = t; spaced = false; count = 0 }) held
     worded = word_held w Token.Empty held (word_words line)
 
     started : Holds t [] (pushed (held_by (record { token = t; spaced = false; count = 0 }) held) 32)
     started = record { token = refl; spaced = refl; count = omega arith; long = long; bytes = refl }
 
-    go : Split line → Says line (foldl pushed (held_by start_question held) line)
+    go : Split line → Says line (fold pushed (held_by start_question held) line)
     go (alone f g) =
-        let e : foldl pushed (held_by start_question held) line ≡ held_by (record { token = t; spaced = false; count = 0 }) held = ap (foldl pushed (held_by start_question held)) f ∙ worded in
+        let e : fold pushed (held_by start_question held) line ≡ held_by (record { token = t; spaced = false; count = 0 }) held = ap (fold pushed (held_by start_question held)) f ∙ worded in
         rw e (record { token = refl; count = omega arith; bytes = sym (ap (take 1025) g) })
     go (spaced f) =
-        let e : foldl pushed (held_by start_question held) line ≡ foldl pushed (pushed (held_by (record { token = t; spaced = false; count = 0 }) held) 32) (epoch_of line) =
-        ap (foldl pushed (held_by start_question held)) f ∙ foldl-append pushed (held_by start_question held) w (32 ∷ epoch_of line) ∙ ap (λ (h : Held). foldl pushed (pushed h 32) (epoch_of line)) worded
+        let e : fold pushed (held_by start_question held) line ≡ fold pushed (pushed (held_by (record { token = t; spaced = false; count = 0 }) held) 32) (epoch_of line) =
+        ap (fold pushed (held_by start_question held)) f ∙ fold-append pushed (held_by start_question held) w (32 ∷ epoch_of line) ∙ ap (λ (h : Held). fold pushed (pushed h 32) (epoch_of line)) worded
         in
         let k = epoch_held (epoch_of line) [] t (pushed (held_by (record { token = t; spaced = false; count = 0 }) held) 32) started in
         rw e (record { token = k.token; count = omega (arith, k.count, k.long); bytes = k.bytes })
@@ -313,9 +313,9 @@ module _ (maker site : List ℕ) where
         let k : min h.question.count (length h.held) ≡ h.question.count = omega (arith, s.count) in
         ap (explained_line maker site n)
         (ap₂ (λ (t : Token) (e : List ℕ). answer_on maker site image t e) s.token (ap (λ (c : ℕ). take c h.held) k ∙ s.bytes)
-        ∙ answer_on_is (foldl scan_byte Token.Empty (word_of line)) (take 1025 (epoch_of line))
-        ∙ answer_cut (number_in (foldl scan_byte Token.Empty (word_of line))) (epoch_of line)
-        ∙ answer_agrees (number_in (foldl scan_byte Token.Empty (word_of line))) (named 65 (word_of line)) (epoch_of line) (word_number (word_of line)))
+        ∙ answer_on_is (fold scan_byte Token.Empty (word_of line)) (take 1025 (epoch_of line))
+        ∙ answer_cut (number_in (fold scan_byte Token.Empty (word_of line))) (epoch_of line)
+        ∙ answer_agrees (number_in (fold scan_byte Token.Empty (word_of line))) (named 65 (word_of line)) (epoch_of line) (word_number (word_of line)))
 
 -- ---- all of the input
 
@@ -425,23 +425,23 @@ open_byte h b = go h.question.spaced (ltb h.question.count (length h.held)) (is_
     go false x true e = refl
     go false x false e = scanned_byte h.question.token b
 
-open_bytes : (l : List ℕ) (h : Held) → is_open h.question ≡ true → is_open (foldl pushed h l).question ≡ true
+open_bytes : (l : List ℕ) (h : Held) → is_open h.question ≡ true → is_open (fold pushed h l).question ≡ true
 open_bytes [] h e = e
 open_bytes (b ∷ l) h e = open_bytes l (pushed h b) (open_byte h b)
 
-pub fold_length : (l : List ℕ) (h : Held) → length (foldl pushed h l).held ≡ length h.held
+pub fold_length : (l : List ℕ) (h : Held) → length (fold pushed h l).held ≡ length h.held
 fold_length [] h = refl
 fold_length (b ∷ l) h = fold_length l (pushed h b) ∙ push_length h b
 
 module _ (maker site : List ℕ) (m : ℕ) (p : Policy) (r : read_texts maker site ≡ reading m p) where
   -- where the input ends, the open line is answered if it has a byte
   pub last_answered : (n : ℕ) (first : List ℕ) → length first ≡ 1025 → (begins : List ℕ) → all in_line begins ≡ true
-      → last_answer maker site (image_of newest_form p) n (foldl pushed (held_by start_question first) begins) ≡ answer_lines maker site n (lines_of (begins ++ []))
+      → last_answer maker site (image_of newest_form p) n (fold pushed (held_by start_question first) begins) ≡ answer_lines maker site n (lines_of (begins ++ []))
   unfolding answer_lines lines_of pieces is_open has_byte
   last_answered n first long [] line = refl
   last_answered n first long (b ∷ l) line =
       let start : Held = held_by start_question first in
-      let h : Held = foldl pushed start (b ∷ l) in
+      let h : Held = fold pushed start (b ∷ l) in
       let opened : is_open h.question ≡ true = open_bytes l (pushed start b) (open_byte start b) in
       let lines : lines_of ((b ∷ l) ++ []) ≡ (b ∷ l) ∷ [] = ap lines_of (append-nil (b ∷ l)) ∙ line_open b l line in
       ap (λ (x : Bool). cond x (answer_held maker site (image_of newest_form p) n h) []) opened
@@ -454,7 +454,7 @@ module _ (maker site : List ℕ) (m : ℕ) (p : Policy) (r : read_texts maker si
     long : length first ≡ 1025
     begins : List ℕ
     line : all in_line begins ≡ true
-    holds : h ≡ foldl pushed (held_by start_question first) begins
+    holds : h ≡ fold pushed (held_by start_question first) begins
     prints : (rest : List ℕ) → answer_lines maker site 0 (lines_of (consumed ++ rest)) ≡ printed ++ answer_lines maker site n (lines_of (begins ++ rest))
 
   -- what is printed for the open line
@@ -475,7 +475,7 @@ module _ (maker site : List ℕ) (m : ℕ) (p : Policy) (r : read_texts maker si
           long = q.long;
           begins = q.begins ++ w;
           line = all_append in_line q.begins w q.line (while_passes in_line chunk);
-          holds = ap (λ (x : Held). foldl pushed x w) q.holds ∙ sym (foldl-append pushed (held_by start_question q.first) q.begins w);
+          holds = ap (λ (x : Held). fold pushed x w) q.holds ∙ sym (fold-append pushed (held_by start_question q.first) q.begins w);
           prints = λ rest.
               ap (λ (s : List ℕ). answer_lines maker site 0 (lines_of s)) (append_assoc consumed w rest) ∙ q.prints (w ++ rest)
               ∙ ap (λ (s : List ℕ). printed ++ answer_lines maker site n (lines_of s)) (sym (append_assoc q.begins w rest));

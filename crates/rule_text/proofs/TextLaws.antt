@@ -1,8 +1,9 @@
 -- Laws of reading a text line by line.
-use Rattle.std.proofs.Common.{ℕ, suc, ◌+◌, ◌<◌, ◌≤◌, Bool, true, false, not, cond, List, [], ◌∷◌, ◌++◌, map, ◌≡◌, refl, sym, ap, ap₂, ◌∙◌, add-one, arith, lt-ltb, le-ltb, ltb-true, ltb-false, length, drop, length-append, drop_of_length-le, drop-drop}
+use Rattle.std.specs.Prelude.{Result, Ok, Err}
+use Rattle.std.proofs.lemmas.List.{map-append}
+use Rattle.std.proofs.Common.{ℕ, suc, ◌+◌, ◌<◌, ◌≤◌, Bool, true, false, not, cond, List, [], ◌∷◌, ◌++◌, map, ◌≡◌, refl, sym, ap, ap₂, ◌∙◌, add-one, arith, lt-ltb, le-ltb, ltb-true, ltb-false, length, drop, length-append, drop_of_length-le, drop-drop, fold}
 use Rattle.std.proofs.Math.Dec.{eqb, ltb}
 use Rattle.std.proofs.Math.ListN.{length-map}
-use mathlib.Core.List.{foldl, map-append}
 use Rattle.policy.proofs.ListLaws.{or_out}
 use Rattle.policy.specs.Fault.{refusal}
 use Rattle.policy.specs.Limits.{crowded, rule_limit, constraint_limit, head_limit, comparison_limit}
@@ -26,9 +27,7 @@ use Rattle.syntax.specs.Judge.{LineAnswer, skipped, refused, accepted, line_answ
 use Rattle.rule_text.specs.Text.{Progress, reading, stopped, with_rule, with_constraint, advance, read_line, empty_policy, text_limit, read_text_behind, in_text, read_text, read_site, read_texts}
 use Rattle.syntax.specs.declared.line.LineRead.{LineRead}
 use Rattle.rule_text.specs.declared.LineCounts.{LineCounts}
-use Rattle.rule_text.specs.declared.Tally.{Tally}
 use Rattle.rule_text.specs.declared.TextCounts.{TextCounts}
-use Rattle.rule_text.specs.declared.TextRead.{TextRead}
 
 -- ---- the first line of what is left of a text
 
@@ -107,7 +106,7 @@ view_line (reading n p) line = go (line_answer line)
     go : (a : LineAnswer) → view (advance n p a) ≡ counted_step n (stepped (counts_of p) a)
     go skipped = ap (λ (k : ℕ). going k (counts_of p)) (sym (add-one n))
     go (refused f) = refl
-    go (accepted (rule r)) = room (ltb (length p.rules) rule_limit) ∙ ap (λ (k : ℕ). counted_step n (cond (ltb k rule_limit) (Tally.Go more) (Tally.Stop Fault.TooManyLines))) (sym (length-map p.rules rule))
+    go (accepted (rule r)) = room (ltb (length p.rules) rule_limit) ∙ ap (λ (k : ℕ). counted_step n (cond (ltb k rule_limit) (Ok more) (Err Fault.TooManyLines))) (sym (length-map p.rules rule))
       where
         more : TextCounts
         more = record { rules = plus (counts_of p).rules (rule r); constraints = (counts_of p).constraints }
@@ -115,10 +114,10 @@ view_line (reading n p) line = go (line_answer line)
         made : counts_of (with_rule p r) ≡ more
         made = rw (map-append rule p.rules (r ∷ []), counts_snoc (map rule p.rules) (rule r))
 
-        room : (b : Bool) → view (cond b (reading (suc n) (with_rule p r)) (stopped (refusal Fault.TooManyLines n))) ≡ counted_step n (cond b (Tally.Go more) (Tally.Stop Fault.TooManyLines))
+        room : (b : Bool) → view (cond b (reading (suc n) (with_rule p r)) (stopped (refusal Fault.TooManyLines n))) ≡ counted_step n (cond b (Ok more) (Err Fault.TooManyLines))
         room true = ap₂ going (sym (add-one n)) made
         room false = refl
-    go (accepted (constraint x)) = room (ltb (length p.constraints) constraint_limit) ∙ ap (λ (k : ℕ). counted_step n (cond (ltb k constraint_limit) (Tally.Go more) (Tally.Stop Fault.TooManyLines))) (sym (length-map p.constraints constraint))
+    go (accepted (constraint x)) = room (ltb (length p.constraints) constraint_limit) ∙ ap (λ (k : ℕ). counted_step n (cond (ltb k constraint_limit) (Ok more) (Err Fault.TooManyLines))) (sym (length-map p.constraints constraint))
       where
         more : TextCounts
         more = record { rules = (counts_of p).rules; constraints = plus (counts_of p).constraints (constraint x) }
@@ -126,15 +125,15 @@ view_line (reading n p) line = go (line_answer line)
         made : counts_of (with_constraint p x) ≡ more
         made = rw (map-append constraint p.constraints (x ∷ []), counts_snoc (map constraint p.constraints) (constraint x))
 
-        room : (b : Bool) → view (cond b (reading (suc n) (with_constraint p x)) (stopped (refusal Fault.TooManyLines n))) ≡ counted_step n (cond b (Tally.Go more) (Tally.Stop Fault.TooManyLines))
+        room : (b : Bool) → view (cond b (reading (suc n) (with_constraint p x)) (stopped (refusal Fault.TooManyLines n))) ≡ counted_step n (cond b (Ok more) (Err Fault.TooManyLines))
         room true = ap₂ going (sym (add-one n)) made
         room false = refl
 
-view_lines : (s : Progress) (ls : List (List ℕ)) → view (foldl read_line s ls) ≡ foldl count_line (view s) ls
+view_lines : (s : Progress) (ls : List (List ℕ)) → view (fold read_line s ls) ≡ fold count_line (view s) ls
 view_lines s [] = refl
-view_lines s (l ∷ ls) = view_lines (read_line s l) ls ∙ ap (λ (x : Counting). foldl count_line x ls) (view_line s l)
+view_lines s (l ∷ ls) = view_lines (read_line s l) ls ∙ ap (λ (x : Counting). fold count_line x ls) (view_line s l)
 
-stays : (r : Refusal) (ls : List (List ℕ)) → foldl count_line (halted r) ls ≡ halted r
+stays : (r : Refusal) (ls : List (List ℕ)) → fold count_line (halted r) ls ≡ halted r
 unfolding count_line
 stays r [] = refl
 stays r (l ∷ ls) = stays r ls
@@ -179,22 +178,22 @@ within_more limit c l u w e =
     let m = ltb-true c.lines limit e in
     record { lines = omega arith; heads = omega (arith, w.heads); comparisons = omega (arith, w.comparisons); constants = omega (arith, w.constants) }
 
-small_step : (c d : TextCounts) (l : PolicyLine) (e : Ending) → Uncrowded l → Small c → tally_as e c (plus c.rules l) (plus c.constraints l) ≡ Tally.Go d → Small d
+small_step : (c d : TextCounts) (l : PolicyLine) (e : Ending) → Uncrowded l → Small c → tally_as e c (plus c.rules l) (plus c.constraints l) ≡ Ok d → Small d
 unfolding tally_as
 small_step c d l (Ending.Causes a) u s = go (ltb c.rules.lines rule_limit) refl
   where
-    go : (b : Bool) → ltb c.rules.lines rule_limit ≡ b → cond b (Tally.Go (record { rules = plus c.rules l; constraints = c.constraints })) (Tally.Stop Fault.TooManyLines) ≡ Tally.Go d → Small d
+    go : (b : Bool) → ltb c.rules.lines rule_limit ≡ b → cond b (Ok (record { rules = plus c.rules l; constraints = c.constraints })) (Err Fault.TooManyLines) ≡ Ok d → Small d
     go true p q = rw (← made q) (record { rules = within_more rule_limit c.rules l u s.rules p; constraints = s.constraints })
       where
-        made : Tally.Go (record { rules = plus c.rules l; constraints = c.constraints }) ≡ Tally.Go d → record { rules = plus c.rules l; constraints = c.constraints } ≡ d
+        made : ◌≡◌ {A = Result TextCounts Fault} (Ok (record { rules = plus c.rules l; constraints = c.constraints })) (Ok d) → record { rules = plus c.rules l; constraints = c.constraints } ≡ d
         made k = cc
     go false p q = let z : ◌≡◌ {A = ℕ} 0 1 = cc in absurd (omega arith)
 small_step c d l Ending.Never u s = go (ltb c.constraints.lines constraint_limit) refl
   where
-    go : (b : Bool) → ltb c.constraints.lines constraint_limit ≡ b → cond b (Tally.Go (record { rules = c.rules; constraints = plus c.constraints l })) (Tally.Stop Fault.TooManyLines) ≡ Tally.Go d → Small d
+    go : (b : Bool) → ltb c.constraints.lines constraint_limit ≡ b → cond b (Ok (record { rules = c.rules; constraints = plus c.constraints l })) (Err Fault.TooManyLines) ≡ Ok d → Small d
     go true p q = rw (← made q) (record { rules = s.rules; constraints = within_more constraint_limit c.constraints l u s.constraints p })
       where
-        made : Tally.Go (record { rules = c.rules; constraints = plus c.constraints l }) ≡ Tally.Go d → record { rules = c.rules; constraints = plus c.constraints l } ≡ d
+        made : ◌≡◌ {A = Result TextCounts Fault} (Ok (record { rules = c.rules; constraints = plus c.constraints l })) (Ok d) → record { rules = c.rules; constraints = plus c.constraints l } ≡ d
         made k = cc
     go false p q = let z : ◌≡◌ {A = ℕ} 0 1 = cc in absurd (omega arith)
 
@@ -203,17 +202,17 @@ small_step c d l Ending.Never u s = go (ltb c.constraints.lines constraint_limit
 -- what the step of a line answers, and where the next line starts
 record Turn (c : TextCounts) (a : LineAnswer) (next : ℕ) (r : LineRead) : Type 0 where
   step : step_of c r.status r.line ≡ stepped c a
-  goes : (d : TextCounts) → stepped c a ≡ Tally.Go d → (r.next ≡ next) × (Small c → Small d)
+  goes : (d : TextCounts) → stepped c a ≡ Ok d → (r.next ≡ next) × (Small c → Small d)
 
 turn : (c : TextCounts) (next : ℕ) (a : LineAnswer) → ((l : PolicyLine) → a ≡ accepted l → crowded l ≡ false) → Turn c a next (line_read_of next a)
 unfolding step_of stepped tallied_by line_read_of line_value line_of
 turn c next skipped h = record { step = refl; goes = λ d q. (refl, λ s. rw (← same d q) s) }
   where
-    same : (d : TextCounts) → Tally.Go c ≡ Tally.Go d → c ≡ d
+    same : (d : TextCounts) → ◌≡◌ {A = Result TextCounts Fault} (Ok c) (Ok d) → c ≡ d
     same d q = cc
 turn c next (refused f) h = record { step = refl; goes = λ d q. absurd (stop d q) }
   where
-    stop : (d : TextCounts) → Tally.Stop f ≡ Tally.Go d → ⊥
+    stop : (d : TextCounts) → ◌≡◌ {A = Result TextCounts Fault} (Err f) (Ok d) → ⊥
     stop d q = let w : ◌≡◌ {A = ℕ} 0 1 = cc in omega arith
 turn c next (accepted l) h =
     let u = uncrowded l (h l refl) in
@@ -232,16 +231,16 @@ module _ (text : List ℕ) (n : ℕ) (c : TextCounts) (at : ℕ) where
     unfolding line_read
     taken = rw q (turn c (behind_line text (line_end text at)) answer (λ l e. accepted_uncrowded (rest_of_line text at) l e))
 
-    here : count_from text n c at ≡ foldl count_line (counted_step n (stepped c answer)) (lines_of (drop (behind_line text (line_end text at)) text))
+    here : count_from text n c at ≡ fold count_line (counted_step n (stepped c answer)) (lines_of (drop (behind_line text (line_end text at)) text))
     unfolding count_from count_line
-    here = ap (foldl count_line (going n c)) (lines_here text at h)
+    here = ap (fold count_line (going n c)) (lines_here text at h)
 
-    pub count_stop : (f : Fault) → step_of c r.status r.line ≡ Tally.Stop f → count_from text n c at ≡ halted (refusal f n)
+    pub count_stop : (f : Fault) → step_of c r.status r.line ≡ Err f → count_from text n c at ≡ halted (refusal f n)
     unfolding counted_step
     count_stop f k = here ∙ rw (sym taken.step ∙ k) (stays (refusal f n) (lines_of (drop (behind_line text (line_end text at)) text)))
 
-    module _ (d : TextCounts) (k : step_of c r.status r.line ≡ Tally.Go d) where
-      went : stepped c answer ≡ Tally.Go d
+    module _ (d : TextCounts) (k : step_of c r.status r.line ≡ Ok d) where
+      went : stepped c answer ≡ Ok d
       went = sym taken.step ∙ k
 
       next_is : r.next ≡ behind_line text (line_end text at)
@@ -259,11 +258,11 @@ module _ (text : List ℕ) (n : ℕ) (c : TextCounts) (at : ℕ) where
 
 -- ---- the answer
 
-pub going_read : (n : ℕ) (c : TextCounts) → count_read (going n c) ≡ TextRead.Accepted c
+pub going_read : (n : ℕ) (c : TextCounts) → count_read (going n c) ≡ Ok c
 unfolding count_read
 going_read n c = refl
 
-pub halted_read : (r : Refusal) → count_read (halted r) ≡ TextRead.Refused r
+pub halted_read : (r : Refusal) → count_read (halted r) ≡ Err r
 unfolding count_read
 halted_read r = refl
 
@@ -286,7 +285,7 @@ read_counted text at r q = rw q (go (line_answer (rest_of_line text at)))
 -- ---- the lines of a text behind others
 
 module _ (c : TextCounts) (text : List ℕ) where
-  pub behind_long : text_limit < length text → TextRead.Refused (refusal Fault.TooLong 0) ≡ count_read (count_behind c text)
+  pub behind_long : text_limit < length text → Err (refusal Fault.TooLong 0) ≡ count_read (count_behind c text)
   unfolding count_behind count_read
   behind_long h = rw (lt-ltb text_limit (length text) h)
 
@@ -299,7 +298,7 @@ counts_behind : (p : Policy) (text : List ℕ) → count_behind (counts_of p) te
 unfolding count_behind read_text_behind count_from view
 counts_behind p text = go (ltb text_limit (length text))
   where
-    go : (b : Bool) → cond b (halted (refusal Fault.TooLong 0)) (foldl count_line (going 1 (counts_of p)) (lines_of text)) ≡ view (cond b (stopped (refusal Fault.TooLong 0)) (foldl read_line (reading 1 p) (lines_of text)))
+    go : (b : Bool) → cond b (halted (refusal Fault.TooLong 0)) (fold count_line (going 1 (counts_of p)) (lines_of text)) ≡ view (cond b (stopped (refusal Fault.TooLong 0)) (fold read_line (reading 1 p) (lines_of text)))
     go true = refl
     go false = sym (view_lines (reading 1 p) (lines_of text))
 
@@ -319,47 +318,47 @@ text_read_is text = read_behind Source.Maker empty_policy text
 -- ---- two texts
 
 module _ (maker site : List ℕ) where
-  pub maker_refused : (r : Refusal) → text_read maker ≡ TextRead.Refused r → TextRead.Refused r ≡ texts_read maker site
+  pub maker_refused : (r : Refusal) → text_read maker ≡ Err r → Err r ≡ texts_read maker site
   unfolding text_read texts_read read_texts read_site text_read_of
   maker_refused r e = go (read_text maker) e
     where
-      go : (s : Progress) → text_read_of s ≡ TextRead.Refused r → TextRead.Refused r ≡ text_read_of (read_site s site)
+      go : (s : Progress) → text_read_of s ≡ Err r → Err r ≡ text_read_of (read_site s site)
       go (reading n p) k = let w : ◌≡◌ {A = ℕ} 0 1 = cc in absurd (omega arith)
       go (stopped x) k = sym k
 
-  pub site_read : (c : TextCounts) → text_read maker ≡ TextRead.Accepted c → sourced_in Source.Site (count_read (count_behind c site)) ≡ texts_read maker site
+  pub site_read : (c : TextCounts) → text_read maker ≡ Ok c → sourced_in Source.Site (count_read (count_behind c site)) ≡ texts_read maker site
   unfolding text_read texts_read read_texts read_site text_read_of
   site_read c e = go (read_text maker) e
     where
-      go : (s : Progress) → text_read_of s ≡ TextRead.Accepted c → sourced_in Source.Site (count_read (count_behind c site)) ≡ text_read_of (read_site s site)
+      go : (s : Progress) → text_read_of s ≡ Ok c → sourced_in Source.Site (count_read (count_behind c site)) ≡ text_read_of (read_site s site)
       go (reading n p) k = let q : counts_of p ≡ c = cc in rw (← q) (read_behind Source.Site p site)
       go (stopped x) k = let w : ◌≡◌ {A = ℕ} 0 1 = cc in absurd (omega arith)
 
 -- ---- the counts of a text that is read are no more than its lines may have
 
-step_small : (c d : TextCounts) (line : List ℕ) → Small c → stepped c (line_answer line) ≡ Tally.Go d → Small d
+step_small : (c d : TextCounts) (line : List ℕ) → Small c → stepped c (line_answer line) ≡ Ok d → Small d
 step_small c d line s e = ((turn c 0 (line_answer line) (accepted_uncrowded line)).goes d e).1 s
 
-lines_small : (ls : List (List ℕ)) (n m : ℕ) (c d : TextCounts) → Small c → foldl count_line (going n c) ls ≡ going m d → Small d
+lines_small : (ls : List (List ℕ)) (n m : ℕ) (c d : TextCounts) → Small c → fold count_line (going n c) ls ≡ going m d → Small d
 unfolding count_line counted_step
 lines_small [] n m c d s e = let q : c ≡ d = cc in rw (← q) s
 lines_small (l ∷ ls) n m c d s e = go (stepped c (line_answer l)) refl (λ x. lines_small ls (n + 1) m x d) e
   where
-    go : (t : Tally) → stepped c (line_answer l) ≡ t → ((x : TextCounts) → Small x → foldl count_line (going (n + 1) x) ls ≡ going m d → Small d) → foldl count_line (counted_step n t) ls ≡ going m d → Small d
-    go (Tally.Go x) q later k = later x (step_small c x l s q) k
-    go (Tally.Stop f) q later k =
+    go : (t : Result TextCounts Fault) → stepped c (line_answer l) ≡ t → ((x : TextCounts) → Small x → fold count_line (going (n + 1) x) ls ≡ going m d → Small d) → fold count_line (counted_step n t) ls ≡ going m d → Small d
+    go (Ok x) q later k = later x (step_small c x l s q) k
+    go (Err f) q later k =
         let h : halted (refusal f n) ≡ going m d = sym (stays (refusal f n) ls) ∙ k in
         let w : ◌≡◌ {A = ℕ} 0 1 = cc in
         absurd (omega arith)
 
-pub read_small : (text : List ℕ) (c : TextCounts) → text_read text ≡ TextRead.Accepted c → Small c
+pub read_small : (text : List ℕ) (c : TextCounts) → text_read text ≡ Ok c → Small c
 unfolding count_behind count_from sourced_in count_read
 read_small text c e = go (ltb text_limit (length text)) (text_read_is text ∙ e)
   where
-    kept : (k : Counting) → sourced_in Source.Maker (count_read k) ≡ TextRead.Accepted c → ((n : ℕ) (d : TextCounts) → k ≡ going n d → Small d) → Small c
+    kept : (k : Counting) → sourced_in Source.Maker (count_read k) ≡ Ok c → ((n : ℕ) (d : TextCounts) → k ≡ going n d → Small d) → Small c
     kept (going n d) q s = let m : d ≡ c = cc in rw (← m) (s n d refl)
     kept (halted r) q s = let w : ◌≡◌ {A = ℕ} 0 1 = cc in absurd (omega arith)
 
-    go : (b : Bool) → sourced_in Source.Maker (count_read (cond b (halted (refusal Fault.TooLong 0)) (foldl count_line (going 1 no_counts) (lines_of text)))) ≡ TextRead.Accepted c → Small c
+    go : (b : Bool) → sourced_in Source.Maker (count_read (cond b (halted (refusal Fault.TooLong 0)) (fold count_line (going 1 no_counts) (lines_of text)))) ≡ Ok c → Small c
     go true q = kept (halted (refusal Fault.TooLong 0)) q (λ n d h. absurd (let w : ◌≡◌ {A = ℕ} 0 1 = cc in omega arith))
-    go false q = kept (foldl count_line (going 1 no_counts) (lines_of text)) q (λ n d h. lines_small (lines_of text) 1 n no_counts d none_small h)
+    go false q = kept (fold count_line (going 1 no_counts) (lines_of text)) q (λ n d h. lines_small (lines_of text) 1 n no_counts d none_small h)

@@ -1,5 +1,6 @@
 -- What `read_text` and `read_texts` answer for every text, by `Text`, and what the answer says in the terms of document 01: the fault with its location,
 -- if it is a refusal, and the counts of what was read, which are 0 in a refusal.
+use Rattle.std.specs.Prelude.{Result, Ok, Err}
 use Rattle.std.specs.Prelude.{ℕ, ◌+◌, List, [], ◌∷◌, map, length}
 use Rattle.std.proofs.Math.Option.{Option, none, some}
 use Rattle.policy.specs.Line.{PolicyLine, rule, constraint, heads_of, comparisons_of, constant_count}
@@ -8,7 +9,6 @@ use Rattle.policy.specs.declared.fault.Refusal.{Refusal}
 use Rattle.rule_text.specs.Text.{Progress, reading, stopped, read_text, read_texts}
 use Rattle.rule_text.specs.declared.LineCounts.{LineCounts}
 use Rattle.rule_text.specs.declared.TextCounts.{TextCounts}
-use Rattle.rule_text.specs.declared.TextRead.{TextRead}
 
 unfoldable pub total : (PolicyLine → ℕ) → List PolicyLine → ℕ
 total count [] = 0
@@ -27,19 +27,19 @@ counts_in ls =
 unfoldable pub counts_of : Policy → TextCounts
 counts_of p = record { rules = counts_in (map rule p.rules); constraints = counts_in (map constraint p.constraints) }
 
-unfoldable pub text_read_of : Progress → TextRead
-text_read_of (reading n p) = TextRead.Accepted (counts_of p)
-text_read_of (stopped r) = TextRead.Refused r
+unfoldable pub text_read_of : Progress → Result TextCounts Refusal
+text_read_of (reading n p) = Ok (counts_of p)
+text_read_of (stopped r) = Err r
 
-unfoldable pub text_read : List ℕ → TextRead
+unfoldable pub text_read : List ℕ → Result TextCounts Refusal
 text_read text = text_read_of (read_text text)
 
-unfoldable pub texts_read : List ℕ → List ℕ → TextRead
+unfoldable pub texts_read : List ℕ → List ℕ → Result TextCounts Refusal
 texts_read maker site = text_read_of (read_texts maker site)
 
-abbrev pub refusal_in_text : TextRead → Option Refusal
-refusal_in_text (TextRead.Refused r) = some r
-refusal_in_text (TextRead.Accepted c) = none
+abbrev pub refusal_in_text : Result TextCounts Refusal → Option Refusal
+refusal_in_text (Err r) = some r
+refusal_in_text (Ok c) = none
 
 abbrev pub no_lines : LineCounts
 no_lines = record { lines = 0; heads = 0; comparisons = 0; constants = 0 }
@@ -47,6 +47,6 @@ no_lines = record { lines = 0; heads = 0; comparisons = 0; constants = 0 }
 abbrev pub no_counts : TextCounts
 no_counts = record { rules = no_lines; constraints = no_lines }
 
-abbrev pub counts_in_text : TextRead → TextCounts
-counts_in_text (TextRead.Refused r) = no_counts
-counts_in_text (TextRead.Accepted c) = c
+abbrev pub counts_in_text : Result TextCounts Refusal → TextCounts
+counts_in_text (Err r) = no_counts
+counts_in_text (Ok c) = c

@@ -1,7 +1,6 @@
 -- Document 01, "Grounds for refusing" 1 to 6 (a ground is a fault here, a place a location): what a rule text is refused for, and the
 -- policy that an accepted text has. Document 02, L6: the same of a maker's and a site's text as one.
-use Rattle.std.specs.Prelude.{ℕ, suc, cond, ltb, length, List, [], ◌∷◌, ◌++◌}
-use mathlib.Core.List.{foldl}
+use Rattle.std.specs.Prelude.{ℕ, suc, cond, ltb, length, List, [], ◌∷◌, ◌++◌, fold}
 use Rattle.std.proofs.Math.Option.{Option, none, some}
 use Rattle.policy.specs.Fault.{refusal, within}
 use Rattle.policy.specs.Limits.{rule_limit, constraint_limit}
@@ -43,7 +42,7 @@ text_limit = 32768
 -- the lines of a text behind a policy: a text over its length is refused at no line; otherwise lines are counted from 1, skipped ones
 -- too
 unfoldable pub read_text_behind : Policy → List ℕ → Progress
-read_text_behind p text = cond (ltb text_limit (length text)) (stopped (refusal Fault.TooLong 0)) (foldl read_line (reading 1 p) (lines_of text))
+read_text_behind p text = cond (ltb text_limit (length text)) (stopped (refusal Fault.TooLong 0)) (fold read_line (reading 1 p) (lines_of text))
 
 -- document 02, L6: "a place now also says which text"
 unfoldable pub in_text : Source → Progress → Progress

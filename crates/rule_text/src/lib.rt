@@ -1,4 +1,4 @@
-// Reading a whole rule text, or two texts as one. Start with specs/Text.antt.
+//! Reading a whole rule text, or two texts as one. Start with specs/Text.antt.
 #![tactic(auto)]
 
 ghost use Rattle.std.specs.Prelude.{◌≡◌};
@@ -14,7 +14,7 @@ use syntax::{LineStatus, read_line};
 // Bytes of a text.
 const TEXT_LIMIT: usize = 32768;
 
-// How many lines of a kind a text has, and how many literals or actions, comparisons, and constants among these they have.
+/// How many lines of a kind a text has, and how many literals or actions, comparisons, and constants among these they have.
 #[derive(Clone, Copy)]
 pub struct LineCounts {
     pub lines: usize,
@@ -27,18 +27,6 @@ pub struct LineCounts {
 pub struct TextCounts {
     pub rules: LineCounts,
     pub constraints: LineCounts,
-}
-
-#[derive(Clone, Copy)]
-pub enum TextRead {
-    Refused(Refusal),
-    Accepted(TextCounts),
-}
-
-#[derive(Clone, Copy)]
-pub enum Tally {
-    Go(TextCounts),
-    Stop(Fault),
 }
 
 // The counts of a kind with one line more.
@@ -56,7 +44,7 @@ fn with_line(counts: LineCounts, line: Line) -> LineCounts
 }
 
 // The counts of a text with one line more.
-fn tallied(counts: TextCounts, line: Line) -> Tally
+fn tallied(counts: TextCounts, line: Line) -> Result<TextCounts, Fault>
     requires small { Small counts }
     requires counted { Counted line }
     ensures { result ≡ tallied_by counts line }
@@ -67,46 +55,46 @@ fn tallied(counts: TextCounts, line: Line) -> Tally
     match ending {
         Ending::Causes(_) => {
             if rules.lines < RULE_LIMIT {
-                Tally::Go(TextCounts {
+                Ok(TextCounts {
                     rules: with_line(rules, line),
                     constraints,
                 })
             } else {
-                Tally::Stop(Fault::TooManyLines)
+                Err(Fault::TooManyLines)
             }
         }
         Ending::Never => {
             if constraints.lines < CONSTRAINT_LIMIT {
-                Tally::Go(TextCounts {
+                Ok(TextCounts {
                     rules,
                     constraints: with_line(constraints, line),
                 })
             } else {
-                Tally::Stop(Fault::TooManyLines)
+                Err(Fault::TooManyLines)
             }
         }
     }
 }
 
-fn step(counts: TextCounts, status: LineStatus, line: Line) -> Tally
+fn step(counts: TextCounts, status: LineStatus, line: Line) -> Result<TextCounts, Fault>
     requires small { Small counts }
     requires counted { Counted line }
     ensures { result ≡ step_of counts status line }
 {
     match status {
-        LineStatus::Skipped => Tally::Go(counts),
-        LineStatus::Refused(fault) => Tally::Stop(fault),
+        LineStatus::Skipped => Ok(counts),
+        LineStatus::Refused(fault) => Err(fault),
         LineStatus::Accepted => tallied(counts, line),
     }
 }
 
 // The lines of a text, counted behind those before it. A refusal names no text.
-fn read_behind(before: TextCounts, text: &[u8]) -> TextRead
+fn read_behind(before: TextCounts, text: &[u8]) -> Result<TextCounts, Refusal>
     requires { Small before }
     ensures { result ≡ count_read (count_behind before text.now) }
 {
     if TEXT_LIMIT < text.len() {
-        return TextRead::Refused(Fault::TooLong.at(0));
+        return Err(Fault::TooLong.at(0));
     }
     let mut counts = before;
     let mut at = 0;
@@ -117,26 +105,26 @@ fn read_behind(before: TextCounts, text: &[u8]) -> TextRead
         let line = read.line;
         let next = step(counts, status, line);
         match next {
-            Tally::Go(more) => {
+            Ok(more) => {
                 counts = more;
             }
-            Tally::Stop(fault) => {
-                return TextRead::Refused(fault.at(number));
+            Err(fault) => {
+                return Err(fault.at(number));
             }
         }
         at = read.next;
         number += 1;
     }
-    TextRead::Accepted(counts)
+    Ok(counts)
 }
 
 // The refusal, if it is one, in one of the texts.
-fn sourced(read: TextRead, source: Source) -> TextRead
+fn sourced(read: Result<TextCounts, Refusal>, source: Source) -> Result<TextCounts, Refusal>
     ensures { result ≡ sourced_in source read }
 {
     match read {
-        TextRead::Refused(refusal) => TextRead::Refused(refusal.within(source)),
-        TextRead::Accepted(counts) => TextRead::Accepted(counts),
+        Err(refusal) => Err(refusal.within(source)),
+        Ok(counts) => Ok(counts),
     }
 }
 
@@ -147,8 +135,8 @@ const NO_LINES: LineCounts = LineCounts {
     constants: 0,
 };
 
-// A single text, which is the maker's.
-pub fn read_text(text: &[u8]) -> TextRead
+/// A single text, which is the maker's.
+pub fn read_text(text: &[u8]) -> Result<TextCounts, Refusal>
     ensures { result ≡ text_read text.now }
 {
     let none = TextCounts {
@@ -159,14 +147,13 @@ pub fn read_text(text: &[u8]) -> TextRead
     sourced(read, Source::Maker)
 }
 
-// The maker's and the site's text as one: all faults of the maker's come before those of the site's.
-pub fn read_texts(maker: &[u8], site: &[u8]) -> TextRead
+/// The maker's and the site's text as one: all faults of the maker's come before those of the site's.
+pub fn read_texts(maker: &[u8], site: &[u8]) -> Result<TextCounts, Refusal>
     ensures { result ≡ texts_read maker.now site.now }
 {
-    let first = read_text(maker);
-    match first {
-        TextRead::Refused(refusal) => TextRead::Refused(refusal),
-        TextRead::Accepted(counts) => {
+    match read_text(maker) {
+        Err(refusal) => Err(refusal),
+        Ok(counts) => {
             let second = read_behind(counts, site);
             sourced(second, Source::Site)
         }

@@ -1,6 +1,5 @@
 -- Laws of the loop that runs rules: what is proposed, and how many words are fetched, from an index on.
-use Rattle.std.proofs.Common.{ℕ, ◌+◌, ◌≤◌, ◌<◌, Bool, true, false, cond, List, ◌∷◌, ◌≡◌, refl, sym, ap, ◌∙◌, add-zero, arith, get_or, length, drop}
-use mathlib.Core.List.{foldl}
+use Rattle.std.proofs.Common.{ℕ, ◌+◌, ◌≤◌, ◌<◌, Bool, true, false, cond, List, ◌∷◌, ◌≡◌, refl, sym, ap, ◌∙◌, add-zero, arith, get_or, length, drop, fold}
 use Rattle.policy.specs.Set.{ActionSet, no_actions}
 use Rattle.policy.specs.Epoch.{Readings}
 use Rattle.policy.specs.declared.set.Events.{Events}
@@ -13,7 +12,7 @@ use Rattle.run.proofs.RunLaws.{ran_end, turn}
 module _ (ev : Events) (rs : Readings) (ws : List ℕ) where
   -- what is proposed in the end, with what is proposed before an index
   abbrev pub proposed_from : ActionSet → ℕ → ActionSet
-  proposed_from s at = foldl proposing s (ran (rule_test ev rs) 0 (drop at ws))
+  proposed_from s at = fold proposing s (ran (rule_test ev rs) 0 (drop at ws))
 
   -- how many words are fetched from an index on
   abbrev pub fetched_from : ℕ → ℕ
@@ -36,7 +35,7 @@ module _ (ev : Events) (rs : Readings) (ws : List ℕ) where
         let next : ℕ = at + 1 + constant_count (operation_of w) + cond holds 0 (skip_of w) in
         let goes : ran (rule_test ev rs) 0 (drop at ws) ≡ w ∷ ran (rule_test ev rs) 0 (drop next ws) = turn (rule_test ev rs) ws at w next (operation_of w) within this refl holds h refl in
         let f : fetched_from at ≡ fetches_of (operation_of w) + fetched_from next = ap fetches goes in
-        record { proposed = sym (ap (foldl proposing s) goes) ∙ g.proposed; behind = omega (arith, g.behind); words = omega (arith, g.words, f) }
+        record { proposed = sym (ap (fold proposing s) goes) ∙ g.proposed; behind = omega (arith, g.behind); words = omega (arith, g.words, f) }
 
     module _ (t : Tested) (is : IsTestIn ev rs w (get_or ws (at + 1) 0) (at + 1) t) where
       turned : (holds : Bool) → t.holds ≡ holds → Running s (t.next + cond holds 0 (skip_of w)) (from + cond holds 0 (skip_of w))
@@ -59,7 +58,7 @@ module _ (ev : Events) (rs : Readings) (ws : List ℕ) where
         rw (sym next, sym (add-zero from)) (go_on true (sym none.holds))
 
   pub rules_end : (s : ActionSet) (at : ℕ) → length ws ≤ at → proposed_from s at ≡ s
-  rules_end s at h = ap (foldl proposing s) (ran_end (rule_test ev rs) ws at h)
+  rules_end s at h = ap (fold proposing s) (ran_end (rule_test ev rs) ws at h)
 
   pub rules_end_fetch : (at : ℕ) → length ws ≤ at → fetched_from at ≡ 0
   unfolding fetches

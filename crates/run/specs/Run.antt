@@ -1,7 +1,6 @@
 -- Document 01, "Image": what words do when they are run, by their operations and skips; and document 02, L4: how many are fetched. Any
 -- words can be run.
-use Rattle.std.specs.Prelude.{ℕ, zero, suc, ◌+◌, Bool, true, false, not, cond, get_or, List, [], ◌∷◌}
-use mathlib.Core.List.{foldl}
+use Rattle.std.specs.Prelude.{ℕ, zero, suc, ◌+◌, Bool, true, false, not, cond, get_or, List, [], ◌∷◌, fold}
 use Rattle.policy.specs.Comparison.{comparison_holds}
 use Rattle.policy.specs.Epoch.{Readings}
 use Rattle.policy.specs.List.{any}
@@ -89,7 +88,7 @@ proposing s w = proposes_at (operation_of w) w s
 
 -- the actions of the words that propose one
 unfoldable pub run_rules : Events → Readings → List ℕ → ActionSet
-run_rules ev rs ws = foldl proposing no_actions (ran (rule_test ev rs) 0 ws)
+run_rules ev rs ws = fold proposing no_actions (ran (rule_test ev rs) 0 ws)
 
 unfoldable pub is_never : Operation → Bool
 is_never Operation.Never = true

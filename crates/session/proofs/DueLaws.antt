@@ -1,7 +1,7 @@
 -- What was seen tells of the lines that have ended whether one picks a mode.
 use Rattle.std.proofs.Common.{◌≡◌, ℕ, Bool, true, false, cond, ◌==◌, List, [], ◌∷◌, ◌++◌, sym, refl, ap, ◌∙◌, eqb-true}
+use Rattle.std.proofs.lemmas.Bool.{eqb-false}
 use Rattle.std.proofs.Math.Option.{Option, none, some, or_else, Option-elim}
-use borrow.Author.Tests.{eqb-false}
 use Rattle.policy.specs.declared.mode.Mode.{Mode}
 use Rattle.lexer.specs.Lines.{pieces, lines_of}
 use Rattle.stream.specs.Lines.{keep_byte, whole_part, due_for, due_by_lines}

@@ -1,6 +1,6 @@
 -- Laws of lines: what the next bytes do to the list of lines.
 use Rattle.std.proofs.Common.{◌≡◌, ℕ, Bool, true, false, ◌||◌, eqb, List, [], ◌∷◌, ◌++◌, sym, refl, ap, ◌∙◌, append-nil, arith, ne_eqb}
-use borrow.Author.Tests.{eqb-false}
+use Rattle.std.proofs.lemmas.Bool.{eqb-false}
 use Rattle.policy.specs.List.{any}
 use Rattle.lexer.specs.Lines.{prepend, pieces, lines_of}
 

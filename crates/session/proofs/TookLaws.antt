@@ -1,6 +1,6 @@
 -- Laws of many bytes: what a session owes along its calls.
 use Rattle.std.proofs.Common.{◌≡◌, ℕ, zero, suc, ◌+◌, ◌<◌, ◌≤◌, List, [], ◌∷◌, ◌++◌, length, get_or, take, sym, refl, ap, ◌∙◌, append_assoc, append-nil, add-one, arith, take-suc}
-use mathlib.Core.List.{foldl-append}
+use Rattle.std.proofs.lemmas.List.Sums.{fold-append}
 use Rattle.session.specs.Printed.{printed}
 use Rattle.session.specs.Owed.{printed_behind, left_in, owed, Fitting, Good, Seen, see_byte, see, nothing_seen, given_for, TracksIn, Tracks, Took, start_state, emptied}
 use Rattle.session.specs.declared.state.Phase.{Phase}
@@ -18,9 +18,9 @@ module _ (s : State) (held image out : List ℕ) where
   took_more x r held' image' out' y r2 held2 image2 out2 p q =
       record {
         owes = λ rest. q.owes rest ∙ p.owes (y ++ rest) ∙ ap (owed s held image out) (sym (append_assoc x y rest));
-        tracks = λ seen h. rw (foldl-append see_byte seen x y) (q.tracks (see seen x) (p.tracks seen h));
+        tracks = λ seen h. rw (fold-append see_byte seen x y) (q.tracks (see seen x) (p.tracks seen h));
         gives = λ seen h rest.
-            ap (λ (z : Seen). given_for z r2 held2 image2 out2 rest) (foldl-append see_byte seen x y) ∙ q.gives (see seen x) (p.tracks seen h) rest
+            ap (λ (z : Seen). given_for z r2 held2 image2 out2 rest) (fold-append see_byte seen x y) ∙ q.gives (see seen x) (p.tracks seen h) rest
             ∙ p.gives seen h (y ++ rest) ∙ ap (given_for seen s held image out) (sym (append_assoc x y rest));
         good = q.good;
       }
@@ -69,7 +69,7 @@ module _ (consumed handed : List ℕ) (s : State) (held image out : List ℕ) (w
   represents_took bytes r held' image' out' p =
       record {
         whole = λ rest. ap printed (append_assoc consumed bytes rest) ∙ w.whole (bytes ++ rest) ∙ ap (λ (x : List ℕ). handed ++ x) (sym (p.owes rest));
-        tracks = rw (foldl-append see_byte nothing_seen consumed bytes) (p.tracks (see nothing_seen consumed) w.tracks);
+        tracks = rw (fold-append see_byte nothing_seen consumed bytes) (p.tracks (see nothing_seen consumed) w.tracks);
         good = p.good;
       }
 

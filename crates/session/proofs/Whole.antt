@@ -1,8 +1,8 @@
 -- However the input is cut into chunks and whenever the output is handed out, what all calls of a session hand out together is
 -- what the definition prints for the input. And what the compiler lists is what its definition says.
 use Rattle.std.proofs.Common.{◌≡◌, ℕ, ◌≤◌, List, [], ◌++◌, length, take, sym, ap, ◌∙◌, append_assoc, append-nil, arith}
+use Rattle.std.proofs.lemmas.List.Sums.{fold-append}
 use Rattle.std.proofs.Math.Option.{some}
-use mathlib.Core.List.{foldl-append}
 use Rattle.policy.specs.declared.mode.Mode.{Mode}
 use Rattle.acceptance.proofs.Cut.{text_cut, texts_cut}
 use Rattle.output.specs.Buffer.{appended, behind}
@@ -39,7 +39,7 @@ due_along (fed {consumed} {handed} {held} {image} {out} {held'} {image'} {out'} 
     ap due (append_assoc consumed bytes rest) ∙ due_along c (bytes ++ rest)
     ∙ ap (λ (l : List ℕ). handed ++ l)
     (sym (f.took.gives (see nothing_seen consumed) (represented c).tracks rest)
-    ∙ ap (λ (x : Seen). given_for x r held' image' out' rest) (sym (foldl-append see_byte nothing_seen consumed bytes)))
+    ∙ ap (λ (x : Seen). given_for x r held' image' out' rest) (sym (fold-append see_byte nothing_seen consumed bytes)))
 due_along (handed_out {consumed} {handed} {held} {image} {out} {s} c) rest =
     due_along c rest ∙ ap (λ (l : List ℕ). handed ++ l) (given_emptied s held image out (see nothing_seen consumed) rest)
     ∙ sym (append_assoc handed (take s.used out) (given_for (see nothing_seen consumed) (emptied s) held image out rest))

@@ -1,7 +1,6 @@
 -- What the calls of a session keep to: with the bytes that wait in `out`, a state owes what is printed for the input
 -- that is left.
-use Rattle.std.specs.Prelude.{◌≡◌, ℕ, ◌-◌, ◌<◌, ◌≤◌, Bool, true, false, cond, List, [], ◌∷◌, ◌++◌, length, take, drop, ◌==◌, nat_eq}
-use mathlib.Core.List.{foldl}
+use Rattle.std.specs.Prelude.{◌≡◌, ℕ, ◌-◌, ◌<◌, ◌≤◌, Bool, true, false, cond, List, [], ◌∷◌, ◌++◌, length, take, drop, ◌==◌, nat_eq, fold}
 use Rattle.std.proofs.Math.Option.{Option, none, some, or_else}
 use Rattle.policy.specs.List.{any}
 use Rattle.policy.specs.declared.mode.Mode.{Mode}
@@ -62,7 +61,7 @@ unfoldable pub see_byte : Seen → ℕ → Seen
 see_byte x byte = cond (byte == 10) (record { ran = or_else x.ran (mode_of x.tail); tail = [] }) (record { ran = x.ran; tail = x.tail ++ byte ∷ [] })
 
 abbrev pub see : Seen → List ℕ → Seen
-see x bytes = foldl see_byte x bytes
+see x bytes = fold see_byte x bytes
 
 -- a state is past the text exactly if a mode was picked, which it then has; and it holds the start of the open line
 unfoldable pub TracksIn : Phase → Seen → State → List ℕ → Type 0

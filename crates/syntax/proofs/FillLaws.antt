@@ -1,5 +1,6 @@
 -- Laws of an array that is filled item by item up to a limit, with a count that stops at one past it.
-use Rattle.std.proofs.Common.{ℕ, ◌<◌, ◌≤◌, List, [], ◌∷◌, ◌++◌, append-nil, append_assoc, ◌≡◌, sym, ap, ap₂, ◌∙◌, arith, lt-ltb, le-ltb}
+use Rattle.std.specs.Prelude.{Option as Maybe, Some, None}
+use Rattle.std.proofs.Common.{ℕ, Bool, false, ◌<◌, ◌≤◌, List, [], ◌∷◌, ◌++◌, append-nil, append_assoc, ◌≡◌, sym, ap, ap₂, ◌∙◌, arith, lt-ltb, le-ltb}
 use Rattle.std.proofs.Math.ListN.{set}
 use Rattle.line_value.proofs.LineLaws.{push_item_is, push_count_is}
 use Rattle.line_value.specs.Steps.Push.{push_item, push_count}
@@ -39,10 +40,14 @@ module _ {A : Type 0} (limit : ℕ) (filler : A) where
   pub filled_count_all : (xs : List A) → filled_count limit 0 xs ≡ counted limit xs
   filled_count_all xs = ap (λ (n : ℕ). filled_count limit n xs) (sym none_counted) ∙ filled_count_on [] xs
 
--- the array after an item was taken in, or left out
-module _ {A : Type 0} (limit : ℕ) (array after : List A) (n : ℕ) (x : A) where
-  pub taken_in : n < limit → after ≡ set array n x → after ≡ push_item limit array n x
-  taken_in h e = rw (e, lt-ltb n limit h)
+-- a turn: an item of a part that is in range was taken in, or the part was out of range
+pub data Turn {A B : Type 0} (limit : ℕ) (f : A → B) (ok : Bool) (array : List B) (n : ℕ) (part : Maybe A) (ok' : Bool) (array' : List B) : Type 0 where
+  took : (x : A) → part ≡ Some x → ok' ≡ ok → array' ≡ push_item limit array n (f x) → Turn limit f ok array n part ok' array'
+  missed : part ≡ None → ok' ≡ false → Turn limit f ok array n part ok' array'
 
-  pub left_out : limit ≤ n → after ≡ array → after ≡ push_item limit array n x
-  left_out h e = rw (e, le-ltb n limit h)
+module _ {A B : Type 0} (limit : ℕ) (f : A → B) (ok ok' : Bool) (array array' : List B) (n : ℕ) (part : Maybe A) (x : A) (p : part ≡ Some x) (i : ok' ≡ ok) where
+  pub took_in : n < limit → array' ≡ set array n (f x) → Turn limit f ok array n part ok' array'
+  took_in h e = took x p i (rw (e, lt-ltb n limit h))
+
+  pub left_out : limit ≤ n → array' ≡ array → Turn limit f ok array n part ok' array'
+  left_out h e = took x p i (rw (e, le-ltb n limit h))

@@ -1,57 +1,35 @@
 -- Laws of judging a line: by its parts as by the line.
-use Rattle.std.proofs.Common.{ℕ, suc, ◌+◌, ◌-◌, ◌≤◌, min, Bool, true, false, not, ◌&&◌, cond, List, [], ◌∷◌, ◌++◌, map, ◌≡◌, refl, sym, ap, ap₂, ◌∙◌, arith, lt-ltb, le-ltb, ltb-true, ltb-false, eq-eqb, ne_eqb, length, take, replicate, take_all, take_at}
+use Rattle.std.specs.Prelude.{Option as Maybe, Some, None, Result, Ok, Err}
+use Rattle.std.proofs.Common.{ℕ, suc, ◌+◌, ◌-◌, ◌<◌, ◌≤◌, min, Bool, true, false, not, ◌&&◌, cond, List, [], ◌∷◌, ◌++◌, map, ◌≡◌, refl, sym, ap, ap₂, ◌∙◌, arith, lt-ltb, le-ltb, ltb-true, ltb-false, eq-eqb, ne_eqb, length, take, replicate, take_all, take_at}
 use Rattle.std.proofs.Math.Option.{Option, none, some}
 use Rattle.std.proofs.Math.Dec.{ltb}
 use Rattle.std.proofs.Math.ListN.{get_or, length-map}
 use Rattle.policy.proofs.ListLaws.{and_out}
 use Rattle.policy.proofs.SeenLaws.{seen_repeats}
-use Rattle.policy.specs.Limits.{in_range, crowded, repeats, repeated, test_number, head_number, comparison_in_range, ending_in_range, head_limit, comparison_limit}
+use Rattle.policy.specs.Limits.{in_range, crowded, repeated, test_number, head_number, comparison_in_range, ending_in_range, head_limit, comparison_limit}
 use Rattle.policy.specs.Steps.Seen.{seen_in}
 use Rattle.policy.specs.Line.{PolicyLine, heads_of, comparisons_of, ending_of}
 use Rattle.line_value.specs.Value.{line_of, line_value, padded, counted, head, no_head}
 use Rattle.policy.specs.List.{all}
 use Rattle.policy.specs.Number.{set_limit}
 use Rattle.policy.specs.declared.fault.Fault.{Fault}
-use Rattle.policy.specs.declared.line.Ending.{Ending}
 use Rattle.policy.specs.declared.line.Head.{Head}
 use Rattle.line_value.specs.declared.Line.{Line}
 use Rattle.policy.specs.declared.line.Test.{Test}
 use Rattle.lexer.proofs.TokenLaws.{tokens_after_spaces, tokens_first, tokens_ended, line_past_spaces, line_ended_is}
 use Rattle.lexer.proofs.KeywordLaws.{token_first}
-use Rattle.syntax.specs.Answer.{behind_line, line_read_of, line_read, new_line}
-use Rattle.syntax.specs.Steps.Judged.{line_status, parsed_status}
+use Rattle.syntax.specs.Answer.{behind_line, line_read_of, line_read}
+use Rattle.syntax.specs.Steps.Judged.{judged_line}
 use Rattle.lexer.specs.Byte.{is_space}
 use Rattle.syntax.specs.Grammar.{line_from}
 use Rattle.lexer.specs.Lines.{tokens_of, skip_while, rest_of_line, line_end}
 use Rattle.lexer.specs.Number.{is_empty}
-use Rattle.syntax.specs.Steps.Outcome.{small_ending, small_line, parsed_from}
-use Rattle.token.specs.Steps.PartAt.{test_in_range, small_test, small_comparison}
+use Rattle.syntax.specs.Steps.Outcome.{parsed_from}
+use Rattle.token.specs.Steps.PartAt.{test_in_range}
 use Rattle.lexer.specs.Steps.Scan.{in_token, token_at, tokens_at}
 use Rattle.syntax.specs.Judge.{LineAnswer, skipped, refused, accepted, judge_line, is_comment, tokens_answer, line_answer}
 use Rattle.syntax.specs.declared.line.LineRead.{LineRead}
 use Rattle.syntax.specs.declared.line.LineStatus.{LineStatus}
-use Rattle.syntax.specs.declared.line.ParsedLine.{ParsedLine}
-
--- ---- a line whose numbers are in range has no fillers
-
-all_kept : {A : Type 0} (p : A → Bool) (f : A → A) → ((x : A) → p x ≡ true → f x ≡ x) → (xs : List A) → all p xs ≡ true → map f xs ≡ xs
-unfolding all
-all_kept p f h [] e = refl
-all_kept p f h (x ∷ xs) e = let q = and_out (p x) (all p xs) e in ap₂ ◌∷◌ (h x q.0) (all_kept p f h xs q.1)
-
-pub in_range_value : (l : PolicyLine) → in_range l ≡ true → small_line l ≡ line_value l
-unfolding in_range small_line line_value test_in_range small_test small_comparison small_ending ending_in_range
-in_range_value l h =
-    let p = and_out (all test_in_range (heads_of l) && all comparison_in_range (comparisons_of l)) (ending_in_range (ending_of l)) h in
-    let q = and_out (all test_in_range (heads_of l)) (all comparison_in_range (comparisons_of l)) p.0 in
-    whole (all_kept test_in_range small_test (λ t k. rw k) (heads_of l) q.0) (all_kept comparison_in_range small_comparison (λ c k. rw k) (comparisons_of l) q.1) (ending (ending_of l) p.1)
-  where
-    ending : (e : Ending) → ending_in_range e ≡ true → small_ending e ≡ e
-    ending (Ending.Causes a) k = rw k
-    ending Ending.Never k = refl
-
-    whole : map small_test (heads_of l) ≡ heads_of l → map small_comparison (comparisons_of l) ≡ comparisons_of l → small_ending (ending_of l) ≡ ending_of l → line_of (map small_test (heads_of l)) (map small_comparison (comparisons_of l)) (small_ending (ending_of l)) ≡ line_of (heads_of l) (comparisons_of l) (ending_of l)
-    whole a b c = rw (a, b, c)
 
 -- ---- counts and repeats of a value
 
@@ -89,41 +67,71 @@ value_repeats l h k =
     ap (λ (s : List Head). seen_in 0 (map head_number s)) (padded_whole head_limit no_head (map head (heads_of l)) m)
     ∙ ap (seen_in 0) (numbers (heads_of l)) ∙ seen_repeats (map test_number (heads_of l)) (all_numbers (heads_of l) ∙ q.0)
 
--- ---- the status
+-- ---- the tests of what was read, one after another
 
-status_of : LineAnswer → LineStatus
-status_of skipped = LineStatus.Skipped
-status_of (refused f) = LineStatus.Refused f
-status_of (accepted l) = LineStatus.Accepted
+module _ (p : Maybe (Maybe Line × ℕ)) where
+  pub judged_none : p ≡ None → Err Fault.Syntax ≡ judged_line p
+  unfolding judged_line
+  judged_none q = ap judged_line (sym q)
 
-over_heads : (l : PolicyLine) → ltb 8 (line_value l).head_count ≡ ltb head_limit (length (heads_of l))
+  pub judged_outside : (e : ℕ) → p ≡ Some (None, e) → Err Fault.OutOfRange ≡ judged_line p
+  unfolding judged_line
+  judged_outside e q = ap judged_line (sym q)
+
+  module _ (l : Line) (e : ℕ) (q : p ≡ Some (Some l, e)) where
+    pub judged_heads : head_limit < l.head_count → Err Fault.TooManyParts ≡ judged_line p
+    unfolding judged_line
+    judged_heads h = rw (q, lt-ltb head_limit l.head_count h)
+
+    module _ (h : l.head_count ≤ head_limit) where
+      pub judged_comparisons : comparison_limit < l.comparison_count → Err Fault.TooManyParts ≡ judged_line p
+      unfolding judged_line
+      judged_comparisons k = rw (q, le-ltb head_limit l.head_count h, lt-ltb comparison_limit l.comparison_count k)
+
+      module _ (k : l.comparison_count ≤ comparison_limit) where
+        pub judged_repeats : seen_in 0 (map head_number (take l.head_count l.heads)) ≡ true → Err Fault.Duplicate ≡ judged_line p
+        unfolding judged_line
+        judged_repeats s = rw (q, le-ltb head_limit l.head_count h, le-ltb comparison_limit l.comparison_count k, s)
+
+        pub judged_ok : seen_in 0 (map head_number (take l.head_count l.heads)) ≡ false → Ok (l, e) ≡ judged_line p
+        unfolding judged_line
+        judged_ok s = rw (q, le-ltb head_limit l.head_count h, le-ltb comparison_limit l.comparison_count k, s)
+
+-- ---- the line, or its first fault
+
+read_result : ℕ → LineAnswer → Result (Line × ℕ) Fault
+read_result end skipped = Err Fault.Syntax
+read_result end (refused f) = Err f
+read_result end (accepted l) = Ok (line_value l, end)
+
+over_heads : (l : PolicyLine) → ltb head_limit (line_value l).head_count ≡ ltb head_limit (length (heads_of l))
 unfolding line_value line_of
 over_heads l = counted_over head_limit (map head (heads_of l)) ∙ ap (ltb head_limit) (length-map (heads_of l) head)
 
-over_comparisons : (l : PolicyLine) → ltb 4 (line_value l).comparison_count ≡ ltb comparison_limit (length (comparisons_of l))
+over_comparisons : (l : PolicyLine) → ltb comparison_limit (line_value l).comparison_count ≡ ltb comparison_limit (length (comparisons_of l))
 unfolding line_value line_of
 over_comparisons l = counted_over comparison_limit (comparisons_of l)
 
-value_judged : (l : PolicyLine) → in_range l ≡ true → line_status (line_value l) ≡ status_of (cond (crowded l) (refused Fault.TooManyParts) (cond (repeated l) (refused Fault.Duplicate) (accepted l)))
-unfolding line_status crowded status_of
-value_judged l h = go (ltb head_limit (length (heads_of l))) refl (ltb comparison_limit (length (comparisons_of l))) refl
+value_judged : (e : ℕ) (l : PolicyLine) → in_range l ≡ true → judged_line (Some (Some (line_value l), e)) ≡ read_result e (cond (crowded l) (refused Fault.TooManyParts) (cond (repeated l) (refused Fault.Duplicate) (accepted l)))
+unfolding judged_line crowded read_result
+value_judged e l h = go (ltb head_limit (length (heads_of l))) refl (ltb comparison_limit (length (comparisons_of l))) refl
   where
-    twice : (b : Bool) → cond b (LineStatus.Refused Fault.Duplicate) LineStatus.Accepted ≡ status_of (cond b (refused Fault.Duplicate) (accepted l))
+    twice : (b : Bool) → cond b (Err Fault.Duplicate) (Ok (line_value l, e)) ≡ read_result e (cond b (refused Fault.Duplicate) (accepted l))
     twice true = refl
     twice false = refl
 
-    go : (x : Bool) → ltb head_limit (length (heads_of l)) ≡ x → (y : Bool) → ltb comparison_limit (length (comparisons_of l)) ≡ y → line_status (line_value l) ≡ status_of (cond (crowded l) (refused Fault.TooManyParts) (cond (repeated l) (refused Fault.Duplicate) (accepted l)))
+    go : (x : Bool) → ltb head_limit (length (heads_of l)) ≡ x → (y : Bool) → ltb comparison_limit (length (comparisons_of l)) ≡ y → judged_line (Some (Some (line_value l), e)) ≡ read_result e (cond (crowded l) (refused Fault.TooManyParts) (cond (repeated l) (refused Fault.Duplicate) (accepted l)))
     go true p y q = rw (over_heads l, p)
     go false p true q = rw (over_heads l, over_comparisons l, p, q)
     go false p false q = rw (over_heads l, over_comparisons l, p, q, value_repeats l h p) (twice (repeated l))
 
-parts_judged : (e : ℕ) (o : Option PolicyLine) → parsed_status (parsed_from e o) ≡ status_of (judge_line o)
-unfolding parsed_status parsed_from judge_line status_of
+parts_judged : (e : ℕ) (o : Option PolicyLine) → judged_line (parsed_from e o) ≡ read_result e (judge_line o)
+unfolding judged_line parsed_from judge_line read_result
 parts_judged e none = refl
 parts_judged e (some l) = go (in_range l) refl
   where
-    go : (b : Bool) → in_range l ≡ b → cond b (line_status (small_line l)) (LineStatus.Refused Fault.OutOfRange) ≡ status_of (cond (not b) (refused Fault.OutOfRange) (cond (crowded l) (refused Fault.TooManyParts) (cond (repeated l) (refused Fault.Duplicate) (accepted l))))
-    go true h = ap line_status (in_range_value l h) ∙ value_judged l h
+    go : (b : Bool) → in_range l ≡ b → judged_line (Some (cond b (Some (line_value l)) None, e)) ≡ read_result e (cond (not b) (refused Fault.OutOfRange) (cond (crowded l) (refused Fault.TooManyParts) (cond (repeated l) (refused Fault.Duplicate) (accepted l))))
+    go true h = value_judged e l h
     go false h = refl
 
 -- a line that is judged is accepted in range, or refused
@@ -162,31 +170,30 @@ accepted_uncrowded line l = go (tokens_of line)
         comment true k = let w : ◌≡◌ {A = ℕ} 0 1 = cc in absurd (omega arith)
         comment false k = of_judge (line_from (t ∷ ts)) (judged_cases (line_from (t ∷ ts))) k
 
--- the line as it is read, by the status of its parts
-module _ (e next : ℕ) (o : Option PolicyLine) where
-  pub read_accepted : parsed_status (parsed_from e o) ≡ LineStatus.Accepted → record { status = LineStatus.Accepted; line = (parsed_from e o).line; next = next } ≡ line_read_of next (judge_line o)
-  unfolding parsed_from line_read_of status_of
-  read_accepted q = go (judged_cases o)
+-- the line as it is read, by what its parts were judged
+module _ (text : List ℕ) (e : ℕ) (o : Option PolicyLine) where
+  pub read_accepted : (l : Line) (k : ℕ) → judged_line (parsed_from e o) ≡ Ok (l, k) → (n : ℕ) → n ≡ behind_line text k → record { status = LineStatus.Accepted; line = l; next = n } ≡ line_read_of (behind_line text e) (judge_line o)
+  unfolding line_read_of read_result
+  read_accepted l k q n h = go (judged_cases o)
     where
-      go : Judged o → record { status = LineStatus.Accepted; line = (parsed_from e o).line; next = next } ≡ line_read_of next (judge_line o)
-      go (yes_line l p h _ _ k) = rw (k, p) (ap (λ (x : Line). record { status = LineStatus.Accepted; line = x; next = next }) (in_range_value l h))
-      go (no_line f k) = let w : ◌≡◌ {A = ℕ} 0 1 = cc (sym q ∙ parts_judged e o ∙ ap status_of k) in absurd (omega arith)
+      read_of : Result (Line × ℕ) Fault → LineRead
+      read_of (Ok x) = record { status = LineStatus.Accepted; line = x.0; next = behind_line text x.1 }
+      read_of (Err f) = line_read_of 0 (refused f)
 
-  pub read_refused : (f : Fault) → parsed_status (parsed_from e o) ≡ LineStatus.Refused f → line_read_of 0 (refused f) ≡ line_read_of next (judge_line o)
-  unfolding line_read_of status_of
+      go : Judged o → record { status = LineStatus.Accepted; line = l; next = n } ≡ line_read_of (behind_line text e) (judge_line o)
+      go (yes_line m p _ _ _ i) = ap (λ (x : ℕ). record { status = LineStatus.Accepted; line = l; next = x }) h ∙ ap read_of (sym q ∙ parts_judged e o ∙ ap (read_result e) i) ∙ ap (line_read_of (behind_line text e)) (sym i)
+      go (no_line f i) = let w : ◌≡◌ {A = ℕ} 0 1 = cc (sym q ∙ parts_judged e o ∙ ap (read_result e) i) in absurd (omega arith)
+
+  pub read_refused : (f : Fault) → judged_line (parsed_from e o) ≡ Err f → line_read_of 0 (refused f) ≡ line_read_of (behind_line text e) (judge_line o)
+  unfolding line_read_of read_result
   read_refused f q = go (judged_cases o)
     where
-      go : Judged o → line_read_of 0 (refused f) ≡ line_read_of next (judge_line o)
-      go (yes_line l p h _ _ k) = let w : ◌≡◌ {A = ℕ} 0 1 = cc (sym q ∙ parts_judged e o ∙ ap status_of k) in absurd (omega arith)
-      go (no_line g k) = rw k (ap (λ (x : LineStatus). record { status = x; line = new_line; next = 0 }) (sym q ∙ parts_judged e o ∙ ap status_of k))
-
-  pub read_skipped : parsed_status (parsed_from e o) ≡ LineStatus.Skipped → (r : LineRead) → r ≡ line_read_of next (judge_line o)
-  unfolding status_of
-  read_skipped q r = go (judged_cases o)
-    where
-      go : Judged o → r ≡ line_read_of next (judge_line o)
-      go (yes_line l p h _ _ k) = let w : ◌≡◌ {A = ℕ} 0 1 = cc (sym q ∙ parts_judged e o ∙ ap status_of k) in absurd (omega arith)
-      go (no_line g k) = let w : ◌≡◌ {A = ℕ} 0 1 = cc (sym q ∙ parts_judged e o ∙ ap status_of k) in absurd (omega arith)
+      go : Judged o → line_read_of 0 (refused f) ≡ line_read_of (behind_line text e) (judge_line o)
+      go (yes_line m p _ _ _ i) = let w : ◌≡◌ {A = ℕ} 0 1 = cc (sym q ∙ parts_judged e o ∙ ap (read_result e) i) in absurd (omega arith)
+      go (no_line g i) = rw i (ap (λ (x : Fault). line_read_of 0 (refused x)) (same (sym q ∙ parts_judged e o ∙ ap (read_result e) i)))
+        where
+          same : ◌≡◌ {A = Result (Line × ℕ) Fault} (Err f) (Err g) → f ≡ g
+          same c = cc
 
 -- ---- the line at a position
 
@@ -219,27 +226,16 @@ module _ (text : List ℕ) (at : ℕ) where
         sym (answer ∙ ap (λ (ts : List (List ℕ)). line_read_of (behind_line text (line_end text s)) (tokens_answer ts)) first ∙ rw (ne_eqb (get_or text s 0) 35 q)
         (ap (λ (ts : List (List ℕ)). line_read_of (behind_line text (line_end text s)) (judge_line (line_from ts))) (sym first)))
 
-parts_end : (e : ℕ) (o : Option PolicyLine) → parsed_status (parsed_from e o) ≡ LineStatus.Accepted → (parsed_from e o).at ≡ e
-unfolding parsed_status parsed_from
-parts_end e none q = let w : ◌≡◌ {A = ℕ} 0 1 = cc in absurd (omega arith)
-parts_end e (some l) q = refl
-
 -- the answer for a line that is neither blank nor a comment, by its parts
-module _ (text : List ℕ) (at start : ℕ) (k : start ≡ skip_while is_space text at) (h : is_empty (token_at text start) ≡ false) (q : get_or text start 0 ≡ 35 → ⊥) (p : ParsedLine)
+module _ (text : List ℕ) (at start : ℕ) (k : start ≡ skip_while is_space text at) (h : is_empty (token_at text start) ≡ false) (q : get_or text start 0 ≡ 35 → ⊥) (p : Maybe (Maybe Line × ℕ))
     (r : p ≡ parsed_from (line_end text start) (line_from (tokens_at text start))) where
   line_parts : line_read_of (behind_line text (line_end text start)) (judge_line (line_from (tokens_at text start))) ≡ line_read text at
   line_parts =
       ap (λ (n : ℕ). line_read_of (behind_line text (line_end text n)) (judge_line (line_from (tokens_at text n)))) k
       ∙ line_other text at (ap (λ (n : ℕ). is_empty (token_at text n)) (sym k) ∙ h) (λ e. q (ap (λ (n : ℕ). get_or text n 0) k ∙ e))
 
-  pub line_accepted : (st : LineStatus) → st ≡ parsed_status p → st ≡ LineStatus.Accepted → (n : ℕ) → n ≡ behind_line text p.at → record { status = st; line = p.line; next = n } ≡ line_read text at
-  line_accepted st a b n m =
-      let j : parsed_status (parsed_from (line_end text start) (line_from (tokens_at text start))) ≡ LineStatus.Accepted = sym (ap parsed_status r) ∙ sym a ∙ b in
-      let e : n ≡ behind_line text (line_end text start) = m ∙ ap (λ (x : ParsedLine). behind_line text x.at) r ∙ ap (behind_line text) (parts_end (line_end text start) (line_from (tokens_at text start)) j) in
-      cc (b, ap (λ (x : ParsedLine). x.line) r, e) ∙ read_accepted (line_end text start) (behind_line text (line_end text start)) (line_from (tokens_at text start)) j ∙ line_parts
+  pub line_accepted : (l : Line) (e : ℕ) → judged_line p ≡ Ok (l, e) → (n : ℕ) → n ≡ behind_line text e → record { status = LineStatus.Accepted; line = l; next = n } ≡ line_read text at
+  line_accepted l e a n m = read_accepted text (line_end text start) (line_from (tokens_at text start)) l e (sym (ap judged_line r) ∙ a) n m ∙ line_parts
 
-  pub line_refused : (f : Fault) → parsed_status p ≡ LineStatus.Refused f → line_read_of 0 (refused f) ≡ line_read text at
-  line_refused f a = read_refused (line_end text start) (behind_line text (line_end text start)) (line_from (tokens_at text start)) f (sym (ap parsed_status r) ∙ a) ∙ line_parts
-
-  pub line_skipped : parsed_status p ≡ LineStatus.Skipped → (x : LineRead) → x ≡ line_read text at
-  line_skipped a x = read_skipped (line_end text start) (behind_line text (line_end text start)) (line_from (tokens_at text start)) (sym (ap parsed_status r) ∙ a) x ∙ line_parts
+  pub line_refused : (f : Fault) → judged_line p ≡ Err f → line_read_of 0 (refused f) ≡ line_read text at
+  line_refused f a = read_refused text (line_end text start) (line_from (tokens_at text start)) f (sym (ap judged_line r) ∙ a) ∙ line_parts

@@ -1,10 +1,12 @@
 -- Laws of the two shapes: the parts that were read are those of the line.
-use Rattle.std.proofs.Common.{ℕ, Bool, true, false, cond, List, [], ◌∷◌, map, ◌≡◌, refl, ap, ap₂, ◌∙◌, arith}
+use Rattle.std.proofs.Common.{ℕ, Bool, true, false, ◌&&◌, cond, List, [], ◌∷◌, map, ◌≡◌, refl, sym, ap, ◌∙◌, arith}
+use Rattle.std.specs.Prelude.{Option as Maybe, Some, None}
 use Rattle.std.proofs.Math.Option.{Option, none, some}
-use mathlib.Core.Option
-use Rattle.policy.specs.Limits.{in_range, ending_in_range, head_limit}
+use Rattle.std.proofs.Math.Option
+use Rattle.policy.specs.Limits.{in_range, comparison_in_range, ending_in_range, head_limit, comparison_limit}
 use Rattle.policy.specs.Line.{PolicyLine, heads_of, comparisons_of, ending_of}
-use Rattle.line_value.specs.Value.{padded, line_of, counted, no_head}
+use Rattle.line_value.specs.Value.{head, padded, line_of, line_value, counted, no_head, no_comparison}
+use Rattle.line_value.specs.declared.Line.{Line}
 use Rattle.policy.specs.List.{all}
 use Rattle.policy.specs.declared.comparison.Comparison.{Comparison}
 use Rattle.policy.specs.declared.comparison.Literal.{Literal}
@@ -14,12 +16,12 @@ use Rattle.policy.specs.declared.number.Action.{Action}
 use Rattle.lexer.specs.Byte.{is}
 use Rattle.lexer.specs.Token.{Token, both, literal_of, action_of}
 use Rattle.syntax.specs.Grammar.{Joined, last, before, joined, condition_from, causes, never, rule_after, constraint_after, after}
-use Rattle.syntax.specs.Steps.Outcome.{HeadsRead, failed_line, view_of, small_heads, heads_outcome, condition_outcome, small_ending, assembled_line, caused_line, cause_line, small_line, parsed_from}
-use Rattle.token.specs.Steps.PartAt.{test_in_range, test_of}
+use Rattle.syntax.specs.Steps.Outcome.{HeadsRead, view_of, held_heads, heads_outcome, held_comparisons, condition_outcome, with_condition, assembled_line, caused_line, cause_line, parsed_from}
+use Rattle.token.specs.Steps.PartAt.{kept, test_in_range, test_of}
 use Rattle.lexer.specs.Steps.Scan.{tokens_at}
 use Rattle.lexer.specs.Lines.{line_end}
 use Rattle.syntax.specs.declared.line.Heads.{Heads}
-use Rattle.syntax.specs.declared.line.ParsedLine.{ParsedLine}
+use Rattle.syntax.specs.declared.line.Comparisons.{Comparisons}
 
 -- ---- heads as literals or as actions
 
@@ -44,64 +46,71 @@ module _ {A B : Type 0} (f : A → B) (item : Token → Option A) where
       go false none j h = refl
       go false (some x) j h = refl
 
--- ---- the parts of a line, from its heads and its condition
-
--- what was read of the heads is that of these
-record OfHeads (h : Heads) (ts : List Test) : Type 0 where
-  range : h.in_range ≡ all test_in_range ts
-  padded_heads : h.heads ≡ padded head_limit no_head (small_heads ts)
-  count : h.count ≡ counted head_limit (small_heads ts)
-
 some_same : {A : Type 0} {x y : A} → some x ≡ some y → x ≡ y
 some_same e = cc
 
-module _ (E : ℕ) (h : Heads) where
-  line_parts : (l : PolicyLine) → OfHeads h (heads_of l) → assembled_line h (small_ending (ending_of l)) (ending_in_range (ending_of l)) (condition_outcome E (some (comparisons_of l))) ≡ parsed_from E (some l)
-  unfolding assembled_line condition_outcome parsed_from in_range small_line line_of test_in_range
-  line_parts l k = rw (k.range, k.padded_heads, k.count)
+-- ---- the parts of a line, from its heads and its condition
 
-  never_parts : (actions : List Action) → OfHeads h (map Test.Member actions) → (o : Option (List Comparison)) → assembled_line h Ending.Never true (condition_outcome E o) ≡ parsed_from E (Option.map (never actions) o)
-  unfolding assembled_line condition_outcome parsed_from heads_of comparisons_of ending_of ending_in_range small_ending
-  never_parts actions k none = refl
-  never_parts actions k (some cs) = line_parts (never actions cs) k
+-- what is held of these heads
+abbrev held_of : List Test → Maybe Heads
+held_of ts = held_heads (all test_in_range ts) (padded head_limit no_head (map head ts)) (counted head_limit (map head ts))
 
-  rule_parts : (literals : List Literal) → OfHeads h (map Test.Occurs literals) → (ts : List Token) → cause_line h E ts ≡ parsed_from E (rule_after literals ts)
-  unfolding cause_line caused_line rule_after parsed_from both assembled_line condition_outcome heads_of comparisons_of ending_of
-  rule_parts literals k [] = refl
-  rule_parts literals k (t ∷ []) = refl
-  rule_parts literals k (t ∷ u ∷ ts) = go (is "causes" t)
+module _ (E : ℕ) where
+  line_parts : (l : PolicyLine) → with_condition (held_of (heads_of l)) (kept ending_in_range (ending_of l)) (condition_outcome E (some (comparisons_of l))) ≡ parsed_from E (some l)
+  unfolding with_condition assembled_line condition_outcome parsed_from in_range line_value line_of test_in_range
+  line_parts l = go (all test_in_range (heads_of l)) (all comparison_in_range (comparisons_of l)) (ending_in_range (ending_of l))
     where
-      caused : (x : Option Action) (o : Option (List Comparison)) → caused_line h E x o ≡ parsed_from E (both (causes literals) x o)
+      go : (a b c : Bool) → ◌≡◌ {A = Maybe (Maybe Line × ℕ)}
+          (Some (assembled_line (held_heads a (padded head_limit no_head (map head (heads_of l))) (counted head_limit (map head (heads_of l)))) (cond c (Some (ending_of l)) None) (held_comparisons b (padded comparison_limit no_comparison (comparisons_of l)) (counted comparison_limit (comparisons_of l))), E))
+          (Some (cond (a && b && c) (Some (line_value l)) None, E))
+      go true true true = refl
+      go true true false = refl
+      go true false true = refl
+      go true false false = refl
+      go false b c = refl
+
+  never_parts : (actions : List Action) (o : Option (List Comparison)) → with_condition (held_of (map Test.Member actions)) (Some Ending.Never) (condition_outcome E o) ≡ parsed_from E (Option.map (never actions) o)
+  unfolding with_condition condition_outcome parsed_from heads_of comparisons_of ending_of ending_in_range
+  never_parts actions none = refl
+  never_parts actions (some cs) = line_parts (never actions cs)
+
+  rule_parts : (literals : List Literal) (ts : List Token) → cause_line (held_of (map Test.Occurs literals)) E ts ≡ parsed_from E (rule_after literals ts)
+  unfolding cause_line caused_line rule_after parsed_from both with_condition condition_outcome heads_of comparisons_of ending_of
+  rule_parts literals [] = refl
+  rule_parts literals (t ∷ []) = refl
+  rule_parts literals (t ∷ u ∷ ts) = go (is "causes" t)
+    where
+      caused : (x : Option Action) (o : Option (List Comparison)) → caused_line (held_of (map Test.Occurs literals)) E x o ≡ parsed_from E (both (causes literals) x o)
       caused none o = refl
       caused (some a) none = refl
-      caused (some a) (some cs) = line_parts (causes literals a cs) k
+      caused (some a) (some cs) = line_parts (causes literals a cs)
 
-      go : (b : Bool) → cond b (caused_line h E (action_of u) (condition_from ts)) failed_line ≡ parsed_from E (cond b (both (causes literals) (action_of u) (condition_from ts)) none)
+      go : (b : Bool) → cond b (caused_line (held_of (map Test.Occurs literals)) E (action_of u) (condition_from ts)) None ≡ parsed_from E (cond b (both (causes literals) (action_of u) (condition_from ts)) none)
       go true = caused (action_of u) (condition_from ts)
       go false = refl
 
   -- the heads that were read, against those of the line
-  module _ (text : List ℕ) {A : Type 0} (f : A → Test) (tail : List A → List Token → Option PolicyLine) (o : Option (Joined A)) (q : view_of text h ≡ heads_outcome E (Option.map (mapped f) o)) where
-    heads_no : h.ok ≡ false → failed_line ≡ parsed_from E (after tail o)
+  module _ (text : List ℕ) {A : Type 0} (f : A → Test) (tail : List A → List Token → Option PolicyLine) (o : Option (Joined A)) where
+    heads_no : view_of text None ≡ heads_outcome E (Option.map (mapped f) o) → None ≡ parsed_from E (after tail o)
     unfolding heads_outcome parsed_from after
-    heads_no k = go o (rw k at q)
+    heads_no q = go o q
       where
-        go : (x : Option (Joined A)) → none ≡ heads_outcome E (Option.map (mapped f) x) → failed_line ≡ parsed_from E (after tail x)
+        go : (x : Option (Joined A)) → none ≡ heads_outcome E (Option.map (mapped f) x) → None ≡ parsed_from E (after tail x)
         go none p = refl
         go (some j) p = let w : ◌≡◌ {A = ℕ} 0 1 = cc in absurd (omega arith)
 
-    heads_yes : h.ok ≡ true → (made : ℕ → List Token → ParsedLine) → ((j : Joined A) → OfHeads h (map f j.items) → made E j.rest ≡ parsed_from E (tail j.items j.rest)) → made (line_end text h.at) (tokens_at text h.at) ≡ parsed_from E (after tail o)
+    heads_yes : (h : Maybe Heads) (at : ℕ) → view_of text (Some (h, at)) ≡ heads_outcome E (Option.map (mapped f) o) → (made : Maybe Heads → ℕ → List Token → Maybe (Maybe Line × ℕ))
+        → ((j : Joined A) → made (held_of (map f j.items)) E j.rest ≡ parsed_from E (tail j.items j.rest)) → made h (line_end text at) (tokens_at text at) ≡ parsed_from E (after tail o)
     unfolding heads_outcome parsed_from after mapped
-    heads_yes k made law = go o (rw k at q)
+    heads_yes h at q made law = go o q
       where
-        go : (x : Option (Joined A)) → some (record { in_range = h.in_range; heads = h.heads; count = h.count; rest = tokens_at text h.at; end = line_end text h.at }) ≡ heads_outcome E (Option.map (mapped f) x) → made (line_end text h.at) (tokens_at text h.at) ≡ parsed_from E (after tail x)
+        go : (x : Option (Joined A)) → some (record { held = h; rest = tokens_at text at; end = line_end text at }) ≡ heads_outcome E (Option.map (mapped f) x) → made h (line_end text at) (tokens_at text at) ≡ parsed_from E (after tail x)
         go none p = let w : ◌≡◌ {A = ℕ} 0 1 = cc in absurd (omega arith)
         go (some j) p =
             let e = some_same p in
-            ap₂ made (ap (λ (v : HeadsRead). v.end) e) (ap (λ (v : HeadsRead). v.rest) e)
-            ∙ law j (record { range = ap (λ (v : HeadsRead). v.in_range) e; padded_heads = ap (λ (v : HeadsRead). v.heads) e; count = ap (λ (v : HeadsRead). v.count) e })
+            ap (λ (v : HeadsRead). made v.held v.end v.rest) e ∙ law j
 
-module _ (text : List ℕ) (from : ℕ) (h : Heads) where
+module _ (text : List ℕ) (from : ℕ) (h : Maybe (Maybe Heads × ℕ)) where
   abbrev E : ℕ
   E = line_end text from
 
@@ -113,14 +122,23 @@ module _ (text : List ℕ) (from : ℕ) (h : Heads) where
     unfolding test_of
     actions_read = q ∙ ap (heads_outcome E) (joined_map Test.Member action_of (tokens_at text from))
 
-    pub constraint_no : h.ok ≡ false → failed_line ≡ parsed_from E (after constraint_after actions)
-    constraint_no k = heads_no E h text Test.Member constraint_after actions actions_read k
+    pub constraint_no : h ≡ None → None ≡ parsed_from E (after constraint_after actions)
+    constraint_no k = heads_no E text Test.Member constraint_after actions (ap (view_of text) (sym k) ∙ actions_read)
 
-    pub constraint_yes : h.ok ≡ true → assembled_line h Ending.Never true (condition_outcome (line_end text h.at) (condition_from (tokens_at text h.at))) ≡ parsed_from E (after constraint_after actions)
-    unfolding constraint_after
-    constraint_yes k =
-        heads_yes E h text Test.Member constraint_after actions actions_read k
-        (λ end ts. assembled_line h Ending.Never true (condition_outcome end (condition_from ts))) (λ j p. never_parts E h j.items p (condition_from j.rest))
+    module _ (held : Maybe Heads) (at : ℕ) (k : h ≡ Some (held, at)) where
+      constraint_read : with_condition held (Some Ending.Never) (condition_outcome (line_end text at) (condition_from (tokens_at text at))) ≡ parsed_from E (after constraint_after actions)
+      unfolding constraint_after
+      constraint_read =
+          heads_yes E text Test.Member constraint_after actions held at (ap (view_of text) (sym k) ∙ actions_read)
+          (λ hs end ts. with_condition hs (Some Ending.Never) (condition_outcome end (condition_from ts))) (λ j. never_parts E j.items (condition_from j.rest))
+
+      pub constraint_broken : condition_outcome (line_end text at) (condition_from (tokens_at text at)) ≡ None → None ≡ parsed_from E (after constraint_after actions)
+      unfolding with_condition
+      constraint_broken c = ap (with_condition held (Some Ending.Never)) (sym c) ∙ constraint_read
+
+      pub constraint_yes : (c : Maybe Comparisons) (n : ℕ) → condition_outcome (line_end text at) (condition_from (tokens_at text at)) ≡ Some (c, n) → Some (assembled_line held (Some Ending.Never) c, n) ≡ parsed_from E (after constraint_after actions)
+      unfolding with_condition
+      constraint_yes c n i = ap (with_condition held (Some Ending.Never)) (sym i) ∙ constraint_read
 
   module _ (q : view_of text h ≡ heads_outcome E (joined (test_of false) (tokens_at text from))) where
     abbrev literals : Option (Joined Literal)
@@ -130,10 +148,9 @@ module _ (text : List ℕ) (from : ℕ) (h : Heads) where
     unfolding test_of
     literals_read = q ∙ ap (heads_outcome E) (joined_map Test.Occurs literal_of (tokens_at text from))
 
-    pub rule_no : h.ok ≡ false → failed_line ≡ parsed_from E (after rule_after literals)
-    rule_no k = heads_no E h text Test.Occurs rule_after literals literals_read k
+    pub rule_no : h ≡ None → None ≡ parsed_from E (after rule_after literals)
+    rule_no k = heads_no E text Test.Occurs rule_after literals (ap (view_of text) (sym k) ∙ literals_read)
 
-    pub rule_yes : h.ok ≡ true → cause_line h (line_end text h.at) (tokens_at text h.at) ≡ parsed_from E (after rule_after literals)
-    rule_yes k =
-        heads_yes E h text Test.Occurs rule_after literals literals_read k
-        (cause_line h) (λ j p. rule_parts E h j.items p j.rest)
+    pub rule_yes : (held : Maybe Heads) (at : ℕ) → h ≡ Some (held, at) → cause_line held (line_end text at) (tokens_at text at) ≡ parsed_from E (after rule_after literals)
+    rule_yes held at k =
+        heads_yes E text Test.Occurs rule_after literals held at (ap (view_of text) (sym k) ∙ literals_read) cause_line (λ j. rule_parts E j.items j.rest)

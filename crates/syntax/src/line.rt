@@ -1,54 +1,36 @@
-// The lines of a rule text. A line is scanned once: its parts are collected with a flag that says whether every number is
-// in range, and the line is judged at its end.
+//! The lines of a rule text. A line is scanned once. What is read of it answers nothing where its shape is wrong, and otherwise the
+//! position behind it with its value, or without one where a number is out of range.
 ghost use Rattle.std.specs.Prelude.{◌≡◌, false, ◌≤◌};
 ghost use Rattle.line_value.specs.Steps.Push.{push_count};
 ghost use Rattle.lexer.specs.Token.{literal_of, action_of};
-ghost use Rattle.syntax.specs.Grammar.{joined, comparisons_from, condition_from, after, rule_after, constraint_after, line_from};
-ghost use Rattle.token.specs.Steps.PartAt.{test_of};
 ghost use Rattle.lexer.specs.Steps.Scan.{token_at, tokens_at};
 ghost use Rattle.lexer.specs.Lines.{line_end};
 ghost use Rattle.lexer.specs.Number.{is_empty};
+ghost use Rattle.policy.specs.Number.{check_action};
+ghost use Rattle.token.specs.Steps.PartAt.{test_of};
 ghost use Rattle.syntax.specs.Answer.{behind_line, line_read_of, line_read};
-ghost use Rattle.syntax.specs.Steps.Judged.{line_status, parsed_status};
+ghost use Rattle.syntax.specs.Grammar.{joined, comparisons_from, condition_from, after, rule_after, constraint_after, line_from};
 ghost use Rattle.syntax.specs.Judge.{LineAnswer};
-ghost use Rattle.syntax.specs.Steps.Outcome.{failed_line, view_of, heads_outcome, no_comparisons, condition_outcome, assembled_line, cause_line, parsed_from};
+ghost use Rattle.syntax.specs.Steps.Judged.{judged_line};
+ghost use Rattle.syntax.specs.Steps.Outcome.{view_of, heads_outcome, no_condition, condition_outcome, causes_with, assembled_line, cause_line, parsed_from};
 
-use lexer::{
-    KeywordAt, NumberAt, action_at, ampersand_at, at_token_end, causes_at, comma_at, if_at,
-    line_end, never_at, skip_spaces,
-};
+use lexer::{action_at, at_token_end, keyword_at, line_end, skip_spaces};
 use line_value::Line;
-use policy::{Action, ActionCheck, COMPARISON_LIMIT, Comparison, Ending, Fault, HEAD_LIMIT, Head};
-use token::{ComparisonAt, HeadAt, comparison_at, head_at};
+use policy::{Action, COMPARISON_LIMIT, Comparison, Ending, Fault, HEAD_LIMIT, Head};
+use token::{comparison_at, head_at};
 
-// What was read of a line: whether it has the right shape, whether every number is in range, the parts, and the position
-// behind them.
-#[derive(Clone, Copy)]
-pub struct ParsedLine {
-    pub ok: bool,
-    pub in_range: bool,
-    pub line: Line,
-    pub at: usize,
-}
-
-// The same of its literals or actions, held and counted as in `Line`.
+/// The literals or actions of a line, held and counted as in `Line`.
 #[derive(Clone, Copy)]
 pub struct Heads {
-    pub ok: bool,
-    pub in_range: bool,
     pub heads: [Head; HEAD_LIMIT],
     pub count: usize,
-    pub at: usize,
 }
 
-// The same of its condition, which ends the line.
+/// The comparisons of a line, held and counted as in `Line`.
 #[derive(Clone, Copy)]
-pub struct Condition {
-    pub ok: bool,
-    pub in_range: bool,
+pub struct Comparisons {
     pub comparisons: [Comparison; COMPARISON_LIMIT],
     pub count: usize,
-    pub at: usize,
 }
 
 // A count of parts, which stops at one past the limit.
@@ -59,19 +41,9 @@ fn one_more(n: usize, limit: usize) -> usize
     if n <= limit { n + 1 } else { n }
 }
 
-fn failed() -> ParsedLine
-    ensures { result ≡ failed_line }
-{
-    ParsedLine {
-        ok: false,
-        in_range: false,
-        line: Line::new(),
-        at: 0,
-    }
-}
-
 // The literals of a rule or the actions of a constraint, joined by `&`.
-fn read_heads(text: &[u8], from: usize, never: bool) -> Heads
+#[tactic(auto, unfolding(policy::specs::List::all))]
+fn read_heads(text: &[u8], from: usize, never: bool) -> Option<(Option<Heads>, usize)>
     ensures { view_of text.now result
         ≡ heads_outcome (line_end text.now from) (joined (test_of never) (tokens_at text.now from)) }
 {
@@ -82,51 +54,31 @@ fn read_heads(text: &[u8], from: usize, never: bool) -> Heads
     let mut at = from;
     loop {
         let start = skip_spaces(text, at);
-        let HeadAt::Head(test, ok, end) = head_at(text, start, never) else {
-            return Heads {
-                ok: false,
-                in_range,
-                heads,
-                count,
-                at,
-            };
-        };
-        if count < HEAD_LIMIT {
-            heads[count] = Head(test);
+        let (head, end) = head_at(text, start, never)?;
+        if let Some(test) = head {
+            if count < HEAD_LIMIT {
+                heads[count] = Head(test);
+            }
+        } else {
+            in_range = false;
         }
         count = one_more(count, HEAD_LIMIT);
-        in_range = in_range && ok;
         let next = skip_spaces(text, end);
-        let KeywordAt::Found(behind) = ampersand_at(text, next) else {
-            return Heads {
-                ok: true,
-                in_range,
-                heads,
-                count,
-                at: next,
+        let Some(behind) = keyword_at(text, next, b"&") else {
+            let held = if in_range {
+                Some(Heads { heads, count })
+            } else {
+                None
             };
+            return Some((held, next));
         };
         at = behind;
     }
 }
 
-// A condition with no comparison: there is none, or it has the wrong shape.
-fn no_comparisons(ok: bool, at: usize) -> Condition
-    ensures { result ≡ no_comparisons ok at }
-{
-    let line = Line::new();
-    let comparisons = line.comparisons;
-    Condition {
-        ok,
-        in_range: ok,
-        comparisons,
-        count: 0,
-        at,
-    }
-}
-
 // The comparisons of a line, joined by `,`, to the end of the line.
-fn read_comparisons(text: &[u8], from: usize) -> Condition
+#[tactic(auto, unfolding(policy::specs::List::all))]
+fn read_comparisons(text: &[u8], from: usize) -> Option<(Option<Comparisons>, usize)>
     ensures { result
         ≡ condition_outcome (line_end text.now from) (comparisons_from (tokens_at text.now from)) }
 {
@@ -137,131 +89,145 @@ fn read_comparisons(text: &[u8], from: usize) -> Condition
     let mut at = from;
     loop {
         let start = skip_spaces(text, at);
-        let ComparisonAt::Comparison(comparison, ok, end) = comparison_at(text, start) else {
-            return no_comparisons(false, 0);
-        };
-        if count < COMPARISON_LIMIT {
-            comparisons[count] = comparison;
+        let (part, end) = comparison_at(text, start)?;
+        if let Some(comparison) = part {
+            if count < COMPARISON_LIMIT {
+                comparisons[count] = comparison;
+            }
+        } else {
+            in_range = false;
         }
         count = one_more(count, COMPARISON_LIMIT);
-        in_range = in_range && ok;
         let next = skip_spaces(text, end);
         if at_token_end(text, next) {
-            return Condition {
-                ok: true,
-                in_range,
-                comparisons,
-                count,
-                at: next,
+            let held = if in_range {
+                Some(Comparisons { comparisons, count })
+            } else {
+                None
             };
+            return Some((held, next));
         }
-        let KeywordAt::Found(behind) = comma_at(text, next) else {
-            return no_comparisons(false, 0);
-        };
-        at = behind;
+        at = keyword_at(text, next, b",")?;
+    }
+}
+
+// No comparison.
+fn no_comparisons() -> Comparisons
+    ensures { result ≡ no_condition }
+{
+    let line = Line::new();
+    let comparisons = line.comparisons;
+    Comparisons {
+        comparisons,
+        count: 0,
     }
 }
 
 // The condition of a line: `if` and comparisons, or nothing, to the end of the line.
-fn read_condition(text: &[u8], from: usize) -> Condition
+#[tactic(auto, unfolding(policy::specs::List::all))]
+fn read_condition(text: &[u8], from: usize) -> Option<(Option<Comparisons>, usize)>
     ensures { result
         ≡ condition_outcome (line_end text.now from) (condition_from (tokens_at text.now from)) }
 {
     let start = skip_spaces(text, from);
     if at_token_end(text, start) {
-        return no_comparisons(true, start);
+        return Some((Some(no_comparisons()), start));
     }
-    let KeywordAt::Found(behind) = if_at(text, start) else {
-        return no_comparisons(false, 0);
-    };
+    let behind = keyword_at(text, start, b"if")?;
     read_comparisons(text, behind)
 }
 
-// The line put together, where its condition has the right shape. An ending out of range is a filler.
+// The line put together; none where a number of a part is out of range.
+#[tactic(auto, unfolding(crate::specs::Steps::Outcome::assembled_line))]
 fn assembled(
-    heads: Heads,
-    ending: Ending,
-    ending_in_range: bool,
-    condition: Condition,
-) -> ParsedLine
-    ensures { result ≡ assembled_line heads ending ending_in_range condition }
+    heads: Option<Heads>,
+    ending: Option<Ending>,
+    condition: Option<Comparisons>,
+) -> Option<Line>
+    ensures { result ≡ assembled_line heads ending condition }
 {
-    if condition.ok {
-        let held = heads.heads;
-        let comparisons = condition.comparisons;
-        ParsedLine {
-            ok: true,
-            in_range: heads.in_range && condition.in_range && ending_in_range,
-            line: Line {
-                heads: held,
-                head_count: heads.count,
-                comparisons,
-                comparison_count: condition.count,
-                ending,
-            },
-            at: condition.at,
-        }
-    } else {
-        failed()
-    }
+    let heads = heads?;
+    let ending = ending?;
+    let condition = condition?;
+    let held = heads.heads;
+    let comparisons = condition.comparisons;
+    Some(Line {
+        heads: held,
+        head_count: heads.count,
+        comparisons,
+        comparison_count: condition.count,
+        ending,
+    })
+}
+
+// The ending of a rule for the action of a number; none where it is out of range.
+#[tactic(auto, unfolding(crate::specs::Steps::Outcome::causes_with))]
+fn ending(n: u32) -> Option<Ending>
+    ensures { result ≡ causes_with (check_action n) }
+{
+    let action = Action::new(n)?;
+    Some(Ending::Causes(action))
 }
 
 // `causes`, the action and the condition of a rule whose literals were read.
-fn read_cause(text: &[u8], heads: Heads) -> ParsedLine
-    ensures { result ≡ cause_line heads (line_end text.now heads.at)
-        (tokens_at text.now heads.at) }
+#[tactic(auto, unfolding(policy::specs::List::all))]
+fn read_cause(text: &[u8], heads: Option<Heads>, at: usize) -> Option<(Option<Line>, usize)>
+    ensures { result ≡ cause_line heads (line_end text.now at) (tokens_at text.now at) }
 {
-    let first = skip_spaces(text, heads.at);
-    let KeywordAt::Found(behind) = causes_at(text, first) else {
-        return failed();
-    };
+    let first = skip_spaces(text, at);
+    let behind = keyword_at(text, first, b"causes")?;
     let second = skip_spaces(text, behind);
-    let NumberAt::Number(n, end) = action_at(text, second) else {
-        return failed();
-    };
-    let condition = read_condition(text, end);
-    let check = Action::new(n);
-    match check {
-        ActionCheck::Valid(action) => { assembled(heads, Ending::Causes(action), true, condition) }
-        ActionCheck::OutOfRange => { assembled(heads, Ending::Causes(Action(0)), false, condition) }
-    }
+    let name = action_at(text, second)?;
+    let (condition, end) = read_condition(text, name.end)?;
+    Some((assembled(heads, ending(name.value), condition), end))
 }
 
-fn read_rule(text: &[u8], from: usize) -> ParsedLine
+fn read_rule(text: &[u8], from: usize) -> Option<(Option<Line>, usize)>
     ensures { result ≡ parsed_from (line_end text.now from)
         (after rule_after (joined literal_of (tokens_at text.now from))) }
 {
-    let heads = read_heads(text, from, false);
-    if heads.ok {
-        read_cause(text, heads)
-    } else {
-        failed()
-    }
+    let (heads, at) = read_heads(text, from, false)?;
+    read_cause(text, heads, at)
 }
 
-fn read_constraint(text: &[u8], from: usize) -> ParsedLine
+fn read_constraint(text: &[u8], from: usize) -> Option<(Option<Line>, usize)>
     ensures { result ≡ parsed_from (line_end text.now from)
         (after constraint_after (joined action_of (tokens_at text.now from))) }
 {
-    let heads = read_heads(text, from, true);
-    if heads.ok {
-        let condition = read_condition(text, heads.at);
-        assembled(heads, Ending::Never, true, condition)
-    } else {
-        failed()
-    }
+    let (heads, at) = read_heads(text, from, true)?;
+    let (condition, end) = read_condition(text, at)?;
+    Some((assembled(heads, Some(Ending::Never), condition), end))
 }
 
 // The line whose first token is at the position.
-fn parse_line(text: &[u8], start: usize) -> ParsedLine
+#[tactic(auto, unfolding(policy::specs::List::all))]
+fn parse_line(text: &[u8], start: usize) -> Option<(Option<Line>, usize)>
     ensures { is_empty (token_at text.now start) ≡ false →
         result ≡ parsed_from (line_end text.now start) (line_from (tokens_at text.now start)) }
 {
-    let never = never_at(text, start);
-    match never {
-        KeywordAt::Found(behind) => read_constraint(text, behind),
-        KeywordAt::Absent => read_rule(text, start),
+    match keyword_at(text, start, b"never") {
+        Some(behind) => read_constraint(text, behind),
+        None => read_rule(text, start),
     }
+}
+
+// The line and the position behind it, or the first of its faults.
+fn judged(parsed: Option<(Option<Line>, usize)>) -> Result<(Line, usize), Fault>
+    ensures { result ≡ judged_line parsed }
+{
+    let Some((part, end)) = parsed else {
+        return Err(Fault::Syntax);
+    };
+    let Some(line) = part else {
+        return Err(Fault::OutOfRange);
+    };
+    if HEAD_LIMIT < line.head_count || COMPARISON_LIMIT < line.comparison_count {
+        return Err(Fault::TooManyParts);
+    }
+    if line.has_repeats() {
+        return Err(Fault::Duplicate);
+    }
+    Ok((line, end))
 }
 
 #[derive(Clone, Copy)]
@@ -279,38 +245,6 @@ pub struct LineRead {
     pub status: LineStatus,
     pub line: Line,
     pub next: usize,
-}
-
-fn judged_line(line: Line) -> LineStatus
-    ensures { result ≡ line_status line }
-{
-    if HEAD_LIMIT < line.head_count {
-        return LineStatus::Refused(Fault::TooManyParts);
-    }
-    if COMPARISON_LIMIT < line.comparison_count {
-        return LineStatus::Refused(Fault::TooManyParts);
-    }
-    if line.has_repeats() {
-        LineStatus::Refused(Fault::Duplicate)
-    } else {
-        LineStatus::Accepted
-    }
-}
-
-// The faults of a line, in their order.
-fn judged(parsed: ParsedLine) -> LineStatus
-    ensures { result ≡ parsed_status parsed }
-{
-    let line = parsed.line;
-    if parsed.ok {
-        if parsed.in_range {
-            judged_line(line)
-        } else {
-            LineStatus::Refused(Fault::OutOfRange)
-        }
-    } else {
-        LineStatus::Refused(Fault::Syntax)
-    }
 }
 
 // Where the line that ends at a position is followed by the next one.
@@ -351,18 +285,12 @@ pub fn read_line(text: &[u8], at: usize) -> LineRead
     if text[start] == b'#' {
         return skipped(behind_line(text, line_end(text, start)));
     }
-    let parsed = parse_line(text, start);
-    let status = judged(parsed);
-    match status {
-        LineStatus::Accepted => {
-            let line = parsed.line;
-            LineRead {
-                status,
-                line,
-                next: behind_line(text, parsed.at),
-            }
-        }
-        LineStatus::Refused(fault) => refused(fault),
-        LineStatus::Skipped => skipped(0),
+    match judged(parse_line(text, start)) {
+        Ok((line, end)) => LineRead {
+            status: LineStatus::Accepted,
+            line,
+            next: behind_line(text, end),
+        },
+        Err(fault) => refused(fault),
     }
 }

@@ -3,7 +3,7 @@
 #![tactic(auto)]
 
 use epoch_line::EpochStatus;
-use rule_text::{LineCounts, TextRead};
+use rule_text::LineCounts;
 use std::io;
 use std::io::{BufWriter, Read, Write};
 
@@ -21,12 +21,12 @@ fn words(counts: LineCounts) -> usize {
 
 fn show_text<W: Write>(out: &mut W, text: &[u8]) -> io::Result<()> {
     match rule_text::read_text(text) {
-        TextRead::Refused(refusal) => {
+        Err(refusal) => {
             let number = refusal.fault.number();
             let line = refusal.location;
             writeln!(out, "refused {number} line {line}")
         }
-        TextRead::Accepted(counts) => {
+        Ok(counts) => {
             let rules = counts.rules.lines;
             let constraints = counts.constraints.lines;
             let rule_words = words(counts.rules);

@@ -1,4 +1,4 @@
-pub mod ConstantLaws
-pub mod PartLaws
-pub mod PatternLaws
 pub mod SymbolLaws
+pub mod PartLaws
+pub mod ConstantLaws
+pub mod PatternLaws

@@ -1,23 +1,23 @@
 -- Laws of reading patterns, which are hexadecimal digits behind `0x`, and of a constant as one of both forms.
-use Rattle.std.proofs.Common.{ℕ, ◌+◌, ◌-◌, ◌^◌, ◌<◌, ◌≤◌, Bool, true, false, ◌&&◌, cond, List, [], ◌∷◌, ◌≡◌, refl, sym, ap, ap₂, ◌∙◌, arith, eqb-true, ltb-true, ltb-false, le-leb, ℤ, pos, length, drop, w32, to_z}
+use Rattle.std.proofs.Common.{ℕ, ◌+◌, ◌-◌, ◌^◌, ◌<◌, ◌≤◌, Bool, true, false, ◌&&◌, cond, List, [], ◌∷◌, ◌≡◌, refl, sym, ap, ap₂, ◌∙◌, arith, eqb-true, le-leb, ℤ, pos, length, drop, w32, to_z}
+use Rattle.std.proofs.lemmas.Bool.{lt-leb}
 use Rattle.std.proofs.Math.Option.{Option, none, some, or_else}
-use Rattle.std.proofs.Math.Dec.{eqb, ltb}
+use Rattle.std.proofs.Math.Dec.{eqb}
 use Rattle.std.proofs.Math.ListN.{get_or}
-use borrow.Author.Tests.{lt-leb}
 use Rattle.policy.proofs.ConstantLaws.{reading_limit_is}
 use Rattle.policy.specs.Limits.{is_reading_value}
 use Rattle.policy.specs.List.{all}
 use Rattle.lexer.proofs.HexLaws.{hex_inside, hex_bound}
 use Rattle.lexer.proofs.RunLaws.{all_run, run_none, whole_token, same_end, broken_token}
 use Rattle.lexer.proofs.WhileLaws.{skip_past}
-use Rattle.lexer.proofs.KeywordLaws.{token_end, token_here, token_past}
+use Rattle.lexer.proofs.KeywordLaws.{token_past, First, nothing, byte, first}
+use Rattle.std.specs.Prelude.{Option as Maybe, Some, None}
 use Rattle.lexer.specs.Byte.{is_hex_digit}
 use Rattle.lexer.specs.Number.{is_empty, decimal_of, hex_number, pattern_of, hexadecimal_of, constant_of}
 use Rattle.lexer.specs.Steps.Scan.{in_token, token_at, hex_digits_at}
 use Rattle.lexer.specs.Lines.{take_leading, skip_while}
-use Rattle.lexer.specs.declared.scan.Digits.{Digits}
-use Rattle.token.specs.Steps.PartAt.{constant_ending, decimal_at, pattern_at, hexadecimal_at, constant_at}
-use Rattle.token.specs.declared.constant.ConstantAt.{ConstantAt}
+use Rattle.lexer.specs.declared.scan.Number.{Number}
+use Rattle.token.specs.Steps.PartAt.{part_ending, decimal_at, pattern_at, hexadecimal_at, constant_at}
 
 -- ---- digits as a pattern
 
@@ -38,24 +38,24 @@ pattern_wide (d ∷ ds) e h = rw (e, lt-leb (length (d ∷ ds)) 8 h)
 
 -- ---- the pattern at a position
 
-module _ (text : List ℕ) (at : ℕ) (d : Digits) (q : d ≡ hex_digits_at text at) where
+module _ (text : List ℕ) (at : ℕ) (d : Number) (q : d ≡ hex_digits_at text at) where
   abbrev run : List ℕ
   run = take_leading is_hex_digit (drop at text)
 
   end_is : d.end ≡ skip_while is_hex_digit text at
   unfolding hex_digits_at
-  end_is = ap (λ (x : Digits). x.end) q
+  end_is = ap (λ (x : Number). x.end) q
 
-  pub pattern_none : d.end ≤ at → ConstantAt.Malformed ≡ pattern_at text at
-  unfolding pattern_at constant_ending pattern_of
-  pattern_none h = sym (ap (constant_ending (skip_while in_token text at)) (go (is_empty (token_at text (skip_while is_hex_digit text at))) refl))
+  pub pattern_none : d.end ≤ at → None ≡ pattern_at text at
+  unfolding pattern_at part_ending pattern_of
+  pattern_none h = sym (ap (part_ending is_reading_value (skip_while in_token text at)) (go (is_empty (token_at text (skip_while is_hex_digit text at))) refl))
     where
       go : (b : Bool) → is_empty (token_at text (skip_while is_hex_digit text at)) ≡ b → pattern_of (token_at text at) ≡ none
       go true e = ap pattern_of (whole_token is_hex_digit hex_inside text at e ∙ run_none is_hex_digit text at (rw end_is at h))
       go false e = not_pattern (token_at text at) (broken_token is_hex_digit hex_inside text at e)
 
-  pub pattern_broken : is_empty (token_at text d.end) ≡ false → ConstantAt.Malformed ≡ pattern_at text at
-  unfolding pattern_at constant_ending
+  pub pattern_broken : is_empty (token_at text d.end) ≡ false → None ≡ pattern_at text at
+  unfolding pattern_at part_ending
   pattern_broken e = rw (not_pattern (token_at text at) (broken_token is_hex_digit hex_inside text at (sym (ap (λ (k : ℕ). is_empty (token_at text k)) end_is) ∙ e)))
 
   module _ (e : is_empty (token_at text d.end) ≡ true) where
@@ -66,21 +66,21 @@ module _ (text : List ℕ) (at : ℕ) (d : Digits) (q : d ≡ hex_digits_at text
     unfolding skip_while
     count h = omega (arith, end_is)
 
-    by_run : pattern_at text at ≡ constant_ending d.end (pattern_of run)
+    by_run : pattern_at text at ≡ part_ending is_reading_value d.end (pattern_of run)
     unfolding pattern_at
-    by_run = ap₂ constant_ending (same_end is_hex_digit hex_inside text at ends ∙ sym end_is) (ap pattern_of (whole_token is_hex_digit hex_inside text at ends))
+    by_run = ap₂ (part_ending is_reading_value) (same_end is_hex_digit hex_inside text at ends ∙ sym end_is) (ap pattern_of (whole_token is_hex_digit hex_inside text at ends))
 
-    pub pattern_value : at < d.end → d.end - at ≤ 8 → ConstantAt.Value (to_z w32 d.value) d.end ≡ pattern_at text at
-    unfolding constant_ending hex_digits_at
+    pub pattern_value : at < d.end → d.end - at ≤ 8 → Some (Some (to_z w32 d.value), d.end) ≡ pattern_at text at
+    unfolding part_ending hex_digits_at
     pattern_value h l =
         let few : length run ≤ 8 = omega (arith, count (omega arith)) in
         let some_digit : 0 < length run = omega (arith, count (omega arith)) in
         let w : hex_number run < 2 ^ 32 = hex_bound 8 run (all_run is_hex_digit (drop at text)) few in
-        let v : d.value ≡ hex_number run = ap (λ (x : Digits). x.value) q ∙ omega arith in
+        let v : d.value ≡ hex_number run = ap (λ (x : Number). x.value) q ∙ omega arith in
         rw v (sym (by_run ∙ rw (pattern_word run (all_run is_hex_digit (drop at text)) some_digit few, reading_limit_is (hex_number run) w)))
 
-    pub pattern_over : at < d.end → 8 < d.end - at → ConstantAt.OutOfRange d.end ≡ pattern_at text at
-    unfolding constant_ending is_reading_value
+    pub pattern_over : at < d.end → 8 < d.end - at → Some (None, d.end) ≡ pattern_at text at
+    unfolding part_ending is_reading_value
     pattern_over h l =
         let many : 8 < length run = omega (arith, count (omega arith)) in
         sym (by_run ∙ rw (pattern_wide run (all_run is_hex_digit (drop at text)) many))
@@ -97,29 +97,12 @@ not_prefix a b t q = go (eqb a 48) (eqb b 120) refl refl
     go true false e f = refl
     go false y e f = refl
 
--- the token at a position, by the byte there
 module _ (text : List ℕ) (at : ℕ) where
-  data First : Type 0 where
-    nothing : token_at text at ≡ [] → First
-    byte : at < length text → token_at text at ≡ get_or text at 0 ∷ token_at text (at + 1) → First
-
-  first : First
-  first = go (ltb at (length text)) refl
-    where
-      inside : at < length text → (b : Bool) → in_token (get_or text at 0) ≡ b → First
-      inside h true e = byte h (token_past text at h e)
-      inside h false e = nothing (token_here text at h e)
-
-      go : (b : Bool) → ltb at (length text) ≡ b → First
-      go true e = inside (ltb-true at (length text) e) (in_token (get_or text at 0)) refl
-      go false e = nothing (token_end text at (ltb-false at (length text) e))
-
-module _ (text : List ℕ) (at : ℕ) where
-  malformed : hexadecimal_of (token_at text at) ≡ none → ConstantAt.Malformed ≡ hexadecimal_at text at
-  unfolding hexadecimal_at constant_ending
+  malformed : hexadecimal_of (token_at text at) ≡ none → None ≡ hexadecimal_at text at
+  unfolding hexadecimal_at part_ending
   malformed e = rw e
 
-  pub hexadecimal_other : (at + 1 < length text → get_or text at 0 ≡ 48 → get_or text (at + 1) 0 ≡ 120 → ⊥) → ConstantAt.Malformed ≡ hexadecimal_at text at
+  pub hexadecimal_other : (at + 1 < length text → get_or text at 0 ≡ 48 → get_or text (at + 1) 0 ≡ 120 → ⊥) → None ≡ hexadecimal_at text at
   unfolding hexadecimal_of
   hexadecimal_other q = malformed (go (first text at) (first text (at + 1)))
     where
@@ -135,31 +118,28 @@ module _ (text : List ℕ) (at : ℕ) where
       let j : in_token (get_or text (at + 1) 0) ≡ true = ap in_token b in
       let l : at < length text = omega arith in
       let two : at + 1 + 1 ≡ at + 2 = omega arith in
-      sym (ap₂ constant_ending
+      sym (ap₂ (part_ending is_reading_value)
       (skip_past in_token text at l i ∙ skip_past in_token text (at + 1) h j ∙ ap (skip_while in_token text) two)
       (ap hexadecimal_of (token_past text at l i ∙ ap₂ (λ (x : ℕ) (t : List ℕ). x ∷ t) a (token_past text (at + 1) h j ∙ ap₂ (λ (x : ℕ) (k : ℕ). x ∷ token_at text k) b two))))
 
 -- ---- one of both forms
 
-or_else_none : (e : ℕ) (o p : Option ℤ) → constant_ending e o ≡ ConstantAt.Malformed → constant_ending e p ≡ constant_ending e (or_else o p)
-unfolding constant_ending or_else
-or_else_none e none p q = refl
-or_else_none e (some k) p q = absurd (no (is_reading_value k) q)
-  where
-    no : (b : Bool) → cond b (ConstantAt.Value k e) (ConstantAt.OutOfRange e) ≡ ConstantAt.Malformed → ⊥
-    no true w = let z : ◌≡◌ {A = ℕ} 0 1 = cc in omega arith
-    no false w = let z : ◌≡◌ {A = ℕ} 0 1 = cc in omega arith
+module _ (e : ℕ) (p : Option ℤ) where
+  or_else_none : (o : Option ℤ) → part_ending is_reading_value e o ≡ None → part_ending is_reading_value e p ≡ part_ending is_reading_value e (or_else o p)
+  unfolding part_ending or_else
+  or_else_none none q = refl
+  or_else_none (some k) q = let w : ◌≡◌ {A = ℕ} 0 1 = cc in absurd (omega arith)
 
-or_else_some : (e : ℕ) (o p : Option ℤ) → (constant_ending e o ≡ ConstantAt.Malformed → ⊥) → constant_ending e o ≡ constant_ending e (or_else o p)
-unfolding constant_ending or_else
-or_else_some e none p q = absurd (q refl)
-or_else_some e (some k) p q = refl
+  or_else_some : (o : Option ℤ) (x : Maybe ℤ × ℕ) → part_ending is_reading_value e o ≡ Some x → Some x ≡ part_ending is_reading_value e (or_else o p)
+  unfolding part_ending or_else
+  or_else_some none x q = let w : ◌≡◌ {A = ℕ} 0 1 = cc in absurd (omega arith)
+  or_else_some (some k) x q = sym q
 
 module _ (text : List ℕ) (at : ℕ) where
-  pub constant_hexadecimal : decimal_at text at ≡ ConstantAt.Malformed → hexadecimal_at text at ≡ constant_at text at
+  pub constant_hexadecimal : decimal_at text at ≡ None → hexadecimal_at text at ≡ constant_at text at
   unfolding decimal_at hexadecimal_at constant_at constant_of
-  constant_hexadecimal q = or_else_none (skip_while in_token text at) (decimal_of (token_at text at)) (hexadecimal_of (token_at text at)) q
+  constant_hexadecimal q = or_else_none (skip_while in_token text at) (hexadecimal_of (token_at text at)) (decimal_of (token_at text at)) q
 
-  pub constant_decimal : (decimal_at text at ≡ ConstantAt.Malformed → ⊥) → decimal_at text at ≡ constant_at text at
+  pub constant_decimal : (x : Maybe ℤ × ℕ) → decimal_at text at ≡ Some x → Some x ≡ constant_at text at
   unfolding decimal_at constant_at constant_of
-  constant_decimal q = or_else_some (skip_while in_token text at) (decimal_of (token_at text at)) (hexadecimal_of (token_at text at)) q
+  constant_decimal x q = or_else_some (skip_while in_token text at) (hexadecimal_of (token_at text at)) (decimal_of (token_at text at)) x q

@@ -1,207 +1,147 @@
-// The parts of a line, each one token: constants, relations, operands, literals and actions. A part out of range is read
-// as a filler, and flagged.
+//! The parts of a line, each one token: constants, relations, operands, literals and actions. A reader answers the part and the
+//! position behind it; where a number of the part is out of range it answers the position alone.
 #![tactic(auto)]
 
 mod constant;
 
-ghost use Rattle.std.specs.Prelude.{◌≡◌, [], ◌∷◌};
-ghost use Rattle.token.specs.Steps.PartAt.{relation_ending, relation_at, operand_ending, operand_at, literal_head, action_head, head_at, comparison_from, comparison_at};
-ghost use Rattle.std.proofs.Math.Option.{some};
+ghost use Rattle.std.specs.Prelude.{◌≡◌, false, [], ◌∷◌, option_map};
+ghost use Rattle.policy.specs.Number.{check_event, check_action, check_reading};
 ghost use Rattle.lexer.specs.Token.{relation_of};
+ghost use Rattle.token.specs.Steps.PartAt.{as_answer, relation_at, operand_at, literal_with, head_at, compared, comparison_at};
 
-pub use constant::{ConstantAt, constant_at};
-use lexer::{NumberAt, action_at, at_token_end, event_at, reading_at, skip_spaces};
-use policy::{
-    Action, ActionCheck, Comparison, Event, EventCheck, Literal, Operand, Reading, ReadingCheck,
-    Relation, Test,
-};
-
-#[derive(Clone, Copy)]
-pub enum RelationAt {
-    Relation(Relation, usize),
-    Malformed,
-}
+pub use constant::constant_at;
+use lexer::{action_at, at_token_end, event_at, reading_at, skip_spaces};
+use policy::{Action, Comparison, Event, Literal, Operand, Reading, Relation, Test};
 
 // The relation that one byte is.
-fn one_byte(b: u8, end: usize) -> RelationAt
-    ensures { result ≡ relation_ending end (relation_of (b ∷ [])) }
+#[tactic(auto, using(crate::proofs::SymbolLaws::one_unknown), unfolding(crate::specs::Steps::PartAt::as_answer, lexer::specs::Token::relation_of, lexer::specs::Byte::is, lexer::specs::Byte::bytes, lexer::specs::Byte::bytes_equal))]
+fn one_byte(b: u8) -> Option<Relation>
+    ensures { result ≡ as_answer (relation_of (b ∷ [])) }
 {
     match b {
-        b'=' => RelationAt::Relation(Relation::Equal, end),
-        b'<' => RelationAt::Relation(Relation::Less, end),
-        b'>' => RelationAt::Relation(Relation::Greater, end),
-        _ => RelationAt::Malformed,
+        b'=' => Some(Relation::Equal),
+        b'<' => Some(Relation::Less),
+        b'>' => Some(Relation::Greater),
+        _ => None,
     }
 }
 
 // The relation that a byte and `=` are.
-fn two_bytes(b: u8, end: usize) -> RelationAt
-    ensures { result ≡ relation_ending end (relation_of (b ∷ 61 ∷ [])) }
+#[tactic(auto, using(crate::proofs::SymbolLaws::two_unknown), unfolding(crate::specs::Steps::PartAt::as_answer, lexer::specs::Token::relation_of, lexer::specs::Byte::is, lexer::specs::Byte::bytes, lexer::specs::Byte::bytes_equal))]
+fn two_bytes(b: u8) -> Option<Relation>
+    ensures { result ≡ as_answer (relation_of (b ∷ 61 ∷ [])) }
 {
     match b {
-        b'!' => RelationAt::Relation(Relation::NotEqual, end),
-        b'<' => RelationAt::Relation(Relation::LessOrEqual, end),
-        b'>' => RelationAt::Relation(Relation::GreaterOrEqual, end),
-        _ => RelationAt::Malformed,
+        b'!' => Some(Relation::NotEqual),
+        b'<' => Some(Relation::LessOrEqual),
+        b'>' => Some(Relation::GreaterOrEqual),
+        _ => None,
     }
 }
 
-fn relation_at(text: &[u8], at: usize) -> RelationAt
+fn relation_at(text: &[u8], at: usize) -> Option<(Relation, usize)>
     ensures { result ≡ relation_at text.now at }
 {
     if at_token_end(text, at) {
-        return RelationAt::Malformed;
+        return None;
     }
     let b = text[at];
     let second = at + 1;
     if at_token_end(text, second) {
-        return one_byte(b, second);
+        return Some((one_byte(b)?, second));
     }
-    if text[second] == b'=' {
-        if at_token_end(text, second + 1) {
-            return two_bytes(b, second + 1);
-        }
+    if text[second] == b'=' && at_token_end(text, second + 1) {
+        return Some((two_bytes(b)?, second + 1));
     }
-    RelationAt::Malformed
+    None
 }
 
-#[derive(Clone, Copy)]
-pub enum OperandAt {
-    // The operand, whether it is in range, and the position behind it.
-    Operand(Operand, bool, usize),
-    Malformed,
-}
-
-fn reading_operand(n: u32, end: usize) -> OperandAt
-    ensures { result ≡ operand_ending end (some (Operand.Reading (record { 0 = n }))) }
+// The reading of a number, as an operand.
+fn reading_operand(n: u32) -> Option<Operand>
+    ensures { result ≡ option_map Operand.Reading (check_reading n) }
 {
-    let check = Reading::new(n);
-    match check {
-        ReadingCheck::Valid(reading) => OperandAt::Operand(Operand::Reading(reading), true, end),
-        ReadingCheck::OutOfRange => OperandAt::Operand(Operand::Constant(0), false, end),
-    }
+    Reading::new(n).map(Operand::Reading)
 }
 
-fn operand_at(text: &[u8], at: usize) -> OperandAt
+fn constant_operand(constant: Option<i32>) -> Option<Operand>
+    ensures { result ≡ option_map Operand.Constant constant }
+{
+    constant.map(Operand::Constant)
+}
+
+fn operand_at(text: &[u8], at: usize) -> Option<(Option<Operand>, usize)>
     ensures { result ≡ operand_at text.now at }
 {
-    let name = reading_at(text, at);
-    if let NumberAt::Number(n, end) = name {
-        return reading_operand(n, end);
+    if let Some(name) = reading_at(text, at) {
+        return Some((reading_operand(name.value), name.end));
     }
-    let constant = constant_at(text, at);
-    match constant {
-        ConstantAt::Value(k, end) => OperandAt::Operand(Operand::Constant(k), true, end),
-        ConstantAt::OutOfRange(end) => OperandAt::Operand(Operand::Constant(0), false, end),
-        ConstantAt::Malformed => OperandAt::Malformed,
-    }
+    let (constant, end) = constant_at(text, at)?;
+    Some((constant_operand(constant), end))
 }
 
-#[derive(Clone, Copy)]
-pub enum HeadAt {
-    // The literal or the action, whether it is in range, and the position behind it.
-    Head(Test, bool, usize),
-    Malformed,
-}
-
-fn literal_head(number: NumberAt, negated: bool) -> HeadAt
-    ensures { result ≡ literal_head number negated }
+// The action of a number, as the head of a constraint.
+fn member(n: u32) -> Option<Test>
+    ensures { result ≡ option_map Test.Member (check_action n) }
 {
-    match number {
-        NumberAt::Number(n, end) => {
-            let check = Event::new(n);
-            match check {
-                EventCheck::Valid(event) => {
-                    HeadAt::Head(Test::Occurs(Literal { event, negated }), true, end)
-                }
-                EventCheck::OutOfRange => HeadAt::Head(Test::Member(Action(0)), false, end),
-            }
-        }
-        NumberAt::Malformed => HeadAt::Malformed,
-    }
+    Action::new(n).map(Test::Member)
 }
 
-fn action_head(number: NumberAt) -> HeadAt
-    ensures { result ≡ action_head number }
+// The literal of an event; none where it is out of range.
+#[tactic(auto, unfolding(crate::specs::Steps::PartAt::literal_with))]
+fn literal(n: u32, negated: bool) -> Option<Test>
+    ensures { result ≡ literal_with negated (check_event n) }
 {
-    match number {
-        NumberAt::Number(n, end) => {
-            let check = Action::new(n);
-            match check {
-                ActionCheck::Valid(action) => HeadAt::Head(Test::Member(action), true, end),
-                ActionCheck::OutOfRange => HeadAt::Head(Test::Member(Action(0)), false, end),
-            }
-        }
-        NumberAt::Malformed => HeadAt::Malformed,
+    let event = Event::new(n)?;
+    Some(Test::Occurs(Literal { event, negated }))
+}
+
+// `E1` or `!E1`.
+fn literal_at(text: &[u8], at: usize) -> Option<(Option<Test>, usize)>
+    ensures { result ≡ head_at text.now at false }
+{
+    if at < text.len() && text[at] == b'!' {
+        let name = event_at(text, at + 1)?;
+        Some((literal(name.value, true), name.end))
+    } else {
+        let name = event_at(text, at)?;
+        Some((literal(name.value, false), name.end))
     }
 }
 
-// An action of a constraint, or a literal of a rule.
-pub fn head_at(text: &[u8], at: usize, never: bool) -> HeadAt
+/// The action of a constraint, or the literal of a rule, that the token at the position is.
+pub fn head_at(text: &[u8], at: usize, never: bool) -> Option<(Option<Test>, usize)>
     ensures { result ≡ head_at text.now at never }
 {
     if never {
-        return action_head(action_at(text, at));
-    }
-    if at_token_end(text, at) {
-        return HeadAt::Malformed;
-    }
-    if text[at] == b'!' {
-        literal_head(event_at(text, at + 1), true)
+        let name = action_at(text, at)?;
+        Some((member(name.value), name.end))
     } else {
-        literal_head(event_at(text, at), false)
+        literal_at(text, at)
     }
 }
 
-#[derive(Clone, Copy)]
-pub enum ComparisonAt {
-    // The comparison, whether it is in range, and the position behind it.
-    Comparison(Comparison, bool, usize),
-    Malformed,
-}
-
-fn comparison_from(
-    n: u32,
-    relation: Relation,
-    operand: Operand,
-    in_range: bool,
-    end: usize,
-) -> ComparisonAt
-    ensures { result ≡ comparison_from n relation operand in_range end }
+// The comparison of a reading with an operand; none where one of them is out of range.
+#[tactic(auto, unfolding(crate::specs::Steps::PartAt::compared_with))]
+fn compared(n: u32, relation: Relation, operand: Option<Operand>) -> Option<Comparison>
+    ensures { result ≡ compared n relation operand }
 {
-    let check = Reading::new(n);
-    if let ReadingCheck::Valid(reading) = check {
-        if in_range {
-            let comparison = Comparison {
-                reading,
-                relation,
-                operand,
-            };
-            return ComparisonAt::Comparison(comparison, true, end);
-        }
-    }
-    let filler = Comparison {
-        reading: Reading(0),
-        relation: Relation::Equal,
-        operand: Operand::Constant(0),
-    };
-    ComparisonAt::Comparison(filler, false, end)
+    let reading = Reading::new(n)?;
+    let operand = operand?;
+    Some(Comparison {
+        reading,
+        relation,
+        operand,
+    })
 }
 
-// A comparison: three tokens, the first at the position.
-pub fn comparison_at(text: &[u8], at: usize) -> ComparisonAt
+/// The comparison at the position: three tokens.
+pub fn comparison_at(text: &[u8], at: usize) -> Option<(Option<Comparison>, usize)>
     ensures { result ≡ comparison_at text.now at }
 {
-    let NumberAt::Number(n, behind) = reading_at(text, at) else {
-        return ComparisonAt::Malformed;
-    };
-    let second = skip_spaces(text, behind);
-    let RelationAt::Relation(relation, behind) = relation_at(text, second) else {
-        return ComparisonAt::Malformed;
-    };
+    let name = reading_at(text, at)?;
+    let second = skip_spaces(text, name.end);
+    let (relation, behind) = relation_at(text, second)?;
     let third = skip_spaces(text, behind);
-    let OperandAt::Operand(operand, in_range, end) = operand_at(text, third) else {
-        return ComparisonAt::Malformed;
-    };
-    comparison_from(n, relation, operand, in_range, end)
+    let (operand, end) = operand_at(text, third)?;
+    Some((compared(name.value, relation, operand), end))
 }

@@ -1,8 +1,8 @@
 -- Laws of words put into a buffer: what four stores do, and that putting words and then others behind them is putting both.
 use Rattle.std.proofs.Common.{ℕ, suc, ◌+◌, ◌*◌, ◌/◌, ◌%◌, ◌^◌, ◌≤◌, ◌<◌, Bool, true, false, cond, List, [], ◌∷◌, ◌++◌, append_assoc, append-nil, ◌≡◌, refl, sym, ap, ap₂, ◌∙◌, add_assoc, add-zero, arith, le-leb, leb-true, length, take, drop, length-append, length-drop, take-append-drop, take_at, drop-drop, length-take-le}
+use Rattle.std.proofs.lemmas.Bool.{lt-leb}
 use Rattle.std.proofs.Math.ListN.{set}
 use Rattle.std.proofs.Math.Seq.{sets-eq, take-append_seam, take-append-le, drop-append-le, drop-append-add}
-use borrow.Author.Tests.{lt-leb}
 use Rattle.word.proofs.WordLaws.{bytes_append, bytes_length}
 use Rattle.word.specs.Word.{bytes_of}
 use Rattle.word.specs.Steps.Write.{put_bytes, fits, put_words}

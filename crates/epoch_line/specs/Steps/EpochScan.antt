@@ -1,10 +1,8 @@
 -- What stands at a position of an epoch line, and what was collected up to there.
-use Rattle.std.specs.Prelude.{ℕ, Bool, true, ◌||◌, cond, eqb, ltb, ℤ, drop, List}
-use mathlib.Core.List.{foldl}
+use Rattle.std.specs.Prelude.{ℕ, Bool, true, ◌||◌, cond, eqb, ℤ, drop, List, Option as Maybe, Some, None, fold}
 use Rattle.std.proofs.Math.Option.{Option, none, some}
 use Rattle.policy.specs.Epoch.{Epoch}
 use Rattle.policy.specs.List.{any}
-use Rattle.policy.specs.Number.{reading_limit}
 use Rattle.policy.specs.Set.{EventSet, ReadingSet, has_reading}
 use Rattle.policy.specs.declared.fault.Fault.{Fault}
 use Rattle.epoch_line.specs.Answer.{refused_read, accepted_read}
@@ -12,29 +10,36 @@ use Rattle.epoch_line.specs.Epoch.{Item, event, value, at_equals, assignment_of,
 use Rattle.lexer.specs.Steps.Scan.{in_token, token_at, tokens_at}
 use Rattle.lexer.specs.Lines.{skip_while}
 use Rattle.epoch_line.specs.declared.EpochRead.{EpochRead}
-use Rattle.epoch_line.specs.declared.ItemAt.{ItemAt}
-use Rattle.token.specs.declared.constant.ConstantAt.{ConstantAt}
+use Rattle.epoch_line.specs.declared.Entry.{Entry}
+use Rattle.policy.specs.declared.number.Event.{Event}
+use Rattle.policy.specs.declared.number.Reading.{Reading}
 
--- ---- one token
+-- ---- one token: what it gives, none where a number of it is out of range, and the position behind it
 
-unfoldable pub item_within : ℕ → Item → ItemAt
-item_within end (event n) = ItemAt.Event (record { 0 = n }) end
-item_within end (value n k) = ItemAt.Value (record { 0 = n }) k end
+unfoldable pub event_with : Maybe Event → Maybe Entry
+event_with None = None
+event_with (Some e) = Some (Entry.Event e)
 
-unfoldable pub item_ending : ℕ → Option Item → ItemAt
-item_ending end none = ItemAt.Malformed
-item_ending end (some i) = cond (item_in_range i) (item_within end i) (ItemAt.OutOfRange end)
+unfoldable pub value_with : Maybe Reading → Maybe ℤ → Maybe Entry
+value_with None k = None
+value_with (Some r) None = None
+value_with (Some r) (Some k) = Some (Entry.Value r k)
 
--- the value of the reading with this number, by the constant that was read
-unfoldable pub value_item : ℕ → ConstantAt → ItemAt
-value_item n (ConstantAt.Value k end) = cond (ltb n reading_limit) (ItemAt.Value (record { 0 = n }) k end) (ItemAt.OutOfRange end)
-value_item n (ConstantAt.OutOfRange end) = ItemAt.OutOfRange end
-value_item n ConstantAt.Malformed = ItemAt.Malformed
+unfoldable pub entry_as : Item → Entry
+entry_as (event n) = Entry.Event (record { 0 = n })
+entry_as (value n k) = Entry.Value (record { 0 = n }) k
 
-unfoldable pub value_at : List ℕ → ℕ → ItemAt
+abbrev pub entry_of : Item → Maybe Entry
+entry_of i = cond (item_in_range i) (Some (entry_as i)) None
+
+unfoldable pub item_ending : ℕ → Option Item → Maybe (Maybe Entry × ℕ)
+item_ending end none = None
+item_ending end (some i) = Some (entry_of i, end)
+
+unfoldable pub value_at : List ℕ → ℕ → Maybe (Maybe Entry × ℕ)
 value_at line at = item_ending (skip_while in_token line at) (assignment_of (at_equals (token_at line at)))
 
-unfoldable pub item_at : List ℕ → ℕ → ItemAt
+unfoldable pub item_at : List ℕ → ℕ → Maybe (Maybe Entry × ℕ)
 item_at line at = item_ending (skip_while in_token line at) (item_of (token_at line at))
 
 -- ---- the line as it is scanned: what was collected, and whether a number was out of range or a reading given twice
@@ -67,7 +72,7 @@ finish_read s =
 
 unfoldable pub items_read : Scanned → Option (List Item) → EpochRead
 items_read s none = refused_read Fault.EpochSyntax
-items_read s (some is) = finish_read (foldl take_item s is)
+items_read s (some is) = finish_read (fold take_item s is)
 
 -- the answer, after what was collected up to a position
 unfoldable pub epoch_from : Scanned → List ℕ → ℕ → EpochRead

@@ -1,7 +1,6 @@
 -- A question byte by byte, and what is held of it.
 use Prim.Native.Char.{code}
-use Rattle.std.specs.Prelude.{ℕ, ◌+◌, ◌*◌, ◌-◌, Bool, true, false, cond, eqb, ltb, length, set, List}
-use mathlib.Core.List.{foldl}
+use Rattle.std.specs.Prelude.{ℕ, ◌+◌, ◌*◌, ◌-◌, Bool, true, false, cond, eqb, ltb, length, set, List, fold}
 use Rattle.lexer.specs.Byte.{is_space, is_digit}
 use Rattle.lexer.specs.Lines.{take_leading, in_line}
 use Rattle.questions.specs.declared.line.Question.{Question}
@@ -62,7 +61,7 @@ pushed h b =
 
 -- the bytes of a chunk up to the end of the line
 unfoldable pub bytes_taken : Question → List ℕ → List ℕ → Held
-bytes_taken q held chunk = foldl pushed (held_by q held) (take_leading in_line chunk)
+bytes_taken q held chunk = fold pushed (held_by q held) (take_leading in_line chunk)
 
 unfoldable pub line_taken : Question → List ℕ → List ℕ → Taken
 line_taken q held chunk =

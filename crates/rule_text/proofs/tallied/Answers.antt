@@ -1,4 +1,4 @@
-use Rattle.std.proofs.Common.{lt-ltb, le-ltb, rules}
+use Rattle.std.proofs.Common.{lt-ltb, le-ltb}
 use Rattle.rule_text.specs.Steps.Tally.{tally_as, tallied_by}
 use Rattle.rule_text.proofs.tallied.Goals as goal
 

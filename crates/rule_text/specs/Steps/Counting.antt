@@ -1,6 +1,6 @@
 -- Counting the lines of a text instead of collecting them.
+use Rattle.std.specs.Prelude.{Result, Ok, Err, fold}
 use Rattle.std.specs.Prelude.{ℕ, ◌+◌, cond, ltb, length, drop, List}
-use mathlib.Core.List.{foldl}
 use Rattle.policy.specs.Fault.{refusal, within}
 use Rattle.policy.specs.Line.{PolicyLine, heads_of, comparisons_of, ending_of, constant_count}
 use Rattle.policy.specs.declared.fault.Fault.{Fault}
@@ -11,27 +11,25 @@ use Rattle.lexer.specs.Lines.{lines_of}
 use Rattle.rule_text.specs.Text.{text_limit}
 use Rattle.rule_text.specs.Steps.Tally.{one_more, tally_as}
 use Rattle.rule_text.specs.declared.LineCounts.{LineCounts}
-use Rattle.rule_text.specs.declared.Tally.{Tally}
 use Rattle.rule_text.specs.declared.TextCounts.{TextCounts}
-use Rattle.rule_text.specs.declared.TextRead.{TextRead}
 
 pub data Counting : Type 0 where
   -- the number of the next line, and the counts so far
   going : ℕ → TextCounts → Counting
   halted : Refusal → Counting
 
-unfoldable pub counted_step : ℕ → Tally → Counting
-counted_step n (Tally.Go c) = going (n + 1) c
-counted_step n (Tally.Stop f) = halted (refusal f n)
+unfoldable pub counted_step : ℕ → Result TextCounts Fault → Counting
+counted_step n (Ok c) = going (n + 1) c
+counted_step n (Err f) = halted (refusal f n)
 
 -- one line more, to the counts of its kind
 abbrev pub plus : LineCounts → PolicyLine → LineCounts
 plus c l = one_more c (length (heads_of l)) (length (comparisons_of l)) (constant_count (comparisons_of l))
 
 -- what a line is, to the counts
-unfoldable pub stepped : TextCounts → LineAnswer → Tally
-stepped c skipped = Tally.Go c
-stepped c (refused f) = Tally.Stop f
+unfoldable pub stepped : TextCounts → LineAnswer → Result TextCounts Fault
+stepped c skipped = Ok c
+stepped c (refused f) = Err f
 stepped c (accepted l) = tally_as (ending_of l) c (plus c.rules l) (plus c.constraints l)
 
 unfoldable pub count_line : Counting → List ℕ → Counting
@@ -40,17 +38,17 @@ count_line (halted r) line = halted r
 
 -- the lines from a position on, counted
 unfoldable pub count_from : List ℕ → ℕ → TextCounts → ℕ → Counting
-count_from text n c at = foldl count_line (going n c) (lines_of (drop at text))
+count_from text n c at = fold count_line (going n c) (lines_of (drop at text))
 
 -- the lines of a text, counted behind those before it
 unfoldable pub count_behind : TextCounts → List ℕ → Counting
 count_behind c text = cond (ltb text_limit (length text)) (halted (refusal Fault.TooLong 0)) (count_from text 1 c 0)
 
-unfoldable pub count_read : Counting → TextRead
-count_read (going n c) = TextRead.Accepted c
-count_read (halted r) = TextRead.Refused r
+unfoldable pub count_read : Counting → Result TextCounts Refusal
+count_read (going n c) = Ok c
+count_read (halted r) = Err r
 
 -- the refusal, if it is one, in one of the texts
-unfoldable pub sourced_in : Source → TextRead → TextRead
-sourced_in source (TextRead.Accepted c) = TextRead.Accepted c
-sourced_in source (TextRead.Refused r) = TextRead.Refused (within source r)
+unfoldable pub sourced_in : Source → Result TextCounts Refusal → Result TextCounts Refusal
+sourced_in source (Ok c) = Ok c
+sourced_in source (Err r) = Err (within source r)

@@ -1,13 +1,13 @@
 -- The counts of a text with one line more.
+use Rattle.std.specs.Prelude.{Result, Ok, Err}
 use Rattle.std.specs.Prelude.{ℕ, ◌+◌, ◌*◌, ◌≤◌, cond, ltb, take}
-use Rattle.policy.specs.Limits.{head_limit, comparison_limit, rule_limit, constraint_limit}
+use Rattle.policy.specs.Limits.{rule_limit, constraint_limit}
 use Rattle.policy.specs.Line.{constant_count}
 use Rattle.policy.specs.declared.fault.Fault.{Fault}
 use Rattle.policy.specs.declared.line.Ending.{Ending}
 use Rattle.line_value.specs.declared.Line.{Line}
 use Rattle.syntax.specs.declared.line.LineStatus.{LineStatus}
 use Rattle.rule_text.specs.declared.LineCounts.{LineCounts}
-use Rattle.rule_text.specs.declared.Tally.{Tally}
 use Rattle.rule_text.specs.declared.TextCounts.{TextCounts}
 
 -- no more parts than so many lines may have
@@ -35,14 +35,14 @@ unfoldable pub with_line : LineCounts → Line → LineCounts
 with_line c l = one_more c l.head_count l.comparison_count (constant_count (take l.comparison_count l.comparisons))
 
 -- the counts with those of the kind that a line ends as
-unfoldable pub tally_as : Ending → TextCounts → LineCounts → LineCounts → Tally
-tally_as (Ending.Causes a) c rules constraints = cond (ltb c.rules.lines rule_limit) (Tally.Go (record { rules = rules; constraints = c.constraints })) (Tally.Stop Fault.TooManyLines)
-tally_as Ending.Never c rules constraints = cond (ltb c.constraints.lines constraint_limit) (Tally.Go (record { rules = c.rules; constraints = constraints })) (Tally.Stop Fault.TooManyLines)
+unfoldable pub tally_as : Ending → TextCounts → LineCounts → LineCounts → Result TextCounts Fault
+tally_as (Ending.Causes a) c rules constraints = cond (ltb c.rules.lines rule_limit) (Ok (record { rules = rules; constraints = c.constraints })) (Err Fault.TooManyLines)
+tally_as Ending.Never c rules constraints = cond (ltb c.constraints.lines constraint_limit) (Ok (record { rules = c.rules; constraints = constraints })) (Err Fault.TooManyLines)
 
-unfoldable pub tallied_by : TextCounts → Line → Tally
+unfoldable pub tallied_by : TextCounts → Line → Result TextCounts Fault
 tallied_by c l = tally_as l.ending c (with_line c.rules l) (with_line c.constraints l)
 
-unfoldable pub step_of : TextCounts → LineStatus → Line → Tally
-step_of c LineStatus.Skipped l = Tally.Go c
-step_of c (LineStatus.Refused f) l = Tally.Stop f
+unfoldable pub step_of : TextCounts → LineStatus → Line → Result TextCounts Fault
+step_of c LineStatus.Skipped l = Ok c
+step_of c (LineStatus.Refused f) l = Err f
 step_of c LineStatus.Accepted l = tallied_by c l

@@ -1,95 +1,89 @@
--- What reading a line yields before it is judged.
-use Rattle.std.specs.Prelude.{ℕ, Bool, true, false, ◌&&◌, cond, List, [], ◌∷◌, map, ltb}
+-- What reading a line yields before it is judged: nothing where the shape is wrong, and otherwise the position behind what was read,
+-- with its value where each number is in range.
+use Rattle.std.specs.Prelude.{ℕ, Bool, cond, List, [], ◌∷◌, map, Option as Maybe, Some, None}
 use Rattle.std.proofs.Math.Option.{Option, none, some}
 use Rattle.policy.specs.Limits.{in_range, comparison_in_range, ending_in_range, head_limit, comparison_limit}
-use Rattle.policy.specs.Line.{PolicyLine, heads_of, comparisons_of, ending_of}
-use Rattle.line_value.specs.Value.{line_of, head, padded, counted, no_head, no_comparison}
+use Rattle.policy.specs.Line.{PolicyLine}
 use Rattle.policy.specs.List.{all}
-use Rattle.policy.specs.Number.{set_limit}
 use Rattle.policy.specs.declared.comparison.Comparison.{Comparison}
 use Rattle.policy.specs.declared.line.Ending.{Ending}
 use Rattle.policy.specs.declared.line.Head.{Head}
-use Rattle.line_value.specs.declared.Line.{Line}
 use Rattle.policy.specs.declared.line.Test.{Test}
 use Rattle.policy.specs.declared.number.Action.{Action}
+use Rattle.line_value.specs.Value.{line_value, head, padded, counted, no_head, no_comparison}
+use Rattle.line_value.specs.declared.Line.{Line}
 use Rattle.lexer.specs.Byte.{is}
 use Rattle.lexer.specs.Token.{Token, action_of}
-use Rattle.syntax.specs.Answer.{new_line}
-use Rattle.syntax.specs.Grammar.{Joined, condition_from}
-use Rattle.token.specs.Steps.PartAt.{test_in_range, small_test, small_comparison}
-use Rattle.lexer.specs.Steps.Scan.{tokens_at}
 use Rattle.lexer.specs.Lines.{line_end}
-use Rattle.syntax.specs.declared.line.Condition.{Condition}
+use Rattle.lexer.specs.Steps.Scan.{tokens_at}
+use Rattle.token.specs.Steps.PartAt.{kept, test_in_range}
+use Rattle.syntax.specs.Grammar.{Joined, condition_from}
+use Rattle.syntax.specs.declared.line.Comparisons.{Comparisons}
 use Rattle.syntax.specs.declared.line.Heads.{Heads}
-use Rattle.syntax.specs.declared.line.ParsedLine.{ParsedLine}
-
-abbrev pub failed_line : ParsedLine
-failed_line = record { ok = false; in_range = false; line = new_line; at = 0 }
 
 -- ---- the heads
 
 -- heads that were read, with the tokens that are left of the line and its end
 pub record HeadsRead : Type 0 where
-  pub in_range : Bool
-  pub heads : List Head
-  pub count : ℕ
+  pub held : Maybe Heads
   pub rest : List Token
   pub end : ℕ
 
-abbrev pub view_of : List ℕ → Heads → Option HeadsRead
-view_of text h =
-    cond h.ok (some (record { in_range = h.in_range; heads = h.heads; count = h.count; rest = tokens_at text h.at; end = line_end text h.at })) none
+abbrev pub view_of : List ℕ → Maybe (Maybe Heads × ℕ) → Option HeadsRead
+view_of text None = none
+view_of text (Some h) = some (record { held = h.0; rest = tokens_at text h.1; end = line_end text h.1 })
 
-abbrev pub small_heads : List Test → List Head
-small_heads ts = map head (map small_test ts)
+-- what is held of heads, where each is in range
+abbrev pub held_heads : Bool → List Head → ℕ → Maybe Heads
+held_heads ok heads count = cond ok (Some (record { heads = heads; count = count })) None
 
 unfoldable pub heads_outcome : ℕ → Option (Joined Test) → Option HeadsRead
 heads_outcome end none = none
 heads_outcome end (some j) =
-    some (record { in_range = all test_in_range j.items; heads = padded head_limit no_head (small_heads j.items); count = counted head_limit (small_heads j.items); rest = j.rest; end = end })
+    some (record { held = held_heads (all test_in_range j.items) (padded head_limit no_head (map head j.items)) (counted head_limit (map head j.items)); rest = j.rest; end = end })
 
 -- ---- the condition
 
-abbrev pub no_comparisons : Bool → ℕ → Condition
-no_comparisons ok at = record { ok = ok; in_range = ok; comparisons = padded comparison_limit no_comparison []; count = 0; at = at }
+abbrev pub no_condition : Comparisons
+no_condition = record { comparisons = padded comparison_limit no_comparison []; count = 0 }
 
-unfoldable pub condition_outcome : ℕ → Option (List Comparison) → Condition
-condition_outcome end none = no_comparisons false 0
-condition_outcome end (some cs) =
-    record { ok = true; in_range = all comparison_in_range cs; comparisons = padded comparison_limit no_comparison (map small_comparison cs); count = counted comparison_limit (map small_comparison cs); at = end }
+abbrev pub held_comparisons : Bool → List Comparison → ℕ → Maybe Comparisons
+held_comparisons ok comparisons count = cond ok (Some (record { comparisons = comparisons; count = count })) None
+
+unfoldable pub condition_outcome : ℕ → Option (List Comparison) → Maybe (Maybe Comparisons × ℕ)
+condition_outcome end none = None
+condition_outcome end (some cs) = Some (held_comparisons (all comparison_in_range cs) (padded comparison_limit no_comparison cs) (counted comparison_limit cs), end)
 
 -- ---- the whole line
 
-unfoldable pub small_ending : Ending → Ending
-small_ending (Ending.Causes a) = cond (ltb a.0 set_limit) (Ending.Causes a) (Ending.Causes (record { 0 = 0 }))
-small_ending Ending.Never = Ending.Never
+-- the line put together, of parts that are in range or not
+unfoldable pub assembled_line : Maybe Heads → Maybe Ending → Maybe Comparisons → Maybe Line
+assembled_line None ending c = None
+assembled_line (Some h) None c = None
+assembled_line (Some h) (Some ending) None = None
+assembled_line (Some h) (Some ending) (Some c) =
+    Some (record { heads = h.heads; head_count = h.count; comparisons = c.comparisons; comparison_count = c.count; ending = ending })
 
--- the line put together, with an ending and whether that is in range
-unfoldable pub assembled_line : Heads → Ending → Bool → Condition → ParsedLine
-assembled_line h ending ok c =
-    cond c.ok
-    (record {
-      ok = true;
-      in_range = h.in_range && c.in_range && ok;
-      line = record { heads = h.heads; head_count = h.count; comparisons = c.comparisons; comparison_count = c.count; ending = ending };
-      at = c.at;
-    })
-    failed_line
+-- the same with the condition that was read
+unfoldable pub with_condition : Maybe Heads → Maybe Ending → Maybe (Maybe Comparisons × ℕ) → Maybe (Maybe Line × ℕ)
+with_condition h ending None = None
+with_condition h ending (Some c) = Some (assembled_line h ending c.0, c.1)
+
+-- the ending for an action, in range or not
+unfoldable pub causes_with : Maybe Action → Maybe Ending
+causes_with None = None
+causes_with (Some a) = Some (Ending.Causes a)
 
 -- what follows the literals of a rule
-unfoldable pub caused_line : Heads → ℕ → Option Action → Option (List Comparison) → ParsedLine
-caused_line h end none o = failed_line
-caused_line h end (some a) o = assembled_line h (small_ending (Ending.Causes a)) (ending_in_range (Ending.Causes a)) (condition_outcome end o)
+unfoldable pub caused_line : Maybe Heads → ℕ → Option Action → Option (List Comparison) → Maybe (Maybe Line × ℕ)
+caused_line h end none o = None
+caused_line h end (some a) o = with_condition h (kept ending_in_range (Ending.Causes a)) (condition_outcome end o)
 
-unfoldable pub cause_line : Heads → ℕ → List Token → ParsedLine
-cause_line h end [] = failed_line
-cause_line h end (t ∷ []) = failed_line
-cause_line h end (t ∷ a ∷ ts) = cond (is "causes" t) (caused_line h end (action_of a) (condition_from ts)) failed_line
+unfoldable pub cause_line : Maybe Heads → ℕ → List Token → Maybe (Maybe Line × ℕ)
+cause_line h end [] = None
+cause_line h end (t ∷ []) = None
+cause_line h end (t ∷ a ∷ ts) = cond (is "causes" t) (caused_line h end (action_of a) (condition_from ts)) None
 
--- the value of a line, with a filler for each part that is out of range
-unfoldable pub small_line : PolicyLine → Line
-small_line l = line_of (map small_test (heads_of l)) (map small_comparison (comparisons_of l)) (small_ending (ending_of l))
-
-unfoldable pub parsed_from : ℕ → Option PolicyLine → ParsedLine
-parsed_from end none = failed_line
-parsed_from end (some l) = record { ok = true; in_range = in_range l; line = small_line l; at = end }
+unfoldable pub parsed_from : ℕ → Option PolicyLine → Maybe (Maybe Line × ℕ)
+parsed_from end none = None
+parsed_from end (some l) = Some (cond (in_range l) (Some (line_value l)) None, end)

@@ -1,21 +1,15 @@
-use Rattle.std.proofs.Common.{true, false, sym, ap, ◌∙◌}
-use Rattle.token.proofs.PartLaws.{head_action, head_none, head_negated, head_plain}
-use Rattle.lexer.proofs.KeywordLaws.{token_inside}
-use Rattle.token.specs.Steps.PartAt.{action_head, literal_head, head_at}
-use Rattle.lexer.specs.declared.scan.NumberAt.{NumberAt}
+use Rattle.std.proofs.Common.{sym, ap, ◌∙◌}
+use Rattle.std.specs.Prelude.{Option as Maybe, Some}
+use Rattle.policy.specs.declared.line.Test.{Test}
+use Rattle.token.proofs.PartLaws.{member_none, member_some}
+use Rattle.token.specs.Steps.PartAt.{head_at}
 use Rattle.token.proofs.head_at.Goals as goal
 
-pub returns-then-never : goal.returns-then-never
-returns-then-never c = c.action_head.ensures ∙ ap action_head c.action_at.ensures ∙ head_action c.args.text.now c.args.at ∙ ap (head_at c.args.text.now c.args.at) (sym c.if-never.true)
+pub returns-in_err-name : goal.returns-in_err-name
+returns-in_err-name c = c.from_residual.ensures ∙ member_none c.args.text.now c.args.at (sym c.action_at.ensures ∙ c.in_err-name.was) ∙ ap (head_at c.args.text.now c.args.at) (sym c.if-never.true)
 
-pub returns-then-at_token_end : goal.returns-then-at_token_end
-returns-then-at_token_end c = head_none c.args.text.now c.args.at (sym c.at_token_end.ensures ∙ c.if-at_token_end.true) ∙ ap (head_at c.args.text.now c.args.at) (sym c.if-never.false)
-
-pub bounds-text-at : goal.bounds-text-at
-bounds-text-at c = token_inside c.args.text.now c.args.at (sym c.at_token_end.ensures ∙ c.if-at_token_end.false)
-
-pub returns-then-text-at-eq33 : goal.returns-then-text-at-eq33
-returns-then-text-at-eq33 c = c.literal_head.ensures ∙ ap (λ (x : NumberAt). literal_head x true) c.event_at.ensures ∙ head_negated c.args.text.now c.args.at (sym c.at_token_end.ensures ∙ c.if-at_token_end.false) c.if-text-at-eq33.true ∙ ap (head_at c.args.text.now c.args.at) (sym c.if-never.false)
-
-pub returns-else-text-at-eq33 : goal.returns-else-text-at-eq33
-returns-else-text-at-eq33 c = c.literal_head-else-text-at-eq33.ensures ∙ ap (λ (x : NumberAt). literal_head x false) c.event_at-else-text-at-eq33.ensures ∙ head_plain c.args.text.now c.args.at (sym c.at_token_end.ensures ∙ c.if-at_token_end.false) c.if-text-at-eq33.false ∙ ap (head_at c.args.text.now c.args.at) (sym c.if-never.false)
+pub returns-in_ok-name : goal.returns-in_ok-name
+returns-in_ok-name c =
+    ap (λ (m : Maybe Test). Some (m, c.in_ok-name.name.end)) c.member.ensures
+    ∙ member_some c.args.text.now c.args.at _ (sym c.action_at.ensures ∙ c.in_ok-name.was)
+    ∙ ap (head_at c.args.text.now c.args.at) (sym c.if-never.true)

@@ -22,8 +22,8 @@ part-words-requires-clause-inside c =
 pub returns-in-Causes : goal.returns-in-Causes
 returns-in-Causes c =
     let back =
-        c.part-words.ensures.words ∙ ap (λ (ws : List ℕ). between 0 c.put_line-count.result ws) c.words.ensures
-        ∙ words_back _ _ _ _ c.requires refl c.put_line-count.ensures.answer c.put_line-count.ensures.buffer in
+    c.part-words.ensures.words ∙ ap (λ (ws : List ℕ). between 0 c.put_line-count.result ws) c.words.ensures
+    ∙ words_back _ _ _ _ c.requires refl c.put_line-count.ensures.answer c.put_line-count.ensures.buffer in
     told_rule _ _ _ _ _ _ _ _ _ _ c.in-Rules.is c.in-Causes.is back c.all-events.ensures c.run_rules-run.ensures.actions c.has.ensures
 
 pub returns-in-Never : goal.returns-in-Never
@@ -35,6 +35,6 @@ returns-in-Causes-ending c = told_other_rule _ _ _ _ _ _ c.in-Constraints.is c.i
 pub returns-in-Never-ending : goal.returns-in-Never-ending
 returns-in-Never-ending c =
     let back =
-        c.part-words.ensures.words ∙ ap (λ (ws : List ℕ). between 0 c.put_line-count.result ws) c.words.ensures
-        ∙ words_back _ _ _ _ c.requires refl c.put_line-count.ensures.answer c.put_line-count.ensures.buffer in
+    c.part-words.ensures.words ∙ ap (λ (ws : List ℕ). between 0 c.put_line-count.result ws) c.words.ensures
+    ∙ words_back _ _ _ _ c.requires refl c.put_line-count.ensures.answer c.put_line-count.ensures.buffer in
     told_constraint _ _ _ _ _ _ _ c.in-Constraints.is c.in-Never-ending.is back c.run_constraints-run.ensures.conflict

@@ -1,4 +1,4 @@
-use Rattle.std.proofs.Common.{ℕ, ◌+◌, ◌*◌, ◌-◌, ◌%◌, true, false, ◌≡◌, ap, ◌∙◌, lt-ltb, le-ltb, drop, arith}
+use Rattle.std.proofs.Common.{ℕ, ◌+◌, ◌*◌, ◌%◌, true, false, ◌≡◌, ap, ◌∙◌, lt-ltb, le-ltb, drop, arith}
 use Rattle.std.proofs.Math.ListN.{get_or}
 use Rattle.lexer.proofs.HexLaws.{hex_past, hex_none}
 use Rattle.lexer.proofs.WhileLaws.{while_here, while_end, skip_here, skip_past, skip_end}
@@ -21,7 +21,7 @@ loop-i-preserved c =
       omega (arith, c.if-digit-ge-BASE.false),
     )
 
-pub returns : goal.returns
+pub returns-after-loop-i : goal.returns-after-loop-i
 unfolding hex_digits_at
-returns c =
+returns-after-loop-i c =
     rw (c.loop-i.invariant.0 ∙ hex_none c.loop-i.value (take_leading is_hex_digit (drop c.loop-i.i c.args.text.now)) c.loop-i.invariant.2 (while_end is_hex_digit c.args.text.now c.loop-i.i c.loop-i-test.false), c.loop-i.invariant.1 ∙ skip_end is_hex_digit c.args.text.now c.loop-i.i c.loop-i-test.false)

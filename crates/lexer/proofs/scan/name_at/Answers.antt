@@ -1,12 +1,14 @@
 use Rattle.std.proofs.Common.{◌∙◌}
 use Rattle.lexer.proofs.DigitLaws.{name_end, name_other, name_number}
 use Rattle.lexer.proofs.scan.name_at.Goals as goal
+use Rattle.lexer.proofs.scan.name_at.Goals.{else-at-text-via-then-at-text+else-text-at, else-at-text-via-else-at-text}
 
 pub returns-then-text-at : goal.returns-then-text-at
-returns-then-text-at c = name_end c.args.text.now c.args.at c.args.letter c.if-text-at.true
+returns-then-text-at c = c.number_at.ensures ∙ name_number c.args.text.now c.args.at c.args.letter c.requires c.if-at-text.true c.if-text-at.true
 
-pub returns-then-text-at-2 : goal.returns-then-text-at-2
-returns-then-text-at-2 c = c.number_at.ensures ∙ name_number c.args.text.now c.args.at c.args.letter c.requires c.if-text-at.false c.if-text-at-2.true
-
-pub returns-else-text-at-2 : goal.returns-else-text-at-2
-returns-else-text-at-2 c = name_other c.args.text.now c.args.at c.args.letter c.if-text-at.false c.if-text-at-2.false
+pub returns-else-at-text : goal.returns-else-at-text
+returns-else-at-text c =
+    elim c.else-at-text.branch [
+      | else-at-text-via-then-at-text+else-text-at w ↦ name_other c.args.text.now c.args.at c.args.letter w.if-at-text.true w.if-text-at.false
+      | else-at-text-via-else-at-text w ↦ name_end c.args.text.now c.args.at c.args.letter w.if-at-text.false
+    ]

@@ -1,20 +1,22 @@
-use Rattle.policy.proofs.SeenLaws.{part_past, part_counted, part_ended, constants_none, constants_past, one_constant}
-use Rattle.line_value.specs.Value.{no_comparison}
-use Rattle.std.proofs.Common.{◌-◌, arith}
+use Rattle.std.proofs.Common.{◌≡◌, ap, take, length, drop_of_length-le, arith, rules}
 use Rattle.std.proofs.Math.ListN.{get_or}
+use Rattle.policy.proofs.SeenLaws.{constants_none, constants_past, one_constant}
+use Rattle.policy.specs.Line.{constant_count}
+use Rattle.line_value.specs.Value.{no_comparison}
+use Rattle.line_value.proofs.LineLaws.{items_past, taken_all}
 use Rattle.line_value.proofs.Line.constants.Goals as goal
 
-pub returns-then-count-i : goal.returns-then-count-i
-returns-then-count-i c =
-    let e = constants_none _ (part_counted c.args.self.comparisons c.args.self.comparison_count c.loop-i.i c.if-count-i.true) in
-    record { value = omega (arith, c.loop-i.invariant.0, e); upper_bound = omega arith }
+pub loop-comparison-preserved : goal.loop-comparison-preserved
+loop-comparison-preserved c =
+    let items = take c.min-count.result c.args.self.comparisons in
+    let e = constants_past _ _ _ (items_past items c.loop-comparison.comparison-index no_comparison c.loop-comparison-test.true) in record {
+      counted = omega (arith, c.loop-comparison.invariant.counted, e, c.constants-constants.ensures);
+      few = omega (arith, c.loop-comparison.invariant.few, one_constant (get_or items c.loop-comparison.comparison-index no_comparison).operand _ c.constants-constants.ensures);
+    }
 
-pub loop-i-preserved : goal.loop-i-preserved
-loop-i-preserved c =
-    let e = constants_past _ _ _ (part_past c.args.self.comparisons c.args.self.comparison_count c.loop-i.i no_comparison c.if-count-i.false (omega arith)) in
-    (omega (arith, c.loop-i.invariant.0, e, c.constants-constants.ensures), c.loop-i.invariant.1, omega (arith, one_constant (get_or c.args.self.comparisons c.loop-i.i no_comparison).operand _ c.constants-constants.ensures), omega arith)
-
-pub returns : goal.returns
-returns c =
-    let e = constants_none _ (part_ended c.args.self.comparisons c.args.self.comparison_count c.loop-i.i (omega arith)) in
-    record { value = omega (arith, c.loop-i.invariant.0, e); upper_bound = omega arith }
+pub returns-clause-value : goal.returns-clause-value
+returns-clause-value c =
+    let e = constants_none _ (drop_of_length-le (take c.min-count.result c.args.self.comparisons) c.loop-comparison-test.false) in
+    let k : length c.args.self.comparisons ≡ 4 = search rules in
+    let t = ap constant_count (taken_all c.args.self.comparisons c.min-count.result c.args.self.comparison_count 4 c.min-count.ensures k) in
+    omega (arith, c.loop-comparison.invariant.counted, e, t)

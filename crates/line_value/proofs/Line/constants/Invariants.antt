@@ -1,9 +1,9 @@
-use Rattle.std.proofs.Common.{◌-◌, ◌+◌, ◌≤◌, ◌≡◌, length, take, drop}
+use Rattle.std.proofs.Common.{◌+◌, ◌≤◌, ◌≡◌, drop}
 use Rattle.policy.specs.Line.{constant_count}
 use Rattle.line_value.proofs.Line.constants.Given as goal
 
-abbrev pub invariant-loop-i : goal.invariant-loop-i
-invariant-loop-i l = (constant_count (take l.count l.comparisons) ≡ l.constants + constant_count (drop l.i (take l.count l.comparisons))) × (length l.comparisons ≡ 4) × (l.constants ≤ l.i) × (l.i ≤ 4)
-
-abbrev pub decreases-loop-i : goal.decreases-loop-i
-decreases-loop-i l = 4 - l.i
+abbrev pub invariant-loop-comparison : goal.invariant-loop-comparison
+invariant-loop-comparison l = record {
+  counted : constant_count l.comparison-items ≡ l.constants + constant_count (drop l.comparison-index l.comparison-items);
+  few : l.constants ≤ l.comparison-index;
+}

@@ -1,5 +1,5 @@
 use Rattle.std.proofs.Common.{ℕ, ◌^◌, ◌<◌, true, false, ⊎_elim, sym, ap, ◌∙◌, arith, length, rules}
-use borrow.Author.Tests.{not-true, not-false}
+use Rattle.std.proofs.lemmas.Bool.{not-true, not-false}
 use Rattle.policy.specs.Set.{ActionSet, set_of}
 use Rattle.policy.specs.Epoch.{Readings}
 use Rattle.word.specs.Chunk.{words_in}

@@ -6,8 +6,8 @@ use Rattle.syntax.specs.Grammar.{comparisons_from}
 use Rattle.syntax.specs.Steps.Outcome.{condition_outcome}
 use Rattle.syntax.proofs.line.read_comparisons.Given as goal
 
-abbrev pub invariant-loop-comparison : goal.invariant-loop-comparison
-invariant-loop-comparison l = condition_outcome (line_end l.text l.from) (comparisons_from (tokens_at l.text l.from)) ≡ comparisons_left l.in_range l.comparisons l.count (line_end l.text l.at) (comparisons_from (tokens_at l.text l.at))
+abbrev pub invariant-loop-part : goal.invariant-loop-part
+invariant-loop-part l = condition_outcome (line_end l.text l.from) (comparisons_from (tokens_at l.text l.from)) ≡ comparisons_left l.in_range l.comparisons l.count (line_end l.text l.at) (comparisons_from (tokens_at l.text l.at))
 
-abbrev pub decreases-loop-comparison : goal.decreases-loop-comparison
-decreases-loop-comparison l = length l.text - l.at
+abbrev pub decreases-loop-part : goal.decreases-loop-part
+decreases-loop-part l = length l.text - l.at

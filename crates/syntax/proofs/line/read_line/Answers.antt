@@ -1,6 +1,6 @@
 use Rattle.std.proofs.Common.{ℕ, sym, ap, ◌∙◌}
 use Rattle.std.proofs.Math.ListN.{get_or}
-use Rattle.syntax.proofs.JudgeLaws.{line_blank, line_comment, line_accepted, line_refused, line_skipped}
+use Rattle.syntax.proofs.JudgeLaws.{line_blank, line_comment, line_accepted, line_refused}
 use Rattle.lexer.proofs.KeywordLaws.{token_inside}
 use Rattle.syntax.specs.Answer.{behind_line, line_read_of}
 use Rattle.lexer.specs.Byte.{is_space}
@@ -27,17 +27,12 @@ returns-then-text-start-eq35 c =
     ∙ ap (λ (n : ℕ). line_read_of n LineAnswer.skipped) (c.behind_line-then-text-start-eq35.ensures ∙ ap (behind_line c.args.text.now) (c.line_end.ensures ∙ ap (line_end c.args.text.now) c.skip_spaces-start.ensures))
     ∙ line_comment c.args.text.now c.args.at h (ap (λ (n : ℕ). get_or c.args.text.now n 0) (sym c.skip_spaces-start.ensures) ∙ c.if-text-start-eq35.true)
 
-pub returns-in-Accepted : goal.returns-in-Accepted
-returns-in-Accepted c =
+pub returns-in-Ok : goal.returns-in-Ok
+returns-in-Ok c =
     let h = sym c.at_token_end.ensures ∙ c.if-at_token_end.false in
-    line_accepted c.args.text.now c.args.at _ c.skip_spaces-start.ensures h c.if-text-start-eq35.false c.parse_line-parsed.result (c.parse_line-parsed.ensures h) _ c.judged-status.ensures c.in-Accepted.is _ c.behind_line-in-Accepted.ensures
+    line_accepted c.args.text.now c.args.at _ c.skip_spaces-start.ensures h c.if-text-start-eq35.false c.parse_line.result (c.parse_line.ensures h) _ _ (sym c.judged.ensures ∙ c.in-Ok.is) _ c.behind_line-in-Ok.ensures
 
-pub returns-in-Refused : goal.returns-in-Refused
-returns-in-Refused c =
+pub returns-in-Err : goal.returns-in-Err
+returns-in-Err c =
     let h = sym c.at_token_end.ensures ∙ c.if-at_token_end.false in
-    c.refused.ensures ∙ line_refused c.args.text.now c.args.at _ c.skip_spaces-start.ensures h c.if-text-start-eq35.false c.parse_line-parsed.result (c.parse_line-parsed.ensures h) _ (sym c.judged-status.ensures ∙ c.in-Refused.is)
-
-pub returns-in-Skipped : goal.returns-in-Skipped
-returns-in-Skipped c =
-    let h = sym c.at_token_end.ensures ∙ c.if-at_token_end.false in
-    line_skipped c.args.text.now c.args.at _ c.skip_spaces-start.ensures h c.if-text-start-eq35.false c.parse_line-parsed.result (c.parse_line-parsed.ensures h) (sym c.judged-status.ensures ∙ c.in-Skipped.is) _
+    c.refused.ensures ∙ line_refused c.args.text.now c.args.at _ c.skip_spaces-start.ensures h c.if-text-start-eq35.false c.parse_line.result (c.parse_line.ensures h) _ (sym c.judged.ensures ∙ c.in-Err.is)

@@ -2,10 +2,8 @@ use Rattle.std.proofs.Common.{◌∙◌}
 use Rattle.syntax.proofs.ShapeLaws.{rule_yes, rule_no}
 use Rattle.syntax.proofs.line.read_rule.Goals as goal
 
-pub returns-then-heads : goal.returns-then-heads
-returns-then-heads c =
-    c.read_cause.ensures ∙ rule_yes c.args.text.now c.args.from c.read_heads-heads.result c.read_heads-heads.ensures c.if-heads.true
+pub returns-in_err-heads : goal.returns-in_err-heads
+returns-in_err-heads c = c.from_residual.ensures ∙ rule_no c.args.text.now c.args.from _ c.read_heads.ensures c.in_err-heads.was
 
-pub returns-else-heads : goal.returns-else-heads
-returns-else-heads c =
-    c.failed.ensures ∙ rule_no c.args.text.now c.args.from c.read_heads-heads.result c.read_heads-heads.ensures c.if-heads.false
+pub returns : goal.returns
+returns c = c.read_cause.ensures ∙ rule_yes c.args.text.now c.args.from _ c.read_heads.ensures _ _ c.in_ok-heads.was
