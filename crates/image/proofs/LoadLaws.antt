@@ -127,15 +127,15 @@ module _ (bytes : List ℕ) where
         all_words : take (length bytes / 4) (words_of bytes) ≡ words_of bytes
         all_words = take_all (length bytes / 4) (words_of bytes) (omega (arith, words_length bytes))
 
-        pub load_sum : (total : ℕ) → total ≡ sum (take (length bytes / 4) (words_of bytes)) % word_limit → (total ≡ 0 → ⊥) → Loaded.Refused (refusal Fault.ImageSum 0) ≡ load bytes
+        pub load_sum : (total : ℕ) → total ≡ sum (words_of bytes) % word_limit → (total ≡ 0 → ⊥) → Loaded.Refused (refusal Fault.ImageSum 0) ≡ load bytes
         unfolding load_words sums_to_zero
         load_sum total e z =
-            sym (by_words ∙ rw (known, counted, ne_eqb (sum (words_of bytes) % word_limit) 0 (λ q. z (e ∙ ap (λ (ws : List ℕ). sum ws % word_limit) all_words ∙ q))))
+            sym (by_words ∙ rw (known, counted, ne_eqb (sum (words_of bytes) % word_limit) 0 (λ q. z (e ∙ q))))
 
-        pub load_lines : (total : ℕ) → total ≡ sum (take (length bytes / 4) (words_of bytes)) % word_limit → total ≡ 0 → (answer : Loaded)
+        pub load_lines : (total : ℕ) → total ≡ sum (words_of bytes) % word_limit → total ≡ 0 → (answer : Loaded)
             → answer ≡ body_answer form rules constraints (part_lines Part.Rules 1 (1 + rules) (words_of bytes)) (part_lines Part.Constraints (1 + rules) (1 + rules + constraints) (words_of bytes)) → answer ≡ load bytes
         unfolding load_words sums_to_zero
         load_lines total e z answer q =
             q ∙ ap (λ (f : ℕ). body_answer f rules constraints (part_lines Part.Rules 1 (1 + rules) (words_of bytes)) (part_lines Part.Constraints (1 + rules) (1 + rules + constraints) (words_of bytes))) (is-form ∙ load_form)
             ∙ ap₂ (λ (x y : ℕ). body_answer (form_byte (words_of bytes)) x y (part_lines Part.Rules 1 (1 + x) (words_of bytes)) (part_lines Part.Constraints (1 + x) (1 + x + y) (words_of bytes))) rules_are constraints_are
-            ∙ sym (by_words ∙ rw (known, counted, eq-eqb (sum (words_of bytes) % word_limit) 0 (sym (e ∙ ap (λ (ws : List ℕ). sum ws % word_limit) all_words) ∙ z)))
+            ∙ sym (by_words ∙ rw (known, counted, eq-eqb (sum (words_of bytes) % word_limit) 0 (sym e ∙ z)))

@@ -9,7 +9,7 @@ ghost use Rattle.image.specs.Steps.Part.{part_answer};
 use crate::walker::Walker;
 use layout::{constraint_words_of, form_of, rule_words_of, sum_words};
 use policy::{CONSTRAINT_LIMIT, Fault, Part, RULE_LIMIT, Refusal};
-use word::word_at;
+use word::{word_at, words};
 
 // Words of the rules: 128 lines of 17 words, which are eight heads, four comparisons with constants and the ending.
 const RULE_WORD_LIMIT: usize = 2176;
@@ -132,7 +132,7 @@ pub fn load_image(image: &[u8]) -> Loaded
     if size / 4 != 1 + rule_words + constraint_words + 1 {
         return Loaded::Refused(Fault::ImageCount.at(0));
     }
-    if sum_words(image, size / 4) != 0 {
+    if sum_words(words(image)) != 0 {
         return Loaded::Refused(Fault::ImageSum.at(0));
     }
     load_body(image, form, rule_words, constraint_words)

@@ -1,4 +1,6 @@
-use Rattle.std.proofs.Common.{sym, ap, ◌∙◌, rules}
+use Rattle.std.proofs.Common.{List, ℕ, ◌%◌, sym, ap, ◌∙◌, rules}
+use Rattle.word.specs.Word.{word_limit}
+use Rattle.layout.specs.Layout.{sum}
 use Rattle.image.proofs.LoadLaws.{load_size, load_unknown, load_rules, load_constraints, load_count, load_sum, load_lines}
 use Rattle.image.specs.declared.load.Loaded.{Loaded}
 use Rattle.image.proofs.load.load_image.Goals as goal
@@ -19,7 +21,7 @@ pub returns-then-size-rule_words : goal.returns-then-size-rule_words
 returns-then-size-rule_words c = ap Loaded.Refused c.at-then-size-rule_words.ensures ∙ load_count c.args.image.now (sym c.well_sized.ensures ∙ c.if-not-well_sized.false) _ c.word_at-header.ensures _ _ _ c.form_of-form.ensures c.if-form-ne1.false c.rule_words_of-rule_words.ensures c.constraint_words_of-constraint_words.ensures c.if-rule_words-gt-RULE_WORD_LIMIT.false c.if-constraint_words-gt-CONSTRAINT_WORD_LIMIT.false c.if-size-rule_words.true
 
 pub returns-then-sum_words-ne0 : goal.returns-then-sum_words-ne0
-returns-then-sum_words-ne0 c = ap Loaded.Refused c.at-then-sum_words-ne0.ensures ∙ load_sum c.args.image.now (sym c.well_sized.ensures ∙ c.if-not-well_sized.false) _ c.word_at-header.ensures _ _ _ c.form_of-form.ensures c.if-form-ne1.false c.rule_words_of-rule_words.ensures c.constraint_words_of-constraint_words.ensures c.if-rule_words-gt-RULE_WORD_LIMIT.false c.if-constraint_words-gt-CONSTRAINT_WORD_LIMIT.false c.if-size-rule_words.false _ c.sum_words.ensures c.if-sum_words-ne0.true
+returns-then-sum_words-ne0 c = ap Loaded.Refused c.at-then-sum_words-ne0.ensures ∙ load_sum c.args.image.now (sym c.well_sized.ensures ∙ c.if-not-well_sized.false) _ c.word_at-header.ensures _ _ _ c.form_of-form.ensures c.if-form-ne1.false c.rule_words_of-rule_words.ensures c.constraint_words_of-constraint_words.ensures c.if-rule_words-gt-RULE_WORD_LIMIT.false c.if-constraint_words-gt-CONSTRAINT_WORD_LIMIT.false c.if-size-rule_words.false _ (c.sum_words.ensures ∙ ap (λ (ws : List ℕ). sum ws % word_limit) c.words.ensures) c.if-sum_words-ne0.true
 
 pub returns : goal.returns
-returns c = load_lines c.args.image.now (sym c.well_sized.ensures ∙ c.if-not-well_sized.false) _ c.word_at-header.ensures _ _ _ c.form_of-form.ensures c.if-form-ne1.false c.rule_words_of-rule_words.ensures c.constraint_words_of-constraint_words.ensures c.if-rule_words-gt-RULE_WORD_LIMIT.false c.if-constraint_words-gt-CONSTRAINT_WORD_LIMIT.false c.if-size-rule_words.false _ c.sum_words.ensures c.if-sum_words-ne0.false _ c.load_body.ensures
+returns c = load_lines c.args.image.now (sym c.well_sized.ensures ∙ c.if-not-well_sized.false) _ c.word_at-header.ensures _ _ _ c.form_of-form.ensures c.if-form-ne1.false c.rule_words_of-rule_words.ensures c.constraint_words_of-constraint_words.ensures c.if-rule_words-gt-RULE_WORD_LIMIT.false c.if-constraint_words-gt-CONSTRAINT_WORD_LIMIT.false c.if-size-rule_words.false _ (c.sum_words.ensures ∙ ap (λ (ws : List ℕ). sum ws % word_limit) c.words.ensures) c.if-sum_words-ne0.false _ c.load_body.ensures

@@ -9,5 +9,5 @@ pub returns : goal.returns
 unfolding check_count check_words
 returns c =
     let f : Fits w32 c.wrapping_sub_u32.result = search rules in
-    let e = check_word_is (take c.args.index (words_of c.args.buffer.now)) _ _ c.sum_words-total.ensures c.wrapping_sub_u32.ensures.value f.fits in
+    let e = check_word_is (take c.args.index (words_of c.args.buffer.now)) _ _ c.sum_before-total.ensures c.wrapping_sub_u32.ensures.value f.fits in
     record { answer = c.put_word.ensures.answer; buffer = c.put_word.ensures.buffer ∙ ap (λ (x : ℕ). put_words c.args.buffer.now c.args.index (x ∷ [])) e }

@@ -1,16 +1,18 @@
-use Rattle.std.proofs.Common.{◌-◌, ◌<◌, length, take, ◌∙◌, arith}
-use Rattle.word.specs.Word.{words_of}
-use Rattle.layout.proofs.SumLaws.{summing_none, summing_more, summing_all, before_length, before_at}
+use Rattle.std.proofs.Common.{◌<◌, ◌≤◌, refl, length, arith}
+use Rattle.word.specs.Chunk.{words_in}
+use Rattle.word.proofs.ChunkLaws.{words_in_length}
+use Rattle.layout.proofs.SumLaws.{summing_none, summing_more, summing_all}
 use Rattle.layout.proofs.checksum.sum_words.Goals as goal
 
 pub loop-i-init : goal.loop-i-init
-loop-i-init c = (before_length c.args.bytes.now c.args.end _ c.at_most-count.ensures, summing_none (take c.args.end (words_of c.args.bytes.now)))
+loop-i-init c = summing_none (words_in c.args.words.now)
 
 pub loop-i-preserved : goal.loop-i-preserved
 loop-i-preserved c =
-    let l : c.loop-i.i < length (take c.args.end (words_of c.args.bytes.now)) = omega (arith, c.loop-i-test.true) in
-    (c.loop-i.invariant.0, summing_more _ _ _ _ _ c.loop-i.invariant.1 l (c.word_at.ensures ∙ before_at c.args.bytes.now c.args.end _ l) c.wrapping_add_u32-total.ensures.value)
+    let l : c.loop-i.i < length (words_in c.args.words.now) = omega (arith, words_in_length c.args.words.now) in
+    summing_more _ _ _ _ _ c.loop-i.invariant l c.nth_word-total.ensures refl
 
 pub returns : goal.returns
 returns c =
-    summing_all _ _ _ c.loop-i.invariant.1 (omega (arith, c.loop-i-test.false))
+    let l : length (words_in c.args.words.now) ≤ c.loop-i.i = omega (arith, words_in_length c.args.words.now) in
+    summing_all _ _ _ c.loop-i.invariant l
