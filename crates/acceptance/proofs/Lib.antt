@@ -9,3 +9,4 @@ pub mod Named
 pub mod Patterns
 pub mod Refusals
 pub mod Texts
+pub mod Written

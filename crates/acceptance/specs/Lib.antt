@@ -3,5 +3,6 @@ pub mod Refusals
 pub mod FirstFault
 pub mod Texts
 pub mod Named
+pub mod Written
 pub mod Patterns
 pub mod Examples

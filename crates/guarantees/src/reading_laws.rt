@@ -9,12 +9,21 @@ ghost use Rattle.policy.specs.Epoch.{Epoch, reading_value};
 ghost use Rattle.policy.specs.List.{any};
 ghost use Rattle.policy.specs.Policy.{Policy};
 ghost use Rattle.policy.specs.Set.{has_event, has_reading};
+ghost use Rattle.policy.specs.Line.{PolicyLine};
 ghost use Rattle.lexer.specs.Lines.{tokens_of};
+ghost use Rattle.lexer.specs.Token.{Token};
+ghost use Rattle.syntax.specs.Grammar.{line_from};
 ghost use Rattle.rule_text.specs.Text.{stopped, read_texts, policy_of_texts};
 ghost use Rattle.epoch_line.specs.Epoch.{Item, value, items_of, given_by, refused, accepted, read_epoch};
 ghost use Rattle.acceptance.specs.FirstFault.{TextsFault, EpochFault};
 ghost use Rattle.acceptance.specs.Named.{named_by};
 ghost use Rattle.acceptance.specs.Texts.{Joint};
+ghost use Rattle.acceptance.specs.Written.{IsLine};
+
+/// What is read of a line's tokens is in the grammar, and nothing in the grammar is refused: tokens are read as a line exactly if they are written as one.
+pub fn grammar_exact()
+    ensures { (ts : List Token) (l : PolicyLine) → (line_from ts ≡ some l) ↔ IsLine ts l }
+{}
 
 /// Two texts are refused exactly for their first fault: the maker's text before the site's, each for its length before its lines, and the first line that
 /// is neither skipped nor accepted within the limits, which are counted over both texts.

@@ -1,0 +1,59 @@
+-- The grammar of a line as it is written, without a way to read it: which tokens are those of a rule, of a constraint. Numbers have any size
+-- and lists any length; ranges, counts and repeats are tests on a line that is read.
+use Rattle.std.specs.Prelude.{true, List, [], ◌∷◌, ◌++◌, ◌≡◌}
+use Rattle.std.proofs.Math.Option.{Option, some}
+use Rattle.policy.specs.Line.{PolicyLine, rule, constraint}
+use Rattle.policy.specs.Policy.{Rule, Constraint}
+use Rattle.policy.specs.declared.comparison.Comparison.{Comparison}
+use Rattle.lexer.specs.Byte.{is}
+use Rattle.lexer.specs.Token.{Token, literal_of, action_of, comparison_of}
+
+-- one or more items, joined by `&`
+unfoldable pub AreJoined : {A : Type 0} → (Token → Option A) → List Token → List A → Type 0
+AreJoined item (t ∷ []) (x ∷ []) = item t ≡ some x
+AreJoined item (t ∷ s ∷ ts) (x ∷ xs) = (item t ≡ some x) × (is "&" s ≡ true) × AreJoined item ts xs
+AreJoined item (t ∷ []) (x ∷ y ∷ xs) = ⊥
+AreJoined item (t ∷ ts) [] = ⊥
+AreJoined item [] xs = ⊥
+
+-- one or more comparisons of three tokens each, joined by `,`
+unfoldable pub AreComparisons : List Token → List Comparison → Type 0
+AreComparisons (r ∷ relation ∷ o ∷ []) (c ∷ []) = comparison_of r relation o ≡ some c
+AreComparisons (r ∷ relation ∷ o ∷ s ∷ ts) (c ∷ cs) = (comparison_of r relation o ≡ some c) × (is "," s ≡ true) × AreComparisons ts cs
+AreComparisons (r ∷ relation ∷ o ∷ []) (c ∷ d ∷ cs) = ⊥
+AreComparisons (r ∷ relation ∷ o ∷ ts) [] = ⊥
+AreComparisons (r ∷ relation ∷ []) cs = ⊥
+AreComparisons (r ∷ []) cs = ⊥
+AreComparisons [] cs = ⊥
+
+-- `if` and comparisons, or nothing
+unfoldable pub AreCondition : List Token → List Comparison → Type 0
+AreCondition [] cs = cs ≡ []
+AreCondition (t ∷ ts) cs = (is "if" t ≡ true) × AreComparisons ts cs
+
+-- literals, `causes`, an action, a condition
+pub record IsRule (ts : List Token) (r : Rule) : Type 0 where
+  pub literals : List Token
+  pub keyword : Token
+  pub action : Token
+  pub condition : List Token
+  pub tokens : ts ≡ literals ++ keyword ∷ action ∷ condition
+  pub are_literals : AreJoined literal_of literals r.literals
+  pub causes : is "causes" keyword ≡ true
+  pub names : action_of action ≡ some r.action
+  pub are_condition : AreCondition condition r.comparisons
+
+-- `never`, actions, a condition
+pub record IsConstraint (ts : List Token) (c : Constraint) : Type 0 where
+  pub keyword : Token
+  pub actions : List Token
+  pub condition : List Token
+  pub tokens : ts ≡ keyword ∷ actions ++ condition
+  pub never : is "never" keyword ≡ true
+  pub are_actions : AreJoined action_of actions c.actions
+  pub are_condition : AreCondition condition c.comparisons
+
+-- the tokens of a line
+abbrev pub IsLine : List Token → PolicyLine → Type 0
+IsLine ts (rule r) = IsRule ts r
+IsLine ts (constraint c) = IsConstraint ts c
