@@ -9,4 +9,5 @@ pub mod Named
 pub mod Patterns
 pub mod Refusals
 pub mod Texts
+pub mod Wide
 pub mod Written

@@ -1,12 +1,14 @@
 -- The grammar of a line as it is written, without a way to read it: which tokens are those of a rule, of a constraint. Numbers have any size
 -- and lists any length; ranges, counts and repeats are tests on a line that is read.
-use Rattle.std.specs.Prelude.{true, List, [], ◌∷◌, ◌++◌, ◌≡◌}
+use Rattle.std.specs.Prelude.{ℕ, true, false, List, [], ◌∷◌, ◌++◌, ◌≡◌}
 use Rattle.std.proofs.Math.Option.{Option, some}
 use Rattle.policy.specs.Line.{PolicyLine, rule, constraint}
 use Rattle.policy.specs.Policy.{Rule, Constraint}
 use Rattle.policy.specs.declared.comparison.Comparison.{Comparison}
 use Rattle.lexer.specs.Byte.{is}
 use Rattle.lexer.specs.Token.{Token, literal_of, action_of, comparison_of}
+use Rattle.lexer.specs.Lines.{tokens_of}
+use Rattle.syntax.specs.Judge.{is_comment}
 
 -- one or more items, joined by `&`
 unfoldable pub AreJoined : {A : Type 0} → (Token → Option A) → List Token → List A → Type 0
@@ -57,3 +59,11 @@ pub record IsConstraint (ts : List Token) (c : Constraint) : Type 0 where
 abbrev pub IsLine : List Token → PolicyLine → Type 0
 IsLine ts (rule r) = IsRule ts r
 IsLine ts (constraint c) = IsConstraint ts c
+
+-- a line of bytes whose tokens are written as a line: it is not blank, and no comment
+pub record IsWritten (line : List ℕ) (l : PolicyLine) : Type 0 where
+  pub first : Token
+  pub others : List Token
+  pub tokens : tokens_of line ≡ first ∷ others
+  pub no_comment : is_comment first ≡ false
+  pub written : IsLine (first ∷ others) l

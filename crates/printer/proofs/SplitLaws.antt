@@ -1,5 +1,5 @@
 -- Laws of joining and splitting: tokens joined by spaces are the tokens of the line, and ended lines are the lines of the text.
-use Rattle.std.proofs.Common.{ℕ, suc, Bool, true, false, not, ◌&&◌, ◌||◌, cond, List, [], ◌∷◌, ◌++◌, map, ◌≡◌, refl, ap, ◌∙◌, arith, eq-eqb, lt-ltb, leb-true, pos, negsuc}
+use Rattle.std.proofs.Common.{ℕ, suc, Bool, true, false, not, ◌&&◌, ◌||◌, cond, List, [], ◌∷◌, ◌++◌, map, ◌≡◌, refl, sym, ap, ◌∙◌, arith, eq-eqb, lt-ltb, leb-true, pos, negsuc}
 use Rattle.std.proofs.lemmas.Bool.{not-true}
 use Rattle.std.proofs.Math.Dec.{eqb, leb, ltb}
 use Rattle.policy.proofs.ListLaws.{true_false, and_in, and_out, all_append}
@@ -177,6 +177,11 @@ line_clean (constraint c) =
 pub line_tokens_is : (l : PolicyLine) → tokens_of (line_bytes l) ≡ line_tokens l
 unfolding line_bytes
 line_tokens_is l = tokens_joined (line_tokens l) (line_clean l)
+
+-- so they stand with one space between each two, and none before the first or behind the last
+pub one_space : (l : PolicyLine) → line_bytes l ≡ joined_by 32 (tokens_of (line_bytes l))
+unfolding line_bytes
+one_space l = ap (joined_by 32) (sym (line_tokens_is l))
 
 line_ends : (l : PolicyLine) → all (other 10) (line_bytes l) ≡ true
 unfolding line_bytes
