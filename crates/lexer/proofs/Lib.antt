@@ -2,6 +2,5 @@ pub mod ClassLaws
 pub mod DigitLaws
 pub mod HexLaws
 pub mod KeywordLaws
-pub mod RunLaws
+pub mod LeadingLaws
 pub mod TokenLaws
-pub mod WhileLaws
