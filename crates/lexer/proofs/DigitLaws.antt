@@ -1,16 +1,15 @@
 -- Laws of reading numbers: clipping early or late is the same, and the digits in front of a token against the token.
 use Rattle.std.specs.Prelude.{Some, None, option_and_then}
-use Rattle.std.proofs.Common.{ℕ, ◌+◌, ◌*◌, ◌-◌, ◌<◌, ◌≤◌, Bool, true, false, not, ◌&&◌, ◌||◌, cond, List, [], ◌∷◌, ◌++◌, append-nil, ◌≡◌, refl, sym, ap, ap₂, ◌∙◌, arith, eqb-true, length, take, drop}
+use Rattle.std.proofs.Common.{ℕ, ◌+◌, ◌*◌, ◌-◌, ◌<◌, ◌≤◌, Bool, true, false, not, ◌&&◌, ◌||◌, cond, List, [], ◌∷◌, ◌≡◌, refl, sym, ap, ap₂, ◌∙◌, arith, eqb-true, length, take, drop}
 use Rattle.std.proofs.lemmas.List.{take_rest}
 use Rattle.std.proofs.Math.ListN.{get_or}
-use Rattle.std.proofs.Math.Bool.{and-false}
 use Rattle.std.proofs.Math.Option.{Option, none, some}
 use Rattle.std.proofs.Math.Dec.{eqb}
 use Rattle.policy.proofs.ListLaws.{true_false}
 use Rattle.policy.specs.List.{all}
 use Rattle.lexer.proofs.ClassLaws.{digit_apart}
-use Rattle.lexer.proofs.KeywordLaws.{no_token}
-use Rattle.lexer.proofs.LeadingLaws.{leading_pass, leading_ends, take_through, drop_through}
+use Rattle.lexer.proofs.LeadingLaws.{leading_pass}
+use Rattle.lexer.proofs.RunLaws.{whole_token, same_end, broken_token}
 use Rattle.lexer.specs.Byte.{is_digit}
 use Rattle.lexer.specs.Token.{named}
 use Rattle.lexer.specs.Number.{decimal_from, is_empty, number_of}
@@ -77,52 +76,22 @@ digits_by_start (b ∷ s) =
 pub digit_inside : (b : ℕ) → is_digit b ≡ true → in_token b ≡ true
 digit_inside b e = rw (digit_apart b 32 (omega arith) e, digit_apart b 10 (omega arith) e)
 
-not_number : (l : List ℕ) → all is_digit l ≡ false → number_of l ≡ none
+pub not_number : (l : List ℕ) → all is_digit l ≡ false → number_of l ≡ none
 unfolding number_of all
 not_number [] e = absurd (true_false refl e)
 not_number (d ∷ ds) e = rw e
 
--- a token that goes on behind its digits is no number
-longer : (s t : List ℕ) → is_empty t ≡ false → take_leading is_digit t ≡ [] → all is_digit (s ++ t) ≡ false
-unfolding all
-longer [] [] e h = absurd (true_false refl e)
-longer [] (c ∷ t) e h = elim (is_digit c) as (λ x. is_digit c ≡ x → (is_digit c && all is_digit t) ≡ false) [ true ↦ λ k. let w : ◌≡◌ {A = ℕ} 0 1 = cc (rw k at h) in absurd (omega arith) | false ↦ λ k. rw k ] refl
-longer (b ∷ s) t e h = rw (longer s t e h) (and-false (is_digit b))
-
-token_fronts : (p q : ℕ → Bool) (s : List ℕ) → take_leading p s ≡ [] → take_leading p (take_leading q s) ≡ []
-token_fronts p q [] h = refl
-token_fronts p q (b ∷ s) h =
-    elim (q b) as (λ x. take_leading p (cond x (b ∷ take_leading q s) []) ≡ []) [
-      | true ↦ elim (p b) as (λ x. cond x (b ∷ take_leading p s) [] ≡ [] → cond x (b ∷ take_leading p (take_leading q s)) [] ≡ []) [ true ↦ λ k. let w : ◌≡◌ {A = ℕ} 0 1 = cc in absurd (omega arith) | false ↦ λ k. refl ] h
-      | false ↦ refl
-    ]
-
 module _ (text : List ℕ) where
   abbrev behind_digits : List ℕ
   behind_digits = drop_leading is_digit text
-
-  whole : is_empty (token_in behind_digits) ≡ true → token_in text ≡ take_leading is_digit text
-  whole h = take_through in_token is_digit digit_inside text ∙ go (token_in behind_digits) h
-    where
-      go : (t : List ℕ) → is_empty t ≡ true → take_leading is_digit text ++ t ≡ take_leading is_digit text
-      go [] e = append-nil (take_leading is_digit text)
-      go (c ∷ t) e = absurd (true_false e refl)
-
-  same_end : is_empty (token_in behind_digits) ≡ true → behind_token text ≡ behind_digits
-  same_end h = drop_through in_token is_digit digit_inside text ∙ no_token behind_digits h
-
-  broken : is_empty (token_in behind_digits) ≡ false → number_of (token_in text) ≡ none
-  broken h =
-      not_number (token_in text)
-      (ap (all is_digit) (take_through in_token is_digit digit_inside text) ∙ longer (take_leading is_digit text) (token_in behind_digits) h (token_fronts is_digit in_token behind_digits (leading_ends is_digit text)))
 
   -- the number of the token in front: that of its digits, where it ends behind them
   pub number_by_digits : number_in text ≡ option_and_then (λ (r : ℕ × List ℕ). cond (is_empty (token_in r.1)) (Some r) None) (digits_in text)
   unfolding number_in digits_in number_before
   number_by_digits =
       elim (is_empty (token_in behind_digits)) as (λ x. is_empty (token_in behind_digits) ≡ x → number_in text ≡ option_and_then (λ (r : ℕ × List ℕ). cond (is_empty (token_in r.1)) (Some r) None) (digits_in text)) [
-        | true ↦ λ e. ap₂ number_before (same_end e) (ap number_of (whole e)) ∙ ended (number_of (take_leading is_digit text)) e
-        | false ↦ λ e. ap (number_before (behind_token text)) (broken e) ∙ open_end (number_of (take_leading is_digit text)) e
+        | true ↦ λ e. ap₂ number_before (same_end is_digit digit_inside text e) (ap number_of (whole_token is_digit digit_inside text e)) ∙ ended (number_of (take_leading is_digit text)) e
+        | false ↦ λ e. ap (number_before (behind_token text)) (not_number (token_in text) (broken_token is_digit digit_inside text e)) ∙ open_end (number_of (take_leading is_digit text)) e
       ] refl
     where
       ended : (o : Option ℕ) → is_empty (token_in behind_digits) ≡ true → number_before behind_digits o ≡ option_and_then (λ (r : ℕ × List ℕ). cond (is_empty (token_in r.1)) (Some r) None) (number_before behind_digits o)

@@ -1,5 +1,5 @@
 -- Laws of what stands in front of a list and what stands behind it.
-use Rattle.std.proofs.Common.{ℕ, ◌+◌, Bool, true, false, cond, List, [], ◌∷◌, ◌++◌, ◌≡◌, refl, ap, length, length-append}
+use Rattle.std.proofs.Common.{ℕ, ◌+◌, ◌≤◌, Bool, true, false, cond, List, [], ◌∷◌, ◌++◌, ◌≡◌, refl, ap, arith, length, length-append}
 use Rattle.policy.specs.List.{all}
 use Rattle.lexer.specs.Lines.{take_leading, drop_leading}
 
@@ -11,6 +11,9 @@ module _ (p : ℕ → Bool) where
 
   pub leading_length : (s : List ℕ) → length (take_leading p s) + length (drop_leading p s) ≡ length s
   leading_length s = simp length-append at (ap length (leading_joined s))
+
+  pub drop_shorter : (s : List ℕ) → length (drop_leading p s) ≤ length s
+  drop_shorter s = omega (arith, leading_length s)
 
   -- each element in front passes
   pub leading_pass : (s : List ℕ) → all p (take_leading p s) ≡ true

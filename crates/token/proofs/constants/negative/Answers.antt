@@ -1,5 +1,5 @@
 use Rattle.token.proofs.ConstantLaws.{negative_value, negative_past}
-use Rattle.token.proofs.constant.negative.Goals as goal
+use Rattle.token.proofs.constants.negative.Goals as goal
 
 pub returns-then-value-le-SMALLEST : goal.returns-then-value-le-SMALLEST
 returns-then-value-le-SMALLEST c = negative_value c.args.value c.requires c.if-value-le-SMALLEST.true
