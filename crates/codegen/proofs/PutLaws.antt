@@ -1,5 +1,6 @@
 -- Putting the lines of a text one after another: what one turn of the loop does.
-use Rattle.std.proofs.Common.{ℕ, ◌+◌, ◌*◌, ◌%◌, ◌≤◌, ◌<◌, true, List, [], ◌∷◌, ◌++◌, ◌≡◌, refl, sym, ap, ap₂, ◌∙◌, arith, length, take, drop, drop_of_length-le}
+use Rattle.std.specs.Prelude.{Some, None, Ok, Err}
+use Rattle.std.proofs.Common.{ℕ, ◌+◌, ◌*◌, ◌%◌, ◌≤◌, ◌<◌, true, List, [], ◌∷◌, ◌++◌, ◌≡◌, refl, sym, ap, ap₂, ◌∙◌, arith, length, take}
 use Rattle.policy.specs.Limits.{valid}
 use Rattle.policy.specs.Line.{PolicyLine, ending_of}
 use Rattle.line_value.specs.Value.{line_of, line_value}
@@ -17,40 +18,21 @@ use Rattle.word.specs.Steps.Write.{put_words}
 use Rattle.word.specs.Word.{words_of}
 use Rattle.layout.specs.Header.{pack_header}
 use Rattle.acceptance.proofs.Accepted.{accepted_valid}
-use Rattle.rule_text.proofs.TextLaws.{lines_here, next_later, next_inside}
-use Rattle.syntax.specs.Answer.{line_read_of, line_read, behind_line}
-use Rattle.lexer.specs.Lines.{pieces, lines_of, rest_of_line, line_end}
+use Rattle.syntax.proofs.AnswerLaws.{lines_here, next_shorter, read_refused, read_skipped, read_accepted}
+use Rattle.syntax.specs.Answer.{next_line, line_read}
+use Rattle.lexer.specs.Lines.{pieces, lines_of, first_line}
 use Rattle.syntax.specs.Judge.{LineAnswer, skipped, refused, accepted, line_answer}
-use Rattle.syntax.specs.declared.line.LineRead.{LineRead}
-use Rattle.syntax.specs.declared.line.LineStatus.{LineStatus}
 use Rattle.codegen.specs.Compile.{newest_form}
 use Rattle.codegen.specs.Steps.Put.{cursor_for, cursors_after, cursors_behind, Near, Further, accepted_line, accepted_lines, put_lines, put_content, put_image}
 use Rattle.codegen.specs.declared.Cursors.{Cursors}
 
-abbrev pub accepted_from : List ℕ → ℕ → List PolicyLine
-accepted_from text at = accepted_lines (lines_of (drop at text))
+abbrev pub accepted_in : List ℕ → List PolicyLine
+accepted_in text = accepted_lines (lines_of text)
 
--- what the line at a position is
-data Turn (text : List ℕ) (at : ℕ) (r : LineRead) : Type 0 where
-  skips : r.status ≡ LineStatus.Skipped → at < r.next → r.next ≤ length text → accepted_from text at ≡ accepted_from text r.next → Turn text at r
-  stops : (f : Fault) → r.status ≡ LineStatus.Refused f → accepted_from text at ≡ [] → Turn text at r
-  takes : (l : PolicyLine) → valid l ≡ true → r.status ≡ LineStatus.Accepted → r.line ≡ line_value l → at < r.next → r.next ≤ length text
-      → accepted_from text at ≡ l ∷ accepted_from text r.next → Turn text at r
-
-turn : (text : List ℕ) (at : ℕ) → at < length text → (r : LineRead) → r ≡ line_read text at → Turn text at r
-unfolding line_read line_read_of accepted_line accepted_lines
-turn text at h r q = rw q (go (line_answer (rest_of_line text at)) refl)
-  where
-    behind : ℕ
-    behind = behind_line text (line_end text at)
-
-    here : (a : LineAnswer) → line_answer (rest_of_line text at) ≡ a → accepted_from text at ≡ accepted_line a (accepted_from text behind)
-    here a e = ap accepted_lines (lines_here text at h) ∙ ap (λ (x : LineAnswer). accepted_line x (accepted_from text behind)) e
-
-    go : (a : LineAnswer) → line_answer (rest_of_line text at) ≡ a → Turn text at (line_read_of behind a)
-    go skipped e = skips refl (next_later text at h) (next_inside text at h) (here skipped e)
-    go (refused f) e = stops f refl (here (refused f) e)
-    go (accepted l) e = takes l (accepted_valid (rest_of_line text at) l e) refl refl (next_later text at h) (next_inside text at h) (here (accepted l) e)
+-- the accepted lines of a text, by what its first line is
+here : (text : List ℕ) (a : LineAnswer) → 0 < length text → line_answer (first_line text) ≡ a → accepted_in text ≡ accepted_line a (accepted_in (next_line text))
+unfolding accepted_lines
+here text a h e = ap accepted_lines (lines_here text h) ∙ ap (λ (x : LineAnswer). accepted_line x (accepted_in (next_line text))) e
 
 -- the value of a valid line has its words
 record Whole (l : PolicyLine) : Type 0 where
@@ -82,99 +64,95 @@ module _ (p : Cursors) (buffer buffer' ws : List ℕ) (n : ℕ) (e : n ≡ lengt
   unfolding cursors_after cursor_for
   put_constraint x q g = rw (q, ← e) (refl, g)
 
--- ---- what is left to put at a position
+-- ---- what is left to put of the rest of a text
 
-pub record Putting (text buffer₀ : List ℕ) (start : Cursors) (buffer : List ℕ) (cursors : Cursors) (at : ℕ) : Type 0 where
+pub record Putting (text buffer₀ : List ℕ) (start : Cursors) (buffer : List ℕ) (cursors : Cursors) (rest : List ℕ) : Type 0 where
   pub long : length buffer ≡ length buffer₀
-  pub inside : at ≤ length text
-  pub rules : cursors.rules ≤ start.rules + 17 * at
-  pub constraints : cursors.constraints ≤ start.constraints + 17 * at
-  pub ends : cursors_behind (accepted_from text at) cursors ≡ cursors_behind (accepted_lines (lines_of text)) start
-  pub same : put_lines (accepted_from text at) cursors buffer ≡ put_lines (accepted_lines (lines_of text)) start buffer₀
+  pub rules : cursors.rules + 17 * length rest ≤ start.rules + 17 * length text
+  pub constraints : cursors.constraints + 17 * length rest ≤ start.constraints + 17 * length text
+  pub ends : cursors_behind (accepted_in rest) cursors ≡ cursors_behind (accepted_in text) start
+  pub same : put_lines (accepted_in rest) cursors buffer ≡ put_lines (accepted_in text) start buffer₀
 
 module _ (text buffer₀ : List ℕ) (start : Cursors) where
   -- all is put: the cursors behind it, how far they went, and the buffer
   abbrev Put : Cursors → List ℕ → Type 0
-  Put cursors buffer = (cursors ≡ cursors_behind (accepted_lines (lines_of text)) start) × (Further start cursors × (buffer ≡ put_lines (accepted_lines (lines_of text)) start buffer₀))
+  Put cursors buffer = (cursors ≡ cursors_behind (accepted_in text) start) × (Further start cursors × (buffer ≡ put_lines (accepted_in text) start buffer₀))
 
-  pub putting_none : Putting text buffer₀ start buffer₀ start 0
-  putting_none = record { long = refl; inside = omega arith; ends = refl; rules = omega arith; constraints = omega arith; same = refl }
-
-  module _ (buffer : List ℕ) (cursors : Cursors) (at : ℕ) (p : Putting text buffer₀ start buffer cursors at) where
+  module _ (buffer : List ℕ) (cursors : Cursors) (rest : List ℕ) (p : Putting text buffer₀ start buffer cursors rest) where
     pub putting_near : Near 600000 start → length text ≤ 32768 → Near 2000000 cursors
-    putting_near n h = record { rules = omega (arith, n.rules, p.rules, p.inside); constraints = omega (arith, n.constraints, p.constraints, p.inside) }
+    putting_near n h = record { rules = omega (arith, n.rules, p.rules); constraints = omega (arith, n.constraints, p.constraints) }
 
     -- nothing is left to put
-    done : length text ≤ 32768 → accepted_from text at ≡ [] → Put cursors buffer
+    done : length text ≤ 32768 → accepted_in rest ≡ [] → Put cursors buffer
     unfolding put_lines cursors_behind
     done h e = (
       sym (ap (λ (ls : List PolicyLine). cursors_behind ls cursors) e) ∙ p.ends,
       (
-        record { rules = omega (arith, p.rules, p.inside); constraints = omega (arith, p.constraints, p.inside) },
+        record { rules = omega (arith, p.rules); constraints = omega (arith, p.constraints) },
         sym (ap (λ (ls : List PolicyLine). put_lines ls cursors buffer) e) ∙ p.same,
       ),
     )
 
-    pub putting_all : length text ≤ 32768 → length text ≤ at → Put cursors buffer
+    pub putting_all : length text ≤ 32768 → length rest ≡ 0 → Put cursors buffer
     unfolding accepted_lines lines_of pieces
-    putting_all s h = done s (ap (λ (t : List ℕ). accepted_lines (lines_of t)) (drop_of_length-le text {i = at} h))
+    putting_all s h = done s (none rest h)
+      where
+        none : (t : List ℕ) → length t ≡ 0 → accepted_in t ≡ []
+        none [] e = refl
+        none (b ∷ t) e = absurd (omega arith)
 
-    -- a line put in, where the rest of the text starts at `next`
-    after : (k : PolicyLine) (next : ℕ) (buffer' : List ℕ) (cursors' : Cursors) → at < next → next ≤ length text → accepted_from text at ≡ k ∷ accepted_from text next → length (line_words k) ≤ 17
-        → cursors' ≡ cursors_after (ending_of k) cursors (length (line_words k)) → buffer' ≡ put_words buffer (cursor_for (ending_of k) cursors) (line_words k) → Putting text buffer₀ start buffer' cursors' next
-    unfolding put_lines cursors_behind
-    after k next buffer' cursors' n i e small f g =
-        let a : cursors'.rules ≤ cursors.rules + 17 = rw f (rules_after (ending_of k) cursors (length (line_words k)) small) in
-        let b : cursors'.constraints ≤ cursors.constraints + 17 = rw f (constraints_after (ending_of k) cursors (length (line_words k)) small) in
-        record {
-          long = ap length g ∙ put_length buffer (cursor_for (ending_of k) cursors) (line_words k) ∙ p.long;
-          inside = i;
-          ends = ap (cursors_behind (accepted_from text next)) f ∙ ap (λ (ls : List PolicyLine). cursors_behind ls cursors) (sym e) ∙ p.ends;
-          rules = omega (arith, p.rules);
-          constraints = omega (arith, p.constraints);
-          same = ap₂ (put_lines (accepted_from text next)) f g ∙ ap (λ (ls : List PolicyLine). put_lines ls cursors buffer) (sym e) ∙ p.same;
-        }
+    module _ (h : 0 < length rest) where
+      pub putting_stop : length text ≤ 32768 → (f : Fault) → Err f ≡ line_read rest → Put cursors buffer
+      unfolding accepted_line
+      putting_stop s f q = done s (here rest (refused f) h (read_refused rest f q))
 
-    module _ (l : at < length text) (r : LineRead) (q : r ≡ line_read text at) where
-      pub putting_skip : r.status ≡ LineStatus.Skipped → (at < r.next) × Putting text buffer₀ start buffer cursors r.next
-      putting_skip s = go (turn text at l r q)
-        where
-          go : Turn text at r → (at < r.next) × Putting text buffer₀ start buffer cursors r.next
-          go (skips t n i e) = (n, record { long = p.long; inside = i; ends = ap (λ (ls : List PolicyLine). cursors_behind ls cursors) (sym e) ∙ p.ends; rules = omega (arith, p.rules); constraints = omega (arith, p.constraints); same = ap (λ (ls : List PolicyLine). put_lines ls cursors buffer) (sym e) ∙ p.same })
-          go (stops f t e) = let w : ◌≡◌ {A = ℕ} 0 1 = cc in absurd (omega arith)
-          go (takes k v t m n i e) = let w : ◌≡◌ {A = ℕ} 0 1 = cc in absurd (omega arith)
+      module _ (behind : List ℕ) where
+        pub putting_skip : Ok (None, behind) ≡ line_read rest → (length behind < length rest) × Putting text buffer₀ start buffer cursors behind
+        unfolding accepted_line
+        putting_skip q =
+            let k = read_skipped rest behind q in
+            let e : accepted_in rest ≡ accepted_in behind = here rest skipped h k.0 ∙ ap accepted_in (sym k.1) in
+            let l : length behind < length rest = rw k.1 (next_shorter rest h) in
+            (l, record { long = p.long; rules = omega (arith, p.rules); constraints = omega (arith, p.constraints); ends = ap (λ (ls : List PolicyLine). cursors_behind ls cursors) (sym e) ∙ p.ends; same = ap (λ (ls : List PolicyLine). put_lines ls cursors buffer) (sym e) ∙ p.same })
 
-      pub putting_stop : length text ≤ 32768 → (f : Fault) → r.status ≡ LineStatus.Refused f → Put cursors buffer
-      putting_stop h f s = go (turn text at l r q)
-        where
-          go : Turn text at r → Put cursors buffer
-          go (skips t n i e) = let w : ◌≡◌ {A = ℕ} 0 1 = cc in absurd (omega arith)
-          go (stops g t e) = done h e
-          go (takes k v t m n i e) = let w : ◌≡◌ {A = ℕ} 0 1 = cc in absurd (omega arith)
+        -- a line put in
+        after : (k : PolicyLine) (buffer' : List ℕ) (cursors' : Cursors) → length behind < length rest → accepted_in rest ≡ k ∷ accepted_in behind → length (line_words k) ≤ 17
+            → cursors' ≡ cursors_after (ending_of k) cursors (length (line_words k)) → buffer' ≡ put_words buffer (cursor_for (ending_of k) cursors) (line_words k) → Putting text buffer₀ start buffer' cursors' behind
+        unfolding put_lines cursors_behind
+        after k buffer' cursors' n e small f g =
+            let a : cursors'.rules ≤ cursors.rules + 17 = rw f (rules_after (ending_of k) cursors (length (line_words k)) small) in
+            let b : cursors'.constraints ≤ cursors.constraints + 17 = rw f (constraints_after (ending_of k) cursors (length (line_words k)) small) in
+            record {
+              long = ap length g ∙ put_length buffer (cursor_for (ending_of k) cursors) (line_words k) ∙ p.long;
+              ends = ap (cursors_behind (accepted_in behind)) f ∙ ap (λ (ls : List PolicyLine). cursors_behind ls cursors) (sym e) ∙ p.ends;
+              rules = omega (arith, p.rules);
+              constraints = omega (arith, p.constraints);
+              same = ap₂ (put_lines (accepted_in behind)) f g ∙ ap (λ (ls : List PolicyLine). put_lines ls cursors buffer) (sym e) ∙ p.same;
+            }
 
-      -- an accepted line: how long it is, and what is left after it
-      pub record Taking : Type 0 where
-        pub small : length (value_words r.line) ≤ 17
-        pub later : at < r.next
-        pub next : (buffer' : List ℕ) (cursors' : Cursors) → cursors' ≡ cursors_after r.line.ending cursors (length (value_words r.line))
-            → buffer' ≡ put_words buffer (cursor_for r.line.ending cursors) (value_words r.line) → Putting text buffer₀ start buffer' cursors' r.next
+        -- an accepted line: how long it is, and what is left after it
+        pub record Taking (l : Line) : Type 0 where
+          pub small : length (value_words l) ≤ 17
+          pub shorter : length behind < length rest
+          pub next : (buffer' : List ℕ) (cursors' : Cursors) → cursors' ≡ cursors_after l.ending cursors (length (value_words l))
+              → buffer' ≡ put_words buffer (cursor_for l.ending cursors) (value_words l) → Putting text buffer₀ start buffer' cursors' behind
 
-      pub putting_take : r.status ≡ LineStatus.Accepted → Taking
-      putting_take s = go (turn text at l r q)
-        where
-          go : Turn text at r → Taking
-          go (skips t n i e) = let w : ◌≡◌ {A = ℕ} 0 1 = cc in absurd (omega arith)
-          go (stops f t e) = let w : ◌≡◌ {A = ℕ} 0 1 = cc in absurd (omega arith)
-          go (takes k v t m n i e) =
-              let w = whole k v in
-              let words : value_words r.line ≡ line_words k = ap value_words m ∙ w.words in
-              let ends : r.line.ending ≡ ending_of k = ap (λ (x : Line). x.ending) m ∙ w.ends in
-              record {
-                small = rw words w.small;
-                later = n;
-                next = λ b ps f g. after k r.next b ps n i e w.small (f ∙ ap₂ (λ (x : Ending) (ws : List ℕ). cursors_after x cursors (length ws)) ends words)
-                    (g ∙ ap₂ (λ (x : Ending) (ws : List ℕ). put_words buffer (cursor_for x cursors) ws) ends words);
-              }
+        pub putting_take : (l : Line) → Ok (Some l, behind) ≡ line_read rest → Taking l
+        unfolding accepted_line
+        putting_take l q =
+            let r = read_accepted rest l behind q in
+            let k : PolicyLine = r.line in
+            let w = whole k (accepted_valid (first_line rest) k r.answer) in
+            let words : value_words l ≡ line_words k = ap value_words r.value ∙ w.words in
+            let ends : l.ending ≡ ending_of k = ap (λ (x : Line). x.ending) r.value ∙ w.ends in
+            let e : accepted_in rest ≡ k ∷ accepted_in behind = here rest (accepted k) h r.answer ∙ ap (λ (t : List ℕ). k ∷ accepted_in t) (sym r.behind) in
+            let n : length behind < length rest = rw r.behind (next_shorter rest h) in
+            record {
+              small = rw words w.small;
+              shorter = n;
+              next = λ b ps f g. after k b ps n e w.small (f ∙ ap₂ (λ (x : Ending) (ws : List ℕ). cursors_after x cursors (length ws)) ends words)
+                  (g ∙ ap₂ (λ (x : Ending) (ws : List ℕ). put_words buffer (cursor_for x cursors) ws) ends words);
+            }
 
 -- ---- the whole image
 

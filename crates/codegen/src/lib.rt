@@ -12,7 +12,7 @@ use layout::{header, put_check_words, put_line};
 use line_value::Line;
 use policy::{Ending, Fault, Refusal};
 use rule_text::{LineCounts, read_texts};
-use syntax::{LineStatus, read_line};
+use syntax::read_line;
 use word::put_word;
 
 /// The form that is written.
@@ -77,21 +77,15 @@ fn put_lines(out: &mut [u8], text: &[u8], start: Cursors) -> Cursors
     ensures buffer { out.new ≡ put_lines (accepted_lines (lines_of text.now)) start out.old }
 {
     let mut cursors = start;
-    let mut at = 0;
-    while at < text.len() {
-        let read = read_line(text, at);
-        let status = read.status;
-        let line = read.line;
-        match status {
-            LineStatus::Accepted => {
-                cursors = put_next(out, cursors, line);
-            }
-            LineStatus::Skipped => {}
-            LineStatus::Refused(_) => {
-                return cursors;
-            }
+    let mut rest = text;
+    while !rest.is_empty() {
+        let Ok((line, behind)) = read_line(rest) else {
+            return cursors;
+        };
+        if let Some(line) = line {
+            cursors = put_next(out, cursors, line);
         }
-        at = read.next;
+        rest = behind;
     }
     cursors
 }

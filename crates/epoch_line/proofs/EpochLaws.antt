@@ -1,10 +1,9 @@
 -- Laws of scanning an epoch line, token by token, and of its judgement against the definition.
 use Rattle.std.specs.Prelude.{Option as Maybe, Some, None}
-use Rattle.std.proofs.Common.{ℕ, suc, ◌<◌, ◌≤◌, Bool, true, false, not, ◌&&◌, ◌||◌, cond, List, [], ◌∷◌, ◌≡◌, refl, sym, ap, ap₂, ◌∙◌, arith, eqb-true, eq-eqb, ne_eqb, ltb-true, lt-ltb, le-ltb, ℤ, pos, length, drop, drop_of_length-le, length-drop, replicate, fold}
+use Rattle.std.proofs.Common.{ℕ, suc, ◌<◌, ◌≤◌, Bool, true, false, not, ◌&&◌, ◌||◌, cond, List, [], ◌∷◌, ◌≡◌, refl, sym, ap, ap₂, ◌∙◌, arith, eqb-true, eq-eqb, ne_eqb, ltb-true, lt-ltb, le-ltb, ℤ, pos, length, replicate, fold}
 use Rattle.std.proofs.Math.Bool.{or-true, or_assoc, or-false}
 use Rattle.std.proofs.Math.Option.{Option, none, some, or_else}
 use Rattle.std.proofs.Math.Dec.{eqb, ltb}
-use Rattle.std.proofs.Math.ListN.{set}
 use Rattle.policy.proofs.ListLaws.{true_false, and_in, and_out}
 use Rattle.policy.proofs.SeenLaws.{seen_repeats}
 use Rattle.policy.specs.Epoch.{Epoch}
@@ -12,51 +11,46 @@ use Rattle.policy.specs.Limits.{is_reading_value, repeats}
 use Rattle.policy.specs.Steps.Seen.{seen_in}
 use Rattle.policy.specs.List.{all, any}
 use Rattle.policy.specs.Number.{set_limit}
-use Rattle.policy.specs.Set.{insert_event, has_reading, insert_reading, no_events, no_readings}
+use Rattle.policy.specs.Set.{has_reading, insert_reading, no_events, no_readings}
 use Rattle.policy.specs.declared.fault.Fault.{Fault}
-use Rattle.policy.specs.declared.number.Event.{Event}
-use Rattle.policy.specs.declared.number.Reading.{Reading}
-use Rattle.lexer.proofs.WhileLaws.{skip_ge, drop_skip}
-use Rattle.lexer.proofs.TokenLaws.{tokens_after_spaces, tokens_first, tokens_ended}
-use Rattle.lexer.proofs.KeywordLaws.{empty_end, token_inside, skip_grows}
+use Rattle.lexer.proofs.LeadingLaws.{leading_ends, drop_shorter}
+use Rattle.lexer.proofs.TokenLaws.{tokens_after_spaces, tokens_first}
 use Rattle.lexer.specs.Byte.{is_space}
-use Rattle.epoch_line.specs.Epoch.{Item, event, value, item_of, items_of, item_in_range, given_by, add_item, empty_epoch, judge_epoch, refused, accepted, epoch_limit, read_epoch, at_equals, assignment_of}
-use Rattle.epoch_line.specs.Steps.EpochScan.{entry_as, entry_of, item_ending, item_at, Scanned, scanned, add_scanned, flagged, take_item, finish_read, items_read, epoch_from}
-use Rattle.epoch_line.specs.Answer.{refused_read, accepted_read, answer_read, epoch_read}
-use Rattle.lexer.specs.Token.{Token, named, both}
-use Rattle.lexer.specs.Lines.{tokens_of, take_leading, skip_while, in_line, rest_of_line}
+use Rattle.lexer.specs.Lines.{pieces, non_empty, tokens_of, take_leading, drop_leading, in_line, first_line}
 use Rattle.lexer.specs.Number.{is_empty}
-use Rattle.lexer.specs.Steps.Scan.{in_token, token_at, tokens_at}
+use Rattle.lexer.specs.Steps.Scan.{in_token, token_in, behind_token, without_spaces, tokens_in}
+use Rattle.lexer.specs.Token.{Token, named, both}
+use Rattle.token.proofs.PartLaws.{Parted, part_some}
+use Rattle.token.specs.Steps.PartIn.{part_before}
+use Rattle.epoch_line.specs.Answer.{refused_read, accepted_read, answer_read, epoch_read}
+use Rattle.epoch_line.specs.Epoch.{Item, event, value, item_of, items_of, item_in_range, given_by, add_item, empty_epoch, judge_epoch, refused, accepted, epoch_limit, read_epoch, at_equals, assignment_of}
+use Rattle.epoch_line.specs.Steps.EpochScan.{Found, item_in, Scanned, scanned, add_scanned, flagged, take_item, finish_read, items_read, epoch_from}
 use Rattle.epoch_line.specs.declared.EpochRead.{EpochRead}
-use Rattle.epoch_line.specs.declared.Entry.{Entry}
 
 -- ---- a line end among bytes
 
-unfoldable has_end : List ℕ → Bool
+has_end : List ℕ → Bool
 has_end s = any (eqb 10) s
 
-end_past : (p : ℕ → Bool) → ((b : ℕ) → p b ≡ true → eqb 10 b ≡ false) → (s : List ℕ) → has_end s ≡ has_end (drop (length (take_leading p s)) s)
-unfolding has_end any take_leading
+end_past : (p : ℕ → Bool) → ((b : ℕ) → p b ≡ true → eqb 10 b ≡ false) → (s : List ℕ) → has_end s ≡ has_end (drop_leading p s)
+unfolding has_end any
 end_past p h [] = refl
-end_past p h (b ∷ s) = go (p b) refl (end_past p h s)
-  where
-    go : (x : Bool) → p b ≡ x → has_end s ≡ has_end (drop (length (take_leading p s)) s) → eqb 10 b || any (eqb 10) s ≡ has_end (drop (length (cond x (b ∷ take_leading p s) [])) (b ∷ s))
-    go true e k = rw (h b e) k
-    go false e k = refl
+end_past p h (b ∷ s) =
+    elim (p b) as (λ x. p b ≡ x → (eqb 10 b || any (eqb 10) s) ≡ any (eqb 10) (cond x (drop_leading p s) (b ∷ s))) [
+      | true ↦ λ e. rw (h b e) (end_past p h s)
+      | false ↦ λ e. refl
+    ] refl
 
--- where spaces were passed over and no token starts, and the line has not ended, there is a line end
-end_here : (s : List ℕ) → length (take_leading is_space s) < length s → is_empty (take_leading in_token (drop (length (take_leading is_space s)) s)) ≡ true → has_end s ≡ true
-unfolding has_end any take_leading is_empty
-end_here [] l e = absurd (omega arith)
-end_here (b ∷ s) l e = go (eqb b 32) refl l e (end_here s)
+-- where neither a space nor a token stands, and the line has not ended, there is a line end
+end_here : (s : List ℕ) → take_leading is_space s ≡ [] → is_empty s ≡ false → is_empty (token_in s) ≡ true → has_end s ≡ true
+unfolding has_end any
+end_here [] h l e = absurd (true_false refl l)
+end_here (b ∷ s) h l e = go (eqb b 32) (eqb b 10) refl h e
   where
-    ends : (x : Bool) → eqb b 10 ≡ x → is_empty (cond (not x) (b ∷ take_leading in_token s) []) ≡ true → eqb 10 b || any (eqb 10) s ≡ true
-    ends true p q = rw (eqb-true b 10 p)
-    ends false p q = absurd (true_false q refl)
-
-    go : (x : Bool) → eqb b 32 ≡ x → length (cond x (b ∷ take_leading is_space s) []) < suc (length s) → is_empty (take_leading in_token (drop (length (cond x (b ∷ take_leading is_space s) [])) (b ∷ s))) ≡ true → (length (take_leading is_space s) < length s → is_empty (take_leading in_token (drop (length (take_leading is_space s)) s)) ≡ true → has_end s ≡ true) → eqb 10 b || any (eqb 10) s ≡ true
-    go true p k q h = rw (h (omega arith) q) (or-true (eqb 10 b))
-    go false p k q h = ends (eqb b 10) refl (sym (ap (λ (y : Bool). is_empty (cond (not (y || eqb b 10)) (b ∷ take_leading in_token s) [])) p) ∙ q)
+    go : (x y : Bool) → eqb b 10 ≡ y → cond x (b ∷ take_leading is_space s) [] ≡ [] → is_empty (cond (not (x || y)) (b ∷ token_in s) []) ≡ true → (eqb 10 b || any (eqb 10) s) ≡ true
+    go true y p h q = absurd (true_false (ap is_empty h) refl)
+    go false true p h q = rw (eqb-true b 10 p)
+    go false false p h q = absurd (true_false q refl)
 
 space_no_end : (b : ℕ) → is_space b ≡ true → eqb 10 b ≡ false
 space_no_end b e = rw (eqb-true b 32 e)
@@ -64,18 +58,14 @@ space_no_end b e = rw (eqb-true b 32 e)
 inside_no_end : (b : ℕ) → in_token b ≡ true → eqb 10 b ≡ false
 inside_no_end b e = ne_eqb 10 b (λ q. true_false (sym (ap in_token (sym q)) ∙ e) refl)
 
-no_end : (s : List ℕ) → has_end s ≡ false → take_leading in_line s ≡ s
-unfolding has_end any take_leading
+no_end : (s : List ℕ) → has_end s ≡ false → first_line s ≡ s
+unfolding has_end any
 no_end [] e = refl
 no_end (b ∷ s) e = go (eqb b 10) refl e (no_end s)
   where
-    go : (x : Bool) → eqb b 10 ≡ x → eqb 10 b || any (eqb 10) s ≡ false → (has_end s ≡ false → take_leading in_line s ≡ s) → cond (not x) (b ∷ take_leading in_line s) [] ≡ b ∷ s
+    go : (x : Bool) → eqb b 10 ≡ x → eqb 10 b || any (eqb 10) s ≡ false → (any (eqb 10) s ≡ false → take_leading in_line s ≡ s) → cond (not x) (b ∷ take_leading in_line s) [] ≡ b ∷ s
     go true p q h = absurd (true_false (rw (eqb-true b 10 p)) q)
     go false p q h = ap (λ (t : List ℕ). b ∷ t) (h (sym (ap (λ (y : Bool). y || any (eqb 10) s) (ne_eqb 10 b (λ z. true_false (eq-eqb b 10 (sym z)) p))) ∙ q))
-
-module _ (line : List ℕ) (at : ℕ) where
-  end_skipped : (p : ℕ → Bool) → ((b : ℕ) → p b ≡ true → eqb 10 b ≡ false) → has_end (drop at line) ≡ has_end (drop (skip_while p line at) line)
-  end_skipped p h = end_past p h (drop at line) ∙ ap has_end (sym (drop_skip p line at))
 
 -- ---- the judgement of all items against collecting them one by one
 
@@ -125,12 +115,12 @@ judged (some is) = collected nothing is ∙ go (all item_in_range is) refl
     go true e = rw (seen_repeats (given_by is) (given_small is e)) (twice (repeats (given_by is)))
     go false e = refl
 
--- the whole line, from its start
-pub read_all : (line : List ℕ) → length line ≤ epoch_limit → epoch_from nothing line 0 ≡ epoch_read line
-unfolding epoch_from epoch_read read_epoch answer_read has_end tokens_at rest_of_line
+-- the whole line
+pub read_all : (line : List ℕ) → length line ≤ epoch_limit → epoch_from nothing line ≡ epoch_read line
+unfolding epoch_from epoch_read read_epoch answer_read has_end tokens_in
 read_all line h = rw (le-ltb 1024 (length line) h) (go (has_end line) refl)
   where
-    go : (b : Bool) → has_end line ≡ b → cond b (refused_read Fault.EpochSyntax) (items_read nothing (items_of (tokens_of (take_leading in_line line)))) ≡ answer_read (cond b (refused Fault.EpochSyntax) (judge_epoch (items_of (tokens_of line))))
+    go : (b : Bool) → has_end line ≡ b → cond b (refused_read Fault.EpochSyntax) (items_read nothing (items_of (tokens_of (first_line line)))) ≡ answer_read (cond b (refused Fault.EpochSyntax) (judge_epoch (items_of (tokens_of line))))
     go true e = refl
     go false e = rw (no_end line e) (judged (items_of (tokens_of line)))
 
@@ -141,161 +131,111 @@ read_long line h = rw (lt-ltb 1024 (length line) h)
 -- ---- one token
 
 item_token : (t : Token) (i : Item) → item_of t ≡ some i → is_empty t ≡ false
-unfolding item_of named assignment_of at_equals or_else is_empty
+unfolding item_of named assignment_of at_equals or_else
 item_token [] i e = let w : ◌≡◌ {A = ℕ} 0 1 = cc in absurd (omega arith)
 item_token (b ∷ t) i e = refl
-
--- an item at a position, and the position behind it
-record ItemRead (line : List ℕ) (at e : ℕ) (i : Item) : Type 0 where
-  read : item_of (token_at line at) ≡ some i
-  behind : e ≡ skip_while in_token line at
-
-entry_item : Entry → Item
-entry_item (Entry.Event x) = event x.0
-entry_item (Entry.Value x k) = value x.0 k
-
-item_again : (i : Item) → entry_item (entry_as i) ≡ i
-unfolding entry_item entry_as
-item_again (event n) = refl
-item_again (value n k) = refl
-
--- what an answer says of the token
-record Entered (line : List ℕ) (at : ℕ) (m : Maybe Entry) (e : ℕ) : Type 0 where
-  item : Item
-  read : ItemRead line at e item
-  made : m ≡ entry_of item
-
-module _ (line : List ℕ) (at : ℕ) where
-  item_none : item_at line at ≡ None → item_of (token_at line at) ≡ none
-  unfolding item_at item_ending
-  item_none = go (item_of (token_at line at))
-    where
-      go : (o : Option Item) → item_ending (skip_while in_token line at) o ≡ None → o ≡ none
-      go none q = refl
-      go (some i) q = let w : ◌≡◌ {A = ℕ} 0 1 = cc in absurd (omega arith)
-
-  module _ (m : Maybe Entry) (e : ℕ) (q : item_at line at ≡ Some (m, e)) where
-    entered : Entered line at m e
-    unfolding item_at item_ending
-    entered = go (item_of (token_at line at)) refl q
-      where
-        part_in : Maybe (Maybe Entry × ℕ) → Maybe Entry
-        part_in None = None
-        part_in (Some p) = p.0
-
-        end_in : Maybe (Maybe Entry × ℕ) → ℕ
-        end_in None = 0
-        end_in (Some p) = p.1
-
-        go : (o : Option Item) → item_of (token_at line at) ≡ o → item_ending (skip_while in_token line at) o ≡ Some (m, e) → Entered line at m e
-        go none p k = let w : ◌≡◌ {A = ℕ} 0 1 = cc in absurd (omega arith)
-        go (some i) p k = record { item = i; read = record { read = p; behind = sym (ap end_in k) }; made = sym (ap part_in k) }
-
-    item_entry : (x : Entry) → m ≡ Some x → ItemRead line at e (entry_item x) × (item_in_range (entry_item x) ≡ true)
-    item_entry x h = go (item_in_range entered.item) refl (sym entered.made ∙ h)
-      where
-        same : {y : Entry} → Some y ≡ Some x → y ≡ x
-        same k = cc
-
-        go : (b : Bool) → item_in_range entered.item ≡ b → cond b (Some (entry_as entered.item)) None ≡ Some x → ItemRead line at e (entry_item x) × (item_in_range (entry_item x) ≡ true)
-        go true r k =
-            let i : entered.item ≡ entry_item x = sym (item_again entered.item) ∙ ap entry_item (same k) in
-            (record { read = entered.read.read ∙ ap (λ (j : Item). some j) i; behind = entered.read.behind }, sym (ap item_in_range i) ∙ r)
-        go false r k = let w : ◌≡◌ {A = ℕ} 0 1 = cc in absurd (omega arith)
-
-    item_outside : m ≡ None → item_in_range entered.item ≡ false
-    item_outside h = go (item_in_range entered.item) (sym entered.made ∙ h)
-      where
-        go : (b : Bool) → cond b (Some (entry_as entered.item)) None ≡ None → b ≡ false
-        go true k = let w : ◌≡◌ {A = ℕ} 0 1 = cc in absurd (omega arith)
-        go false k = refl
-
--- ---- a turn of scanning
 
 item_first : (s : Scanned) (i : Item) (o : Option (List Item)) → items_read s (both ◌∷◌ (some i) o) ≡ items_read (take_item s i) o
 unfolding items_read both
 item_first s i none = refl
 item_first s i (some is) = refl
 
-module _ (line : List ℕ) (at : ℕ) (s : Scanned) where
-  abbrev start : ℕ
-  start = skip_while is_space line at
+-- ---- a turn of scanning
 
-  read_skipped : epoch_from s line at ≡ epoch_from s line start
+-- the answer behind the token in front
+abbrev pub epoch_behind : Scanned → Found → EpochRead
+epoch_behind s None = refused_read Fault.EpochSyntax
+epoch_behind s (Some (None, rest)) = epoch_from (flagged s) rest
+epoch_behind s (Some (Some i, rest)) = epoch_from (add_scanned s i) rest
+
+module _ (s : Scanned) (line : List ℕ) where
+  abbrev next : List ℕ
+  next = without_spaces line
+
+  read_skipped : epoch_from s line ≡ epoch_from s next
   unfolding epoch_from has_end
   read_skipped =
       ap₂ (λ (b : Bool) (ts : List Token). cond b (refused_read Fault.EpochSyntax) (items_read s (items_of ts)))
-      (end_skipped line at is_space space_no_end) (tokens_after_spaces line at)
+      (end_past is_space space_no_end line) (sym (tokens_after_spaces line))
 
-  pub read_ended : length line ≤ start → finish_read s ≡ epoch_from s line at
-  unfolding epoch_from any items_of items_read
-  read_ended h =
-      sym (read_skipped ∙ rw (drop_of_length-le line h, tokens_ended line at (sym (empty_end line start h))))
+  read_taken : (i : Item) → item_of (token_in next) ≡ some i → epoch_from s next ≡ epoch_from (take_item s i) (behind_token next)
+  unfolding epoch_from has_end items_of
+  read_taken i q =
+      ap₂ (λ (b : Bool) (x : EpochRead). cond b (refused_read Fault.EpochSyntax) x)
+      (end_past in_token inside_no_end next)
+      (ap (λ (ts : List Token). items_read s (items_of ts)) (tokens_first next (item_token (token_in next) i q))
+      ∙ ap (λ (o : Option Item). items_read s (both ◌∷◌ o (items_of (tokens_in (behind_token next))))) q
+      ∙ item_first s i (items_of (tokens_in (behind_token next))))
 
-  pub read_malformed : start < length line → item_at line start ≡ None → refused_read Fault.EpochSyntax ≡ epoch_from s line at
-  unfolding epoch_from items_of items_read both has_end skip_while token_at
-  read_malformed h q = sym (read_skipped ∙ go (is_empty (token_at line start)) refl)
+  read_malformed : is_empty next ≡ false → item_of (token_in next) ≡ none → epoch_from s next ≡ refused_read Fault.EpochSyntax
+  unfolding epoch_from items_of items_read both has_end
+  read_malformed h q = go (is_empty (token_in next)) refl
     where
-      shorter : length (take_leading is_space (drop at line)) < length (drop at line)
-      shorter = omega (arith, length-drop at line)
-
-      end_met : is_empty (token_at line start) ≡ true → any (eqb 10) (drop start line) ≡ true
-      end_met e =
-          sym (end_skipped line at is_space space_no_end)
-          ∙ end_here (drop at line) shorter (ap (λ (l : List ℕ). is_empty (take_leading in_token l)) (sym (drop_skip is_space line at)) ∙ e)
-
       same : (b : Bool) → ◌≡◌ {A = EpochRead} (cond b (refused_read Fault.EpochSyntax) (refused_read Fault.EpochSyntax)) (refused_read Fault.EpochSyntax)
       same true = refl
       same false = refl
 
-      go : (b : Bool) → is_empty (token_at line start) ≡ b → epoch_from s line start ≡ refused_read Fault.EpochSyntax
-      go true e = rw (end_met e)
-      go false e = rw (tokens_first line start e, item_none line start q) (same (any (eqb 10) (drop start line)))
+      go : (b : Bool) → is_empty (token_in next) ≡ b → epoch_from s next ≡ refused_read Fault.EpochSyntax
+      go true e = rw (end_here next (leading_ends is_space line) h e)
+      go false e = rw (tokens_first next e, q) (same (any (eqb 10) next))
 
-  module _ (e : ℕ) (i : Item) (r : ItemRead line start e i) where
-    solid : is_empty (token_at line start) ≡ false
-    solid = item_token (token_at line start) i r.read
+  read_item : is_empty next ≡ false → epoch_from s line ≡ epoch_behind s (item_in next)
+  unfolding item_in part_before take_item
+  read_item h = read_skipped ∙ go (item_of (token_in next)) refl
+    where
+      in_range : (i : Item) (b : Bool) → epoch_from (cond b (add_scanned s i) (flagged s)) (behind_token next) ≡ epoch_behind s (Some (cond b (Some i) None, behind_token next))
+      in_range i true = refl
+      in_range i false = refl
 
-    read_taken : epoch_from s line at ≡ epoch_from (take_item s i) line e
-    unfolding epoch_from has_end items_of
-    read_taken =
-        read_skipped
-        ∙ ap₂ (λ (b : Bool) (x : EpochRead). cond b (refused_read Fault.EpochSyntax) x)
-        (end_skipped line start in_token inside_no_end ∙ ap (λ (k : ℕ). any (eqb 10) (drop k line)) (sym r.behind))
-        (ap (λ (ts : List Token). items_read s (items_of ts)) (tokens_first line start solid)
-        ∙ ap (λ (o : Option Item). items_read s (both ◌∷◌ o (items_of (tokens_at line (skip_while in_token line start))))) r.read
-        ∙ item_first s i (items_of (tokens_at line (skip_while in_token line start)))
-        ∙ ap (λ (k : ℕ). items_read (take_item s i) (items_of (tokens_at line k))) (sym r.behind))
+      go : (o : Option Item) → item_of (token_in next) ≡ o → epoch_from s next ≡ epoch_behind s (part_before item_in_range (behind_token next) o)
+      go none q = read_malformed h q
+      go (some i) q = read_taken i q ∙ in_range i (item_in_range i)
 
-    read_on : (at < length line) × (at < e)
-    read_on =
-        let l : start < length line = token_inside line start solid in
-        let g : e ≡ skip_while in_token line start = r.behind in
-        (omega (arith, skip_ge is_space line at), omega (arith, skip_ge is_space line at, skip_grows line start solid))
+empty_length : (s : List ℕ) → is_empty s ≡ eqb (length s) 0
+empty_length [] = refl
+empty_length (b ∷ s) = sym (ne_eqb (length (b ∷ s)) 0 (λ q. omega arith))
 
-  module _ (m : Maybe Entry) (e : ℕ) (q : item_at line start ≡ Some (m, e)) where
-    pub entry_on : (at < length line) × (at < e)
-    entry_on = read_on e (entered line start m e q).item (entered line start m e q).read
+no_length : (s : List ℕ) → eqb (length s) 0 ≡ true → s ≡ []
+no_length [] e = refl
+no_length (b ∷ s) e = absurd (true_false (empty_length (b ∷ s) ∙ e) refl)
 
-    pub read_outside : m ≡ None → epoch_from s line at ≡ epoch_from (flagged s) line e
-    unfolding take_item
-    read_outside h =
-        let p = entered line start m e q in
-        read_taken e p.item p.read ∙ ap (λ (b : Bool). epoch_from (cond b (add_scanned s p.item) (flagged s)) line e) (item_outside line start m e q h)
+-- spaces were passed over
+module _ (s : Scanned) (line front : List ℕ) (skipped : front ≡ without_spaces line) (ended : Bool) (e : ended ≡ eqb (length front) 0) where
+  pub read_ended : ended ≡ true → epoch_from s line ≡ finish_read s
+  unfolding epoch_from any items_of items_read tokens_in tokens_of pieces non_empty
+  read_ended h = read_skipped s line ∙ rw (sym skipped ∙ no_length front (sym e ∙ h))
 
-    pub read_event : (x : Event) → m ≡ Some (Entry.Event x) → epoch_from s line at ≡ epoch_from (scanned s.out_of_range s.twice (insert_event s.epoch.events x) s.epoch.readings.given s.epoch.readings.values) line e
-    unfolding take_item add_scanned add_item entry_item
-    read_event x h =
-        let p = item_entry line start m e q (Entry.Event x) h in
-        read_taken e (event x.0) p.0 ∙ ap (λ (b : Bool). epoch_from (cond b (add_scanned s (event x.0)) (flagged s)) line e) p.1
+  pub read_turn : (f : Found) → f ≡ item_in front → ended ≡ false → epoch_from s line ≡ epoch_behind s f
+  read_turn f q h =
+      read_item s line (ap is_empty (sym skipped) ∙ empty_length front ∙ sym e ∙ h) ∙ ap (λ (t : List ℕ). epoch_behind s (item_in t)) (sym skipped) ∙ ap (epoch_behind s) (sym q)
 
-    module _ (x : Reading) (k : ℤ) (h : m ≡ Some (Entry.Value x k)) where
-      pub read_value : epoch_from s line at ≡ epoch_from (scanned s.out_of_range (s.twice || has_reading s.epoch.readings.given x) s.epoch.events (insert_reading s.epoch.readings.given x) (set s.epoch.readings.values x.0 k)) line e
-      unfolding take_item add_scanned add_item entry_item
-      read_value =
-          let p = item_entry line start m e q (Entry.Value x k) h in
-          read_taken e (value x.0 k) p.0 ∙ ap (λ (b : Bool). epoch_from (cond b (add_scanned s (value x.0 k)) (flagged s)) line e) p.1
+-- what an item says: a token was passed over, and a reading exists
+module _ (line front : List ℕ) (skipped : front ≡ without_spaces line) (m : Maybe Item) (rest : List ℕ) (q : Some (m, rest) ≡ item_in front) where
+  part : Parted Item item_in_range (behind_token front) (item_of (token_in front)) m rest
+  unfolding item_in
+  part = part_some item_in_range (behind_token front) (item_of (token_in front)) m rest (sym q)
 
-      pub value_small : x.0 < 16
-      unfolding item_in_range entry_item
-      value_small = ltb-true x.0 16 (and_out (ltb x.0 16) (is_reading_value k) (item_entry line start m e q (Entry.Value x k) h).1).0
+  token_shorter : (t : List ℕ) → is_empty (token_in t) ≡ false → length (behind_token t) < length t
+  token_shorter [] h = absurd (true_false refl h)
+  token_shorter (b ∷ t) h =
+      elim (in_token b) as (λ x. is_empty (cond x (b ∷ token_in t) []) ≡ false → length (cond x (behind_token t) (b ∷ t)) < suc (length t)) [
+        | true ↦ λ k. omega (arith, drop_shorter in_token t)
+        | false ↦ λ k. absurd (true_false refl k)
+      ] h
+
+  pub item_shorter : length rest < length line
+  item_shorter =
+      let a : length (behind_token front) < length front = token_shorter front (item_token (token_in front) part.part part.is) in
+      let b : length rest ≡ length (behind_token front) = ap length part.behind in
+      let d : length front ≤ length line = rw skipped (drop_shorter is_space line) in
+      omega arith
+
+  pub reading_small : (n : ℕ) (k : ℤ) → m ≡ Some (value n k) → n < 16
+  unfolding item_in_range
+  reading_small n k h = go (item_in_range part.part) refl (sym part.made ∙ h)
+    where
+      go : (b : Bool) → item_in_range part.part ≡ b → cond b (Some part.part) None ≡ Some (value n k) → n < 16
+      go true e w =
+          let i : part.part ≡ value n k = cc in
+          ltb-true n 16 (and_out (ltb n 16) (is_reading_value k) (sym (ap item_in_range i) ∙ e)).0
+      go false e w = let w : ◌≡◌ {A = ℕ} 0 1 = cc in absurd (omega arith)

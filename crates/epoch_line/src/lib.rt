@@ -2,15 +2,14 @@
 //! number out of range and a reading given twice, and the line is judged at its end.
 #![tactic(auto)]
 
-ghost use Rattle.std.specs.Prelude.{◌≡◌, false, pos, replicate};
-ghost use Rattle.policy.specs.Number.{check_event, check_reading};
+ghost use Rattle.std.specs.Prelude.{◌≡◌, false, pos, replicate, Some};
 ghost use Rattle.policy.specs.Set.{no_events, no_readings};
-ghost use Rattle.epoch_line.specs.Steps.EpochScan.{event_with, value_with, value_at, item_at, scanned, finish_read, epoch_from};
+ghost use Rattle.epoch_line.specs.Steps.EpochScan.{found, event_with, value_with, assigned_in, value_in, item_in, scanned, finish_read, epoch_from};
 ghost use Rattle.epoch_line.specs.Answer.{refused_read, epoch_read};
 
-use lexer::{digits_at, event_at, skip_spaces};
+use lexer::{digits, event, skip_spaces};
 use policy::{Event, EventSet, Fault, READING_LIMIT, Reading, ReadingSet};
-use token::constant_at;
+use token::constant;
 
 #[derive(Clone, Copy)]
 pub enum EpochStatus {
@@ -28,58 +27,79 @@ pub struct EpochRead {
     pub values: [i32; READING_LIMIT],
 }
 
-/// What a token of the line gives: an event, or a reading its value.
+// What the token in front of a line gives, with what stands behind it.
 #[derive(Clone, Copy)]
-pub enum Entry {
-    Event(Event),
-    Value(Reading, i32),
+enum Entry<'a> {
+    Event(Event, &'a [u8]),
+    // A reading and its value.
+    Value(Reading, i32, &'a [u8]),
+    // A number of it is out of range.
+    OutOfRange(&'a [u8]),
+    Malformed,
 }
 
-// The event of a number; none where it is out of range.
+// The event of a number.
 #[inline(always)]
-#[tactic(auto, unfolding(crate::specs::Steps::EpochScan::event_with))]
-fn event_entry(n: u32) -> Option<Entry>
-    ensures { result ≡ event_with (check_event n) }
+#[tactic(auto, unfolding(crate::specs::Steps::EpochScan::found))]
+fn event_entry(n: u32, rest: &[u8]) -> Entry<'_>
+    ensures { found result ≡ Some (event_with n, rest.now) }
 {
-    let event = Event::new(n)?;
-    Some(Entry::Event(event))
+    match Event::new(n) {
+        Some(event) => Entry::Event(event, rest),
+        None => Entry::OutOfRange(rest),
+    }
 }
 
-// The value of the reading with this number; none where one of both is out of range.
+// The value of the reading with this number.
 #[inline(always)]
-#[tactic(auto, unfolding(crate::specs::Steps::EpochScan::value_with))]
-fn value_entry(n: u32, constant: Option<i32>) -> Option<Entry>
-    ensures { result ≡ value_with (check_reading n) constant }
+#[tactic(auto, unfolding(crate::specs::Steps::EpochScan::found))]
+fn value_entry(n: u32, constant: Option<i32>, rest: &[u8]) -> Entry<'_>
+    ensures { found result ≡ Some (value_with n constant, rest.now) }
 {
-    let reading = Reading::new(n)?;
-    let value = constant?;
-    Some(Entry::Value(reading, value))
+    match (Reading::new(n), constant) {
+        (Some(reading), Some(value)) => Entry::Value(reading, value, rest),
+        _ => Entry::OutOfRange(rest),
+    }
+}
+
+// `=` and a constant, behind the number of a reading.
+#[inline(always)]
+#[tactic(auto, unfolding(crate::specs::Steps::EpochScan::found))]
+fn assigned(n: u32, text: &[u8]) -> Entry<'_>
+    ensures { found result ≡ assigned_in n text.now }
+{
+    let [b'=', behind @ ..] = text else {
+        return Entry::Malformed;
+    };
+    match constant(behind) {
+        Some((constant, rest)) => value_entry(n, constant, rest),
+        None => Entry::Malformed,
+    }
 }
 
 // `R`, a number, `=` and a constant.
-fn value_at(line: &[u8], at: usize) -> Option<(Option<Entry>, usize)>
-    ensures { result ≡ value_at line.now at }
+#[tactic(auto, using(crate::proofs::ItemLaws::value_by_digits), unfolding(crate::specs::Steps::EpochScan::found))]
+fn value(line: &[u8]) -> Entry<'_>
+    ensures { found result ≡ value_in line.now }
 {
-    if line.len() <= at || line[at] != b'R' {
-        return None;
+    let [b'R', name @ ..] = line else {
+        return Entry::Malformed;
+    };
+    match digits(name) {
+        Some((n, rest)) => assigned(n, rest),
+        None => Entry::Malformed,
     }
-    let name = digits_at(line, at + 1)?;
-    let equals = name.end;
-    if line.len() <= equals || line[equals] != b'=' {
-        return None;
-    }
-    let (constant, end) = constant_at(line, equals + 1)?;
-    Some((value_entry(name.value, constant), end))
 }
 
-// What the token at the position gives, and the position behind it; the position alone where a number is out of range.
+// An event or a value.
 #[inline(always)]
-fn item_at(line: &[u8], at: usize) -> Option<(Option<Entry>, usize)>
-    ensures { result ≡ item_at line.now at }
+#[tactic(auto, using(crate::proofs::ItemLaws::item_by_form))]
+fn item(line: &[u8]) -> Entry<'_>
+    ensures { found result ≡ item_in line.now }
 {
-    match event_at(line, at) {
-        Some(name) => Some((event_entry(name.value), name.end)),
-        None => value_at(line, at),
+    match event(line) {
+        Some((n, rest)) => event_entry(n, rest),
+        None => value(line),
     }
 }
 
@@ -95,6 +115,7 @@ fn refused(fault: Fault) -> EpochRead
 }
 
 // The answer at the end of the line. A number out of range comes before a reading given twice.
+#[tactic(auto, unfolding(crate::specs::Steps::EpochScan::finish_read))]
 fn finished(
     out_of_range: bool,
     twice: bool,
@@ -120,36 +141,35 @@ fn finished(
 
 // The tokens of the line, one after another. At a byte 10 no token stands: that is malformed too.
 fn read_items(line: &[u8]) -> EpochRead
-    ensures { result ≡ epoch_from (scanned false false no_events no_readings (replicate 16 (pos 0))) line.now 0 }
+    ensures { result ≡ epoch_from (scanned false false no_events no_readings (replicate 16 (pos 0))) line.now }
 {
     let mut out_of_range = false;
     let mut twice = false;
     let mut events = EventSet::EMPTY;
     let mut given = ReadingSet::EMPTY;
     let mut values = [0; READING_LIMIT];
-    let mut at = 0;
+    let mut rest = line;
     loop {
-        let start = skip_spaces(line, at);
-        if line.len() <= start {
+        let front = skip_spaces(rest);
+        if front.is_empty() {
             return finished(out_of_range, twice, events, given, values);
         }
-        let Some((item, end)) = item_at(line, start) else {
-            return refused(Fault::EpochSyntax);
-        };
-        at = end;
-        let Some(entry) = item else {
-            out_of_range = true;
-            continue;
-        };
-        match entry {
-            Entry::Event(event) => {
+        match item(front) {
+            Entry::Event(event, behind) => {
                 events = events.insert(event);
+                rest = behind;
             }
-            Entry::Value(reading, value) => {
+            Entry::Value(reading, value, behind) => {
                 twice = twice || given.has(reading);
                 given = given.insert(reading);
                 values[reading.0 as usize] = value;
+                rest = behind;
             }
+            Entry::OutOfRange(behind) => {
+                out_of_range = true;
+                rest = behind;
+            }
+            Entry::Malformed => return refused(Fault::EpochSyntax),
         }
     }
 }
@@ -158,6 +178,7 @@ fn read_items(line: &[u8]) -> EpochRead
 const EPOCH_LIMIT: usize = 1024;
 
 /// An epoch line, without its line end.
+#[tactic(auto, using(crate::proofs::EpochLaws::read_all, crate::proofs::EpochLaws::read_long))]
 pub fn read_epoch(line: &[u8]) -> EpochRead
     ensures { result ≡ epoch_read line.now }
 {

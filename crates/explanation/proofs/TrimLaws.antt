@@ -1,68 +1,51 @@
 -- Laws of trimming.
-use Rattle.std.proofs.Common.{ℕ, suc, ◌+◌, ◌-◌, ◌≤◌, ◌<◌, true, false, List, [], ◌∷◌, ◌++◌, ◌≡◌, refl, sym, ap, ◌∙◌, arith, eq-eqb, ne_eqb, le-ltb, length, take, drop, length-drop, take-suc, length-take-le, get_or-drop}
+use Rattle.std.proofs.Common.{ℕ, suc, ◌+◌, ◌-◌, ◌≤◌, ◌<◌, true, false, cond, List, [], ◌∷◌, ◌≡◌, refl, ◌∙◌, arith, eq-eqb, ne_eqb, le-ltb, length, take, drop}
+use Rattle.std.proofs.lemmas.List.{take_rest}
 use Rattle.std.proofs.Math.ListN.{get_or}
 use Rattle.lexer.specs.Byte.{is_space}
+use Rattle.lexer.specs.Lines.{first_line}
 use Rattle.explanation.specs.Part.{keep_byte, trim_end, part_at}
 
--- a space at the end counts for nothing, any other byte stays with all before it
-trim_space : (s : List ℕ) (b : ℕ) → is_space b ≡ true → trim_end (s ++ b ∷ []) ≡ trim_end s
-unfolding trim_end keep_byte
-trim_space [] b h = rw h
-trim_space (c ∷ s) b h = ap (keep_byte c) (trim_space s b h)
+-- how long a line is without the spaces at its end, told by what is left of it behind so many bytes: as long as it was so far, if that is
+-- nothing, and otherwise by all of that
+abbrev pub length_with : ℕ → ℕ → List ℕ → ℕ
+length_with so_far passed [] = so_far
+length_with so_far passed (b ∷ s) = passed + suc (length s)
 
-trim_other : (s : List ℕ) (b : ℕ) → is_space b ≡ false → trim_end (s ++ b ∷ []) ≡ s ++ b ∷ []
-unfolding trim_end keep_byte
-trim_other [] b h = rw h
-trim_other (c ∷ s) b h = ap (keep_byte c) (trim_other s b h) ∙ kept s
-  where
-    kept : (s : List ℕ) → keep_byte c (s ++ b ∷ []) ≡ c ∷ s ++ b ∷ []
-    kept [] = refl
-    kept (d ∷ s) = refl
+length_kept : (so_far passed b : ℕ) (s : List ℕ) → length_with so_far passed (keep_byte b s) ≡ length_with (cond (is_space b) so_far (passed + 1)) (passed + 1) s
+unfolding keep_byte
+length_kept so_far passed b [] = elim (is_space b) as (λ x. length_with so_far passed (cond x [] (b ∷ [])) ≡ cond x so_far (passed + 1)) [ true ↦ refl | false ↦ refl ]
+length_kept so_far passed b (c ∷ s) = omega arith
 
--- ---- the loop from the end of a line down
-
-module _ (text : List ℕ) (start end : ℕ) where
-  abbrev piece : ℕ → List ℕ
-  piece i = take (i - start) (drop start text)
-
-  pub record Trimming (i : ℕ) : Type 0 where
-    pub low : start ≤ i
-    pub high : i ≤ end
-    pub same : trim_end (piece end) ≡ trim_end (piece i)
-
-  module _ (inside : end ≤ length text) (i : ℕ) (t : Trimming i) (more : start < i) where
-    last : piece i ≡ piece (i - 1) ++ get_or text (i - 1) 0 ∷ []
-    last =
-        let j : ℕ = i - 1 - start in
-        let e : i - start ≡ suc j = omega arith in
-        let k : start + j ≡ i - 1 = omega arith in
-        let long : j < length (drop start text) = omega (arith, length-drop start text, t.high) in
-        ap (λ (n : ℕ). take n (drop start text)) e ∙ take-suc (drop start text) j 0 long
-        ∙ ap (λ (b : ℕ). take j (drop start text) ++ b ∷ []) (get_or-drop start text j 0 ∙ ap (λ (n : ℕ). get_or text n 0) k)
-
-    pub trimming_on : get_or text (i - 1) 0 ≡ 32 → Trimming (i - 1)
-    trimming_on h =
-        record {
-          low = omega arith;
-          high = omega (arith, t.high);
-          same = t.same ∙ ap trim_end last ∙ trim_space (piece (i - 1)) (get_or text (i - 1) 0) (eq-eqb (get_or text (i - 1) 0) 32 h);
-        }
-
-    pub trimming_here : ¬ (get_or text (i - 1) 0 ≡ 32) → i ≡ start + length (trim_end (piece end))
-    trimming_here h =
-        let e : trim_end (piece end) ≡ piece i = t.same ∙ ap trim_end last ∙ trim_other (piece (i - 1)) (get_or text (i - 1) 0) (ne_eqb (get_or text (i - 1) 0) 32 h) ∙ sym last in
-        let l : length (piece i) ≡ i - start = length-take-le (i - start) (drop start text) (omega (arith, length-drop start text, t.high)) in
-        omega (arith, ap length e)
-
-  pub trimming_all : start ≤ end → Trimming end
-  trimming_all h = record { low = h; high = omega arith; same = refl }
-
-  pub trimming_none : (i : ℕ) → Trimming i → i ≤ start → i ≡ start + length (trim_end (piece end))
+-- one byte more, a space or another one
+module _ (s : List ℕ) (so_far passed : ℕ) (h : 1 ≤ length s) (e : ¬ (get_or s 0 0 ≡ 10)) where
+  one_more : length_with so_far passed (trim_end (first_line s)) ≡ length_with (cond (is_space (get_or s 0 0)) so_far (passed + 1)) (passed + 1) (trim_end (first_line (take (length s - 1) (drop 1 s))))
   unfolding trim_end
-  trimming_none i t h =
-      let z : i - start ≡ 0 = omega arith in
-      let e : trim_end (piece end) ≡ [] = t.same ∙ ap (λ (n : ℕ). trim_end (take n (drop start text))) z in
-      omega (arith, ap length e, t.low)
+  one_more = go s h e
+    where
+      go : (s : List ℕ) → 1 ≤ length s → ¬ (get_or s 0 0 ≡ 10) → length_with so_far passed (trim_end (first_line s)) ≡ length_with (cond (is_space (get_or s 0 0)) so_far (passed + 1)) (passed + 1) (trim_end (first_line (take (length s - 1) (drop 1 s))))
+      go [] l n = absurd (omega arith)
+      go (b ∷ t) l n = rw (take_rest (b ∷ t) 1, ne_eqb b 10 n) (length_kept so_far passed b (trim_end (first_line t)))
+
+  pub space_more : get_or s 0 0 ≡ 32 → length_with so_far passed (trim_end (first_line s)) ≡ length_with so_far (passed + 1) (trim_end (first_line (take (length s - 1) (drop 1 s))))
+  space_more q = one_more ∙ rw (eq-eqb (get_or s 0 0) 32 q)
+
+  pub byte_more : ¬ (get_or s 0 0 ≡ 32) → length_with so_far passed (trim_end (first_line s)) ≡ length_with (passed + 1) (passed + 1) (trim_end (first_line (take (length s - 1) (drop 1 s))))
+  byte_more q = one_more ∙ rw (ne_eqb (get_or s 0 0) 32 q)
+
+pub line_over : (s : List ℕ) (so_far passed : ℕ) → 1 ≤ length s → get_or s 0 0 ≡ 10 → length_with so_far passed (trim_end (first_line s)) ≡ so_far
+unfolding trim_end
+line_over [] so_far passed h q = absurd (omega arith)
+line_over (b ∷ s) so_far passed h q = rw (eq-eqb b 10 q)
+
+pub text_over : (s : List ℕ) (so_far passed : ℕ) → length s < 1 → length_with so_far passed (trim_end (first_line s)) ≡ so_far
+unfolding trim_end
+text_over [] so_far passed h = refl
+text_over (b ∷ s) so_far passed h = absurd (omega arith)
+
+pub length_whole : (s : List ℕ) → length s ≡ length_with 0 0 s
+length_whole [] = refl
+length_whole (b ∷ s) = omega arith
 
 -- ---- a part of a text
 

@@ -1,17 +1,17 @@
 //! The first line of a text that tells why. A line is judged by running its words, as the engine runs those of an image.
-ghost use Rattle.std.specs.Prelude.{◌≡◌, ◌+◌, ◌-◌, ◌≤◌, length, take, drop};
-ghost use Rattle.lexer.specs.Lines.{lines_of, rest_of_line};
+ghost use Rattle.std.specs.Prelude.{◌≡◌, ◌+◌, ◌^◌, ◌<◌, length};
+ghost use Rattle.lexer.specs.Lines.{lines_of, first_line};
 ghost use Rattle.layout.specs.Steps.Value.{value_words};
 ghost use Rattle.explanation.specs.Part.{trim_end, shown_at, first_from};
 ghost use Rattle.explanation.specs.Steps.Sought.{Writable, tells, sought_by, search_of};
 
 use crate::part::Shown;
 use layout::put_line;
-use lexer::{line_end, skip_spaces};
+use lexer::skip_spaces;
 use line_value::Line;
 use policy::{Action, ActionSet, Ending, EventSet, Part, READING_LIMIT, ReadingSet, Source};
 use run::{run_constraints, run_rules};
-use syntax::{LineStatus, read_line};
+use syntax::read_line;
 use word::{part, words};
 
 /// Which lines are sought: rules that propose the action on these events, or constraints that hold on the set.
@@ -56,33 +56,36 @@ fn told(line: Line, sought: Sought, values: &[i32; READING_LIMIT]) -> bool
     }
 }
 
-/// Where the bytes from `start` up to `end` end, without the spaces at their end.
-fn trimmed_end(text: &[u8], start: usize, end: usize) -> usize
-    requires ordered { start ≤ end }
-    requires inside { end ≤ length text.now }
-    ensures { result ≡ start + length (trim_end (take (end - start) (drop start text.now))) }
+/// How many bytes the first line of a text has, without the spaces at its end.
+fn trimmed_length(text: &[u8]) -> usize
+    ensures { result ≡ length (trim_end (first_line text.now)) }
 {
-    let mut i = end;
-    while start < i {
-        if text[i - 1] != b' ' {
-            return i;
+    let mut length = 0;
+    let mut passed = 0;
+    let mut rest = text;
+    while let [b, others @ ..] = rest {
+        if *b == b'\n' {
+            break;
         }
-        i -= 1;
+        passed += 1;
+        if *b != b' ' {
+            length = passed;
+        }
+        rest = others;
     }
-    i
+    length
 }
 
-/// What is shown of the line that starts at a position.
-fn shown_at(text: &[u8], source: Source, at: usize) -> Shown
-    requires { at ≤ length text.now }
-    ensures { result ≡ shown_at source at (rest_of_line text.now at) }
+/// What is shown of the first line of a text, which starts at a position.
+fn shown_at(source: Source, at: usize, text: &[u8]) -> Shown
+    requires { at + length text.now < 2 ^ 63 }
+    ensures { result ≡ shown_at source at (first_line text.now) }
 {
-    let start = skip_spaces(text, at);
-    let end = trimmed_end(text, start, line_end(text, start));
+    let first = skip_spaces(text);
     Shown {
         source,
-        start,
-        length: end - start,
+        start: at + (text.len() - first.len()),
+        length: trimmed_length(first),
     }
 }
 
@@ -102,23 +105,17 @@ pub(crate) fn find(
 ) -> Search
     ensures { result ≡ search_of (first_from (sought_by sought values.now) source 0 (lines_of text.now)) }
 {
-    let mut at = 0;
-    while at < text.len() {
-        let read = read_line(text, at);
-        let status = read.status;
-        let line = read.line;
-        match status {
-            LineStatus::Accepted => {
-                if told(line, sought, values) {
-                    return Search::Found(shown_at(text, source, at));
-                }
-            }
-            LineStatus::Skipped => {}
-            LineStatus::Refused(_) => {
-                return Search::Absent;
+    let mut rest = text;
+    while !rest.is_empty() {
+        let Ok((line, behind)) = read_line(rest) else {
+            return Search::Absent;
+        };
+        if let Some(line) = line {
+            if told(line, sought, values) {
+                return Search::Found(shown_at(source, text.len() - rest.len(), rest));
             }
         }
-        at = read.next;
+        rest = behind;
     }
     Search::Absent
 }

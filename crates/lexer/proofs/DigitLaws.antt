@@ -1,22 +1,20 @@
--- Laws of reading numbers: clipping early or late is the same, and the digits of a token against the token.
-use Rattle.std.specs.Prelude.{Option as Maybe, Some, None}
-use Rattle.std.proofs.Common.{ℕ, ◌+◌, ◌*◌, ◌-◌, ◌<◌, ◌≤◌, Bool, true, false, not, ◌&&◌, ◌||◌, cond, List, [], ◌∷◌, ◌≡◌, refl, sym, ap, ap₂, ◌∙◌, arith, eq-eqb, ne_eqb, ltb-true, ltb-false, length, drop}
-use Rattle.std.proofs.Math.Bool.{or-true}
-use Rattle.std.proofs.Math.Option.{Option, none, some}
-use Rattle.std.proofs.Math.Dec.{eqb, ltb}
+-- Laws of reading numbers: clipping early or late is the same, and the digits in front of a token against the token.
+use Rattle.std.specs.Prelude.{Some, None, option_and_then}
+use Rattle.std.proofs.Common.{ℕ, ◌+◌, ◌*◌, ◌-◌, ◌<◌, ◌≤◌, Bool, true, false, not, ◌&&◌, ◌||◌, cond, List, [], ◌∷◌, ◌≡◌, refl, sym, ap, ap₂, ◌∙◌, arith, eqb-true, length, take, drop}
+use Rattle.std.proofs.lemmas.List.{take_rest}
 use Rattle.std.proofs.Math.ListN.{get_or}
+use Rattle.std.proofs.Math.Option.{Option, none, some}
+use Rattle.std.proofs.Math.Dec.{eqb}
 use Rattle.policy.proofs.ListLaws.{true_false}
 use Rattle.policy.specs.List.{all}
 use Rattle.lexer.proofs.ClassLaws.{digit_apart}
-use Rattle.lexer.proofs.RunLaws.{all_run, run_none, whole_token, same_end, broken_token}
-use Rattle.lexer.proofs.WhileLaws.{while_end, while_here, while_past, skip_past}
-use Rattle.lexer.proofs.KeywordLaws.{token_end, token_here, token_past}
+use Rattle.lexer.proofs.LeadingLaws.{leading_pass}
+use Rattle.lexer.proofs.RunLaws.{whole_token, same_end, broken_token}
 use Rattle.lexer.specs.Byte.{is_digit}
 use Rattle.lexer.specs.Token.{named}
 use Rattle.lexer.specs.Number.{decimal_from, is_empty, number_of}
-use Rattle.lexer.specs.Steps.Scan.{in_token, token_at, clip, clip_limit, number_ending, ends_at, leading_digits, digits_at, number_at, name_at}
-use Rattle.lexer.specs.Lines.{take_leading, skip_while}
-use Rattle.lexer.specs.declared.scan.Number.{Number}
+use Rattle.lexer.specs.Steps.Scan.{in_token, token_in, behind_token, clip, leading_digits, starts_number, number_before, digits_in, number_in, name_in}
+use Rattle.lexer.specs.Lines.{take_leading, drop_leading}
 
 -- ---- clipping
 
@@ -30,82 +28,50 @@ clip_decimal v w (d ∷ ds) e =
     clip_decimal (v * 10 + (d - 48)) (w * 10 + (d - 48)) ds
     (sym (clip_shift v (d - 48)) ∙ ap (λ (x : ℕ). clip (x * 10 + (d - 48))) e ∙ clip_shift w (d - 48))
 
--- the value of the digits from a position on, after a value
-pub digits_past : (text : List ℕ) (i v w : ℕ) → i < length text → is_digit (get_or text i 0) ≡ true → w ≡ clip (v * 10 + (get_or text i 0 - 48)) → clip (decimal_from v (take_leading is_digit (drop i text))) ≡ clip (decimal_from w (take_leading is_digit (drop (i + 1) text)))
+-- one digit more
+pub digits_past : (s : List ℕ) (v w : ℕ) → 1 ≤ length s → is_digit (get_or s 0 0) ≡ true → w ≡ clip (v * 10 + (get_or s 0 0 - 48)) → clip (decimal_from w (take_leading is_digit (take (length s - 1) (drop 1 s)))) ≡ clip (decimal_from v (take_leading is_digit s))
 unfolding decimal_from
-digits_past text i v w h e q =
-    ap (λ (l : List ℕ). clip (decimal_from v l)) (while_past is_digit text i h e)
-    ∙ clip_decimal (v * 10 + (get_or text i 0 - 48)) w (take_leading is_digit (drop (i + 1) text)) (sym (ap clip q ∙ twice (v * 10 + (get_or text i 0 - 48))))
+digits_past [] v w h e q = absurd (omega arith)
+digits_past (b ∷ s) v w h e q = rw (e, take_rest (b ∷ s) 1) (clip_decimal w (v * 10 + (b - 48)) (take_leading is_digit s) (ap clip q ∙ omega arith))
+
+-- ---- whether the digits in front are a number
+
+number_of_more : (b : ℕ) (t : List ℕ) → all is_digit (b ∷ t) ≡ true → number_of (b ∷ t) ≡ cond (is_empty t || not (eqb b 48)) (some (decimal_from 0 (b ∷ t))) none
+unfolding number_of
+number_of_more b t e = rw e
+
+module _ (b : ℕ) (s : List ℕ) where
+  digits_more : is_digit b ≡ true → digits_in (b ∷ s) ≡ number_before (drop_leading is_digit s) (cond (is_empty (take_leading is_digit s) || not (eqb b 48)) (some (decimal_from 0 (b ∷ take_leading is_digit s))) none)
+  unfolding digits_in all
+  digits_more e = rw (e, number_of_more b (take_leading is_digit s) (rw (e, leading_pass is_digit s)))
+
+pub digits_by_start : (text : List ℕ) → digits_in text ≡ cond (starts_number text) (Some (leading_digits text)) None
+unfolding number_before digits_in number_of
+digits_by_start [] = refl
+digits_by_start (b ∷ s) =
+    elim (is_digit b) as (λ x. is_digit b ≡ x → digits_in (b ∷ s) ≡ cond (starts_number (b ∷ s)) (Some (leading_digits (b ∷ s))) None) [
+      | true ↦ λ e. digits_more b s e ∙ started s e
+      | false ↦ λ e. no_digit e ∙ not_started s e
+    ] refl
   where
-    twice : (n : ℕ) → clip (clip n) ≡ clip n
-    twice n = omega arith
+    followed : (c : ℕ) (s : List ℕ) (x z : Bool) → is_digit c ≡ x → number_before (cond x (drop_leading is_digit s) (c ∷ s)) (cond (is_empty (cond x (c ∷ take_leading is_digit s) []) || not z) (some (decimal_from 0 (b ∷ cond x (c ∷ take_leading is_digit s) []))) none) ≡ cond (not (z && x)) (Some (clip (decimal_from 0 (b ∷ cond x (c ∷ take_leading is_digit s) [])), cond x (drop_leading is_digit s) (c ∷ s))) None
+    followed c s true true e = refl
+    followed c s true false e = refl
+    followed c s false true e = refl
+    followed c s false false e = refl
 
-pub digits_here : (text : List ℕ) (i v : ℕ) → v ≤ clip_limit → i < length text → is_digit (get_or text i 0) ≡ false → clip (decimal_from v (take_leading is_digit (drop i text))) ≡ v
-unfolding decimal_from
-digits_here text i v l h e = ap (λ (s : List ℕ). clip (decimal_from v s)) (while_here is_digit text i h e) ∙ fits
-  where
-    fits : clip v ≡ v
-    fits = omega arith
+    started : (s : List ℕ) → is_digit b ≡ true → number_before (drop_leading is_digit s) (cond (is_empty (take_leading is_digit s) || not (eqb b 48)) (some (decimal_from 0 (b ∷ take_leading is_digit s))) none) ≡ cond (starts_number (b ∷ s)) (Some (leading_digits (b ∷ s))) None
+    started [] e = rw e
+    started (c ∷ s) e = rw e (followed c s (is_digit c) (eqb b 48) refl)
 
-pub digits_end : (text : List ℕ) (i v : ℕ) → v ≤ clip_limit → length text ≤ i → clip (decimal_from v (take_leading is_digit (drop i text))) ≡ v
-unfolding decimal_from
-digits_end text i v l h = ap (λ (s : List ℕ). clip (decimal_from v s)) (while_end is_digit text i h) ∙ fits
-  where
-    fits : clip v ≡ v
-    fits = omega arith
+    no_digit : is_digit b ≡ false → digits_in (b ∷ s) ≡ None
+    no_digit e = rw e
 
--- ---- whether the digits are a number
+    not_started : (s : List ℕ) → is_digit b ≡ false → None ≡ cond (starts_number (b ∷ s)) (Some (leading_digits (b ∷ s))) None
+    not_started [] e = rw e
+    not_started (c ∷ s) e = rw e
 
-module _ (text : List ℕ) (at : ℕ) where
-  pub digits_none : skip_while is_digit text at ≤ at → number_of (take_leading is_digit (drop at text)) ≡ none
-  unfolding number_of
-  digits_none h = ap number_of (run_none is_digit text at h)
-
-  pub digits_inside : at < skip_while is_digit text at → at < length text
-  unfolding skip_while
-  digits_inside h = go (ltb at (length text)) refl
-    where
-      go : (b : Bool) → ltb at (length text) ≡ b → at < length text
-      go true e = ltb-true at (length text) e
-      go false e = absurd (omega (arith, ap length (while_end is_digit text at (ltb-false at (length text) e))))
-
-  first : at < skip_while is_digit text at → take_leading is_digit (drop at text) ≡ get_or text at 0 ∷ take_leading is_digit (drop (at + 1) text)
-  unfolding skip_while
-  first h = go (is_digit (get_or text at 0)) refl
-    where
-      go : (b : Bool) → is_digit (get_or text at 0) ≡ b → take_leading is_digit (drop at text) ≡ get_or text at 0 ∷ take_leading is_digit (drop (at + 1) text)
-      go true e = while_past is_digit text at (digits_inside h) e
-      go false e = absurd (omega (arith, ap length (while_here is_digit text at (digits_inside h) e)))
-
-  -- more than one digit, the first 0
-  pub digits_zero : at < skip_while is_digit text at → 1 < skip_while is_digit text at - at → get_or text at 0 ≡ 48 → number_of (take_leading is_digit (drop at text)) ≡ none
-  unfolding number_of is_empty skip_while
-  digits_zero h k z = ap number_of (first h) ∙ go (take_leading is_digit (drop (at + 1) text)) refl
-    where
-      go : (l : List ℕ) → take_leading is_digit (drop (at + 1) text) ≡ l → number_of (get_or text at 0 ∷ l) ≡ none
-      go [] e = absurd (omega (arith, ap length (first h), ap length e))
-      go (d ∷ ds) e = rw (eq-eqb (get_or text at 0) 48 z) (none_of (all is_digit (get_or text at 0 ∷ d ∷ ds)))
-        where
-          none_of : (b : Bool) → cond (b && false) (some (decimal_from 0 (get_or text at 0 ∷ d ∷ ds))) none ≡ none
-          none_of true = refl
-          none_of false = refl
-
-  number_of_is : (b : ℕ) (l : List ℕ) → take_leading is_digit (drop at text) ≡ b ∷ l → is_empty l || not (eqb b 48) ≡ true → number_of (take_leading is_digit (drop at text)) ≡ some (decimal_from 0 (take_leading is_digit (drop at text)))
-  unfolding number_of
-  number_of_is b l e q = ap number_of e ∙ rw (sym (ap (all is_digit) e) ∙ all_run is_digit (drop at text), q) (ap (λ (s : List ℕ). some (decimal_from 0 s)) (sym e))
-
-  pub digits_one : at < skip_while is_digit text at → skip_while is_digit text at - at ≡ 1 → number_of (take_leading is_digit (drop at text)) ≡ some (decimal_from 0 (take_leading is_digit (drop at text)))
-  unfolding skip_while is_empty
-  digits_one h k = go (take_leading is_digit (drop (at + 1) text)) refl
-    where
-      go : (l : List ℕ) → take_leading is_digit (drop (at + 1) text) ≡ l → number_of (take_leading is_digit (drop at text)) ≡ some (decimal_from 0 (take_leading is_digit (drop at text)))
-      go [] e = number_of_is (get_or text at 0) [] (first h ∙ ap (λ (s : List ℕ). get_or text at 0 ∷ s) e) refl
-      go (d ∷ ds) e = absurd (omega (arith, ap length (first h), ap length e))
-
-  pub digits_more : at < skip_while is_digit text at → (get_or text at 0 ≡ 48 → ⊥) → number_of (take_leading is_digit (drop at text)) ≡ some (decimal_from 0 (take_leading is_digit (drop at text)))
-  digits_more h z = number_of_is (get_or text at 0) (take_leading is_digit (drop (at + 1) text)) (first h) (rw (ne_eqb (get_or text at 0) 48 z) (or-true (is_empty (take_leading is_digit (drop (at + 1) text)))))
-
--- ---- the digits at the start of a token against the token
+-- ---- the digits in front of a token against the token
 
 pub digit_inside : (b : ℕ) → is_digit b ≡ true → in_token b ≡ true
 digit_inside b e = rw (digit_apart b 32 (omega arith) e, digit_apart b 10 (omega arith) e)
@@ -115,103 +81,74 @@ unfolding number_of all
 not_number [] e = absurd (true_false refl e)
 not_number (d ∷ ds) e = rw e
 
--- ---- the answers
+module _ (text : List ℕ) where
+  abbrev behind_digits : List ℕ
+  behind_digits = drop_leading is_digit text
 
-pub ending_none : (e : ℕ) (o : Option ℕ) → number_ending e o ≡ None → o ≡ none
-unfolding number_ending
-ending_none e none k = refl
-ending_none e (some n) k = let w : ◌≡◌ {A = ℕ} 0 1 = cc in absurd (omega arith)
-
-abbrev value_of : Maybe Number → ℕ
-value_of None = 0
-value_of (Some d) = d.value
-
-abbrev end_of : Maybe Number → ℕ
-end_of None = 0
-end_of (Some d) = d.end
-
--- what a number that was read says of the digits
-pub record Ended (e : ℕ) (o : Option ℕ) (d : Number) : Type 0 where
-  pub number : ℕ
-  pub is : o ≡ some number
-  pub clipped : d.value ≡ clip number
-  pub behind : d.end ≡ e
-
-pub ending_some : (e : ℕ) (o : Option ℕ) (d : Number) → number_ending e o ≡ Some d → Ended e o d
-unfolding number_ending
-ending_some e none d q = let w : ◌≡◌ {A = ℕ} 0 1 = cc in absurd (omega arith)
-ending_some e (some n) d q = record { number = n; is = refl; clipped = sym (ap value_of q); behind = sym (ap end_of q) }
-
--- ---- the answers of reading a name
-
-abbrev pub Named : ℕ → List ℕ → ℕ → Number → Type 0
-Named letter text at d = Ended (skip_while in_token text at) (named letter (token_at text at)) d
-
-module _ (letter : ℕ) (text : List ℕ) (at : ℕ) where
-  pub name_some : (d : Number) → name_at text at letter ≡ Some d → Named letter text at d
-  unfolding name_at
-  name_some d q = ending_some (skip_while in_token text at) (named letter (token_at text at)) d q
-
-  pub name_none : name_at text at letter ≡ None → named letter (token_at text at) ≡ none
-  unfolding name_at
-  name_none q = ending_none (skip_while in_token text at) (named letter (token_at text at)) q
-
-module _ (text : List ℕ) (at : ℕ) where
-  pub digits_malformed : number_of (take_leading is_digit (drop at text)) ≡ none → None ≡ digits_at text at
-  unfolding digits_at number_ending
-  digits_malformed e = rw e
-
-  pub digits_number : (d : Number) → d ≡ leading_digits text at → number_of (take_leading is_digit (drop at text)) ≡ some (decimal_from 0 (take_leading is_digit (drop at text))) → Some d ≡ digits_at text at
-  unfolding digits_at leading_digits number_ending
-  digits_number d q e = rw (e, q)
-
-  pub number_end : (v e : ℕ) → digits_at text at ≡ Some (ends_at v e) → skip_while is_digit text at ≡ e
-  unfolding digits_at number_ending
-  number_end v e = go (number_of (take_leading is_digit (drop at text)))
+  -- the number of the token in front: that of its digits, where it ends behind them
+  pub number_by_digits : number_in text ≡ option_and_then (λ (r : ℕ × List ℕ). cond (is_empty (token_in r.1)) (Some r) None) (digits_in text)
+  unfolding number_in digits_in number_before
+  number_by_digits =
+      elim (is_empty (token_in behind_digits)) as (λ x. is_empty (token_in behind_digits) ≡ x → number_in text ≡ option_and_then (λ (r : ℕ × List ℕ). cond (is_empty (token_in r.1)) (Some r) None) (digits_in text)) [
+        | true ↦ λ e. ap₂ number_before (same_end is_digit digit_inside text e) (ap number_of (whole_token is_digit digit_inside text e)) ∙ ended (number_of (take_leading is_digit text)) e
+        | false ↦ λ e. ap (number_before (behind_token text)) (not_number (token_in text) (broken_token is_digit digit_inside text e)) ∙ open_end (number_of (take_leading is_digit text)) e
+      ] refl
     where
-      go : (o : Option ℕ) → number_ending (skip_while is_digit text at) o ≡ Some (ends_at v e) → skip_while is_digit text at ≡ e
-      go none k = let w : ◌≡◌ {A = ℕ} 0 1 = cc in absurd (omega arith)
-      go (some n) k = ap end_of k
+      ended : (o : Option ℕ) → is_empty (token_in behind_digits) ≡ true → number_before behind_digits o ≡ option_and_then (λ (r : ℕ × List ℕ). cond (is_empty (token_in r.1)) (Some r) None) (number_before behind_digits o)
+      ended none e = refl
+      ended (some n) e = rw e
 
-  -- a number that ends where its token does is the token's; otherwise the token is no number
-  pub token_number : (v e : ℕ) → digits_at text at ≡ Some (ends_at v e) → is_empty (token_at text e) ≡ true → Some (ends_at v e) ≡ number_at text at
-  unfolding digits_at number_at
-  token_number v e q h =
-      let w : is_empty (token_at text (skip_while is_digit text at)) ≡ true = ap (λ (k : ℕ). is_empty (token_at text k)) (number_end v e q) ∙ h in
-      sym (ap₂ number_ending (same_end is_digit digit_inside text at w) (ap number_of (whole_token is_digit digit_inside text at w)) ∙ q)
-
-  broken : is_empty (token_at text (skip_while is_digit text at)) ≡ false → number_of (token_at text at) ≡ none
-  broken h = not_number (token_at text at) (broken_token is_digit digit_inside text at h)
-
-  pub token_longer : (v e : ℕ) → digits_at text at ≡ Some (ends_at v e) → is_empty (token_at text e) ≡ false → None ≡ number_at text at
-  unfolding number_at number_ending
-  token_longer v e q h = rw (broken (ap (λ (k : ℕ). is_empty (token_at text k)) (number_end v e q) ∙ h))
-
-  pub token_malformed : digits_at text at ≡ None → None ≡ number_at text at
-  unfolding digits_at number_at number_ending
-  token_malformed q = go (is_empty (token_at text (skip_while is_digit text at))) refl
-    where
-      go : (b : Bool) → is_empty (token_at text (skip_while is_digit text at)) ≡ b → None ≡ number_ending (skip_while in_token text at) (number_of (token_at text at))
-      go true h = rw (ap number_of (whole_token is_digit digit_inside text at h) ∙ ending_none (skip_while is_digit text at) (number_of (take_leading is_digit (drop at text))) q)
-      go false h = rw (broken h)
+      open_end : (o : Option ℕ) → is_empty (token_in behind_digits) ≡ false → number_before (behind_token text) none ≡ option_and_then (λ (r : ℕ × List ℕ). cond (is_empty (token_in r.1)) (Some r) None) (number_before behind_digits o)
+      open_end none e = refl
+      open_end (some n) e = rw e
 
 -- ---- a letter and a number
 
-module _ (text : List ℕ) (at letter : ℕ) where
-  pub name_end : length text ≤ at → None ≡ name_at text at letter
-  unfolding name_at named number_ending
-  name_end h = rw (token_end text at h)
+pub name_none : (text : List ℕ) (letter : ℕ) → length text < 1 → name_in text letter ≡ None
+unfolding name_in named number_before
+name_none [] letter h = refl
+name_none (b ∷ s) letter h = absurd (omega arith)
 
-  pub name_other : at < length text → (get_or text at 0 ≡ letter → ⊥) → None ≡ name_at text at letter
-  unfolding name_at number_ending named
-  name_other h q = rw (none_named (in_token (get_or text at 0)) refl)
-    where
-      none_named : (b : Bool) → in_token (get_or text at 0) ≡ b → named letter (token_at text at) ≡ none
-      none_named true e = ap (named letter) (token_past text at h e) ∙ rw (ne_eqb (get_or text at 0) letter q)
-      none_named false e = ap (named letter) (token_here text at h e)
+pub name_some : (text : List ℕ) (letter : ℕ) → in_token letter ≡ true → 1 ≤ length text → name_in text letter ≡ cond (eqb (get_or text 0 0) letter) (number_in (take (length text - 1) (drop 1 text))) None
+unfolding name_in number_in named number_before
+name_some [] letter h l = absurd (omega arith)
+name_some (b ∷ s) letter h l =
+    rw (take_rest (b ∷ s) 1)
+    (elim (eqb b letter) as (λ x. eqb b letter ≡ x → name_in (b ∷ s) letter ≡ cond x (number_in s) None) [
+      | true ↦ λ e. rw (ap in_token (eqb-true b letter e) ∙ h) (rw e)
+      | false ↦ λ e. other (in_token b) e
+    ] refl)
+  where
+    other : (x : Bool) → eqb b letter ≡ false → number_before (cond x (behind_token s) (b ∷ s)) (named letter (cond x (b ∷ token_in s) [])) ≡ None
+    other true e = rw e
+    other false e = refl
 
-  pub name_number : in_token letter ≡ true → at < length text → get_or text at 0 ≡ letter → number_at text (at + 1) ≡ name_at text at letter
-  unfolding name_at number_at named
-  name_number l h q =
-      let i : in_token (get_or text at 0) ≡ true = ap in_token q ∙ l in
-      sym (ap₂ number_ending (skip_past in_token text at h i) (ap (named letter) (token_past text at h i) ∙ rw (eq-eqb (get_or text at 0) letter q)))
+-- ---- what was answered for a number or a name
+
+-- what a number that was read says of what it was read from
+pub record Read (o : Option ℕ) (rest : List ℕ) (r : ℕ × List ℕ) : Type 0 where
+  pub number : ℕ
+  pub is : o ≡ some number
+  pub clipped : r.0 ≡ clip number
+  pub behind : r.1 ≡ rest
+
+pub number_read : (rest : List ℕ) (o : Option ℕ) (r : ℕ × List ℕ) → number_before rest o ≡ Some r → Read o rest r
+unfolding number_before
+number_read rest none r q = let w : ◌≡◌ {A = ℕ} 0 1 = cc in absurd (omega arith)
+number_read rest (some n) r q =
+    let e : (clip n, rest) ≡ r = cc in
+    record { number = n; is = refl; clipped = sym (ap (λ (x : ℕ × List ℕ). x.0) e); behind = sym (ap (λ (x : ℕ × List ℕ). x.1) e) }
+
+pub number_not_read : (rest : List ℕ) (o : Option ℕ) → number_before rest o ≡ None → o ≡ none
+unfolding number_before
+number_not_read rest none q = refl
+number_not_read rest (some n) q = cc
+
+module _ (letter : ℕ) (text : List ℕ) where
+  pub name_read : (r : ℕ × List ℕ) → name_in text letter ≡ Some r → Read (named letter (token_in text)) (behind_token text) r
+  unfolding name_in
+  name_read r q = number_read (behind_token text) (named letter (token_in text)) r q
+
+  pub name_not_read : name_in text letter ≡ None → named letter (token_in text) ≡ none
+  unfolding name_in
+  name_not_read q = number_not_read (behind_token text) (named letter (token_in text)) q

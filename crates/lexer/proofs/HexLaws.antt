@@ -1,11 +1,11 @@
 -- Laws of hexadecimal digits: the loop that reads them keeps the last eight, and they are bytes of a token.
-use Rattle.std.proofs.Common.{ℕ, zero, suc, ◌+◌, ◌*◌, ◌%◌, ◌^◌, ◌<◌, ◌≤◌, Bool, true, false, List, [], ◌∷◌, ◌≡◌, refl, ap, ◌∙◌, mul-le-mul_left, mul-le-mul_right, arith, eqb-true, ltb-true, length, drop, fold}
+use Rattle.std.proofs.Common.{ℕ, zero, suc, ◌+◌, ◌*◌, ◌-◌, ◌%◌, ◌^◌, ◌<◌, ◌≤◌, Bool, true, false, List, [], ◌∷◌, ◌≡◌, refl, ap, mul-le-mul_left, mul-le-mul_right, arith, eqb-true, ltb-true, lt-ltb, length, take, drop, fold}
+use Rattle.std.proofs.lemmas.List.{take_rest}
+use Rattle.std.proofs.Math.ListN.{get_or}
 use Rattle.std.proofs.Math.Nat.{pow-succ', one-le-pow}
 use Rattle.std.proofs.Math.Dec.{eqb}
-use Rattle.std.proofs.Math.ListN.{get_or}
 use Rattle.policy.proofs.ListLaws.{true_false, and_out}
 use Rattle.policy.specs.List.{all}
-use Rattle.lexer.proofs.WhileLaws.{while_past}
 use Rattle.lexer.specs.Byte.{hex_value, is_hex_digit}
 use Rattle.lexer.specs.Number.{hex_number}
 use Rattle.lexer.specs.Steps.Scan.{in_token}
@@ -23,16 +23,11 @@ pub hex_word_is : (v w : ℕ) (ds : List ℕ) → v % 2 ^ 32 ≡ w % 2 ^ 32 → 
 hex_word_is v w [] e = e
 hex_word_is v w (d ∷ ds) e = hex_word_is (v * 16 + hex_value d) (w * 16 + hex_value d) ds (word_shift v w (hex_value d) e)
 
--- the digits from a position on, after a value
-pub hex_past : (text : List ℕ) (i v w : ℕ) → i < length text → is_hex_digit (get_or text i 0) ≡ true → w ≡ v % 268435456 * 16 + hex_value (get_or text i 0)
-    → hex_from v (take_leading is_hex_digit (drop i text)) % 2 ^ 32 ≡ hex_from w (take_leading is_hex_digit (drop (i + 1) text)) % 2 ^ 32
-hex_past text i v w h e q =
-    ap (λ (l : List ℕ). hex_from v l % 2 ^ 32) (while_past is_hex_digit text i h e)
-    ∙ hex_word_is (v * 16 + hex_value (get_or text i 0)) w (take_leading is_hex_digit (drop (i + 1) text)) (omega arith)
-
--- no digit is left
-pub hex_none : (v : ℕ) (l : List ℕ) → v < 4294967296 → l ≡ [] → hex_from v l % 2 ^ 32 ≡ v
-hex_none v l h e = ap (λ (ds : List ℕ). hex_from v ds % 2 ^ 32) e ∙ omega arith
+-- one digit more
+pub hex_past : (s : List ℕ) (v d : ℕ) → 1 ≤ length s → d ≡ hex_value (get_or s 0 0) → d < 16 → hex_from (v % 268435456 * 16 + d) (take_leading is_hex_digit (take (length s - 1) (drop 1 s))) % 2 ^ 32 ≡ hex_from v (take_leading is_hex_digit s) % 2 ^ 32
+hex_past [] v d h q l = absurd (omega arith)
+hex_past (b ∷ s) v d h q l =
+    rw (lt-ltb (hex_value b) 16 (omega arith), take_rest (b ∷ s) 1) (hex_word_is (v % 268435456 * 16 + d) (v * 16 + hex_value b) (take_leading is_hex_digit s) (omega arith))
 
 -- so many digits are below that power of 16
 hex_below : (k v : ℕ) (ds : List ℕ) → all is_hex_digit ds ≡ true → length ds ≤ k → hex_from v ds < (v + 1) * 16 ^ k

@@ -1,6 +1,6 @@
 -- Lines and tokens.
 use Prim.Native.Char.{code}
-use Rattle.std.specs.Prelude.{ℕ, ◌+◌, Bool, not, cond, List, [], ◌∷◌, eqb, length, drop}
+use Rattle.std.specs.Prelude.{ℕ, Bool, not, cond, List, [], ◌∷◌, eqb, drop}
 use Rattle.lexer.specs.Byte.{is_line_end}
 
 unfoldable pub prepend : ℕ → List (List ℕ) → List (List ℕ)
@@ -25,25 +25,30 @@ non_empty ((b ∷ p) ∷ ps) = (b ∷ p) ∷ non_empty ps
 unfoldable pub tokens_of : List ℕ → List (List ℕ)
 tokens_of line = non_empty (pieces (code " ") line)
 
--- ---- the line at a position of a text
+-- ---- what stands in front of a text, and what behind that
 
 module _ {A : Type 0} where
   -- the longest part from the start whose elements all pass
-  unfoldable pub take_leading : (A → Bool) → List A → List A
+  abbrev pub take_leading : (A → Bool) → List A → List A
   take_leading p [] = []
   take_leading p (x ∷ xs) = cond (p x) (x ∷ take_leading p xs) []
 
--- the position behind what passes
-unfoldable pub skip_while : (ℕ → Bool) → List ℕ → ℕ → ℕ
-skip_while p text at = at + length (take_leading p (drop at text))
+  -- what stands behind that part
+  abbrev pub drop_leading : (A → Bool) → List A → List A
+  drop_leading p [] = []
+  drop_leading p (x ∷ xs) = cond (p x) (drop_leading p xs) (x ∷ xs)
 
 abbrev pub in_line : ℕ → Bool
 in_line b = not (is_line_end b)
 
--- from the position to the end of its line
-unfoldable pub rest_of_line : List ℕ → ℕ → List ℕ
-rest_of_line text at = take_leading in_line (drop at text)
+-- the first line of a text, without its end
+abbrev pub first_line : List ℕ → List ℕ
+first_line text = take_leading in_line text
 
--- where the line of the position ends
-unfoldable pub line_end : List ℕ → ℕ → ℕ
-line_end text at = skip_while in_line text at
+-- what stands behind it: its line end in front, or nothing
+abbrev pub behind_line : List ℕ → List ℕ
+behind_line text = drop_leading in_line text
+
+-- a text that starts with a line end, without it
+abbrev pub without_end : List ℕ → List ℕ
+without_end text = drop 1 text

@@ -12,7 +12,7 @@ unfoldable pub decimal_from : ℕ → List ℕ → ℕ
 decimal_from v [] = v
 decimal_from v (d ∷ ds) = decimal_from (v * 10 + (d - code "0")) ds
 
-unfoldable pub is_empty : List ℕ → Bool
+abbrev pub is_empty : List ℕ → Bool
 is_empty [] = true
 is_empty (b ∷ bs) = false
 

@@ -1,9 +1,8 @@
 //! Hexadecimal digits.
 ghost use Rattle.std.specs.Prelude.{◌≡◌};
-ghost use Rattle.lexer.specs.Steps.Scan.{hex_digits_at};
+ghost use Rattle.lexer.specs.Steps.Scan.{hex_digits_in};
 
 use crate::class::hex_value;
-use crate::scan::Number;
 
 // Values of a hexadecimal digit.
 const BASE: u8 = 16;
@@ -11,19 +10,20 @@ const BASE: u8 = 16;
 // Values of seven digits: one digit more makes a word.
 const SEVEN_DIGITS: u32 = 0x1000_0000;
 
-/// The hexadecimal digits at the position. Of more than eight the value is that of the last eight.
-pub fn hex_digits(text: &[u8], at: usize) -> Number
-    ensures { result ≡ hex_digits_at text.now at }
+/// The hexadecimal digits in front. Of more than eight the value is that of the last eight.
+pub fn hex_digits(text: &[u8]) -> (u32, &[u8])
+    ensures value { result.0 ≡ (hex_digits_in text.now).0 }
+    ensures rest { result.1.now ≡ (hex_digits_in text.now).1 }
 {
-    let mut i = at;
     let mut value = 0;
-    while i < text.len() {
-        let digit = hex_value(text[i]);
+    let mut rest = text;
+    while let [b, others @ ..] = rest {
+        let digit = hex_value(*b);
         if BASE <= digit {
             break;
         }
         value = value % SEVEN_DIGITS * 16 + digit as u32;
-        i += 1;
+        rest = others;
     }
-    Number { value, end: i }
+    (value, rest)
 }

@@ -1,5 +1,5 @@
-//! The tokens of rule texts and epoch lines: byte classes, keywords and numbers. Start with specs/Lines.antt (lines and tokens) and
-//! specs/Token.antt (what a token is read as).
+//! The tokens of rule texts and epoch lines: byte classes, keywords and numbers. Each reader answers what stands in front of a text,
+//! and what is left behind it. Start with specs/Lines.antt (lines and tokens) and specs/Token.antt (what a token is read as).
 #![tactic(auto)]
 
 mod class;
@@ -9,6 +9,5 @@ mod scan;
 pub use class::{Class, hex_value, is_digit};
 pub use hex::hex_digits;
 pub use scan::{
-    Number, action_at, at_token_end, digits_at, event_at, keyword_at, line_end, number_at,
-    reading_at, skip_spaces,
+    action, at_token_end, digits, event, keyword, number, reading, skip_line, skip_spaces,
 };

@@ -1,60 +1,71 @@
-//! What stands at a position of a text: spaces, keywords and numbers. A token ends at a space, a line end or the end of the
-//! text.
-ghost use Rattle.std.specs.Prelude.{◌≡◌, true, ◌+◌, ◌*◌, ◌-◌, ◌≤◌};
+//! What stands in front of a text: spaces, keywords and numbers, each with what is left behind it. A token ends at a space, a line
+//! end or the end of the text.
+ghost use Rattle.std.specs.Prelude.{◌≡◌, true, false, ◌&&◌, ◌+◌, ◌*◌, ◌-◌, ◌≤◌, option_map};
 ghost use Rattle.policy.specs.List.{all};
-ghost use Rattle.lexer.specs.Byte.{is_space, is_digit};
+ghost use Rattle.lexer.specs.Byte.{is_digit};
 ghost use Rattle.lexer.specs.Number.{is_empty};
-ghost use Rattle.lexer.specs.Steps.Scan.{token_at, keyword_at, in_token, clip, clip_limit, leading_digits, digits_at, number_at, name_at, event_at, action_at, reading_at};
-ghost use Rattle.lexer.specs.Lines.{skip_while, line_end};
+ghost use Rattle.lexer.specs.Steps.Scan.{token_in, without_spaces, keyword_in, in_token, clip, clip_limit, leading_digits, starts_number, digits_in, number_in, name_in, event_in, action_in, reading_in};
+ghost use Rattle.lexer.specs.Lines.{behind_line};
 
 use crate::class::{ends_token, is_digit, is_space};
 
-/// The first position from `at` on that holds no space.
-pub fn skip_spaces(text: &[u8], at: usize) -> usize
-    ensures { result ≡ skip_while is_space text.now at }
+/// The text from its first byte on that is no space.
+pub fn skip_spaces(text: &[u8]) -> &[u8]
+    ensures { result.now ≡ without_spaces text.now }
 {
-    let mut i = at;
-    while i < text.len() && is_space(text[i]) {
-        i += 1;
+    let mut rest = text;
+    while let [b, others @ ..] = rest {
+        if !is_space(*b) {
+            break;
+        }
+        rest = others;
     }
-    i
+    rest
 }
 
-/// Where the line of the position ends.
-pub fn line_end(text: &[u8], at: usize) -> usize
-    ensures { result ≡ line_end text.now at }
+/// The text from its first line end on.
+pub fn skip_line(text: &[u8]) -> &[u8]
+    ensures { result.now ≡ behind_line text.now }
 {
-    let mut i = at;
-    while i < text.len() && text[i] != b'\n' {
-        i += 1;
+    let mut rest = text;
+    while let [b, others @ ..] = rest {
+        if *b == b'\n' {
+            return rest;
+        }
+        rest = others;
     }
-    i
+    rest
 }
 
-/// Whether no byte of a token stands at the position.
-pub fn at_token_end(text: &[u8], at: usize) -> bool
-    ensures { result ≡ is_empty (token_at text.now at) }
+/// Whether no byte of a token stands in front.
+pub fn at_token_end(text: &[u8]) -> bool
+    ensures { result ≡ is_empty (token_in text.now) }
 {
-    if at < text.len() {
-        ends_token(text[at])
-    } else {
-        true
+    match text {
+        [] => true,
+        [b, ..] => ends_token(*b),
     }
 }
 
-/// The position behind the token at a position, if it is the keyword, in which no token ends.
-pub fn keyword_at(text: &[u8], at: usize, keyword: &[u8]) -> Option<usize>
+/// What stands behind the token in front, if it is the keyword, in which no token ends.
+#[tactic(auto, unfolding(crate::specs::Byte::bytes_equal, crate::specs::Steps::Scan::keyword_in, policy::specs::List::all))]
+pub fn keyword<'a>(text: &'a [u8], keyword: &[u8]) -> Option<&'a [u8]>
     requires { all in_token keyword.now ≡ true }
-    ensures { result ≡ keyword_at text.now at keyword.now }
+    ensures { option_map (λ rest. rest.now) result ≡ keyword_in text.now keyword.now }
 {
-    let mut i = at;
-    for b in keyword {
-        if text.len() <= i || text[i] != *b {
+    let mut rest = text;
+    let mut left = keyword;
+    while let [expected, others_left @ ..] = left {
+        let [b, others @ ..] = rest else {
+            return None;
+        };
+        if *b != *expected {
             return None;
         }
-        i += 1;
+        rest = others;
+        left = others_left;
     }
-    if at_token_end(text, i) { Some(i) } else { None }
+    if at_token_end(rest) { Some(rest) } else { None }
 }
 
 // What a number past every limit is clipped to, so that one of any length fits.
@@ -76,82 +87,88 @@ fn shifted(value: u32, digit: u8) -> u32
     }
 }
 
-/// A number, at most 3,000,000,000, and the position behind it.
-#[derive(Clone, Copy)]
-pub struct Number {
-    pub value: u32,
-    pub end: usize,
-}
-
-// The value of the digits at the position; 0 if there are none.
-fn leading_digits(text: &[u8], at: usize) -> Number
-    ensures { result ≡ leading_digits text.now at }
+// The value of the digits in front, at most 3,000,000,000; 0 if there are none.
+#[tactic(auto, unfolding(crate::specs::Number::decimal_from))]
+fn leading_digits(text: &[u8]) -> (u32, &[u8])
+    ensures value { result.0 ≡ (leading_digits text.now).0 }
+    ensures rest { result.1.now ≡ (leading_digits text.now).1 }
 {
-    let mut i = at;
     let mut value = 0;
-    while i < text.len() && is_digit(text[i]) {
-        value = shifted(value, text[i]);
-        i += 1;
+    let mut rest = text;
+    while let [b, others @ ..] = rest {
+        if !is_digit(*b) {
+            break;
+        }
+        value = shifted(value, *b);
+        rest = others;
     }
-    Number { value, end: i }
+    (value, rest)
 }
 
-/// The number that the digits at the position are: 0, or digits that do not start with 0.
-pub fn digits_at(text: &[u8], at: usize) -> Option<Number>
-    ensures { result ≡ digits_at text.now at }
+// Whether the digits in front are a number: 0, or digits that do not start with 0.
+fn starts_number(text: &[u8]) -> bool
+    ensures { result ≡ starts_number text.now }
 {
-    let digits = leading_digits(text, at);
-    let end = digits.end;
-    if end <= at {
-        return None;
+    match text {
+        [b'0', b'0'..=b'9', ..] => false,
+        [b'0'..=b'9', ..] => true,
+        _ => false,
     }
-    if end - at > 1 && text[at] == b'0' {
-        return None;
-    }
-    Some(digits)
 }
 
-/// The number that the token at the position is.
-pub fn number_at(text: &[u8], at: usize) -> Option<Number>
-    ensures { result ≡ number_at text.now at }
+/// The number that the digits in front are, at most 3,000,000,000.
+#[tactic(auto, using(crate::proofs::DigitLaws::digits_by_start))]
+pub fn digits(text: &[u8]) -> Option<(u32, &[u8])>
+    ensures { option_map (λ r. (r.0, r.1.now)) result ≡ digits_in text.now }
 {
-    let number = digits_at(text, at)?;
-    if at_token_end(text, number.end) {
-        Some(number)
+    if starts_number(text) {
+        Some(leading_digits(text))
     } else {
         None
     }
+}
+
+/// The number that the token in front is, at most 3,000,000,000.
+#[tactic(auto, using(crate::proofs::DigitLaws::number_by_digits))]
+pub fn number(text: &[u8]) -> Option<(u32, &[u8])>
+    ensures { option_map (λ r. (r.0, r.1.now)) result ≡ number_in text.now }
+{
+    let (value, rest) = digits(text)?;
+    if !at_token_end(rest) {
+        return None;
+    }
+    Some((value, rest))
 }
 
 // The number of a token that is a letter and a number.
-fn name_at(text: &[u8], at: usize, letter: u8) -> Option<Number>
+#[tactic(auto, using(crate::proofs::DigitLaws::name_none, crate::proofs::DigitLaws::name_some))]
+fn name(text: &[u8], letter: u8) -> Option<(u32, &[u8])>
     requires { in_token letter ≡ true }
-    ensures { result ≡ name_at text.now at letter }
+    ensures { option_map (λ r. (r.0, r.1.now)) result ≡ name_in text.now letter }
 {
-    if at < text.len() && text[at] == letter {
-        number_at(text, at + 1)
-    } else {
-        None
-    }
+    let [first, rest @ ..] = text else {
+        return None;
+    };
+    if *first == letter { number(rest) } else { None }
 }
 
 /// The number of a token that names an event.
-pub fn event_at(text: &[u8], at: usize) -> Option<Number>
-    ensures { result ≡ event_at text.now at }
+pub fn event(text: &[u8]) -> Option<(u32, &[u8])>
+    ensures { option_map (λ r. (r.0, r.1.now)) result ≡ event_in text.now }
 {
-    name_at(text, at, b'E')
+    name(text, b'E')
 }
 
 /// The number of a token that names an action.
-pub fn action_at(text: &[u8], at: usize) -> Option<Number>
-    ensures { result ≡ action_at text.now at }
+pub fn action(text: &[u8]) -> Option<(u32, &[u8])>
+    ensures { option_map (λ r. (r.0, r.1.now)) result ≡ action_in text.now }
 {
-    name_at(text, at, b'A')
+    name(text, b'A')
 }
 
 /// The number of a token that names a reading.
-pub fn reading_at(text: &[u8], at: usize) -> Option<Number>
-    ensures { result ≡ reading_at text.now at }
+pub fn reading(text: &[u8]) -> Option<(u32, &[u8])>
+    ensures { option_map (λ r. (r.0, r.1.now)) result ≡ reading_in text.now }
 {
-    name_at(text, at, b'R')
+    name(text, b'R')
 }

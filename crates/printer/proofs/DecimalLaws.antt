@@ -30,7 +30,6 @@ decimal_all =
     (λ n h ds e. all_append is_digit ds (digit (n % 10) ∷ []) e (one_digit (n % 10) (omega arith)))
 
 pub decimal_some : (n : ℕ) → is_empty (decimal n) ≡ false
-unfolding is_empty
 decimal_some = decimal_by (λ n ds. is_empty ds ≡ false) (λ n h. refl) (λ n h ds e. go ds (digit (n % 10)))
   where
     go : (ds : List ℕ) (d : ℕ) → is_empty (ds ++ d ∷ []) ≡ false
@@ -43,7 +42,7 @@ led_read [] z h = absurd (z refl)
 led_read (d ∷ ds) z h = rw (h, ne_eqb d 48 z, or-true (is_empty ds))
 
 zero_read : number_of (decimal 0) ≡ some 0
-unfolding decimal digits number_of all decimal_from is_empty
+unfolding decimal digits number_of all decimal_from
 zero_read = refl
 
 pub number_read : (n : ℕ) → number_of (decimal n) ≡ some n

@@ -93,7 +93,7 @@ no_end b k = go (eqb b 32) (eqb b 10) (and_out (in_token b) (ascii b) k).0
     go false y h = h
 
 tokens_joined : (ts : List Token) → all clean ts ≡ true → tokens_of (joined_by 32 ts) ≡ ts
-unfolding tokens_of joined_by all clean non_empty is_empty pieces
+unfolding tokens_of joined_by all clean non_empty pieces
 tokens_joined [] h = refl
 tokens_joined ([] ∷ []) h = absurd (true_false h refl)
 tokens_joined ((b ∷ t) ∷ []) h = ap non_empty (pieces_last 32 b t (clean_all (other 32) no_space (b ∷ t) (and_out (clean (b ∷ t)) true h).0))
@@ -116,7 +116,7 @@ unfolding clean
 decimal_clean n = rw (decimal_some n) (decimal_inside n)
 
 sign_clean : (b : ℕ) (t : Token) → inside b ≡ true → clean t ≡ true → clean (b ∷ t) ≡ true
-unfolding clean all is_empty
+unfolding clean all
 sign_clean b t h k = and_in h (and_out (not (is_empty t)) (all inside t) k).1
 
 literal_clean : (l : Literal) → clean (literal_token l) ≡ true
@@ -136,7 +136,7 @@ unfolding reading_token
 reading_clean r = sign_clean 82 (decimal r.0) refl (decimal_clean r.0)
 
 relation_clean : (r : Relation) → clean (relation_token r) ≡ true
-unfolding relation_token bytes clean all is_empty
+unfolding relation_token bytes clean all
 relation_clean Relation.Equal = refl
 relation_clean Relation.NotEqual = refl
 relation_clean Relation.Less = refl
@@ -155,16 +155,16 @@ unfolding comparison_tokens all
 comparison_clean c = and_in (reading_clean c.reading) (and_in (relation_clean c.relation) (and_in (operand_clean c.operand) refl))
 
 condition_clean : (cs : List Comparison) → all clean (condition_tokens cs) ≡ true
-unfolding condition_tokens all clean bytes is_empty
+unfolding condition_tokens all clean bytes
 condition_clean [] = refl
 condition_clean (c ∷ cs) = all_joined clean (bytes ",") (map comparison_tokens (c ∷ cs)) refl (all_mapped (all clean) comparison_tokens comparison_clean (c ∷ cs))
 
 heads_clean : {A : Type 0} (token : A → Token) → ((x : A) → clean (token x) ≡ true) → (xs : List A) → all clean (head_tokens token xs) ≡ true
-unfolding head_tokens all clean bytes is_empty
+unfolding head_tokens all clean bytes
 heads_clean token h xs = all_joined clean (bytes "&") (map (λ x. token x ∷ []) xs) refl (all_mapped (all clean) (λ x. token x ∷ []) (λ x. and_in (h x) refl) xs)
 
 line_clean : (l : PolicyLine) → all clean (line_tokens l) ≡ true
-unfolding line_tokens all clean bytes is_empty
+unfolding line_tokens all clean bytes
 line_clean (rule r) =
     all_append clean (head_tokens literal_token r.literals) (bytes "causes" ∷ action_token r.action ∷ condition_tokens r.comparisons)
     (heads_clean literal_token literal_clean r.literals) (and_in (action_clean r.action) (condition_clean r.comparisons))

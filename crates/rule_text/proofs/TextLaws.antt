@@ -1,8 +1,8 @@
 -- Laws of reading a text line by line.
-use Rattle.std.specs.Prelude.{Result, Ok, Err}
+use Rattle.std.specs.Prelude.{Some, None, Result, Ok, Err}
 use Rattle.std.proofs.lemmas.List.{map-append}
-use Rattle.std.proofs.Common.{ℕ, suc, ◌+◌, ◌<◌, ◌≤◌, Bool, true, false, not, cond, List, [], ◌∷◌, ◌++◌, map, ◌≡◌, refl, sym, ap, ap₂, ◌∙◌, add-one, arith, lt-ltb, le-ltb, ltb-true, ltb-false, length, drop, length-append, drop_of_length-le, drop-drop, fold}
-use Rattle.std.proofs.Math.Dec.{eqb, ltb}
+use Rattle.std.proofs.Common.{ℕ, suc, ◌+◌, ◌<◌, ◌≤◌, Bool, true, false, cond, List, [], ◌∷◌, ◌++◌, map, ◌≡◌, refl, sym, ap, ap₂, ◌∙◌, add-one, arith, lt-ltb, le-ltb, ltb-true, ltb-false, length, length-append, fold}
+use Rattle.std.proofs.Math.Dec.{ltb}
 use Rattle.std.proofs.Math.ListN.{length-map}
 use Rattle.policy.proofs.ListLaws.{or_out}
 use Rattle.policy.specs.Fault.{refusal}
@@ -16,71 +16,18 @@ use Rattle.policy.specs.declared.fault.Fault.{Fault}
 use Rattle.policy.specs.declared.fault.Refusal.{Refusal}
 use Rattle.policy.specs.declared.fault.Source.{Source}
 use Rattle.policy.specs.declared.line.Ending.{Ending}
+use Rattle.line_value.specs.declared.Line.{Line}
+use Rattle.syntax.proofs.AnswerLaws.{lines_here, next_shorter, Accepted, read_refused, read_skipped, read_accepted}
 use Rattle.syntax.proofs.JudgeLaws.{padded_whole, accepted_uncrowded}
-use Rattle.lexer.proofs.WhileLaws.{at_byte, skip_ge, skip_inside}
 use Rattle.rule_text.specs.Answer.{total, counts_in, counts_of, text_read_of, text_read, texts_read, no_lines, no_counts}
-use Rattle.rule_text.specs.Steps.Counting.{Counting, going, halted, counted_step, plus, stepped, count_line, count_from, count_behind, count_read, sourced_in}
-use Rattle.syntax.specs.Answer.{line_read_of, line_read, behind_line}
-use Rattle.rule_text.specs.Steps.Tally.{Within, Small, Counted, with_line, tally_as, tallied_by, step_of}
-use Rattle.lexer.specs.Lines.{prepend, pieces, lines_of, take_leading, skip_while, in_line, rest_of_line, line_end}
+use Rattle.rule_text.specs.Steps.Counting.{Counting, going, halted, counted_step, plus, stepped, count_line, counted_before, count_from, count_behind, count_read, sourced_in}
+use Rattle.syntax.specs.Answer.{next_line, line_read}
+use Rattle.rule_text.specs.Steps.Tally.{Within, Small, Counted, with_line, tally_as, tallied_by}
+use Rattle.lexer.specs.Lines.{pieces, lines_of, first_line}
 use Rattle.syntax.specs.Judge.{LineAnswer, skipped, refused, accepted, line_answer}
 use Rattle.rule_text.specs.Text.{Progress, reading, stopped, with_rule, with_constraint, advance, read_line, empty_policy, text_limit, read_text_behind, in_text, read_text, read_site, read_texts}
-use Rattle.syntax.specs.declared.line.LineRead.{LineRead}
 use Rattle.rule_text.specs.declared.LineCounts.{LineCounts}
 use Rattle.rule_text.specs.declared.TextCounts.{TextCounts}
-
--- ---- the first line of what is left of a text
-
-first_line : (s : List ℕ) → (s ≡ [] → ⊥) → pieces 10 s ≡ take_leading in_line s ∷ pieces 10 (drop (suc (length (take_leading in_line s))) s)
-unfolding pieces take_leading prepend
-first_line [] h = absurd (h refl)
-first_line (b ∷ s) h = go (eqb b 10) s (first_line s)
-  where
-    go : (x : Bool) (r : List ℕ) → ((r ≡ [] → ⊥) → pieces 10 r ≡ take_leading in_line r ∷ pieces 10 (drop (suc (length (take_leading in_line r))) r)) → cond x ([] ∷ pieces 10 r) (prepend b (pieces 10 r)) ≡ cond (not x) (b ∷ take_leading in_line r) [] ∷ pieces 10 (drop (suc (length (cond (not x) (b ∷ take_leading in_line r) []))) (b ∷ r))
-    go true r k = refl
-    go false [] k = refl
-    go false (c ∷ r) k = ap (prepend b) (k (λ e. nil_cons e))
-      where
-        nil_cons : c ∷ r ≡ [] → ⊥
-        nil_cons e = let w : ◌≡◌ {A = ℕ} 0 1 = cc in omega arith
-
-module _ (text : List ℕ) (at : ℕ) (h : at < length text) where
-  not_empty : drop at text ≡ [] → ⊥
-  not_empty e = let w : ◌≡◌ {A = ℕ} 0 1 = cc (at_byte text at h) in omega arith
-
-  next_at : drop (behind_line text (line_end text at)) text ≡ drop (suc (length (take_leading in_line (drop at text)))) (drop at text)
-  unfolding behind_line line_end skip_while
-  next_at = go (ltb (at + length (take_leading in_line (drop at text))) (length text)) refl
-    where
-      go : (b : Bool) → ltb (at + length (take_leading in_line (drop at text))) (length text) ≡ b → drop (cond b (at + length (take_leading in_line (drop at text)) + 1) (at + length (take_leading in_line (drop at text)))) text ≡ drop (suc (length (take_leading in_line (drop at text)))) (drop at text)
-      go true e =
-          let m : at + suc (length (take_leading in_line (drop at text))) ≡ at + length (take_leading in_line (drop at text)) + 1 = omega arith in
-          sym (drop-drop (suc (length (take_leading in_line (drop at text)))) at text ∙ ap (λ (n : ℕ). drop n text) m)
-      go false e =
-          let l : length text ≤ at + length (take_leading in_line (drop at text)) = ltb-false (at + length (take_leading in_line (drop at text))) (length text) e in
-          drop_of_length-le text l
-          ∙ sym (drop-drop (suc (length (take_leading in_line (drop at text)))) at text ∙ drop_of_length-le text {i = at + suc (length (take_leading in_line (drop at text)))} (omega arith))
-
-  -- the line that starts at a position, and the lines behind it
-  pub lines_here : lines_of (drop at text) ≡ rest_of_line text at ∷ lines_of (drop (behind_line text (line_end text at)) text)
-  unfolding lines_of rest_of_line
-  lines_here = first_line (drop at text) not_empty ∙ ap (λ (s : List ℕ). take_leading in_line (drop at text) ∷ pieces 10 s) (sym next_at)
-
-  pub next_later : at < behind_line text (line_end text at)
-  unfolding behind_line line_end
-  next_later = go (ltb (skip_while in_line text at) (length text)) refl
-    where
-      go : (b : Bool) → ltb (skip_while in_line text at) (length text) ≡ b → at < cond b (skip_while in_line text at + 1) (skip_while in_line text at)
-      go true e = omega (arith, skip_ge in_line text at)
-      go false e = omega (arith, ltb-false (skip_while in_line text at) (length text) e)
-
-  pub next_inside : behind_line text (line_end text at) ≤ length text
-  unfolding behind_line line_end
-  next_inside = go (ltb (skip_while in_line text at) (length text)) refl
-    where
-      go : (b : Bool) → ltb (skip_while in_line text at) (length text) ≡ b → cond b (skip_while in_line text at + 1) (skip_while in_line text at) ≤ length text
-      go true e = omega (arith, ltb-true (skip_while in_line text at) (length text) e)
-      go false e = skip_inside in_line text at (omega arith)
 
 -- ---- counting instead of collecting
 
@@ -197,64 +144,103 @@ small_step c d l Ending.Never u s = go (ltb c.constraints.lines constraint_limit
         made k = cc
     go false p q = let z : ◌≡◌ {A = ℕ} 0 1 = cc in absurd (omega arith)
 
+-- the counts stay small
+small_more : (c d : TextCounts) (line : List ℕ) → Small c → stepped c (line_answer line) ≡ Ok d → Small d
+unfolding stepped
+small_more c d line s = go (line_answer line) (accepted_uncrowded line)
+  where
+    go : (a : LineAnswer) → ((l : PolicyLine) → a ≡ accepted l → crowded l ≡ false) → stepped c a ≡ Ok d → Small d
+    go skipped h q = let e : c ≡ d = cc in rw (← e) s
+    go (refused f) h q = let w : ◌≡◌ {A = ℕ} 0 1 = cc in absurd (omega arith)
+    go (accepted l) h q = small_step c d l (ending_of l) (uncrowded l (h l refl)) s q
+
+-- ---- one line of a text
+
+module _ (c : TextCounts) (text : List ℕ) where
+  abbrev more : Result TextCounts Fault
+  more = stepped c (line_answer (first_line text))
+
+  pub step_refused : (f : Fault) → Err f ≡ line_read text → Err f ≡ counted_before (next_line text) more
+  unfolding stepped counted_before
+  step_refused f q = rw (read_refused text f q)
+
+  pub step_skipped : (rest : List ℕ) → Ok (None, rest) ≡ line_read text → Ok (c, rest) ≡ counted_before (next_line text) more
+  unfolding stepped counted_before
+  step_skipped rest q = let k = read_skipped text rest q in rw (k.0, k.1)
+
+  module _ (l : Line) (rest : List ℕ) (q : Ok (Some l, rest) ≡ line_read text) where
+    read : Accepted text l rest
+    read = read_accepted text l rest q
+
+    pub step_counted : Counted l
+    unfolding line_value line_of counted
+    step_counted = rw read.value (record { heads = omega arith; comparisons = omega arith })
+
+    pub step_taken : tallied_by c l ≡ more
+    unfolding stepped tallied_by line_value line_of
+    step_taken =
+        let u = uncrowded read.line (accepted_uncrowded (first_line text) read.line read.answer) in
+        ap (tallied_by c) read.value
+        ∙ ap₂ (tally_as (ending_of read.line) c) (value_counts c.rules read.line u) (value_counts c.constraints read.line u)
+        ∙ ap (stepped c) (sym read.answer)
+
+    pub step_full : (f : Fault) → tallied_by c l ≡ Err f → Err f ≡ counted_before (next_line text) more
+    unfolding counted_before
+    step_full f k = rw (sym step_taken ∙ k)
+
+    module _ (d : TextCounts) (k : tallied_by c l ≡ Ok d) where
+      pub step_more : Ok (d, rest) ≡ counted_before (next_line text) more
+      unfolding counted_before
+      step_more = rw (sym step_taken ∙ k, read.behind)
+
+      pub step_small : Small c → Small d
+      step_small s = small_more c d (first_line text) s (sym step_taken ∙ k)
+
 -- ---- a turn of reading
 
--- what the step of a line answers, and where the next line starts
-record Turn (c : TextCounts) (a : LineAnswer) (next : ℕ) (r : LineRead) : Type 0 where
-  step : step_of c r.status r.line ≡ stepped c a
-  goes : (d : TextCounts) → stepped c a ≡ Ok d → (r.next ≡ next) × (Small c → Small d)
-
-turn : (c : TextCounts) (next : ℕ) (a : LineAnswer) → ((l : PolicyLine) → a ≡ accepted l → crowded l ≡ false) → Turn c a next (line_read_of next a)
-unfolding step_of stepped tallied_by line_read_of line_value line_of
-turn c next skipped h = record { step = refl; goes = λ d q. (refl, λ s. rw (← same d q) s) }
-  where
-    same : (d : TextCounts) → ◌≡◌ {A = Result TextCounts Fault} (Ok c) (Ok d) → c ≡ d
-    same d q = cc
-turn c next (refused f) h = record { step = refl; goes = λ d q. absurd (stop d q) }
-  where
-    stop : (d : TextCounts) → ◌≡◌ {A = Result TextCounts Fault} (Err f) (Ok d) → ⊥
-    stop d q = let w : ◌≡◌ {A = ℕ} 0 1 = cc in omega arith
-turn c next (accepted l) h =
-    let u = uncrowded l (h l refl) in
-    record { step = ap₂ (tally_as (ending_of l) c) (value_counts c.rules l u) (value_counts c.constraints l u); goes = λ d q. (refl, λ s. small_step c d l (ending_of l) u s q) }
-
-module _ (text : List ℕ) (n : ℕ) (c : TextCounts) (at : ℕ) where
-  pub count_end : length text ≤ at → count_from text n c at ≡ going n c
+module _ (n : ℕ) (c : TextCounts) where
+  pub count_end : (text : List ℕ) → length text ≡ 0 → count_from n c text ≡ going n c
   unfolding count_from lines_of pieces
-  count_end h = rw (drop_of_length-le text h)
+  count_end [] h = refl
+  count_end (b ∷ s) h = absurd (omega arith)
 
-  module _ (h : at < length text) (r : LineRead) (q : r ≡ line_read text at) where
-    abbrev answer : LineAnswer
-    answer = line_answer (rest_of_line text at)
+  module _ (text : List ℕ) (h : 0 < length text) where
+    abbrev counts : Result TextCounts Fault
+    counts = stepped c (line_answer (first_line text))
 
-    taken : Turn c answer (behind_line text (line_end text at)) r
-    unfolding line_read
-    taken = rw q (turn c (behind_line text (line_end text at)) answer (λ l e. accepted_uncrowded (rest_of_line text at) l e))
-
-    here : count_from text n c at ≡ fold count_line (counted_step n (stepped c answer)) (lines_of (drop (behind_line text (line_end text at)) text))
+    here : count_from n c text ≡ fold count_line (counted_step n counts) (lines_of (next_line text))
     unfolding count_from count_line
-    here = ap (fold count_line (going n c)) (lines_here text at h)
+    here = ap (fold count_line (going n c)) (lines_here text h)
 
-    pub count_stop : (f : Fault) → step_of c r.status r.line ≡ Err f → count_from text n c at ≡ halted (refusal f n)
-    unfolding counted_step
-    count_stop f k = here ∙ rw (sym taken.step ∙ k) (stays (refusal f n) (lines_of (drop (behind_line text (line_end text at)) text)))
+    pub count_stop : (f : Fault) → Err f ≡ counted_before (next_line text) counts → count_from n c text ≡ halted (refusal f n)
+    unfolding counted_before counted_step
+    count_stop f q = here ∙ go counts q
+      where
+        go : (r : Result TextCounts Fault) → Err f ≡ counted_before (next_line text) r → fold count_line (counted_step n r) (lines_of (next_line text)) ≡ halted (refusal f n)
+        go (Ok d) k = cc
+        go (Err g) k = let e : f ≡ g = cc in rw e (stays (refusal g n) (lines_of (next_line text)))
 
-    module _ (d : TextCounts) (k : step_of c r.status r.line ≡ Ok d) where
-      went : stepped c answer ≡ Ok d
-      went = sym taken.step ∙ k
+    module _ (d : TextCounts) (rest : List ℕ) (q : Ok (d, rest) ≡ counted_before (next_line text) counts) where
+      pub count_go : count_from n c text ≡ count_from (n + 1) d rest
+      unfolding counted_before counted_step count_from
+      count_go = here ∙ go counts q
+        where
+          go : (r : Result TextCounts Fault) → Ok (d, rest) ≡ counted_before (next_line text) r → fold count_line (counted_step n r) (lines_of (next_line text)) ≡ fold count_line (going (n + 1) d) (lines_of rest)
+          go (Ok e) k =
+              let p : (d, rest) ≡ (e, next_line text) = cc in
+              ap (λ (r : TextCounts × List ℕ). fold count_line (going (n + 1) r.0) (lines_of r.1)) (sym p)
+          go (Err g) k = cc
 
-      next_is : r.next ≡ behind_line text (line_end text at)
-      next_is = (taken.goes d went).0
-
-      pub count_go : count_from text n c at ≡ count_from text (n + 1) d r.next
-      unfolding count_from counted_step
-      count_go = here ∙ rw (went, next_is)
-
-      pub count_small : Small c → Small d
-      count_small s = (taken.goes d went).1 s
-
-      pub count_later : at < r.next
-      count_later = rw next_is (next_later text at h)
+      pub count_shorter : length rest < length text
+      unfolding counted_before
+      count_shorter = go counts q
+        where
+          go : (r : Result TextCounts Fault) → Ok (d, rest) ≡ counted_before (next_line text) r → length rest < length text
+          go (Ok e) k =
+              let p : (d, rest) ≡ (e, next_line text) = cc in
+              let i : rest ≡ next_line text = ap (λ (r : TextCounts × List ℕ). r.1) p in
+              rw i (next_shorter text h)
+          go (Err g) k = let w : ◌≡◌ {A = ℕ} 0 1 = cc in absurd (omega arith)
 
 -- ---- the answer
 
@@ -272,16 +258,6 @@ none_within limit = record { lines = omega arith; heads = omega arith; compariso
 pub none_small : Small no_counts
 none_small = record { rules = none_within rule_limit; constraints = none_within constraint_limit }
 
--- the parts of every line that is read are counted to one past their limits
-pub read_counted : (text : List ℕ) (at : ℕ) (r : LineRead) → r ≡ line_read text at → Counted r.line
-unfolding line_read line_read_of line_value line_of counted
-read_counted text at r q = rw q (go (line_answer (rest_of_line text at)))
-  where
-    go : (a : LineAnswer) → Counted (line_read_of (behind_line text (line_end text at)) a).line
-    go skipped = record { heads = omega arith; comparisons = omega arith }
-    go (refused f) = record { heads = omega arith; comparisons = omega arith }
-    go (accepted l) = record { heads = omega arith; comparisons = omega arith }
-
 -- ---- the lines of a text behind others
 
 module _ (c : TextCounts) (text : List ℕ) where
@@ -289,7 +265,7 @@ module _ (c : TextCounts) (text : List ℕ) where
   unfolding count_behind count_read
   behind_long h = rw (lt-ltb text_limit (length text) h)
 
-  pub behind_short : length text ≤ text_limit → count_read (count_from text 1 c 0) ≡ count_read (count_behind c text)
+  pub behind_short : length text ≤ text_limit → count_read (count_from 1 c text) ≡ count_read (count_behind c text)
   unfolding count_behind
   behind_short h = rw (le-ltb text_limit (length text) h)
 
@@ -336,16 +312,13 @@ module _ (maker site : List ℕ) where
 
 -- ---- the counts of a text that is read are no more than its lines may have
 
-step_small : (c d : TextCounts) (line : List ℕ) → Small c → stepped c (line_answer line) ≡ Ok d → Small d
-step_small c d line s e = ((turn c 0 (line_answer line) (accepted_uncrowded line)).goes d e).1 s
-
 lines_small : (ls : List (List ℕ)) (n m : ℕ) (c d : TextCounts) → Small c → fold count_line (going n c) ls ≡ going m d → Small d
 unfolding count_line counted_step
 lines_small [] n m c d s e = let q : c ≡ d = cc in rw (← q) s
 lines_small (l ∷ ls) n m c d s e = go (stepped c (line_answer l)) refl (λ x. lines_small ls (n + 1) m x d) e
   where
     go : (t : Result TextCounts Fault) → stepped c (line_answer l) ≡ t → ((x : TextCounts) → Small x → fold count_line (going (n + 1) x) ls ≡ going m d → Small d) → fold count_line (counted_step n t) ls ≡ going m d → Small d
-    go (Ok x) q later k = later x (step_small c x l s q) k
+    go (Ok x) q later k = later x (small_more c x l s q) k
     go (Err f) q later k =
         let h : halted (refusal f n) ≡ going m d = sym (stays (refusal f n) ls) ∙ k in
         let w : ◌≡◌ {A = ℕ} 0 1 = cc in

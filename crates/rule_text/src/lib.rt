@@ -2,14 +2,18 @@
 #![tactic(auto)]
 
 ghost use Rattle.std.specs.Prelude.{◌≡◌};
+ghost use Rattle.std.specs.Result.{result_map_both, IfOk};
+ghost use Rattle.lexer.specs.Lines.{first_line};
 ghost use Rattle.policy.specs.Limits.{rule_limit};
 ghost use Rattle.rule_text.specs.Answer.{text_read, texts_read};
-ghost use Rattle.rule_text.specs.Steps.Counting.{count_behind, count_read, sourced_in};
-ghost use Rattle.rule_text.specs.Steps.Tally.{Within, Small, Counted, with_line, tallied_by, step_of};
+ghost use Rattle.rule_text.specs.Steps.Counting.{counted_before, stepped, count_behind, count_read, sourced_in};
+ghost use Rattle.syntax.specs.Answer.{next_line};
+ghost use Rattle.syntax.specs.Judge.{line_answer};
+ghost use Rattle.rule_text.specs.Steps.Tally.{Within, Small, Counted, with_line, tallied_by};
 
 use line_value::Line;
 use policy::{CONSTRAINT_LIMIT, Ending, Fault, RULE_LIMIT, Refusal, Source};
-use syntax::{LineStatus, read_line};
+use syntax::read_line;
 
 // Bytes of a text.
 const TEXT_LIMIT: usize = 32768;
@@ -76,15 +80,17 @@ fn tallied(counts: TextCounts, line: Line) -> Result<TextCounts, Fault>
     }
 }
 
-fn step(counts: TextCounts, status: LineStatus, line: Line) -> Result<TextCounts, Fault>
-    requires small { Small counts }
-    requires counted { Counted line }
-    ensures { result ≡ step_of counts status line }
+// The counts of a text with its first line, and the lines behind it.
+fn step(counts: TextCounts, text: &[u8]) -> Result<(TextCounts, &[u8]), Fault>
+    requires { Small counts }
+    ensures answer { result_map_both (λ r. (r.0, r.1.now)) (λ fault. fault) result
+        ≡ counted_before (next_line text.now) (stepped counts (line_answer (first_line text.now))) }
+    ensures small { IfOk result (λ r. Small r.0) }
 {
-    match status {
-        LineStatus::Skipped => Ok(counts),
-        LineStatus::Refused(fault) => Err(fault),
-        LineStatus::Accepted => tallied(counts, line),
+    let (line, rest) = read_line(text)?;
+    match line {
+        None => Ok((counts, rest)),
+        Some(line) => Ok((tallied(counts, line)?, rest)),
     }
 }
 
@@ -97,22 +103,12 @@ fn read_behind(before: TextCounts, text: &[u8]) -> Result<TextCounts, Refusal>
         return Err(Fault::TooLong.at(0));
     }
     let mut counts = before;
-    let mut at = 0;
+    let mut rest = text;
     let mut number = 1;
-    while at < text.len() {
-        let read = read_line(text, at);
-        let status = read.status;
-        let line = read.line;
-        let next = step(counts, status, line);
-        match next {
-            Ok(more) => {
-                counts = more;
-            }
-            Err(fault) => {
-                return Err(fault.at(number));
-            }
-        }
-        at = read.next;
+    while !rest.is_empty() {
+        let (more, behind) = step(counts, rest).map_err(|fault| fault.at(number))?;
+        counts = more;
+        rest = behind;
         number += 1;
     }
     Ok(counts)

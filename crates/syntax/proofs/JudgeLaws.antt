@@ -1,10 +1,10 @@
--- Laws of judging a line: by its parts as by the line.
+-- Laws of judging a line: by its draft as by the line.
 use Rattle.std.specs.Prelude.{Option as Maybe, Some, None, Result, Ok, Err}
-use Rattle.std.proofs.Common.{ℕ, suc, ◌+◌, ◌-◌, ◌<◌, ◌≤◌, min, Bool, true, false, not, ◌&&◌, cond, List, [], ◌∷◌, ◌++◌, map, ◌≡◌, refl, sym, ap, ap₂, ◌∙◌, arith, lt-ltb, le-ltb, ltb-true, ltb-false, eq-eqb, ne_eqb, length, take, replicate, take_all, take_at}
+use Rattle.std.proofs.Common.{ℕ, suc, ◌-◌, ◌<◌, ◌≤◌, min, Bool, true, false, not, ◌&&◌, cond, List, [], ◌∷◌, ◌++◌, map, ◌≡◌, refl, sym, ap, ap₂, ◌∙◌, arith, lt-ltb, le-ltb, ltb-true, ltb-false, eq-eqb, length, take, replicate, take_all, take_at}
 use Rattle.std.proofs.Math.Option.{Option, none, some}
-use Rattle.std.proofs.Math.Dec.{ltb}
+use Rattle.std.proofs.Math.Dec.{eqb, ltb}
 use Rattle.std.proofs.Math.ListN.{get_or, length-map}
-use Rattle.policy.proofs.ListLaws.{and_out}
+use Rattle.policy.proofs.ListLaws.{and_out, true_false}
 use Rattle.policy.proofs.SeenLaws.{seen_repeats}
 use Rattle.policy.specs.Limits.{in_range, crowded, repeated, test_number, head_number, comparison_in_range, ending_in_range, head_limit, comparison_limit}
 use Rattle.policy.specs.Steps.Seen.{seen_in}
@@ -16,20 +16,20 @@ use Rattle.policy.specs.declared.fault.Fault.{Fault}
 use Rattle.policy.specs.declared.line.Head.{Head}
 use Rattle.line_value.specs.declared.Line.{Line}
 use Rattle.policy.specs.declared.line.Test.{Test}
-use Rattle.lexer.proofs.TokenLaws.{tokens_after_spaces, tokens_first, tokens_ended, line_past_spaces, line_ended_is}
-use Rattle.lexer.proofs.KeywordLaws.{token_first}
-use Rattle.syntax.specs.Answer.{behind_line, line_read_of, line_read}
-use Rattle.syntax.specs.Steps.Judged.{judged_line}
-use Rattle.lexer.specs.Byte.{is_space}
-use Rattle.syntax.specs.Grammar.{line_from}
-use Rattle.lexer.specs.Lines.{tokens_of, skip_while, rest_of_line, line_end}
+use Rattle.lexer.proofs.TokenLaws.{tokens_after_spaces, line_past_spaces, tokens_first}
+use Rattle.lexer.specs.Lines.{tokens_of, behind_line, without_end}
 use Rattle.lexer.specs.Number.{is_empty}
-use Rattle.syntax.specs.Steps.Outcome.{parsed_from}
-use Rattle.token.specs.Steps.PartAt.{test_in_range}
-use Rattle.lexer.specs.Steps.Scan.{in_token, token_at, tokens_at}
+use Rattle.lexer.specs.Steps.Scan.{in_token, token_in, without_spaces, tokens_in}
+use Rattle.token.specs.Steps.PartIn.{test_in_range}
+use Rattle.syntax.proofs.DraftLaws.{line_range, line_held}
+use Rattle.syntax.proofs.FrontLaws.{ended}
+use Rattle.syntax.specs.Answer.{answered, line_read}
+use Rattle.syntax.specs.Grammar.{line_from}
 use Rattle.syntax.specs.Judge.{LineAnswer, skipped, refused, accepted, judge_line, is_comment, tokens_answer, line_answer}
-use Rattle.syntax.specs.declared.line.LineRead.{LineRead}
-use Rattle.syntax.specs.declared.line.LineStatus.{LineStatus}
+use Rattle.syntax.specs.Steps.Draft.{new_draft, line_into}
+use Rattle.syntax.specs.Steps.Judged.{judged}
+use Rattle.syntax.specs.Steps.Outcome.{line_outcome}
+use Rattle.syntax.specs.declared.draft.Draft.{Draft}
 
 -- ---- counts and repeats of a value
 
@@ -67,42 +67,12 @@ value_repeats l h k =
     ap (λ (s : List Head). seen_in 0 (map head_number s)) (padded_whole head_limit no_head (map head (heads_of l)) m)
     ∙ ap (seen_in 0) (numbers (heads_of l)) ∙ seen_repeats (map test_number (heads_of l)) (all_numbers (heads_of l) ∙ q.0)
 
--- ---- the tests of what was read, one after another
+-- ---- the line of a draft, or its first fault
 
-module _ (p : Maybe (Maybe Line × ℕ)) where
-  pub judged_none : p ≡ None → Err Fault.Syntax ≡ judged_line p
-  unfolding judged_line
-  judged_none q = ap judged_line (sym q)
-
-  pub judged_outside : (e : ℕ) → p ≡ Some (None, e) → Err Fault.OutOfRange ≡ judged_line p
-  unfolding judged_line
-  judged_outside e q = ap judged_line (sym q)
-
-  module _ (l : Line) (e : ℕ) (q : p ≡ Some (Some l, e)) where
-    pub judged_heads : head_limit < l.head_count → Err Fault.TooManyParts ≡ judged_line p
-    unfolding judged_line
-    judged_heads h = rw (q, lt-ltb head_limit l.head_count h)
-
-    module _ (h : l.head_count ≤ head_limit) where
-      pub judged_comparisons : comparison_limit < l.comparison_count → Err Fault.TooManyParts ≡ judged_line p
-      unfolding judged_line
-      judged_comparisons k = rw (q, le-ltb head_limit l.head_count h, lt-ltb comparison_limit l.comparison_count k)
-
-      module _ (k : l.comparison_count ≤ comparison_limit) where
-        pub judged_repeats : seen_in 0 (map head_number (take l.head_count l.heads)) ≡ true → Err Fault.Duplicate ≡ judged_line p
-        unfolding judged_line
-        judged_repeats s = rw (q, le-ltb head_limit l.head_count h, le-ltb comparison_limit l.comparison_count k, s)
-
-        pub judged_ok : seen_in 0 (map head_number (take l.head_count l.heads)) ≡ false → Ok (l, e) ≡ judged_line p
-        unfolding judged_line
-        judged_ok s = rw (q, le-ltb head_limit l.head_count h, le-ltb comparison_limit l.comparison_count k, s)
-
--- ---- the line, or its first fault
-
-read_result : ℕ → LineAnswer → Result (Line × ℕ) Fault
-read_result end skipped = Err Fault.Syntax
-read_result end (refused f) = Err f
-read_result end (accepted l) = Ok (line_value l, end)
+value_of : LineAnswer → Result Line Fault
+value_of skipped = Err Fault.Syntax
+value_of (refused f) = Err f
+value_of (accepted l) = Ok (line_value l)
 
 over_heads : (l : PolicyLine) → ltb head_limit (line_value l).head_count ≡ ltb head_limit (length (heads_of l))
 unfolding line_value line_of
@@ -112,27 +82,30 @@ over_comparisons : (l : PolicyLine) → ltb comparison_limit (line_value l).comp
 unfolding line_value line_of
 over_comparisons l = counted_over comparison_limit (comparisons_of l)
 
-value_judged : (e : ℕ) (l : PolicyLine) → in_range l ≡ true → judged_line (Some (Some (line_value l), e)) ≡ read_result e (cond (crowded l) (refused Fault.TooManyParts) (cond (repeated l) (refused Fault.Duplicate) (accepted l)))
-unfolding judged_line crowded read_result
-value_judged e l h = go (ltb head_limit (length (heads_of l))) refl (ltb comparison_limit (length (comparisons_of l))) refl
+draft_judged : (l : PolicyLine) → judged (line_into new_draft l) ≡ value_of (judge_line (some l))
+unfolding judged judge_line value_of crowded
+draft_judged l =
+    elim (in_range l) as (λ x. in_range l ≡ x → judged (line_into new_draft l) ≡ value_of (cond (not x) (refused Fault.OutOfRange) (cond (crowded l) (refused Fault.TooManyParts) (cond (repeated l) (refused Fault.Duplicate) (accepted l))))) [
+      | true ↦ λ h. ap judged (line_held l h) ∙ inside h
+      | false ↦ λ h. rw (line_range l, h)
+    ] refl
   where
-    twice : (b : Bool) → cond b (Err Fault.Duplicate) (Ok (line_value l, e)) ≡ read_result e (cond b (refused Fault.Duplicate) (accepted l))
-    twice true = refl
-    twice false = refl
+    inside : in_range l ≡ true → judged (record { line = line_value l; in_range = true }) ≡ value_of (cond (crowded l) (refused Fault.TooManyParts) (cond (repeated l) (refused Fault.Duplicate) (accepted l)))
+    inside h = go (ltb head_limit (length (heads_of l))) refl (ltb comparison_limit (length (comparisons_of l))) refl
+      where
+        twice : (b : Bool) → cond b (Err Fault.Duplicate) (Ok (line_value l)) ≡ value_of (cond b (refused Fault.Duplicate) (accepted l))
+        twice true = refl
+        twice false = refl
 
-    go : (x : Bool) → ltb head_limit (length (heads_of l)) ≡ x → (y : Bool) → ltb comparison_limit (length (comparisons_of l)) ≡ y → judged_line (Some (Some (line_value l), e)) ≡ read_result e (cond (crowded l) (refused Fault.TooManyParts) (cond (repeated l) (refused Fault.Duplicate) (accepted l)))
-    go true p y q = rw (over_heads l, p)
-    go false p true q = rw (over_heads l, over_comparisons l, p, q)
-    go false p false q = rw (over_heads l, over_comparisons l, p, q, value_repeats l h p) (twice (repeated l))
+        go : (x : Bool) → ltb head_limit (length (heads_of l)) ≡ x → (y : Bool) → ltb comparison_limit (length (comparisons_of l)) ≡ y → judged (record { line = line_value l; in_range = true }) ≡ value_of (cond (crowded l) (refused Fault.TooManyParts) (cond (repeated l) (refused Fault.Duplicate) (accepted l)))
+        go true p y q = rw (over_heads l, p)
+        go false p true q = rw (over_heads l, over_comparisons l, p, q)
+        go false p false q = rw (over_heads l, over_comparisons l, p, q, value_repeats l h p) (twice (repeated l))
 
-parts_judged : (e : ℕ) (o : Option PolicyLine) → judged_line (parsed_from e o) ≡ read_result e (judge_line o)
-unfolding judged_line parsed_from judge_line read_result
-parts_judged e none = refl
-parts_judged e (some l) = go (in_range l) refl
-  where
-    go : (b : Bool) → in_range l ≡ b → judged_line (Some (cond b (Some (line_value l)) None, e)) ≡ read_result e (cond (not b) (refused Fault.OutOfRange) (cond (crowded l) (refused Fault.TooManyParts) (cond (repeated l) (refused Fault.Duplicate) (accepted l))))
-    go true h = value_judged e l h
-    go false h = refl
+-- a line that was read, with what stands behind it
+with_rest : List ℕ → Result Line Fault → Result (Maybe Line × List ℕ) Fault
+with_rest rest (Err f) = Err f
+with_rest rest (Ok l) = Ok (Some l, rest)
 
 -- a line that is judged is accepted in range, or refused
 pub data Judged (o : Option PolicyLine) : Type 0 where
@@ -149,6 +122,15 @@ judged_cases (some l) = go (in_range l) refl (crowded l) refl (repeated l) refl
     go true p false q true r = no_line Fault.Duplicate (rw (p, q, r))
     go true p false q false r = yes_line l refl p q r (rw (p, q, r))
     go false p b q c r = no_line Fault.OutOfRange (rw p)
+
+-- what is answered of a line that is judged
+judged_answer : (rest : List ℕ) (l : PolicyLine) → answered rest (judge_line (some l)) ≡ with_rest rest (value_of (judge_line (some l)))
+unfolding answered with_rest value_of
+judged_answer rest l = go (judged_cases (some l))
+  where
+    go : Judged (some l) → answered rest (judge_line (some l)) ≡ with_rest rest (value_of (judge_line (some l)))
+    go (yes_line m p _ _ _ k) = rw k
+    go (no_line f k) = rw k
 
 -- an accepted line is not crowded
 pub accepted_uncrowded : (line : List ℕ) (l : PolicyLine) → line_answer line ≡ accepted l → crowded l ≡ false
@@ -170,72 +152,67 @@ accepted_uncrowded line l = go (tokens_of line)
         comment true k = let w : ◌≡◌ {A = ℕ} 0 1 = cc in absurd (omega arith)
         comment false k = of_judge (line_from (t ∷ ts)) (judged_cases (line_from (t ∷ ts))) k
 
--- the line as it is read, by what its parts were judged
-module _ (text : List ℕ) (e : ℕ) (o : Option PolicyLine) where
-  pub read_accepted : (l : Line) (k : ℕ) → judged_line (parsed_from e o) ≡ Ok (l, k) → (n : ℕ) → n ≡ behind_line text k → record { status = LineStatus.Accepted; line = l; next = n } ≡ line_read_of (behind_line text e) (judge_line o)
-  unfolding line_read_of read_result
-  read_accepted l k q n h = go (judged_cases o)
-    where
-      read_of : Result (Line × ℕ) Fault → LineRead
-      read_of (Ok x) = record { status = LineStatus.Accepted; line = x.0; next = behind_line text x.1 }
-      read_of (Err f) = line_read_of 0 (refused f)
+-- ---- the first line of a text
 
-      go : Judged o → record { status = LineStatus.Accepted; line = l; next = n } ≡ line_read_of (behind_line text e) (judge_line o)
-      go (yes_line m p _ _ _ i) = ap (λ (x : ℕ). record { status = LineStatus.Accepted; line = l; next = x }) h ∙ ap read_of (sym q ∙ parts_judged e o ∙ ap (read_result e) i) ∙ ap (line_read_of (behind_line text e)) (sym i)
-      go (no_line f i) = let w : ◌≡◌ {A = ℕ} 0 1 = cc (sym q ∙ parts_judged e o ∙ ap (read_result e) i) in absurd (omega arith)
+-- the first byte of a token says whether it is a comment
+comment_byte : (s : List ℕ) → is_empty (token_in s) ≡ false → is_comment (token_in s) ≡ eqb (get_or s 0 0) 35
+unfolding is_comment
+comment_byte [] h = absurd (true_false refl h)
+comment_byte (b ∷ s) h = elim (in_token b) as (λ x. is_empty (cond x (b ∷ token_in s) []) ≡ false → is_comment (cond x (b ∷ token_in s) []) ≡ eqb b 35) [ true ↦ λ k. refl | false ↦ λ k. absurd (true_false refl k) ] h
 
-  pub read_refused : (f : Fault) → judged_line (parsed_from e o) ≡ Err f → line_read_of 0 (refused f) ≡ line_read_of (behind_line text e) (judge_line o)
-  unfolding line_read_of read_result
-  read_refused f q = go (judged_cases o)
-    where
-      go : Judged o → line_read_of 0 (refused f) ≡ line_read_of (behind_line text e) (judge_line o)
-      go (yes_line m p _ _ _ i) = let w : ◌≡◌ {A = ℕ} 0 1 = cc (sym q ∙ parts_judged e o ∙ ap (read_result e) i) in absurd (omega arith)
-      go (no_line g i) = rw i (ap (λ (x : Fault). line_read_of 0 (refused x)) (same (sym q ∙ parts_judged e o ∙ ap (read_result e) i)))
+module _ (text : List ℕ) where
+  abbrev start : List ℕ
+  start = without_spaces text
+
+  pub line_blank : is_empty (token_in start) ≡ true → line_read text ≡ Ok (None, without_end start)
+  unfolding line_read answered line_answer tokens_answer tokens_in
+  line_blank h = ap₂ (λ l ts. answered (without_end l) (tokens_answer ts)) (ended text h).line (ended text h).tokens
+
+  module _ (h : is_empty (token_in start) ≡ false) where
+    by_tokens : line_read text ≡ answered (without_end (behind_line start)) (cond (eqb (get_or start 0 0) 35) skipped (judge_line (line_from (tokens_in start))))
+    unfolding line_read line_answer tokens_in tokens_answer
+    by_tokens =
+        ap₂ (λ l ts. answered (without_end l) (tokens_answer ts)) (sym (line_past_spaces text)) (sym (tokens_after_spaces text))
+        ∙ ap (λ ts. answered (without_end (behind_line start)) (tokens_answer ts)) (tokens_first start h)
+        ∙ ap₂ (λ b ts. answered (without_end (behind_line start)) (cond b skipped (judge_line (line_from ts)))) (comment_byte start h) (sym (tokens_first start h))
+
+    pub line_comment : get_or start 0 0 ≡ 35 → line_read text ≡ Ok (None, without_end (behind_line start))
+    unfolding answered
+    line_comment q = by_tokens ∙ rw (eq-eqb (get_or start 0 0) 35 q)
+
+    module _ (q : eqb (get_or start 0 0) 35 ≡ false) where
+      line_other : line_read text ≡ answered (without_end (behind_line start)) (judge_line (line_from (tokens_in start)))
+      line_other = by_tokens ∙ rw q
+
+      pub line_misshapen : None ≡ line_outcome new_draft (behind_line start) (line_from (tokens_in start)) → line_read text ≡ Err Fault.Syntax
+      unfolding line_outcome judge_line answered
+      line_misshapen e = line_other ∙ go (line_from (tokens_in start)) e
         where
-          same : ◌≡◌ {A = Result (Line × ℕ) Fault} (Err f) (Err g) → f ≡ g
-          same c = cc
+          go : (o : Option PolicyLine) → None ≡ line_outcome new_draft (behind_line start) o → answered (without_end (behind_line start)) (judge_line o) ≡ Err Fault.Syntax
+          go none k = refl
+          go (some l) k = cc
 
--- ---- the line at a position
+      module _ (d : Draft) (rest : List ℕ) (e : Some (d, rest) ≡ line_outcome new_draft (behind_line start) (line_from (tokens_in start))) where
+        parted : (r : Result Line Fault) → judged d ≡ r → line_read text ≡ with_rest (without_end rest) r
+        unfolding line_outcome answered with_rest value_of
+        parted r k = line_other ∙ go (line_from (tokens_in start)) e
+          where
+            go : (o : Option PolicyLine) → Some (d, rest) ≡ line_outcome new_draft (behind_line start) o → answered (without_end (behind_line start)) (judge_line o) ≡ with_rest (without_end rest) r
+            go none m = cc
+            go (some l) m =
+                let p : (d, rest) ≡ (line_into new_draft l, behind_line start) = cc in
+                let i : rest ≡ behind_line start = ap (λ (x : Draft × List ℕ). x.1) p in
+                let j : d ≡ line_into new_draft l = ap (λ (x : Draft × List ℕ). x.0) p in
+                judged_answer (without_end (behind_line start)) l ∙ ap₂ (λ s v. with_rest (without_end s) v) (sym i) (sym (draft_judged l) ∙ ap judged (sym j) ∙ k)
 
-module _ (text : List ℕ) (at : ℕ) where
-  abbrev s : ℕ
-  s = skip_while is_space text at
+        pub line_faulty : (f : Fault) → Err f ≡ judged d → line_read text ≡ Err f
+        unfolding with_rest
+        line_faulty f k = parted (Err f) (sym k)
 
-  answer : line_read text at ≡ line_read_of (behind_line text (line_end text s)) (tokens_answer (tokens_at text s))
-  unfolding line_read line_answer tokens_at
-  answer = ap₂ (λ (e : ℕ) (ts : List (List ℕ)). line_read_of (behind_line text e) (tokens_answer ts)) (sym (line_past_spaces text at)) (same ∙ tokens_after_spaces text at)
-    where
-      same : tokens_of (rest_of_line text at) ≡ tokens_at text at
-      same = refl
+        pub line_good : (l : Line) → Ok l ≡ judged d → line_read text ≡ Ok (Some l, without_end rest)
+        unfolding with_rest
+        line_good l k = parted (Ok l) (sym k)
 
-  pub line_blank : is_empty (token_at text s) ≡ true → line_read_of (behind_line text s) skipped ≡ line_read text at
-  unfolding tokens_answer
-  line_blank h = sym (answer ∙ ap₂ (λ (e : ℕ) (ts : List (List ℕ)). line_read_of (behind_line text e) (tokens_answer ts)) (line_ended_is text at h) (tokens_ended text at h))
-
-  module _ (h : is_empty (token_at text s) ≡ false) where
-    first : tokens_at text s ≡ (get_or text s 0 ∷ token_at text (s + 1)) ∷ tokens_at text (skip_while in_token text s)
-    first = tokens_first text s h ∙ ap (λ (t : List ℕ). t ∷ tokens_at text (skip_while in_token text s)) (token_first text s h)
-
-    pub line_comment : get_or text s 0 ≡ 35 → line_read_of (behind_line text (line_end text s)) skipped ≡ line_read text at
-    unfolding tokens_answer is_comment
-    line_comment q = sym (answer ∙ ap (λ (ts : List (List ℕ)). line_read_of (behind_line text (line_end text s)) (tokens_answer ts)) first ∙ rw (eq-eqb (get_or text s 0) 35 q))
-
-    pub line_other : (get_or text s 0 ≡ 35 → ⊥) → line_read_of (behind_line text (line_end text s)) (judge_line (line_from (tokens_at text s))) ≡ line_read text at
-    unfolding tokens_answer is_comment
-    line_other q =
-        sym (answer ∙ ap (λ (ts : List (List ℕ)). line_read_of (behind_line text (line_end text s)) (tokens_answer ts)) first ∙ rw (ne_eqb (get_or text s 0) 35 q)
-        (ap (λ (ts : List (List ℕ)). line_read_of (behind_line text (line_end text s)) (judge_line (line_from ts))) (sym first)))
-
--- the answer for a line that is neither blank nor a comment, by its parts
-module _ (text : List ℕ) (at start : ℕ) (k : start ≡ skip_while is_space text at) (h : is_empty (token_at text start) ≡ false) (q : get_or text start 0 ≡ 35 → ⊥) (p : Maybe (Maybe Line × ℕ))
-    (r : p ≡ parsed_from (line_end text start) (line_from (tokens_at text start))) where
-  line_parts : line_read_of (behind_line text (line_end text start)) (judge_line (line_from (tokens_at text start))) ≡ line_read text at
-  line_parts =
-      ap (λ (n : ℕ). line_read_of (behind_line text (line_end text n)) (judge_line (line_from (tokens_at text n)))) k
-      ∙ line_other text at (ap (λ (n : ℕ). is_empty (token_at text n)) (sym k) ∙ h) (λ e. q (ap (λ (n : ℕ). get_or text n 0) k ∙ e))
-
-  pub line_accepted : (l : Line) (e : ℕ) → judged_line p ≡ Ok (l, e) → (n : ℕ) → n ≡ behind_line text e → record { status = LineStatus.Accepted; line = l; next = n } ≡ line_read text at
-  line_accepted l e a n m = read_accepted text (line_end text start) (line_from (tokens_at text start)) l e (sym (ap judged_line r) ∙ a) n m ∙ line_parts
-
-  pub line_refused : (f : Fault) → judged_line p ≡ Err f → line_read_of 0 (refused f) ≡ line_read text at
-  line_refused f a = read_refused text (line_end text start) (line_from (tokens_at text start)) f (sym (ap judged_line r) ∙ a) ∙ line_parts
+pub token_inside : (s : List ℕ) → is_empty (token_in s) ≡ false → 0 < length s
+token_inside [] h = absurd (true_false refl h)
+token_inside (b ∷ s) h = omega arith

@@ -1,27 +1,24 @@
 -- Laws of the two shapes: the parts that were read are those of the line.
-use Rattle.std.proofs.Common.{ℕ, Bool, true, false, ◌&&◌, cond, List, [], ◌∷◌, map, ◌≡◌, refl, sym, ap, ◌∙◌, arith}
+use Rattle.std.proofs.Common.{ℕ, Bool, true, false, cond, List, [], ◌∷◌, map, ◌≡◌, refl, sym, ap, ◌∙◌}
 use Rattle.std.specs.Prelude.{Option as Maybe, Some, None}
 use Rattle.std.proofs.Math.Option.{Option, none, some}
 use Rattle.std.proofs.Math.Option
-use Rattle.policy.specs.Limits.{in_range, comparison_in_range, ending_in_range, head_limit, comparison_limit}
+use Rattle.policy.specs.Limits.{ending_in_range}
 use Rattle.policy.specs.Line.{PolicyLine, heads_of, comparisons_of, ending_of}
-use Rattle.line_value.specs.Value.{head, padded, line_of, line_value, counted, no_head, no_comparison}
-use Rattle.line_value.specs.declared.Line.{Line}
-use Rattle.policy.specs.List.{all}
 use Rattle.policy.specs.declared.comparison.Comparison.{Comparison}
 use Rattle.policy.specs.declared.comparison.Literal.{Literal}
 use Rattle.policy.specs.declared.line.Ending.{Ending}
 use Rattle.policy.specs.declared.line.Test.{Test}
 use Rattle.policy.specs.declared.number.Action.{Action}
 use Rattle.lexer.specs.Byte.{is}
+use Rattle.lexer.specs.Lines.{behind_line}
+use Rattle.lexer.specs.Steps.Scan.{tokens_in}
 use Rattle.lexer.specs.Token.{Token, both, literal_of, action_of}
+use Rattle.token.specs.Steps.PartIn.{test_of}
 use Rattle.syntax.specs.Grammar.{Joined, last, before, joined, condition_from, causes, never, rule_after, constraint_after, after}
-use Rattle.syntax.specs.Steps.Outcome.{HeadsRead, view_of, held_heads, heads_outcome, held_comparisons, condition_outcome, with_condition, assembled_line, caused_line, cause_line, parsed_from}
-use Rattle.token.specs.Steps.PartAt.{kept, test_in_range, test_of}
-use Rattle.lexer.specs.Steps.Scan.{tokens_at}
-use Rattle.lexer.specs.Lines.{line_end}
-use Rattle.syntax.specs.declared.line.Heads.{Heads}
-use Rattle.syntax.specs.declared.line.Comparisons.{Comparisons}
+use Rattle.syntax.specs.Steps.Draft.{end_as, heads_into, ending_into, line_into}
+use Rattle.syntax.specs.Steps.Outcome.{HeadsRead, heads_read, heads_outcome, condition_outcome, caused, cause_outcome, line_outcome}
+use Rattle.syntax.specs.declared.draft.Draft.{Draft}
 
 -- ---- heads as literals or as actions
 
@@ -46,111 +43,85 @@ module _ {A B : Type 0} (f : A → B) (item : Token → Option A) where
       go false none j h = refl
       go false (some x) j h = refl
 
-some_same : {A : Type 0} {x y : A} → some x ≡ some y → x ≡ y
-some_same e = cc
+-- ---- the parts of a line, from its heads on
 
--- ---- the parts of a line, from its heads and its condition
-
--- what is held of these heads
-abbrev held_of : List Test → Maybe Heads
-held_of ts = held_heads (all test_in_range ts) (padded head_limit no_head (map head ts)) (counted head_limit (map head ts))
-
-module _ (E : ℕ) where
-  line_parts : (l : PolicyLine) → with_condition (held_of (heads_of l)) (kept ending_in_range (ending_of l)) (condition_outcome E (some (comparisons_of l))) ≡ parsed_from E (some l)
-  unfolding with_condition assembled_line condition_outcome parsed_from in_range line_value line_of test_in_range
-  line_parts l = go (all test_in_range (heads_of l)) (all comparison_in_range (comparisons_of l)) (ending_in_range (ending_of l))
+module _ (d : Draft) (behind : List ℕ) where
+  never_parts : (actions : List Action) (ts : List Token) → line_outcome d behind (constraint_after actions ts) ≡ condition_outcome (end_as (heads_into d (map Test.Member actions)) (Some Ending.Never)) behind (condition_from ts)
+  unfolding line_outcome condition_outcome constraint_after line_into ending_into ending_in_range heads_of comparisons_of ending_of
+  never_parts actions ts = go (condition_from ts)
     where
-      go : (a b c : Bool) → ◌≡◌ {A = Maybe (Maybe Line × ℕ)}
-          (Some (assembled_line (held_heads a (padded head_limit no_head (map head (heads_of l))) (counted head_limit (map head (heads_of l)))) (cond c (Some (ending_of l)) None) (held_comparisons b (padded comparison_limit no_comparison (comparisons_of l)) (counted comparison_limit (comparisons_of l))), E))
-          (Some (cond (a && b && c) (Some (line_value l)) None, E))
-      go true true true = refl
-      go true true false = refl
-      go true false true = refl
-      go true false false = refl
-      go false b c = refl
+      go : (o : Option (List Comparison)) → line_outcome d behind (Option.map (never actions) o) ≡ condition_outcome (end_as (heads_into d (map Test.Member actions)) (Some Ending.Never)) behind o
+      go none = refl
+      go (some cs) = refl
 
-  never_parts : (actions : List Action) (o : Option (List Comparison)) → with_condition (held_of (map Test.Member actions)) (Some Ending.Never) (condition_outcome E o) ≡ parsed_from E (Option.map (never actions) o)
-  unfolding with_condition condition_outcome parsed_from heads_of comparisons_of ending_of ending_in_range
-  never_parts actions none = refl
-  never_parts actions (some cs) = line_parts (never actions cs)
-
-  rule_parts : (literals : List Literal) (ts : List Token) → cause_line (held_of (map Test.Occurs literals)) E ts ≡ parsed_from E (rule_after literals ts)
-  unfolding cause_line caused_line rule_after parsed_from both with_condition condition_outcome heads_of comparisons_of ending_of
+  rule_parts : (literals : List Literal) (ts : List Token) → line_outcome d behind (rule_after literals ts) ≡ cause_outcome (heads_into d (map Test.Occurs literals)) behind ts
+  unfolding line_outcome cause_outcome caused rule_after both condition_outcome line_into heads_of comparisons_of ending_of
   rule_parts literals [] = refl
   rule_parts literals (t ∷ []) = refl
-  rule_parts literals (t ∷ u ∷ ts) = go (is "causes" t)
+  rule_parts literals (t ∷ u ∷ ts) = go (is "causes" t) (action_of u) (condition_from ts)
     where
-      caused : (x : Option Action) (o : Option (List Comparison)) → caused_line (held_of (map Test.Occurs literals)) E x o ≡ parsed_from E (both (causes literals) x o)
-      caused none o = refl
-      caused (some a) none = refl
-      caused (some a) (some cs) = line_parts (causes literals a cs)
-
-      go : (b : Bool) → cond b (caused_line (held_of (map Test.Occurs literals)) E (action_of u) (condition_from ts)) None ≡ parsed_from E (cond b (both (causes literals) (action_of u) (condition_from ts)) none)
-      go true = caused (action_of u) (condition_from ts)
-      go false = refl
+      go : (b : Bool) (x : Option Action) (o : Option (List Comparison)) → line_outcome d behind (cond b (both (causes literals) x o) none) ≡ cond b (caused (heads_into d (map Test.Occurs literals)) behind x o) None
+      go true none o = refl
+      go true (some a) none = refl
+      go true (some a) (some cs) = refl
+      go false x o = refl
 
   -- the heads that were read, against those of the line
-  module _ (text : List ℕ) {A : Type 0} (f : A → Test) (tail : List A → List Token → Option PolicyLine) (o : Option (Joined A)) where
-    heads_no : view_of text None ≡ heads_outcome E (Option.map (mapped f) o) → None ≡ parsed_from E (after tail o)
-    unfolding heads_outcome parsed_from after
+  module _ {A : Type 0} (f : A → Test) (tail : List A → List Token → Option PolicyLine) (o : Option (Joined A)) where
+    heads_no : none ≡ heads_outcome d behind (Option.map (mapped f) o) → line_outcome d behind (after tail o) ≡ None
+    unfolding heads_outcome line_outcome after
     heads_no q = go o q
       where
-        go : (x : Option (Joined A)) → none ≡ heads_outcome E (Option.map (mapped f) x) → None ≡ parsed_from E (after tail x)
+        go : (x : Option (Joined A)) → none ≡ heads_outcome d behind (Option.map (mapped f) x) → line_outcome d behind (after tail x) ≡ None
         go none p = refl
-        go (some j) p = let w : ◌≡◌ {A = ℕ} 0 1 = cc in absurd (omega arith)
+        go (some j) p = cc
 
-    heads_yes : (h : Maybe Heads) (at : ℕ) → view_of text (Some (h, at)) ≡ heads_outcome E (Option.map (mapped f) o) → (made : Maybe Heads → ℕ → List Token → Maybe (Maybe Line × ℕ))
-        → ((j : Joined A) → made (held_of (map f j.items)) E j.rest ≡ parsed_from E (tail j.items j.rest)) → made h (line_end text at) (tokens_at text at) ≡ parsed_from E (after tail o)
-    unfolding heads_outcome parsed_from after mapped
-    heads_yes h at q made law = go o q
+    heads_yes : (e : Draft) (rest : List ℕ) → heads_read (Some (e, rest)) ≡ heads_outcome d behind (Option.map (mapped f) o) → (made : Draft → List ℕ → List Token → Maybe (Draft × List ℕ))
+        → ((j : Joined A) → line_outcome d behind (tail j.items j.rest) ≡ made (heads_into d (map f j.items)) behind j.rest) → line_outcome d behind (after tail o) ≡ made e (behind_line rest) (tokens_in rest)
+    unfolding heads_read heads_outcome line_outcome after mapped
+    heads_yes e rest q made law = go o q
       where
-        go : (x : Option (Joined A)) → some (record { held = h; rest = tokens_at text at; end = line_end text at }) ≡ heads_outcome E (Option.map (mapped f) x) → made h (line_end text at) (tokens_at text at) ≡ parsed_from E (after tail x)
-        go none p = let w : ◌≡◌ {A = ℕ} 0 1 = cc in absurd (omega arith)
-        go (some j) p =
-            let e = some_same p in
-            ap (λ (v : HeadsRead). made v.held v.end v.rest) e ∙ law j
+        go : (x : Option (Joined A)) → some (record { draft = e; tokens = tokens_in rest; behind = behind_line rest }) ≡ heads_outcome d behind (Option.map (mapped f) x) → line_outcome d behind (after tail x) ≡ made e (behind_line rest) (tokens_in rest)
+        go none p = cc
+        go (some j) p = law j ∙ ap made_of (sym (same p))
+          where
+            made_of : HeadsRead → Maybe (Draft × List ℕ)
+            made_of v = made v.draft v.behind v.tokens
 
-module _ (text : List ℕ) (from : ℕ) (h : Maybe (Maybe Heads × ℕ)) where
-  abbrev E : ℕ
-  E = line_end text from
+            same : {x y : HeadsRead} → some x ≡ some y → x ≡ y
+            same h = cc
 
-  module _ (q : view_of text h ≡ heads_outcome E (joined (test_of true) (tokens_at text from))) where
-    abbrev actions : Option (Joined Action)
-    actions = joined action_of (tokens_at text from)
+module _ (d : Draft) (text : List ℕ) where
+  abbrev behind : List ℕ
+  behind = behind_line text
 
-    actions_read : view_of text h ≡ heads_outcome E (Option.map (mapped Test.Member) actions)
-    unfolding test_of
-    actions_read = q ∙ ap (heads_outcome E) (joined_map Test.Member action_of (tokens_at text from))
+  abbrev actions : Option (Joined Action)
+  actions = joined action_of (tokens_in text)
 
-    pub constraint_no : h ≡ None → None ≡ parsed_from E (after constraint_after actions)
-    constraint_no k = heads_no E text Test.Member constraint_after actions (ap (view_of text) (sym k) ∙ actions_read)
+  abbrev literals : Option (Joined Literal)
+  literals = joined literal_of (tokens_in text)
 
-    module _ (held : Maybe Heads) (at : ℕ) (k : h ≡ Some (held, at)) where
-      constraint_read : with_condition held (Some Ending.Never) (condition_outcome (line_end text at) (condition_from (tokens_at text at))) ≡ parsed_from E (after constraint_after actions)
-      unfolding constraint_after
-      constraint_read =
-          heads_yes E text Test.Member constraint_after actions held at (ap (view_of text) (sym k) ∙ actions_read)
-          (λ hs end ts. with_condition hs (Some Ending.Never) (condition_outcome end (condition_from ts))) (λ j. never_parts E j.items (condition_from j.rest))
+  actions_read : heads_outcome d behind (joined (test_of true) (tokens_in text)) ≡ heads_outcome d behind (Option.map (mapped Test.Member) actions)
+  unfolding test_of
+  actions_read = ap (heads_outcome d behind) (joined_map Test.Member action_of (tokens_in text))
 
-      pub constraint_broken : condition_outcome (line_end text at) (condition_from (tokens_at text at)) ≡ None → None ≡ parsed_from E (after constraint_after actions)
-      unfolding with_condition
-      constraint_broken c = ap (with_condition held (Some Ending.Never)) (sym c) ∙ constraint_read
+  literals_read : heads_outcome d behind (joined (test_of false) (tokens_in text)) ≡ heads_outcome d behind (Option.map (mapped Test.Occurs) literals)
+  unfolding test_of
+  literals_read = ap (heads_outcome d behind) (joined_map Test.Occurs literal_of (tokens_in text))
 
-      pub constraint_yes : (c : Maybe Comparisons) (n : ℕ) → condition_outcome (line_end text at) (condition_from (tokens_at text at)) ≡ Some (c, n) → Some (assembled_line held (Some Ending.Never) c, n) ≡ parsed_from E (after constraint_after actions)
-      unfolding with_condition
-      constraint_yes c n i = ap (with_condition held (Some Ending.Never)) (sym i) ∙ constraint_read
+  pub constraint_no : heads_read None ≡ heads_outcome d behind (joined (test_of true) (tokens_in text)) → line_outcome d behind (after constraint_after actions) ≡ None
+  unfolding heads_read
+  constraint_no q = heads_no d behind Test.Member constraint_after actions (q ∙ actions_read)
 
-  module _ (q : view_of text h ≡ heads_outcome E (joined (test_of false) (tokens_at text from))) where
-    abbrev literals : Option (Joined Literal)
-    literals = joined literal_of (tokens_at text from)
+  pub constraint_yes : (e : Draft) (rest : List ℕ) → heads_read (Some (e, rest)) ≡ heads_outcome d behind (joined (test_of true) (tokens_in text))
+      → line_outcome d behind (after constraint_after actions) ≡ condition_outcome (end_as e (Some Ending.Never)) (behind_line rest) (condition_from (tokens_in rest))
+  constraint_yes e rest q =
+      heads_yes d behind Test.Member constraint_after actions e rest (q ∙ actions_read) (λ e l ts. condition_outcome (end_as e (Some Ending.Never)) l (condition_from ts)) (λ j. never_parts d behind j.items j.rest)
 
-    literals_read : view_of text h ≡ heads_outcome E (Option.map (mapped Test.Occurs) literals)
-    unfolding test_of
-    literals_read = q ∙ ap (heads_outcome E) (joined_map Test.Occurs literal_of (tokens_at text from))
+  pub rule_no : heads_read None ≡ heads_outcome d behind (joined (test_of false) (tokens_in text)) → line_outcome d behind (after rule_after literals) ≡ None
+  unfolding heads_read
+  rule_no q = heads_no d behind Test.Occurs rule_after literals (q ∙ literals_read)
 
-    pub rule_no : h ≡ None → None ≡ parsed_from E (after rule_after literals)
-    rule_no k = heads_no E text Test.Occurs rule_after literals (ap (view_of text) (sym k) ∙ literals_read)
-
-    pub rule_yes : (held : Maybe Heads) (at : ℕ) → h ≡ Some (held, at) → cause_line held (line_end text at) (tokens_at text at) ≡ parsed_from E (after rule_after literals)
-    rule_yes held at k =
-        heads_yes E text Test.Occurs rule_after literals held at (ap (view_of text) (sym k) ∙ literals_read) cause_line (λ j. rule_parts E j.items j.rest)
+  pub rule_yes : (e : Draft) (rest : List ℕ) → heads_read (Some (e, rest)) ≡ heads_outcome d behind (joined (test_of false) (tokens_in text))
+      → line_outcome d behind (after rule_after literals) ≡ cause_outcome e (behind_line rest) (tokens_in rest)
+  rule_yes e rest q = heads_yes d behind Test.Occurs rule_after literals e rest (q ∙ literals_read) cause_outcome (λ j. rule_parts d behind j.items j.rest)

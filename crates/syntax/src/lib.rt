@@ -2,6 +2,7 @@
 //! for).
 #![tactic(auto)]
 
+mod draft;
 mod line;
 
-pub use line::{LineRead, LineStatus, read_line};
+pub use line::read_line;

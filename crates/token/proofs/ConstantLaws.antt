@@ -1,19 +1,14 @@
 -- Laws of reading decimal constants: signs, the range of readings, and clipped numbers.
-use Rattle.std.proofs.Common.{ℕ, zero, suc, ◌+◌, ◌-◌, ◌<◌, ◌≤◌, Bool, true, false, ◌&&◌, List, ◌≡◌, refl, sym, ap, ap₂, ◌∙◌, arith, le-leb, eq-eqb, ne_eqb, leb-true, leb-false, ℤ, pos, negsuc, ◌-ℤ◌, length, w32, SFits, of_z, to_z, to_z-of_z}
+use Rattle.std.proofs.Common.{ℕ, zero, suc, ◌-◌, ◌<◌, ◌≤◌, Bool, true, false, ◌&&◌, cond, List, [], ◌∷◌, ◌≡◌, refl, sym, ap, ◌∙◌, arith, le-leb, eqb-true, ne_eqb, leb-true, leb-false, ℤ, pos, negsuc, ◌-ℤ◌, length, take, drop, w32, SFits, of_z, to_z, to_z-of_z}
 use Rattle.std.proofs.lemmas.Bool.{lt-leb}
-use Rattle.std.specs.Prelude.{Option as Maybe, Some, None}
-use Rattle.std.proofs.Math.Option.{some}
-use Rattle.std.proofs.Math.Dec.{leb}
-use Rattle.std.proofs.Math.ListN.{get_or}
+use Rattle.std.proofs.lemmas.List.{take_rest}
+use Rattle.std.specs.Prelude.{Option as Maybe, Some, None, option_map, option_and_then}
+use Rattle.std.proofs.Math.Option.{Option, none, some}
+use Rattle.std.proofs.Math.Dec.{eqb, leb}
 use Rattle.policy.specs.Limits.{is_reading_value}
-use Rattle.lexer.proofs.WhileLaws.{skip_past}
-use Rattle.lexer.proofs.KeywordLaws.{token_past, First, nothing, byte, first}
-use Rattle.lexer.proofs.DigitLaws.{Ended, ending_some, ending_none}
 use Rattle.lexer.specs.Number.{number_of, positive, negative, decimal_of}
-use Rattle.token.specs.Steps.PartAt.{kept, part_ending, decimal_at}
-use Rattle.lexer.specs.Steps.Scan.{in_token, token_at, clip, number_at}
-use Rattle.lexer.specs.Lines.{skip_while}
-use Rattle.lexer.specs.declared.scan.Number.{Number}
+use Rattle.lexer.specs.Steps.Scan.{in_token, token_in, behind_token, clip, number_before, number_in}
+use Rattle.token.specs.Steps.PartIn.{kept, part_before, positive_in, negative_in, decimal_in}
 
 -- ---- the machine's signed values
 
@@ -99,60 +94,43 @@ negative_clipped n = go (leb n 2147483647) refl
         let k : 2147483648 < clip (suc n) = omega arith in
         sym (negative_past (clip (suc n)) k) ∙ rw (neg_range n, lt-leb n 2147483647 l)
 
--- ---- the decimal constant at a position
+-- ---- the decimal constant in front, by its number
 
-module _ (text : List ℕ) (at : ℕ) where
-  -- behind a minus
-  module _ (h : at < length text) (q : get_or text at 0 ≡ 45) where
-    minus_is : decimal_at text at ≡ part_ending is_reading_value (skip_while in_token text (at + 1)) (negative (number_of (token_at text (at + 1))))
-    unfolding decimal_at decimal_of
-    minus_is =
-        let i : in_token (get_or text at 0) ≡ true = ap in_token q in
-        ap₂ (part_ending is_reading_value) (skip_past in_token text at h i) (ap decimal_of (token_past text at h i) ∙ rw (eq-eqb (get_or text at 0) 45 q))
+pub positive_by_number : (text : List ℕ) → positive_in text ≡ option_map (λ (r : ℕ × List ℕ). (kept is_reading_value (pos r.0), r.1)) (number_in text)
+unfolding positive_in number_in number_before part_before positive
+positive_by_number text = go (number_of (token_in text))
+  where
+    go : (o : Option ℕ) → part_before is_reading_value (behind_token text) (positive o) ≡ option_map (λ (r : ℕ × List ℕ). (kept is_reading_value (pos r.0), r.1)) (number_before (behind_token text) o)
+    go none = refl
+    go (some n) = ap (λ (m : Maybe ℤ). Some (m, behind_token text)) (sym (positive_clipped n))
 
-    pub minus_none : number_at text (at + 1) ≡ None → None ≡ decimal_at text at
-    unfolding number_at part_ending negative
-    minus_none e = sym (minus_is ∙ rw (ending_none (skip_while in_token text (at + 1)) (number_of (token_at text (at + 1))) e))
+-- a constant behind a minus, where its number is not 0
+abbrev pub behind_minus : ℕ × List ℕ → Maybe (Maybe ℤ × List ℕ)
+behind_minus r = cond (eqb r.0 0) None (Some (kept is_reading_value (negsuc (r.0 - 1)), r.1))
 
-    module _ (d : Number) (e : number_at text (at + 1) ≡ Some d) where
-      ended : Ended (skip_while in_token text (at + 1)) (number_of (token_at text (at + 1))) d
-      unfolding number_at
-      ended = ending_some (skip_while in_token text (at + 1)) (number_of (token_at text (at + 1))) d e
+pub negative_by_number : (text : List ℕ) → negative_in text ≡ option_and_then behind_minus (number_in text)
+unfolding negative_in number_in number_before part_before negative
+negative_by_number text = go (number_of (token_in text))
+  where
+    go : (o : Option ℕ) → part_before is_reading_value (behind_token text) (negative o) ≡ option_and_then behind_minus (number_before (behind_token text) o)
+    go none = refl
+    go (some zero) = refl
+    go (some (suc n)) = rw (ne_eqb (clip (suc n)) 0 (λ e. omega arith)) (ap (λ (m : Maybe ℤ). Some (m, behind_token text)) (sym (negative_clipped n)))
 
-      pub minus_zero : d.value ≡ 0 → None ≡ decimal_at text at
-      unfolding part_ending negative
-      minus_zero z = sym (minus_is ∙ go ended.number ended.is (sym ended.clipped ∙ z))
-        where
-          go : (n : ℕ) → number_of (token_at text (at + 1)) ≡ some n → clip n ≡ 0 → part_ending is_reading_value (skip_while in_token text (at + 1)) (negative (number_of (token_at text (at + 1)))) ≡ None
-          go zero i k = rw i
-          go (suc n) i k = absurd (omega arith)
+abbrev pub starts_minus : List ℕ → Bool
+starts_minus [] = false
+starts_minus (b ∷ s) = eqb b 45
 
-      pub minus_some : (d.value ≡ 0 → ⊥) → Some (kept is_reading_value (negsuc (d.value - 1)), d.end) ≡ decimal_at text at
-      unfolding part_ending negative
-      minus_some z = sym (minus_is ∙ go ended.number ended.is (sym ended.clipped))
-        where
-          go : (n : ℕ) → number_of (token_at text (at + 1)) ≡ some n → clip n ≡ d.value → part_ending is_reading_value (skip_while in_token text (at + 1)) (negative (number_of (token_at text (at + 1)))) ≡ Some (kept is_reading_value (negsuc (d.value - 1)), d.end)
-          go zero i k = absurd (z (sym k))
-          go (suc n) i k =
-              rw i (ap₂ (λ (m : Maybe ℤ) (l : ℕ). Some (m, l)) (sym (negative_clipped n) ∙ ap (λ (v : ℕ). kept is_reading_value (negsuc (v - 1))) k) (sym ended.behind))
-
-  -- without one
-  module _ (q : at < length text → get_or text at 0 ≡ 45 → ⊥) where
-    plain_is : decimal_at text at ≡ part_ending is_reading_value (skip_while in_token text at) (positive (number_of (token_at text at)))
-    unfolding decimal_at decimal_of number_of positive
-    plain_is = ap (part_ending is_reading_value (skip_while in_token text at)) (go (first text at))
-      where
-        go : First text at → decimal_of (token_at text at) ≡ positive (number_of (token_at text at))
-        go (nothing e) = rw e
-        go (byte h e) = rw (e, ne_eqb (get_or text at 0) 45 (q h))
-
-    pub plain_none : number_at text at ≡ None → None ≡ decimal_at text at
-    unfolding number_at part_ending positive
-    plain_none e = sym (plain_is ∙ rw (ending_none (skip_while in_token text at) (number_of (token_at text at)) e))
-
-    pub plain_some : (d : Number) → number_at text at ≡ Some d → Some (kept is_reading_value (pos d.value), d.end) ≡ decimal_at text at
-    unfolding number_at part_ending positive
-    plain_some d e = sym (plain_is ∙ go (ending_some (skip_while in_token text at) (number_of (token_at text at)) d e))
-      where
-        go : Ended (skip_while in_token text at) (number_of (token_at text at)) d → part_ending is_reading_value (skip_while in_token text at) (positive (number_of (token_at text at))) ≡ Some (kept is_reading_value (pos d.value), d.end)
-        go p = rw p.is (ap₂ (λ (m : Maybe ℤ) (l : ℕ). Some (m, l)) (sym (positive_clipped p.number) ∙ ap (λ (v : ℕ). kept is_reading_value (pos v)) (sym p.clipped)) (sym p.behind))
+pub decimal_by_sign : (text : List ℕ) → decimal_in text ≡ cond (starts_minus text) (negative_in (take (length text - 1) (drop 1 text))) (positive_in text)
+unfolding decimal_in negative_in positive_in decimal_of number_of positive
+decimal_by_sign [] = refl
+decimal_by_sign (b ∷ s) =
+    rw (take_rest (b ∷ s) 1)
+    (elim (eqb b 45) as (λ x. eqb b 45 ≡ x → decimal_in (b ∷ s) ≡ cond x (negative_in s) (positive_in (b ∷ s))) [
+      | true ↦ λ e. rw (eqb-true b 45 e)
+      | false ↦ λ e. ap (part_before is_reading_value (behind_token (b ∷ s))) (unsigned (in_token b) e)
+    ] refl)
+  where
+    unsigned : (x : Bool) → eqb b 45 ≡ false → decimal_of (cond x (b ∷ token_in s) []) ≡ positive (number_of (cond x (b ∷ token_in s) []))
+    unsigned true e = rw e
+    unsigned false e = refl

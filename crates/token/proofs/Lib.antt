@@ -1,4 +1,5 @@
-pub mod SymbolLaws
-pub mod PartLaws
 pub mod ConstantLaws
+pub mod HeadLaws
+pub mod PartLaws
 pub mod PatternLaws
+pub mod RelationLaws

@@ -1,2 +1,2 @@
 -- Mechanism of the code, which laws tie to the lexer's definitions: a reader need not believe it.
-pub mod PartAt
+pub mod PartIn

@@ -1,59 +1,42 @@
-//! The parts of a line, each one token: constants, relations, operands, literals and actions. A reader answers the part and the
-//! position behind it; where a number of the part is out of range it answers the position alone.
+//! The parts of a line, each one token: constants, relations, operands, literals and actions. A reader answers the part and
+//! what stands behind it; where a number of the part is out of range, it answers what stands behind it alone.
 #![tactic(auto)]
 
-mod constant;
+mod constants;
 
-ghost use Rattle.std.specs.Prelude.{◌≡◌, false, [], ◌∷◌, option_map};
+ghost use Rattle.std.specs.Prelude.{◌≡◌, false, option_map};
 ghost use Rattle.policy.specs.Number.{check_event, check_action, check_reading};
-ghost use Rattle.lexer.specs.Token.{relation_of};
-ghost use Rattle.token.specs.Steps.PartAt.{as_answer, relation_at, operand_at, literal_with, head_at, compared, comparison_at};
+ghost use Rattle.token.specs.Steps.PartIn.{symbol_in, relation_in, operand_in, literal_with, occurs_in, head_in, compared, comparison_in};
 
-pub use constant::constant_at;
-use lexer::{action_at, at_token_end, event_at, reading_at, skip_spaces};
+pub use constants::constant;
+use lexer::{action, at_token_end, event, reading, skip_spaces};
 use policy::{Action, Comparison, Event, Literal, Operand, Reading, Relation, Test};
 
-// The relation that one byte is.
-#[tactic(auto, using(crate::proofs::SymbolLaws::one_unknown), unfolding(crate::specs::Steps::PartAt::as_answer, lexer::specs::Token::relation_of, lexer::specs::Byte::is, lexer::specs::Byte::bytes, lexer::specs::Byte::bytes_equal))]
-fn one_byte(b: u8) -> Option<Relation>
-    ensures { result ≡ as_answer (relation_of (b ∷ [])) }
+// The relation that the bytes in front are, the longer where two are.
+fn symbol(text: &[u8]) -> Option<(Relation, &[u8])>
+    ensures { option_map (λ r. (r.0, r.1.now)) result ≡ symbol_in text.now }
 {
-    match b {
-        b'=' => Some(Relation::Equal),
-        b'<' => Some(Relation::Less),
-        b'>' => Some(Relation::Greater),
+    match text {
+        [b'=', rest @ ..] => Some((Relation::Equal, rest)),
+        [b'!', b'=', rest @ ..] => Some((Relation::NotEqual, rest)),
+        [b'<', b'=', rest @ ..] => Some((Relation::LessOrEqual, rest)),
+        [b'<', rest @ ..] => Some((Relation::Less, rest)),
+        [b'>', b'=', rest @ ..] => Some((Relation::GreaterOrEqual, rest)),
+        [b'>', rest @ ..] => Some((Relation::Greater, rest)),
         _ => None,
     }
 }
 
-// The relation that a byte and `=` are.
-#[tactic(auto, using(crate::proofs::SymbolLaws::two_unknown), unfolding(crate::specs::Steps::PartAt::as_answer, lexer::specs::Token::relation_of, lexer::specs::Byte::is, lexer::specs::Byte::bytes, lexer::specs::Byte::bytes_equal))]
-fn two_bytes(b: u8) -> Option<Relation>
-    ensures { result ≡ as_answer (relation_of (b ∷ 61 ∷ [])) }
+// The relation that the token in front is.
+#[tactic(auto, using(crate::proofs::RelationLaws::relation_by_symbol))]
+fn relation(text: &[u8]) -> Option<(Relation, &[u8])>
+    ensures { option_map (λ r. (r.0, r.1.now)) result ≡ relation_in text.now }
 {
-    match b {
-        b'!' => Some(Relation::NotEqual),
-        b'<' => Some(Relation::LessOrEqual),
-        b'>' => Some(Relation::GreaterOrEqual),
-        _ => None,
-    }
-}
-
-fn relation_at(text: &[u8], at: usize) -> Option<(Relation, usize)>
-    ensures { result ≡ relation_at text.now at }
-{
-    if at_token_end(text, at) {
+    let (relation, rest) = symbol(text)?;
+    if !at_token_end(rest) {
         return None;
     }
-    let b = text[at];
-    let second = at + 1;
-    if at_token_end(text, second) {
-        return Some((one_byte(b)?, second));
-    }
-    if text[second] == b'=' && at_token_end(text, second + 1) {
-        return Some((two_bytes(b)?, second + 1));
-    }
-    None
+    Some((relation, rest))
 }
 
 // The reading of a number, as an operand.
@@ -69,14 +52,16 @@ fn constant_operand(constant: Option<i32>) -> Option<Operand>
     constant.map(Operand::Constant)
 }
 
-fn operand_at(text: &[u8], at: usize) -> Option<(Option<Operand>, usize)>
-    ensures { result ≡ operand_at text.now at }
+// The reading or the constant that the token in front is.
+#[tactic(auto, using(crate::proofs::PartLaws::operand_by_form))]
+fn operand(text: &[u8]) -> Option<(Option<Operand>, &[u8])>
+    ensures { option_map (λ r. (r.0, r.1.now)) result ≡ operand_in text.now }
 {
-    if let Some(name) = reading_at(text, at) {
-        return Some((reading_operand(name.value), name.end));
+    if let Some((n, rest)) = reading(text) {
+        return Some((reading_operand(n), rest));
     }
-    let (constant, end) = constant_at(text, at)?;
-    Some((constant_operand(constant), end))
+    let (constant, rest) = constant(text)?;
+    Some((constant_operand(constant), rest))
 }
 
 // The action of a number, as the head of a constraint.
@@ -87,7 +72,7 @@ fn member(n: u32) -> Option<Test>
 }
 
 // The literal of an event; none where it is out of range.
-#[tactic(auto, unfolding(crate::specs::Steps::PartAt::literal_with))]
+#[tactic(auto, unfolding(crate::specs::Steps::PartIn::literal_with))]
 fn literal(n: u32, negated: bool) -> Option<Test>
     ensures { result ≡ literal_with negated (check_event n) }
 {
@@ -95,33 +80,41 @@ fn literal(n: u32, negated: bool) -> Option<Test>
     Some(Test::Occurs(Literal { event, negated }))
 }
 
-// `E1` or `!E1`.
-fn literal_at(text: &[u8], at: usize) -> Option<(Option<Test>, usize)>
-    ensures { result ≡ head_at text.now at false }
+// `E1`, as such a literal.
+#[tactic(auto, using(crate::proofs::HeadLaws::occurs_by_name))]
+fn occurs(text: &[u8], negated: bool) -> Option<(Option<Test>, &[u8])>
+    ensures { option_map (λ r. (r.0, r.1.now)) result ≡ occurs_in text.now negated }
 {
-    if at < text.len() && text[at] == b'!' {
-        let name = event_at(text, at + 1)?;
-        Some((literal(name.value, true), name.end))
-    } else {
-        let name = event_at(text, at)?;
-        Some((literal(name.value, false), name.end))
+    let (n, rest) = event(text)?;
+    Some((literal(n, negated), rest))
+}
+
+// `E1` or `!E1`.
+#[tactic(auto, using(crate::proofs::HeadLaws::literal_by_sign))]
+fn literal_head(text: &[u8]) -> Option<(Option<Test>, &[u8])>
+    ensures { option_map (λ r. (r.0, r.1.now)) result ≡ head_in text.now false }
+{
+    match text {
+        [b'!', name @ ..] => occurs(name, true),
+        _ => occurs(text, false),
     }
 }
 
-/// The action of a constraint, or the literal of a rule, that the token at the position is.
-pub fn head_at(text: &[u8], at: usize, never: bool) -> Option<(Option<Test>, usize)>
-    ensures { result ≡ head_at text.now at never }
+/// The action of a constraint, or the literal of a rule, that the token in front is.
+#[tactic(auto, using(crate::proofs::HeadLaws::member_by_name))]
+pub fn head(text: &[u8], never: bool) -> Option<(Option<Test>, &[u8])>
+    ensures { option_map (λ r. (r.0, r.1.now)) result ≡ head_in text.now never }
 {
     if never {
-        let name = action_at(text, at)?;
-        Some((member(name.value), name.end))
+        let (n, rest) = action(text)?;
+        Some((member(n), rest))
     } else {
-        literal_at(text, at)
+        literal_head(text)
     }
 }
 
 // The comparison of a reading with an operand; none where one of them is out of range.
-#[tactic(auto, unfolding(crate::specs::Steps::PartAt::compared_with))]
+#[tactic(auto, unfolding(crate::specs::Steps::PartIn::compared_with))]
 fn compared(n: u32, relation: Relation, operand: Option<Operand>) -> Option<Comparison>
     ensures { result ≡ compared n relation operand }
 {
@@ -134,14 +127,13 @@ fn compared(n: u32, relation: Relation, operand: Option<Operand>) -> Option<Comp
     })
 }
 
-/// The comparison at the position: three tokens.
-pub fn comparison_at(text: &[u8], at: usize) -> Option<(Option<Comparison>, usize)>
-    ensures { result ≡ comparison_at text.now at }
+/// The comparison in front: three tokens.
+#[tactic(auto, using(crate::proofs::PartLaws::comparison_by_parts))]
+pub fn comparison(text: &[u8]) -> Option<(Option<Comparison>, &[u8])>
+    ensures { option_map (λ r. (r.0, r.1.now)) result ≡ comparison_in text.now }
 {
-    let name = reading_at(text, at)?;
-    let second = skip_spaces(text, name.end);
-    let (relation, behind) = relation_at(text, second)?;
-    let third = skip_spaces(text, behind);
-    let (operand, end) = operand_at(text, third)?;
-    Some((compared(name.value, relation, operand), end))
+    let (n, behind) = reading(text)?;
+    let (relation, behind) = relation(skip_spaces(behind))?;
+    let (operand, rest) = operand(skip_spaces(behind))?;
+    Some((compared(n, relation, operand), rest))
 }

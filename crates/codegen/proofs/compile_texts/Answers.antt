@@ -1,4 +1,4 @@
-use Rattle.std.proofs.Common.{sym, ◌∙◌, arith, rules}
+use Rattle.std.proofs.Common.{sym, ◌∙◌, arith}
 use Rattle.codegen.proofs.AcceptedLaws.{accepted_texts}
 use Rattle.codegen.proofs.CompileLaws.{compiled_short, compiled_image, compiled_refused}
 use Rattle.codegen.proofs.compile_texts.Goals as goal

@@ -1,5 +1,4 @@
 use Rattle.codegen.proofs.PutLaws.{image_put}
-use Rattle.std.proofs.Common.{rules}
 use Rattle.codegen.proofs.put_image.Goals as goal
 
 pub returns : goal.returns

@@ -1,75 +1,56 @@
-use Rattle.std.proofs.Common.{to_z-of_z, w32, SFits, ◌≤◌, ◌<◌, ◌||◌, ◌≡◌, sym, ap, ◌∙◌, length, arith, rules}
-use Rattle.std.specs.Prelude.{Some}
+use Rattle.std.proofs.Common.{to_z-of_z, w32, SFits, ◌||◌, ◌≡◌, refl, sym, ◌∙◌, rules}
 use Rattle.policy.proofs.FlagLaws.{or_yes, or_no}
 use Rattle.policy.specs.Set.{has_reading}
-use Rattle.lexer.specs.Byte.{is_space}
-use Rattle.lexer.specs.Lines.{skip_while}
-use Rattle.epoch_line.proofs.EpochLaws.{read_ended, read_malformed, entry_on, read_event, read_value, value_small, read_outside}
-use Rattle.epoch_line.specs.Steps.EpochScan.{scanned, item_at}
-use Rattle.epoch_line.specs.declared.Entry.{Entry}
+use Rattle.epoch_line.proofs.EpochLaws.{read_ended, read_turn, item_shorter, reading_small}
+use Rattle.epoch_line.specs.Epoch.{add_item}
+use Rattle.epoch_line.specs.Steps.EpochScan.{found, scanned, add_scanned}
 use Rattle.epoch_line.proofs.read_items.Goals as goal
 use Rattle.epoch_line.proofs.read_items.Goals.{then-twice, else-twice}
 
-pub returns-then-line-start : goal.returns-then-line-start
-returns-then-line-start c =
-    let s = scanned c.loop-values.out_of_range c.loop-values.twice c.loop-values.events c.loop-values.given c.loop-values.values in
-    let h : length c.args.line.now ≤ skip_while is_space c.args.line.now c.loop-values.at = rw (sym c.skip_spaces-start.ensures) c.if-line-start.true in
-    c.finished.ensures ∙ read_ended c.args.line.now c.loop-values.at s h ∙ sym c.loop-values.invariant
+pub returns-then-is_empty : goal.returns-then-is_empty
+returns-then-is_empty c =
+    let s = scanned c.loop-front.out_of_range c.loop-front.twice c.loop-front.events c.loop-front.given c.loop-front.values in
+    c.finished.ensures ∙ sym (read_ended s c.loop-front.rest.now _ c.skip_spaces-front.ensures _ c.is_empty.ensures c.if-is_empty.true) ∙ c.loop-front.invariant
 
-pub returns-in_default : goal.returns-in_default
-returns-in_default c =
-    let s = scanned c.loop-values.out_of_range c.loop-values.twice c.loop-values.events c.loop-values.given c.loop-values.values in
-    let q = ap (item_at c.args.line.now) (sym c.skip_spaces-start.ensures) ∙ sym c.item_at.ensures ∙ c.in_default.is in
-    let h : skip_while is_space c.args.line.now c.loop-values.at < length c.args.line.now = rw (sym c.skip_spaces-start.ensures) c.if-line-start.false in
-    c.refused.ensures ∙ read_malformed c.args.line.now c.loop-values.at s h q ∙ sym c.loop-values.invariant
+pub returns-in-Malformed : goal.returns-in-Malformed
+unfolding found
+returns-in-Malformed c =
+    let s = scanned c.loop-front.out_of_range c.loop-front.twice c.loop-front.events c.loop-front.given c.loop-front.values in
+    c.refused.ensures ∙ sym (read_turn s c.loop-front.rest.now _ c.skip_spaces-front.ensures _ c.is_empty.ensures _ c.in-Malformed.ensures c.if-is_empty.false) ∙ c.loop-front.invariant
 
-pub loop-values-smaller-in-Event : goal.loop-values-smaller-in-Event
-loop-values-smaller-in-Event c =
-    let s = scanned c.loop-values.out_of_range c.loop-values.twice c.loop-values.events c.loop-values.given c.loop-values.values in
-    let q = ap (item_at c.args.line.now) (sym c.skip_spaces-start.ensures) ∙ sym c.item_at.ensures ∙ c.in-Some.is in
-    let h = entry_on c.args.line.now c.loop-values.at s _ _ q in
-    omega arith
+pub loop-front-smaller-in-Event : goal.loop-front-smaller-in-Event
+unfolding found
+loop-front-smaller-in-Event c = item_shorter c.loop-front.rest.now _ c.skip_spaces-front.ensures _ _ c.in-Event.ensures
 
-pub loop-values-preserved-in-Event : goal.loop-values-preserved-in-Event
-loop-values-preserved-in-Event c =
-    let s = scanned c.loop-values.out_of_range c.loop-values.twice c.loop-values.events c.loop-values.given c.loop-values.values in
-    let q = ap (item_at c.args.line.now) (sym c.skip_spaces-start.ensures) ∙ sym c.item_at.ensures ∙ c.in-Some.is in
-    let m = c.in-Some-item.is ∙ ap (λ (x : Entry). Some x) c.in-Event.is in
-    rw c.insert-events.ensures (c.loop-values.invariant ∙ read_event c.args.line.now c.loop-values.at s _ _ q _ m)
+pub loop-front-preserved-in-Event : goal.loop-front-preserved-in-Event
+unfolding found add_scanned add_item
+loop-front-preserved-in-Event c =
+    let s = scanned c.loop-front.out_of_range c.loop-front.twice c.loop-front.events c.loop-front.given c.loop-front.values in
+    rw c.insert-events.ensures (sym (read_turn s c.loop-front.rest.now _ c.skip_spaces-front.ensures _ c.is_empty.ensures _ c.in-Event.ensures c.if-is_empty.false) ∙ c.loop-front.invariant)
 
 pub bounds-values-reading : goal.bounds-values-reading
-bounds-values-reading c =
-    let s = scanned c.loop-values.out_of_range c.loop-values.twice c.loop-values.events c.loop-values.given c.loop-values.values in
-    let q = ap (item_at c.args.line.now) (sym c.skip_spaces-start.ensures) ∙ sym c.item_at.ensures ∙ c.in-Some.is in
-    let m = c.in-Some-item.is ∙ ap (λ (x : Entry). Some x) c.in-Value.is in
-    value_small c.args.line.now c.loop-values.at s _ _ q _ _ m
+unfolding found
+bounds-values-reading c = reading_small c.loop-front.rest.now _ c.skip_spaces-front.ensures _ _ c.in-Value.ensures _ _ refl
 
-pub loop-values-smaller : goal.loop-values-smaller
-loop-values-smaller c =
-    let s = scanned c.loop-values.out_of_range c.loop-values.twice c.loop-values.events c.loop-values.given c.loop-values.values in
-    let q = ap (item_at c.args.line.now) (sym c.skip_spaces-start.ensures) ∙ sym c.item_at.ensures ∙ c.in-Some.is in
-    let h = entry_on c.args.line.now c.loop-values.at s _ _ q in
-    omega arith
+pub loop-front-smaller-in-Value : goal.loop-front-smaller-in-Value
+unfolding found
+loop-front-smaller-in-Value c = item_shorter c.loop-front.rest.now _ c.skip_spaces-front.ensures _ _ c.in-Value.ensures
 
-pub loop-values-preserved : goal.loop-values-preserved
-loop-values-preserved c =
-    let s = scanned c.loop-values.out_of_range c.loop-values.twice c.loop-values.events c.loop-values.given c.loop-values.values in
-    let q = ap (item_at c.args.line.now) (sym c.skip_spaces-start.ensures) ∙ sym c.item_at.ensures ∙ c.in-Some.is in
-    let m = c.in-Some-item.is ∙ ap (λ (x : Entry). Some x) c.in-Value.is in
+pub loop-front-preserved-in-Value : goal.loop-front-preserved-in-Value
+unfolding found add_scanned add_item
+loop-front-preserved-in-Value c =
+    let s = scanned c.loop-front.out_of_range c.loop-front.twice c.loop-front.events c.loop-front.given c.loop-front.values in
     let f : SFits w32 c.in-Value.value = search rules in
-    let t : c.if-twice.twice ≡ (c.loop-values.twice || has_reading c.loop-values.given c.in-Value.reading) =
+    let t : c.if-twice.twice ≡ (c.loop-front.twice || has_reading c.loop-front.given c.in-Value.reading) =
     elim c.if-twice.branch [ then-twice w ↦ or_yes _ _ _ w.if-twice.true w.twice-is | else-twice w ↦ or_no _ _ _ w.if-twice.false (w.twice-is ∙ w.has-twice.ensures) ] in
-    rw (to_z-of_z f, c.insert-given.ensures, t) (c.loop-values.invariant ∙ read_value c.args.line.now c.loop-values.at s _ _ q _ _ m)
+    rw (to_z-of_z f, c.insert-given.ensures, t) (sym (read_turn s c.loop-front.rest.now _ c.skip_spaces-front.ensures _ c.is_empty.ensures _ c.in-Value.ensures c.if-is_empty.false) ∙ c.loop-front.invariant)
 
-pub loop-values-smaller-in_default-item : goal.loop-values-smaller-in_default-item
-loop-values-smaller-in_default-item c =
-    let s = scanned c.loop-values.out_of_range c.loop-values.twice c.loop-values.events c.loop-values.given c.loop-values.values in
-    let q = ap (item_at c.args.line.now) (sym c.skip_spaces-start.ensures) ∙ sym c.item_at.ensures ∙ c.in-Some.is in
-    let h = entry_on c.args.line.now c.loop-values.at s _ _ q in
-    omega arith
+pub loop-front-smaller : goal.loop-front-smaller
+unfolding found
+loop-front-smaller c = item_shorter c.loop-front.rest.now _ c.skip_spaces-front.ensures _ _ c.in-OutOfRange.ensures
 
-pub loop-values-preserved-in_default-item : goal.loop-values-preserved-in_default-item
-loop-values-preserved-in_default-item c =
-    let s = scanned c.loop-values.out_of_range c.loop-values.twice c.loop-values.events c.loop-values.given c.loop-values.values in
-    let q = ap (item_at c.args.line.now) (sym c.skip_spaces-start.ensures) ∙ sym c.item_at.ensures ∙ c.in-Some.is in
-    c.loop-values.invariant ∙ read_outside c.args.line.now c.loop-values.at s _ _ q c.in_default-item.is
+pub loop-front-preserved : goal.loop-front-preserved
+unfolding found
+loop-front-preserved c =
+    let s = scanned c.loop-front.out_of_range c.loop-front.twice c.loop-front.events c.loop-front.given c.loop-front.values in
+    sym (read_turn s c.loop-front.rest.now _ c.skip_spaces-front.ensures _ c.is_empty.ensures _ c.in-OutOfRange.ensures c.if-is_empty.false) ∙ c.loop-front.invariant

@@ -1,46 +1,48 @@
--- What stands at a position of an epoch line, and what was collected up to there.
-use Rattle.std.specs.Prelude.{ℕ, Bool, true, ◌||◌, cond, eqb, ℤ, drop, List, Option as Maybe, Some, None, fold}
+-- What stands in front of an epoch line, and what was collected before it.
+use Prim.Native.Char.{code}
+use Rattle.std.specs.Prelude.{ℕ, Bool, true, ◌||◌, cond, eqb, ltb, ℤ, List, [], ◌∷◌, Option as Maybe, Some, None, option_map, fold}
 use Rattle.std.proofs.Math.Option.{Option, none, some}
 use Rattle.policy.specs.Epoch.{Epoch}
 use Rattle.policy.specs.List.{any}
+use Rattle.policy.specs.Number.{set_limit, reading_limit}
 use Rattle.policy.specs.Set.{EventSet, ReadingSet, has_reading}
 use Rattle.policy.specs.declared.fault.Fault.{Fault}
+use Rattle.lexer.specs.Steps.Scan.{tokens_in}
+use Rattle.lexer.specs.Token.{Token}
+use Rattle.token.specs.Steps.PartIn.{part_in, constant_in}
 use Rattle.epoch_line.specs.Answer.{refused_read, accepted_read}
 use Rattle.epoch_line.specs.Epoch.{Item, event, value, at_equals, assignment_of, item_of, items_of, item_in_range, add_item}
-use Rattle.lexer.specs.Steps.Scan.{in_token, token_at, tokens_at}
-use Rattle.lexer.specs.Lines.{skip_while}
 use Rattle.epoch_line.specs.declared.EpochRead.{EpochRead}
 use Rattle.epoch_line.specs.declared.Entry.{Entry}
-use Rattle.policy.specs.declared.number.Event.{Event}
-use Rattle.policy.specs.declared.number.Reading.{Reading}
 
--- ---- one token: what it gives, none where a number of it is out of range, and the position behind it
+-- ---- the token in front: the item that it is, none where a number of it is out of range, and what stands behind it
 
-unfoldable pub event_with : Maybe Event → Maybe Entry
-event_with None = None
-event_with (Some e) = Some (Entry.Event e)
+abbrev pub Found : Type 0
+Found = Maybe (Maybe Item × List ℕ)
 
-unfoldable pub value_with : Maybe Reading → Maybe ℤ → Maybe Entry
-value_with None k = None
-value_with (Some r) None = None
-value_with (Some r) (Some k) = Some (Entry.Value r k)
+unfoldable pub found : Entry → Found
+found (Entry.Event e rest) = Some (Some (event e.0), rest.now)
+found (Entry.Value r k rest) = Some (Some (value r.0 k), rest.now)
+found (Entry.OutOfRange rest) = Some (None, rest.now)
+found Entry.Malformed = None
 
-unfoldable pub entry_as : Item → Entry
-entry_as (event n) = Entry.Event (record { 0 = n })
-entry_as (value n k) = Entry.Value (record { 0 = n }) k
+abbrev pub event_with : ℕ → Maybe Item
+event_with n = cond (ltb n set_limit) (Some (event n)) None
 
-abbrev pub entry_of : Item → Maybe Entry
-entry_of i = cond (item_in_range i) (Some (entry_as i)) None
+abbrev pub value_with : ℕ → Maybe ℤ → Maybe Item
+value_with n None = None
+value_with n (Some k) = cond (ltb n reading_limit) (Some (value n k)) None
 
-unfoldable pub item_ending : ℕ → Option Item → Maybe (Maybe Entry × ℕ)
-item_ending end none = None
-item_ending end (some i) = Some (entry_of i, end)
+-- `=` and a constant, behind the number of a reading
+abbrev pub assigned_in : ℕ → List ℕ → Found
+assigned_in n [] = None
+assigned_in n (b ∷ s) = cond (eqb b (code "=")) (option_map (λ (r : Maybe ℤ × List ℕ). (value_with n r.0, r.1)) (constant_in s)) None
 
-unfoldable pub value_at : List ℕ → ℕ → Maybe (Maybe Entry × ℕ)
-value_at line at = item_ending (skip_while in_token line at) (assignment_of (at_equals (token_at line at)))
+unfoldable pub value_in : List ℕ → Found
+value_in line = part_in item_in_range (λ (t : Token). assignment_of (at_equals t)) line
 
-unfoldable pub item_at : List ℕ → ℕ → Maybe (Maybe Entry × ℕ)
-item_at line at = item_ending (skip_while in_token line at) (item_of (token_at line at))
+unfoldable pub item_in : List ℕ → Found
+item_in line = part_in item_in_range item_of line
 
 -- ---- the line as it is scanned: what was collected, and whether a number was out of range or a reading given twice
 
@@ -74,6 +76,6 @@ unfoldable pub items_read : Scanned → Option (List Item) → EpochRead
 items_read s none = refused_read Fault.EpochSyntax
 items_read s (some is) = finish_read (fold take_item s is)
 
--- the answer, after what was collected up to a position
-unfoldable pub epoch_from : Scanned → List ℕ → ℕ → EpochRead
-epoch_from s line at = cond (any (eqb 10) (drop at line)) (refused_read Fault.EpochSyntax) (items_read s (items_of (tokens_at line at)))
+-- the answer, after what was collected before the rest of a line
+unfoldable pub epoch_from : Scanned → List ℕ → EpochRead
+epoch_from s rest = cond (any (eqb 10) rest) (refused_read Fault.EpochSyntax) (items_read s (items_of (tokens_in rest)))

@@ -1,22 +1,28 @@
--- What stands at a position of a text. The token at a position is what is left of it there.
+-- What stands in front of a text, and what is left behind it.
 use Prim.Native.Char.{code}
-use Rattle.std.specs.Prelude.{ℕ, ◌+◌, ◌%◌, ◌^◌, min, Bool, not, cond, List, length, drop, Option as Maybe, Some, None}
+use Rattle.std.specs.Prelude.{ℕ, ◌%◌, ◌^◌, min, Bool, false, not, ◌&&◌, cond, eqb, List, [], ◌∷◌, Option as Maybe, Some, None}
 use Rattle.std.proofs.Math.Option.{Option, none, some}
-use Rattle.lexer.specs.Byte.{bytes_equal, ends_token, is_digit, is_hex_digit}
+use Rattle.lexer.specs.Byte.{bytes_equal, is_space, ends_token, is_digit, is_hex_digit}
 use Rattle.lexer.specs.Token.{named}
-use Rattle.lexer.specs.Lines.{tokens_of, take_leading, skip_while, rest_of_line}
+use Rattle.lexer.specs.Lines.{tokens_of, take_leading, drop_leading, first_line}
 use Rattle.lexer.specs.Number.{number_of, decimal_from, hex_number}
-use Rattle.lexer.specs.declared.scan.Number.{Number}
 
 abbrev pub in_token : ℕ → Bool
 in_token b = not (ends_token b)
 
-unfoldable pub token_at : List ℕ → ℕ → List ℕ
-token_at text at = take_leading in_token (drop at text)
+-- the token in front: nothing where a space, a line end or the end of the text stands there
+abbrev pub token_in : List ℕ → List ℕ
+token_in text = take_leading in_token text
 
--- the position behind the token, if it is the keyword
-unfoldable pub keyword_at : List ℕ → ℕ → List ℕ → Maybe ℕ
-keyword_at text at keyword = cond (bytes_equal (token_at text at) keyword) (Some (at + length keyword)) None
+abbrev pub behind_token : List ℕ → List ℕ
+behind_token text = drop_leading in_token text
+
+abbrev pub without_spaces : List ℕ → List ℕ
+without_spaces text = drop_leading is_space text
+
+-- what stands behind the token in front, if it is the keyword
+unfoldable pub keyword_in : List ℕ → List ℕ → Maybe (List ℕ)
+keyword_in text keyword = cond (bytes_equal (token_in text) keyword) (Some (behind_token text)) None
 
 -- ---- numbers: those past every limit are all read as one
 
@@ -26,42 +32,46 @@ clip_limit = 3000000000
 abbrev pub clip : ℕ → ℕ
 clip n = min n clip_limit
 
-abbrev pub ends_at : ℕ → ℕ → Number
-ends_at value end = record { value = value; end = end }
+-- a number that was read, if it was, and what stands behind it
+unfoldable pub number_before : List ℕ → Option ℕ → Maybe (ℕ × List ℕ)
+number_before rest none = None
+number_before rest (some n) = Some (clip n, rest)
 
-unfoldable pub number_ending : ℕ → Option ℕ → Maybe Number
-number_ending end none = None
-number_ending end (some n) = Some (ends_at (clip n) end)
+-- the value of the digits in front, and what stands behind them
+abbrev pub leading_digits : List ℕ → ℕ × List ℕ
+leading_digits text = (clip (decimal_from 0 (take_leading is_digit text)), drop_leading is_digit text)
 
--- the digits at a position: their value, and the position behind them
-unfoldable pub leading_digits : List ℕ → ℕ → Number
-leading_digits text at = record { value = clip (decimal_from 0 (take_leading is_digit (drop at text))); end = skip_while is_digit text at }
+-- the digits in front are a number: 0, or digits that do not start with 0
+abbrev pub starts_number : List ℕ → Bool
+starts_number [] = false
+starts_number (b ∷ []) = is_digit b
+starts_number (b ∷ c ∷ bs) = is_digit b && not (eqb b (code "0") && is_digit c)
 
--- the number that the digits at a position are
-unfoldable pub digits_at : List ℕ → ℕ → Maybe Number
-digits_at text at = number_ending (skip_while is_digit text at) (number_of (take_leading is_digit (drop at text)))
+-- the number that the digits in front are
+unfoldable pub digits_in : List ℕ → Maybe (ℕ × List ℕ)
+digits_in text = number_before (drop_leading is_digit text) (number_of (take_leading is_digit text))
 
--- the hexadecimal digits at a position: the value of the last eight of them, and the position behind them
-unfoldable pub hex_digits_at : List ℕ → ℕ → Number
-hex_digits_at text at = record { value = hex_number (take_leading is_hex_digit (drop at text)) % 2 ^ 32; end = skip_while is_hex_digit text at }
+-- the hexadecimal digits in front: the value of the last eight of them, and what stands behind them
+abbrev pub hex_digits_in : List ℕ → ℕ × List ℕ
+hex_digits_in text = (hex_number (take_leading is_hex_digit text) % 2 ^ 32, drop_leading is_hex_digit text)
 
--- the number that the token at a position is
-unfoldable pub number_at : List ℕ → ℕ → Maybe Number
-number_at text at = number_ending (skip_while in_token text at) (number_of (token_at text at))
+-- the number that the token in front is
+unfoldable pub number_in : List ℕ → Maybe (ℕ × List ℕ)
+number_in text = number_before (behind_token text) (number_of (token_in text))
 
 -- a letter and a number, as a whole token
-unfoldable pub name_at : List ℕ → ℕ → ℕ → Maybe Number
-name_at text at letter = number_ending (skip_while in_token text at) (named letter (token_at text at))
+unfoldable pub name_in : List ℕ → ℕ → Maybe (ℕ × List ℕ)
+name_in text letter = number_before (behind_token text) (named letter (token_in text))
 
-abbrev pub event_at : List ℕ → ℕ → Maybe Number
-event_at text at = name_at text at (code "E")
+abbrev pub event_in : List ℕ → Maybe (ℕ × List ℕ)
+event_in text = name_in text (code "E")
 
-abbrev pub action_at : List ℕ → ℕ → Maybe Number
-action_at text at = name_at text at (code "A")
+abbrev pub action_in : List ℕ → Maybe (ℕ × List ℕ)
+action_in text = name_in text (code "A")
 
-abbrev pub reading_at : List ℕ → ℕ → Maybe Number
-reading_at text at = name_at text at (code "R")
+abbrev pub reading_in : List ℕ → Maybe (ℕ × List ℕ)
+reading_in text = name_in text (code "R")
 
--- the tokens from a position to the end of its line
-unfoldable pub tokens_at : List ℕ → ℕ → List (List ℕ)
-tokens_at text at = tokens_of (rest_of_line text at)
+-- the tokens of the first line
+unfoldable pub tokens_in : List ℕ → List (List ℕ)
+tokens_in text = tokens_of (first_line text)

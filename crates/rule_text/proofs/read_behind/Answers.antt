@@ -1,33 +1,40 @@
-use Rattle.std.specs.Prelude.{Err}
-use Rattle.std.proofs.Common.{sym, ap, ◌∙◌, arith}
+use Rattle.std.specs.Prelude.{Ok, Err}
+use Rattle.std.proofs.Common.{◌<◌, ◌≡◌, sym, ap, ◌∙◌, arith, length}
+use Rattle.policy.specs.Fault.{refusal}
+use Rattle.policy.specs.declared.fault.Fault.{Fault}
 use Rattle.rule_text.specs.Steps.Counting.{count_read}
-use Rattle.rule_text.proofs.TextLaws.{read_counted, behind_long, behind_short, halted_read, going_read, count_stop, count_later, count_go, count_small, count_end}
+use Rattle.rule_text.proofs.TextLaws.{behind_long, behind_short, halted_read, going_read, count_stop, count_shorter, count_go, count_end}
 use Rattle.rule_text.proofs.read_behind.Goals as goal
 
 pub returns-then-text-gt-TEXT_LIMIT : goal.returns-then-text-gt-TEXT_LIMIT
 returns-then-text-gt-TEXT_LIMIT c = ap Err c.at.ensures ∙ behind_long _ c.args.text.now c.if-text-gt-TEXT_LIMIT.true
 
-pub step-next-requires : goal.step-next-requires
-step-next-requires c = record { small = c.loop-at.invariant.1; counted = read_counted _ _ _ c.read_line-read.ensures }
+pub returns-in_err-more : goal.returns-in_err-more
+returns-in_err-more c =
+    let h : 0 < length c.loop-rest.rest.now = grind arith in
+    let k : (f : Fault) × ((c.step.result ≡ Err f) × (c.from_residual.result ≡ Err (refusal f c.loop-rest.number))) = grind arith in
+    let q = rw k.1.0 at c.step.ensures.answer in
+    k.1.1 ∙ sym (halted_read _) ∙ ap count_read (sym (c.loop-rest.invariant.same ∙ count_stop _ _ _ h _ q)) ∙ behind_short _ c.args.text.now c.if-text-gt-TEXT_LIMIT.false
 
-pub returns-in-Err : goal.returns-in-Err
-returns-in-Err c =
-    ap Err c.at-in-Err.ensures ∙ sym (halted_read _) ∙ ap count_read (sym (count_stop c.args.text.now c.loop-at.number c.loop-at.counts c.loop-at.at c.loop-at-test.true c.read_line-read.result c.read_line-read.ensures _ (sym c.step-next.ensures ∙ c.in-Err.is))) ∙ sym c.loop-at.invariant.0 ∙ behind_short _ c.args.text.now c.if-text-gt-TEXT_LIMIT.false
+pub loop-rest-smaller : goal.loop-rest-smaller
+loop-rest-smaller c =
+    let h : 0 < length c.loop-rest.rest.now = grind arith in
+    let k : c.step.result ≡ Ok (c.in_ok-more.more, c.in_ok-more.behind) = grind arith in
+    count_shorter c.loop-rest.number c.loop-rest.counts c.loop-rest.rest.now h _ _ (rw k at c.step.ensures.answer)
 
-pub loop-at-smaller : goal.loop-at-smaller
-loop-at-smaller c =
-    let h = count_later c.args.text.now c.loop-at.number c.loop-at.counts c.loop-at.at c.loop-at-test.true c.read_line-read.result c.read_line-read.ensures _ (sym c.step-next.ensures ∙ c.in-Ok.is) in
-    omega arith
-
-pub loop-at-preserved : goal.loop-at-preserved
-loop-at-preserved c =
-    let k = sym c.step-next.ensures ∙ c.in-Ok.is in
-    let h = count_later c.args.text.now c.loop-at.number c.loop-at.counts c.loop-at.at c.loop-at-test.true c.read_line-read.result c.read_line-read.ensures _ k in (
-      c.loop-at.invariant.0 ∙ ap count_read (count_go c.args.text.now c.loop-at.number c.loop-at.counts c.loop-at.at c.loop-at-test.true c.read_line-read.result c.read_line-read.ensures _ k),
-      count_small c.args.text.now c.loop-at.number c.loop-at.counts c.loop-at.at c.loop-at-test.true c.read_line-read.result c.read_line-read.ensures _ k c.loop-at.invariant.1,
-      omega arith,
-    )
+pub loop-rest-preserved : goal.loop-rest-preserved
+loop-rest-preserved c =
+    let h : 0 < length c.loop-rest.rest.now = grind arith in
+    let k : c.step.result ≡ Ok (c.in_ok-more.more, c.in_ok-more.behind) = grind arith in
+    let q = rw k at c.step.ensures.answer in
+    let l = count_shorter c.loop-rest.number c.loop-rest.counts c.loop-rest.rest.now h _ _ q in
+    record {
+      same = c.loop-rest.invariant.same ∙ count_go _ _ _ h _ _ q;
+      small = rw k at c.step.ensures.small;
+      numbers = omega (arith, c.loop-rest.invariant.numbers, l);
+    }
 
 pub returns : goal.returns
 returns c =
-    sym (going_read c.loop-at.number c.loop-at.counts) ∙ ap count_read (sym (count_end c.args.text.now c.loop-at.number c.loop-at.counts c.loop-at.at c.loop-at-test.false)) ∙ sym c.loop-at.invariant.0 ∙ behind_short _ c.args.text.now c.if-text-gt-TEXT_LIMIT.false
+    let h : length c.loop-rest.rest.now ≡ 0 = grind arith in
+    sym (going_read c.loop-rest.number c.loop-rest.counts) ∙ ap count_read (sym (c.loop-rest.invariant.same ∙ count_end c.loop-rest.number c.loop-rest.counts c.loop-rest.rest.now h)) ∙ behind_short _ c.args.text.now c.if-text-gt-TEXT_LIMIT.false

@@ -1,10 +1,14 @@
-use Rattle.std.proofs.Common.{◌-◌, ◌+◌, ◌≤◌, ◌≡◌, length}
-use Rattle.rule_text.specs.Steps.Counting.{count_from, count_read}
+use Rattle.std.proofs.Common.{◌+◌, ◌≤◌, ◌≡◌, length}
+use Rattle.rule_text.specs.Steps.Counting.{count_from}
 use Rattle.rule_text.specs.Steps.Tally.{Small}
 use Rattle.rule_text.proofs.read_behind.Given as goal
 
-abbrev pub invariant-loop-at : goal.invariant-loop-at
-invariant-loop-at l = (count_read (count_from l.text 1 l.initial.counts 0) ≡ count_read (count_from l.text l.number l.counts l.at)) × Small l.counts × (l.number ≤ l.at + 1)
+abbrev pub invariant-loop-rest : goal.invariant-loop-rest
+invariant-loop-rest l = record {
+  same : count_from 1 l.initial.counts l.text ≡ count_from l.number l.counts l.rest;
+  small : Small l.counts;
+  numbers : l.number + length l.rest ≤ length l.text + 1;
+}
 
-abbrev pub decreases-loop-at : goal.decreases-loop-at
-decreases-loop-at l = length l.text - l.at
+abbrev pub decreases-loop-rest : goal.decreases-loop-rest
+decreases-loop-rest l = length l.rest

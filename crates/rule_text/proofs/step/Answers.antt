@@ -1,14 +1,26 @@
-use Rattle.rule_text.specs.Steps.Tally.{step_of}
+use Rattle.std.proofs.Common.{◌≡◌, sym, arith}
+use Rattle.std.specs.Prelude.{Err}
+use Rattle.rule_text.proofs.TextLaws.{step_refused, step_skipped, step_counted, step_full, step_more, step_small}
 use Rattle.rule_text.proofs.step.Goals as goal
 
-pub returns-in-Skipped : goal.returns-in-Skipped
-unfolding step_of
-returns-in-Skipped c = rw c.in-Skipped.is
+pub returns-in_err-line-clause-answer : goal.returns-in_err-line-clause-answer
+returns-in_err-line-clause-answer c =
+    let r : c.from_residual.result ≡ Err c.in_err-line.field-0.0 = grind arith in
+    rw r (step_refused c.args.counts c.args.text.now _ c.in_err-line.ensures)
 
-pub returns-in-Refused : goal.returns-in-Refused
-unfolding step_of
-returns-in-Refused c = rw c.in-Refused.is
+pub tallied-requires-clause-counted : goal.tallied-requires-clause-counted
+tallied-requires-clause-counted c = step_counted c.args.counts c.args.text.now _ _ (rw c.in-Some.is at c.in_ok-line.ensures)
 
-pub returns-in-Accepted : goal.returns-in-Accepted
-unfolding step_of
-returns-in-Accepted c = rw c.in-Accepted.is c.tallied.ensures
+pub returns-in_err-tallied-in-Some-clause-answer : goal.returns-in_err-tallied-in-Some-clause-answer
+returns-in_err-tallied-in-Some-clause-answer c =
+    let r : c.from_residual-in_err-tallied-in-Some.result ≡ Err c.in_err-tallied-in-Some.field-0.0 = grind arith in
+    rw r (step_full c.args.counts c.args.text.now _ _ (rw c.in-Some.is at c.in_ok-line.ensures) _ (sym c.in_err-tallied-in-Some.ensures))
+
+pub returns-in-None-clause-answer : goal.returns-in-None-clause-answer
+returns-in-None-clause-answer c = step_skipped c.args.counts c.args.text.now _ (rw c.in-None.is at c.in_ok-line.ensures)
+
+pub returns-in_ok-tallied-in-Some-clause-answer : goal.returns-in_ok-tallied-in-Some-clause-answer
+returns-in_ok-tallied-in-Some-clause-answer c = step_more c.args.counts c.args.text.now _ _ (rw c.in-Some.is at c.in_ok-line.ensures) _ (sym c.in_ok-tallied-in-Some.ensures)
+
+pub returns-in_ok-tallied-in-Some-clause-small : goal.returns-in_ok-tallied-in-Some-clause-small
+returns-in_ok-tallied-in-Some-clause-small c = step_small c.args.counts c.args.text.now _ _ (rw c.in-Some.is at c.in_ok-line.ensures) _ (sym c.in_ok-tallied-in-Some.ensures) c.requires

@@ -1,6 +1,6 @@
 -- Counting the lines of a text instead of collecting them.
 use Rattle.std.specs.Prelude.{Result, Ok, Err, fold}
-use Rattle.std.specs.Prelude.{ℕ, ◌+◌, cond, ltb, length, drop, List}
+use Rattle.std.specs.Prelude.{ℕ, ◌+◌, cond, ltb, length, List}
 use Rattle.policy.specs.Fault.{refusal, within}
 use Rattle.policy.specs.Line.{PolicyLine, heads_of, comparisons_of, ending_of, constant_count}
 use Rattle.policy.specs.declared.fault.Fault.{Fault}
@@ -36,13 +36,18 @@ unfoldable pub count_line : Counting → List ℕ → Counting
 count_line (going n c) line = counted_step n (stepped c (line_answer line))
 count_line (halted r) line = halted r
 
--- the lines from a position on, counted
-unfoldable pub count_from : List ℕ → ℕ → TextCounts → ℕ → Counting
-count_from text n c at = fold count_line (going n c) (lines_of (drop at text))
+-- the counts behind a line, if there are any, and the lines behind it
+unfoldable pub counted_before : List ℕ → Result TextCounts Fault → Result (TextCounts × List ℕ) Fault
+counted_before rest (Ok c) = Ok (c, rest)
+counted_before rest (Err f) = Err f
 
--- the lines of a text, counted behind those before it
+-- the lines of a text, counted from a number on
+unfoldable pub count_from : ℕ → TextCounts → List ℕ → Counting
+count_from n c text = fold count_line (going n c) (lines_of text)
+
+-- the same behind those before it
 unfoldable pub count_behind : TextCounts → List ℕ → Counting
-count_behind c text = cond (ltb text_limit (length text)) (halted (refusal Fault.TooLong 0)) (count_from text 1 c 0)
+count_behind c text = cond (ltb text_limit (length text)) (halted (refusal Fault.TooLong 0)) (count_from 1 c text)
 
 unfoldable pub count_read : Counting → Result TextCounts Refusal
 count_read (going n c) = Ok c

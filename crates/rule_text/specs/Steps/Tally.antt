@@ -6,7 +6,6 @@ use Rattle.policy.specs.Line.{constant_count}
 use Rattle.policy.specs.declared.fault.Fault.{Fault}
 use Rattle.policy.specs.declared.line.Ending.{Ending}
 use Rattle.line_value.specs.declared.Line.{Line}
-use Rattle.syntax.specs.declared.line.LineStatus.{LineStatus}
 use Rattle.rule_text.specs.declared.LineCounts.{LineCounts}
 use Rattle.rule_text.specs.declared.TextCounts.{TextCounts}
 
@@ -41,8 +40,3 @@ tally_as Ending.Never c rules constraints = cond (ltb c.constraints.lines constr
 
 unfoldable pub tallied_by : TextCounts → Line → Result TextCounts Fault
 tallied_by c l = tally_as l.ending c (with_line c.rules l) (with_line c.constraints l)
-
-unfoldable pub step_of : TextCounts → LineStatus → Line → Result TextCounts Fault
-step_of c LineStatus.Skipped l = Ok c
-step_of c (LineStatus.Refused f) l = Err f
-step_of c LineStatus.Accepted l = tallied_by c l

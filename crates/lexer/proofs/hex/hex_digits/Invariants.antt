@@ -1,11 +1,15 @@
-use Rattle.std.proofs.Common.{◌-◌, ◌%◌, ◌^◌, ◌<◌, ◌≡◌, length, drop}
-use Rattle.lexer.proofs.HexLaws.{hex_from}
+use Rattle.std.proofs.Common.{◌%◌, ◌^◌, ◌<◌, ◌≡◌, length}
 use Rattle.lexer.specs.Byte.{is_hex_digit}
-use Rattle.lexer.specs.Lines.{skip_while, take_leading}
+use Rattle.lexer.proofs.HexLaws.{hex_from}
+use Rattle.lexer.specs.Lines.{take_leading, drop_leading}
 use Rattle.lexer.proofs.hex.hex_digits.Given as goal
 
-abbrev pub invariant-loop-i : goal.invariant-loop-i
-invariant-loop-i l = (hex_from 0 (take_leading is_hex_digit (drop l.at l.text)) % 2 ^ 32 ≡ hex_from l.value (take_leading is_hex_digit (drop l.i l.text)) % 2 ^ 32) × (skip_while is_hex_digit l.text l.at ≡ skip_while is_hex_digit l.text l.i) × (l.value < 4294967296)
+abbrev pub invariant-loop-rest : goal.invariant-loop-rest
+invariant-loop-rest l = record {
+  value : hex_from l.value (take_leading is_hex_digit l.rest) % 2 ^ 32 ≡ hex_from 0 (take_leading is_hex_digit l.text) % 2 ^ 32;
+  behind : drop_leading is_hex_digit l.rest ≡ drop_leading is_hex_digit l.text;
+  fits : l.value < 2 ^ 32;
+}
 
-abbrev pub decreases-loop-i : goal.decreases-loop-i
-decreases-loop-i l = length l.text - l.i
+abbrev pub decreases-loop-rest : goal.decreases-loop-rest
+decreases-loop-rest l = length l.rest

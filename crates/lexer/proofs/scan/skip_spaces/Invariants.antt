@@ -1,10 +1,9 @@
-use Rattle.std.proofs.Common.{◌-◌, ◌≡◌, length}
-use Rattle.lexer.specs.Byte.{is_space}
-use Rattle.lexer.specs.Lines.{skip_while}
+use Rattle.std.proofs.Common.{◌≡◌, length}
+use Rattle.lexer.specs.Steps.Scan.{without_spaces}
 use Rattle.lexer.proofs.scan.skip_spaces.Given as goal
 
-abbrev pub invariant-loop-i : goal.invariant-loop-i
-invariant-loop-i l = skip_while is_space l.text l.at ≡ skip_while is_space l.text l.i
+abbrev pub invariant-loop-rest : goal.invariant-loop-rest
+invariant-loop-rest l = without_spaces l.rest ≡ without_spaces l.text
 
-abbrev pub decreases-loop-i : goal.decreases-loop-i
-decreases-loop-i l = length l.text - l.i
+abbrev pub decreases-loop-rest : goal.decreases-loop-rest
+decreases-loop-rest l = length l.rest

@@ -1,0 +1,102 @@
+-- Laws of the first token of a line: either there is none, or it stands before the others.
+use Rattle.std.specs.Prelude.{Option as Maybe, Some, None}
+use Rattle.std.proofs.Common.{ℕ, ◌<◌, Bool, true, false, not, ◌||◌, cond, List, [], ◌∷◌, ◌≡◌, refl, sym, ap, ap₂, ◌∙◌, subst, arith, length}
+use Rattle.std.proofs.Math.Dec.{eqb}
+use Rattle.std.proofs.Math.Option.{Option, none, some}
+use Rattle.policy.proofs.ListLaws.{true_false}
+use Rattle.lexer.proofs.KeywordLaws.{keyword_some}
+use Rattle.lexer.proofs.LeadingLaws.{leading_length}
+use Rattle.lexer.proofs.TokenLaws.{tokens_after_spaces, tokens_first, tokens_ended, line_past_spaces, line_past_token, line_ended}
+use Rattle.lexer.specs.Byte.{is_space}
+use Rattle.lexer.specs.Lines.{behind_line}
+use Rattle.lexer.specs.Number.{is_empty}
+use Rattle.lexer.specs.Token.{Token}
+use Rattle.token.specs.Steps.PartIn.{kept, part_before}
+use Rattle.lexer.specs.Steps.Scan.{in_token, token_in, behind_token, without_spaces, keyword_in, tokens_in}
+
+-- ---- a part that was read
+
+pub record Parted (A : Type 0) (ok : A → Bool) (rest : List ℕ) (o : Option A) (m : Maybe A) (k : List ℕ) : Type 0 where
+  pub part : A
+  pub is : o ≡ some part
+  pub made : m ≡ kept ok part
+  pub behind : k ≡ rest
+
+module _ {A : Type 0} (ok : A → Bool) (rest : List ℕ) where
+  pub part_none : (o : Option A) → part_before ok rest o ≡ None → o ≡ none
+  unfolding part_before
+  part_none none q = refl
+  part_none (some x) q = cc
+
+  pub part_some : (o : Option A) (m : Maybe A) (k : List ℕ) → part_before ok rest o ≡ Some (m, k) → Parted A ok rest o m k
+  unfolding part_before
+  part_some none m k q = cc
+  part_some (some x) m k q =
+      let p : (kept ok x, rest) ≡ (m, k) = cc in
+      record { part = x; is = refl; made = sym (ap (λ (r : Maybe A × List ℕ). r.0) p); behind = sym (ap (λ (r : Maybe A × List ℕ). r.1) p) }
+
+-- ---- the first token
+
+-- what stands behind the first token
+abbrev pub behind_first : List ℕ → List ℕ
+behind_first text = behind_token (without_spaces text)
+
+abbrev pub first_token : List ℕ → Token
+first_token text = token_in (without_spaces text)
+
+-- the line has no token
+pub record Ended (text : List ℕ) : Type 0 where
+  pub tokens : tokens_in text ≡ []
+  pub line : behind_line text ≡ without_spaces text
+
+-- the line has a token before others
+pub record Started (text : List ℕ) : Type 0 where
+  pub tokens : tokens_in text ≡ first_token text ∷ tokens_in (behind_first text)
+  pub line : behind_line (behind_first text) ≡ behind_line text
+  pub shorter : length (behind_first text) < length text
+
+-- no space stands before a token
+pub no_space : (text : List ℕ) → is_empty (token_in text) ≡ false → without_spaces text ≡ text
+no_space [] h = refl
+no_space (b ∷ s) h =
+    elim (eqb b 32) as (λ x. is_empty (cond (not (x || eqb b 10)) (b ∷ token_in s) []) ≡ false → cond x (without_spaces s) (b ∷ s) ≡ b ∷ s) [ true ↦ λ k. absurd (true_false refl k) | false ↦ λ k. refl ] h
+
+token_length : (t : Token) → is_empty t ≡ false → 0 < length t
+token_length [] h = absurd (true_false refl h)
+token_length (b ∷ t) h = omega arith
+
+module _ (text : List ℕ) where
+  pub ended : is_empty (first_token text) ≡ true → Ended text
+  ended h = record { tokens = tokens_ended text h; line = line_ended text h }
+
+  pub started : is_empty (first_token text) ≡ false → Started text
+  started h =
+      record {
+        tokens = sym (tokens_after_spaces text) ∙ tokens_first (without_spaces text) h;
+        line = line_past_token (without_spaces text) ∙ line_past_spaces text;
+        shorter = omega (arith, leading_length is_space text, leading_length in_token (without_spaces text), token_length (first_token text) h);
+      }
+
+  -- what holds of no token, and of the first before the others, holds of the tokens of the line
+  pub by_first : (P : List Token → Type 0) → P [] → P (first_token text ∷ tokens_in (behind_first text)) → P (tokens_in text)
+  by_first P p q = go (is_empty (first_token text)) refl
+    where
+      go : (b : Bool) → is_empty (first_token text) ≡ b → P (tokens_in text)
+      go true h = subst P (sym (ended h).tokens) p
+      go false h = subst P (sym (started h).tokens) q
+
+-- a keyword, and what stands behind it
+pub record Worded (text word rest : List ℕ) : Type 0 where
+  pub tokens : tokens_in text ≡ word ∷ tokens_in rest
+  pub line : behind_line rest ≡ behind_line text
+  pub shorter : length rest < length text
+
+pub worded : (text word rest : List ℕ) → is_empty word ≡ false → keyword_in (without_spaces text) word ≡ Some rest → Worded text word rest
+worded text word rest n e =
+    let k = keyword_some (without_spaces text) word rest e in
+    let s = started text (ap is_empty k.0 ∙ n) in
+    record {
+      tokens = s.tokens ∙ ap₂ (λ (t : Token) (r : List ℕ). t ∷ tokens_in r) k.0 (sym k.1);
+      line = ap behind_line k.1 ∙ s.line;
+      shorter = rw k.1 s.shorter;
+    }

@@ -1,6 +1,0 @@
-use Rattle.syntax.specs.Answer.{line_read_of}
-use Rattle.syntax.proofs.line.refused.Goals as goal
-
-pub returns : goal.returns
-unfolding line_read_of
-returns c = rw c.new.ensures
