@@ -4,7 +4,6 @@ use Rattle.std.proofs.lemmas.List.Sums.{fold-append}
 use Rattle.std.proofs.Math.Bool.{and-false}
 use Rattle.std.proofs.Math.Option.{none, some}
 use Rattle.policy.specs.List.{all}
-use Rattle.lexer.proofs.RunLaws.{all_broken}
 use Rattle.lexer.specs.Byte.{hex_value, is_hex_digit}
 use Rattle.lexer.specs.Lines.{prepend}
 use Rattle.lexer.specs.Number.{hex_number}
@@ -57,9 +56,14 @@ pub word_none : (line : List ℕ) → (length line ≡ 8 → ⊥) → word_in li
 unfolding word_in
 word_none line n = rw (ne_eqb (length line) 8 n)
 
+all_broken : (run : List ℕ) (c : ℕ) (q : List ℕ) → is_hex_digit c ≡ false → all is_hex_digit (run ++ c ∷ q) ≡ false
+unfolding all
+all_broken [] c q e = rw e
+all_broken (b ∷ run) c q e = rw (all_broken run c q e) (and-false (is_hex_digit b))
+
 pub word_broken : (line : List ℕ) (b : ℕ) (rest : List ℕ) → is_hex_digit b ≡ false → word_in (line ++ b ∷ rest) ≡ none
 unfolding word_in
-word_broken line b rest e = rw (all_broken is_hex_digit line b rest e, and-false)
+word_broken line b rest e = rw (all_broken line b rest e, and-false)
 
 pub word_over : (line : List ℕ) (b : ℕ) (rest : List ℕ) → 8 ≤ length line → word_in (line ++ b ∷ rest) ≡ none
 word_over line b rest h = word_none (line ++ b ∷ rest) (λ e. omega (arith, length-append line (b ∷ rest)))

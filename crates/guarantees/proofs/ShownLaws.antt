@@ -8,7 +8,7 @@ use mathlib.Core.List.{Memᴰ}
 use Rattle.policy.proofs.ListLaws.{all_out}
 use Rattle.policy.specs.Line.{PolicyLine}
 use Rattle.policy.specs.declared.fault.Source.{Source}
-use Rattle.lexer.proofs.RunLaws.{all_run}
+use Rattle.lexer.proofs.LeadingLaws.{leading_pass}
 use Rattle.lexer.specs.Byte.{is_space}
 use Rattle.lexer.specs.Lines.{prepend, pieces, lines_of, non_empty, tokens_of, take_leading}
 use Rattle.syntax.specs.Judge.{skipped, accepted, tokens_answer, line_answer}
@@ -18,7 +18,6 @@ use Rattle.guarantees.specs.Explanations.{ended_length, Spaces, Trimmed, Straigh
 -- ---- what passes at the start
 
 pub while_split : (p : ℕ → Bool) (s : List ℕ) → s ≡ take_leading p s ++ drop (length (take_leading p s)) s
-unfolding take_leading
 while_split p [] = refl
 while_split p (b ∷ s) = go (p b) (while_split p s)
   where
@@ -27,7 +26,6 @@ while_split p (b ∷ s) = go (p b) (while_split p s)
     go false h = refl
 
 pub while_stops : (p : ℕ → Bool) (s : List ℕ) (b : ℕ) (rest : List ℕ) → drop (length (take_leading p s)) s ≡ b ∷ rest → p b ≡ false
-unfolding take_leading
 while_stops p [] b rest e = let w : ◌≡◌ {A = ℕ} 0 1 = cc in absurd (omega arith)
 while_stops p (c ∷ s) b rest e = go (p c) refl (while_stops p s b rest) e
   where
@@ -88,7 +86,7 @@ trimming line =
       ahead = take_leading is_space line;
       behind = r.behind;
       whole = while_split is_space line ∙ ap (λ (t : List ℕ). take_leading is_space line ++ t) r.whole;
-      spaces_ahead = λ b m. eqb-true b 32 (all_out is_space (take_leading is_space line) (all_run is_space line) b m);
+      spaces_ahead = λ b m. eqb-true b 32 (all_out is_space (take_leading is_space line) (leading_pass is_space line) b m);
       spaces_behind = r.spaces;
       unspaced =
           record {

@@ -91,7 +91,7 @@ or_any true false = refl
 or_any false b = refl
 
 letter_number : (w : List ℕ) → Agrees (number_in (fold scan_byte Token.Letter w)) (number_of w)
-unfolding number_in Agrees scan_byte first_digit number_of is_empty all decimal_from Like
+unfolding number_in Agrees scan_byte first_digit number_of all decimal_from Like
 letter_number [] = tt
 letter_number (d ∷ ds) = go (eqb d 48) (is_digit d) refl refl ds
   where
@@ -203,7 +203,7 @@ behind_first : (b n : ℕ) (s : List ℕ) → drop (suc n + 1) (b ∷ s) ≡ dro
 behind_first b n s = let e : suc n + 1 ≡ suc (n + 1) = omega arith in ap (λ (k : ℕ). drop k (b ∷ s)) e
 
 split : (line : List ℕ) → Split line
-unfolding word_of epoch_of take_leading
+unfolding word_of epoch_of
 split [] = alone refl refl
 split (b ∷ s) = go (is_space b) refl (split s)
   where
@@ -216,7 +216,7 @@ split (b ∷ s) = go (is_space b) refl (split s)
     go false e (spaced f) = spaced (rw e (ap (λ (t : List ℕ). b ∷ t) (f ∙ ap (λ (t : List ℕ). take_leading in_word s ++ 32 ∷ t) (sym (behind_first b n s)))))
 
 word_words : (line : List ℕ) → all in_word (word_of line) ≡ true
-unfolding word_of take_leading all
+unfolding word_of all
 word_words [] = refl
 word_words (b ∷ s) = go (is_space b) refl (word_words s)
   where
@@ -334,7 +334,7 @@ line_open b (c ∷ l) h =
     rw (not-true (eqb b 10) p.0) (ap (prepend b) (line_open c l p.1))
 
 pub while_passes : (p : ℕ → Bool) (s : List ℕ) → all p (take_leading p s) ≡ true
-unfolding take_leading all
+unfolding all
 while_passes p [] = refl
 while_passes p (b ∷ s) = go (p b) refl (while_passes p s)
   where
@@ -348,7 +348,6 @@ data Chunk (chunk : List ℕ) : Type 0 where
   ends : (rest : List ℕ) → chunk ≡ take_leading in_line chunk ++ 10 ∷ rest → Chunk chunk
 
 parted : (chunk : List ℕ) → Chunk chunk
-unfolding take_leading
 parted [] = inside refl
 parted (b ∷ s) = go (eqb b 10) refl (parted s)
   where

@@ -4,7 +4,7 @@ use Rattle.std.proofs.Math.Option.{none, some}
 use Prim.Native.String.{String}
 use Rattle.policy.specs.declared.mode.Mode.{Mode}
 use Rattle.lexer.specs.Byte.{bytes, bytes_equal, is}
-use Rattle.lexer.proofs.WhileLaws.{at_byte}
+use Rattle.line_value.proofs.LineLaws.{items_past}
 use Rattle.session.specs.Printed.{mode_of}
 
 and_none : (b : Bool) → (b && false) ≡ false
@@ -23,7 +23,7 @@ same_long (x ∷ xs) (y ∷ ys) h = ap (◌&&◌ (eqb x y)) (same_long xs ys (λ
 module _ (s t : List ℕ) (i : ℕ) (h : i < length s) (k : i < length t) where
   at_both : bytes_equal (drop i s) (drop i t) ≡ (eqb (get_or s i 0) (get_or t i 0) && bytes_equal (drop (i + 1) s) (drop (i + 1) t))
   unfolding bytes_equal
-  at_both = ap₂ bytes_equal (at_byte s i h) (at_byte t i k)
+  at_both = ap₂ bytes_equal (items_past s i 0 h) (items_past t i 0 k)
 
   pub same_differs : (get_or s i 0 ≡ get_or t i 0 → ⊥) → bytes_equal (drop i s) (drop i t) ≡ false
   same_differs n = at_both ∙ rw (ne_eqb (get_or s i 0) (get_or t i 0) n)
