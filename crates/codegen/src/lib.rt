@@ -43,11 +43,11 @@ pub struct Cursors {
 }
 
 /// A line put in behind those of its kind.
-fn put_next(out: &mut [u8], cursors: Cursors, line: Line) -> Cursors
+fn put_next(out: &mut [u8], cursors: Cursors, line: &Line) -> Cursors
     requires near { Near 2000000 cursors }
-    requires short { length (value_words line) ≤ 17 }
-    ensures answer { result ≡ cursors_after line.ending cursors (length (value_words line)) }
-    ensures buffer { out.new ≡ put_words out.old (cursor_for line.ending cursors) (value_words line) }
+    requires short { length (value_words line.now) ≤ 17 }
+    ensures answer { result ≡ cursors_after line.now.ending cursors (length (value_words line.now)) }
+    ensures buffer { out.new ≡ put_words out.old (cursor_for line.now.ending cursors) (value_words line.now) }
 {
     let ending = line.ending;
     match ending {
@@ -83,7 +83,7 @@ fn put_lines(out: &mut [u8], text: &[u8], start: Cursors) -> Cursors
             return cursors;
         };
         if let Some(line) = line {
-            cursors = put_next(out, cursors, line);
+            cursors = put_next(out, cursors, &line);
         }
         rest = behind;
     }

@@ -1,28 +1,21 @@
 -- The length of a line as the code finds it: the first word's skip, the ending word, the heads, and the comparisons behind them.
-use Rattle.std.proofs.Common.{ℕ, zero, suc, ◌+◌, ◌-◌, ◌≤◌, ◌<◌, Bool, true, false, not, cond, ◌&&◌, ◌||◌, List, ◌≡◌, refl, sym, ap, ap₂, ◌∙◌, add-zero, arith, lt-ltb, le-ltb, ltb-true, ltb-false, le-leb, eq-eqb, ne_eqb, eqb-true, length, take, drop, length-drop, length-take, drop_of_length-le, drop-drop, get_or-drop, get_or-take}
-use Rattle.std.proofs.lemmas.Bool.{lt-leb, eqb-false}
+use Rattle.std.proofs.Common.{ℕ, zero, suc, ◌+◌, ◌-◌, ◌≤◌, ◌<◌, Bool, true, false, not, cond, ◌&&◌, ◌||◌, List, [], ◌∷◌, map, fold, ◌≡◌, refl, sym, ap, ap₂, ◌∙◌, add-zero, zero-add, arith, lt-ltb, le-ltb, le-leb, eqb-true, eq-eqb, ne_eqb, length, take, drop, get_or, count_ones, length-drop, length-take, take_all, drop-cons, get_or-drop, get_or-take}
+use Rattle.std.proofs.lemmas.Bool.{lt-leb}
 use Rattle.std.proofs.Math.Dec.{ltb, leb, eqb}
-use Rattle.std.proofs.Math.ListN.{get_or, get_or-eq_default}
+use Rattle.std.proofs.Math.ListN.{length-map}
+use Rattle.policy.proofs.ListLaws.{true_false}
+use Rattle.policy.specs.Limits.{repeats}
 use Rattle.policy.specs.Set.{insert}
-use Rattle.decode.proofs.ScanLaws.{scan_by, Sized, sized_constant, sized_reading, sized_none, sized}
-use Rattle.decode.proofs.ScanLines.{scan_line_is}
-use Rattle.layout.proofs.SumLaws.{before_at}
-use Rattle.word.proofs.WordLaws.{words_below}
-use Rattle.word.specs.Word.{word_limit, words_of, word_at, Below}
+use Rattle.word.proofs.ChunkLaws.{words_in_length}
+use Rattle.word.specs.Chunk.{words_in}
+use Rattle.word.specs.Word.{word_limit, Below, between}
 use Rattle.operation.specs.Fields.{first_of, skip_of}
+use Rattle.decode.proofs.OnesLaws.{ones_once, ones_twice}
+use Rattle.decode.proofs.ScanLaws.{scan_by, Sized, sized_constant, sized_reading, sized_none, sized, fill_step}
+use Rattle.decode.proofs.ScanLines.{scan_line_is}
 use Rattle.decode.specs.Decode.{decode, keep_if, line_at, line_length}
-use Rattle.decode.specs.Steps.Scan.{is_ending, head_sound, count_heads, comparison_length, comparisons_fill}
+use Rattle.decode.specs.Steps.Scan.{is_ending, head_sound, count_heads, head_numbers, numbers_of, comparison_length, IsBehind, comparisons_fill}
 use Rattle.policy.specs.declared.line.Part.{Part}
-
-below_drop : (k n : ℕ) (xs : List ℕ) → Below k xs → Below k (drop n xs)
-below_drop k n xs h i = rw (get_or-drop n xs i 0) (h (n + i))
-
-below_take : (k n : ℕ) (xs : List ℕ) → 0 < k → Below k xs → Below k (take n xs)
-below_take k n xs z h i = go (ltb i (length (take n xs))) refl
-  where
-    go : (b : Bool) → ltb i (length (take n xs)) ≡ b → get_or (take n xs) i 0 < k
-    go true q = let l = ltb-true i (length (take n xs)) q in rw (get_or-take n xs i 0 (omega (arith, length-take n xs))) (h i)
-    go false q = rw (get_or-eq_default (take n xs) 0 {n = i} (ltb-false i (length (take n xs)) q)) z
 
 pub word_here : (words : List ℕ) (i : ℕ) → get_or (drop i words) 0 0 ≡ get_or words i 0
 word_here words i = get_or-drop i words 0 0 ∙ ap (λ (k : ℕ). get_or words k 0) (add-zero i)
@@ -35,22 +28,18 @@ Agree n xs ys = (j : ℕ) → j < n → get_or xs j 0 ≡ get_or ys j 0
 agree_drop : (n k : ℕ) (xs ys : List ℕ) → Agree n xs ys → Agree (n - k) (drop k xs) (drop k ys)
 agree_drop n k xs ys h j l = get_or-drop k xs j 0 ∙ h (k + j) (omega arith) ∙ sym (get_or-drop k ys j 0)
 
-head_count_agree : (part : Part) (n seen : ℕ) (xs ys : List ℕ) → Agree n xs ys → count_heads part seen n xs ≡ count_heads part seen n ys
+head_count_agree : (part : Part) (n : ℕ) (xs ys : List ℕ) → Agree n xs ys → count_heads part n xs ≡ count_heads part n ys
 unfolding count_heads
-head_count_agree part zero seen xs ys h = refl
-head_count_agree part (suc n) seen xs ys h =
-    let e : suc n - 1 ≡ n = omega arith in
-    let later : count_heads part (insert seen (first_of (get_or ys 0 0))) n (drop 1 xs) ≡ count_heads part (insert seen (first_of (get_or ys 0 0))) n (drop 1 ys) =
-    head_count_agree part n (insert seen (first_of (get_or ys 0 0))) (drop 1 xs) (drop 1 ys) (λ j l. agree_drop (suc n) 1 xs ys h j (omega arith)) in
-    ap (λ (w : ℕ). cond (head_sound part seen w (suc n)) (suc (count_heads part (insert seen (first_of w)) n (drop 1 xs))) 0) (h 0 (omega arith))
-    ∙ ap (λ (k : ℕ). cond (head_sound part seen (get_or ys 0 0) (suc n)) (suc k) 0) later
+head_count_agree part zero xs ys h = refl
+head_count_agree part (suc n) xs ys h =
+    let later : count_heads part n (drop 1 xs) ≡ count_heads part n (drop 1 ys) =
+    head_count_agree part n (drop 1 xs) (drop 1 ys) (λ j l. agree_drop (suc n) 1 xs ys h j (omega arith)) in
+    ap₂ (λ (w k : ℕ). cond (head_sound part w (suc n)) (suc k) 0) (h 0 (omega arith)) later
 
-pub head_count_limit : (part : Part) (n seen : ℕ) (xs : List ℕ) → count_heads part seen n xs ≤ n
+pub head_count_limit : (part : Part) (n : ℕ) (xs : List ℕ) → count_heads part n xs ≤ n
 unfolding count_heads
-head_count_limit part zero seen xs = omega arith
-head_count_limit part (suc n) seen xs =
-    let h = head_count_limit part n (insert seen (first_of (get_or xs 0 0))) (drop 1 xs) in
-    go (head_sound part seen (get_or xs 0 0) (suc n)) (count_heads part (insert seen (first_of (get_or xs 0 0))) n (drop 1 xs)) h
+head_count_limit part zero xs = omega arith
+head_count_limit part (suc n) xs = go (head_sound part (get_or xs 0 0) (suc n)) (count_heads part n (drop 1 xs)) (head_count_limit part n (drop 1 xs))
   where
     go : (b : Bool) (k : ℕ) → k ≤ n → cond b (suc k) 0 ≤ suc n
     go true k h = omega arith
@@ -67,180 +56,210 @@ fill_agree (suc room) (suc n) xs ys h =
 
 -- ---- heads, one after the other
 
-pub record Heading (part : Part) (words : List ℕ) (at last seen i : ℕ) : Type 0 where
-  pub from : at ≤ i
-  pub upto : i ≤ last
-  pub same : i + count_heads part seen (last - i) (drop i words) ≡ at + count_heads part 0 (last - at) (drop at words)
+-- what is counted of n words, and what is left
+pub record Heading (part : Part) (ws : List ℕ) (n set i : ℕ) : Type 0 where
+  pub upto : i ≤ n
+  pub count : i + count_heads part (n - i) (drop i ws) ≡ count_heads part n ws
+  pub numbers : fold insert set (head_numbers (count_heads part (n - i) (drop i ws)) (drop i ws)) ≡ numbers_of (head_numbers (count_heads part n ws) ws)
 
-module _ (part : Part) (words : List ℕ) (at last : ℕ) where
-  pub heading_none : at ≤ last → Heading part words at last 0 at
-  heading_none h = record { from = omega arith; upto = h; same = refl }
+module _ (part : Part) (ws : List ℕ) (n : ℕ) where
+  pub heading_none : Heading part ws n 0 0
+  heading_none = let z : n - 0 ≡ n = omega arith in record { upto = omega arith; count = ap (λ (k : ℕ). 0 + count_heads part k ws) z ∙ zero-add (count_heads part n ws); numbers = ap (λ (k : ℕ). numbers_of (head_numbers (count_heads part k ws) ws)) z }
 
-  count_by : (seen i w left : ℕ) → i < last → w ≡ get_or words i 0 → left ≡ last - i → (b : Bool) → b ≡ head_sound part seen w left
-      → count_heads part seen (last - i) (drop i words) ≡ cond b (suc (count_heads part (insert seen (first_of w)) (last - (i + 1)) (drop (i + 1) words))) 0
+  left_is : (i : ℕ) → i < n → n - i ≡ suc (n - (i + 1))
+  left_is i h = omega arith
+
+  rest_is : (i : ℕ) → i < length ws → drop i ws ≡ get_or ws i 0 ∷ drop (i + 1) ws
+  rest_is i h = let e : suc i ≡ i + 1 = omega arith in drop-cons ws i 0 h ∙ ap (λ (k : ℕ). get_or ws i 0 ∷ drop k ws) e
+
+  counted_by : (i : ℕ) → i < n → i < length ws → (b : Bool) → head_sound part (get_or ws i 0) (n - i) ≡ b → count_heads part (n - i) (drop i ws) ≡ cond b (suc (count_heads part (n - (i + 1)) (drop (i + 1) ws))) 0
   unfolding count_heads
-  count_by seen i w left l e q b r =
-      let n : last - i ≡ suc (last - (i + 1)) = omega arith in
-      let here : get_or (drop i words) 0 0 ≡ w = word_here words i ∙ sym e in
-      ap (λ (k : ℕ). count_heads part seen k (drop i words)) n
-      ∙ ap (λ (x : ℕ). cond (head_sound part seen x (suc (last - (i + 1)))) (suc (count_heads part (insert seen (first_of x)) (last - (i + 1)) (drop 1 (drop i words)))) 0) here
-      ∙ ap₂ (λ (x : Bool) (xs : List ℕ). cond x (suc (count_heads part (insert seen (first_of w)) (last - (i + 1)) xs)) 0) (ap (head_sound part seen w) (sym (q ∙ n)) ∙ sym r) (drop-drop 1 i words)
+  counted_by i h l b e =
+      let q : head_sound part (get_or ws i 0) (suc (n - (i + 1))) ≡ b = ap (head_sound part (get_or ws i 0)) (sym (left_is i h)) ∙ e in
+      ap₂ (count_heads part) (left_is i h) (rest_is i l) ∙ ap (λ (x : Bool). cond x (suc (count_heads part (n - (i + 1)) (drop (i + 1) ws))) 0) q
 
-  pub heading_more : (seen seen' i w left n : ℕ) (b : Bool) → Heading part words at last seen i → i < last → w ≡ get_or words i 0 → left ≡ last - i → b ≡ head_sound part seen w left → b ≡ true → n ≡ first_of w → seen' ≡ insert seen n
-      → Heading part words at last seen' (i + 1)
-  heading_more seen seen' i w left n b h l e q r t f s =
-      let c = count_by seen i w left l e q true (sym t ∙ r) in
-      let z : insert seen (first_of w) ≡ seen' = ap (insert seen) (sym f) ∙ sym s in
-      let g = ap (λ (x : ℕ). count_heads part x (last - (i + 1)) (drop (i + 1) words)) z in
-      let u = h.same in
-      let v = h.from in
-      record { from = omega arith; upto = omega arith; same = omega (arith, c, g, u) }
+  pub heading_more : (numbers more i : ℕ) → Heading part ws n numbers i → i < n → i < length ws → head_sound part (get_or ws i 0) (n - i) ≡ true → more ≡ insert numbers (first_of (get_or ws i 0)) → Heading part ws n more (i + 1)
+  heading_more numbers more i h l k e m =
+      let c = counted_by i l k true e in
+      let u = h.count in
+      record {
+        upto = omega arith;
+        count = omega (arith, c, u);
+        numbers =
+            ap (λ (s : ℕ). fold insert s (head_numbers (count_heads part (n - (i + 1)) (drop (i + 1) ws)) (drop (i + 1) ws))) m
+            ∙ sym (ap₂ (λ (j : ℕ) (xs : List ℕ). fold insert numbers (head_numbers j xs)) c (rest_is i k)) ∙ h.numbers;
+      }
 
-  pub heading_stop : (seen i w left : ℕ) (b : Bool) → Heading part words at last seen i → i < last → w ≡ get_or words i 0 → left ≡ last - i → b ≡ head_sound part seen w left → b ≡ false → i ≡ at + count_heads part 0 (last - at) (drop at words)
-  heading_stop seen i w left b h l e q r t = let c = count_by seen i w left l e q false (sym t ∙ r) in let u = h.same in omega (arith, c, u)
+  -- the heads end here
+  pub heading_end : (numbers i : ℕ) → Heading part ws n numbers i → count_heads part (n - i) (drop i ws) ≡ 0 → (i ≡ count_heads part n ws) × (numbers ≡ numbers_of (head_numbers i ws))
+  heading_end numbers i h z =
+      let u = h.count in
+      let e : i ≡ count_heads part n ws = omega (arith, z, u) in
+      (e, sym (ap (λ (j : ℕ). fold insert numbers (head_numbers j (drop i ws))) z) ∙ h.numbers ∙ ap (λ (j : ℕ). numbers_of (head_numbers j ws)) (sym e))
 
-  pub heading_all : (seen i : ℕ) → Heading part words at last seen i → last ≤ i → i ≡ at + count_heads part 0 (last - at) (drop at words)
+  pub heading_stop : (numbers i : ℕ) → Heading part ws n numbers i → i < n → i < length ws → head_sound part (get_or ws i 0) (n - i) ≡ false → (i ≡ count_heads part n ws) × (numbers ≡ numbers_of (head_numbers i ws))
+  heading_stop numbers i h l k e = heading_end numbers i h (counted_by i l k false e)
+
+  pub heading_all : (numbers i : ℕ) → Heading part ws n numbers i → n ≤ i → (i ≡ count_heads part n ws) × (numbers ≡ numbers_of (head_numbers i ws))
   unfolding count_heads
-  heading_all seen i h l =
-      let n : last - i ≡ 0 = omega arith in
-      let c : count_heads part seen (last - i) (drop i words) ≡ 0 = ap (λ (k : ℕ). count_heads part seen k (drop i words)) n in
-      let u = h.same in
-      omega (arith, c, u)
+  heading_all numbers i h l = let z : n - i ≡ 0 = omega arith in heading_end numbers i h (ap (λ (k : ℕ). count_heads part k (drop i ws)) z)
 
 -- ---- comparisons, one after the other
 
-pub record Comparing (words : List ℕ) (from last room i : ℕ) : Type 0 where
-  pub after : from ≤ i
-  pub upto : i ≤ last
-  pub same : comparisons_fill room (last - i) (drop i words) ≡ comparisons_fill 4 (last - from) (drop from words)
+-- what is left, with room for so many
+pub record Comparing (ws : List ℕ) (room : ℕ) (rest : List ℕ) : Type 0 where
+  pub short : length rest ≤ length ws
+  pub same : comparisons_fill room (length rest) rest ≡ comparisons_fill 4 (length ws) ws
 
-pub size_fits : (w left : ℕ) → w < word_limit → 0 < left → comparison_length w left ≤ left
-size_fits w left l z = go (sized w left l)
-  where
-    go : Sized w left → comparison_length w left ≤ left
-    go (sized_constant k h s p q e) = omega arith
-    go (sized_reading h s e) = omega arith
-    go (sized_none e) = omega arith
+module _ (ws : List ℕ) where
+  pub comparing_none : Comparing ws 4 ws
+  comparing_none = record { short = omega arith; same = refl }
 
-module _ (words : List ℕ) (from last : ℕ) where
-  pub comparing_none : from ≤ last → Comparing words from last 4 from
-  comparing_none h = record { after = omega arith; upto = h; same = refl }
-
-  pub comparing_full : (room i : ℕ) → Comparing words from last room i → i < last → room ≡ 0 → false ≡ comparisons_fill 4 (last - from) (drop from words)
+  pub comparing_done : (room : ℕ) (rest : List ℕ) → Comparing ws room rest → length rest ≡ 0 → true ≡ comparisons_fill 4 (length ws) ws
   unfolding comparisons_fill
-  comparing_full room i h l z = sym (ap (λ (k : ℕ). comparisons_fill k (last - i) (drop i words)) z ∙ ne_eqb (last - i) 0 (λ q. omega arith)) ∙ h.same
-
-  by_size : (room i w left k : ℕ) → i < last → 0 < room → w ≡ get_or words i 0 → left ≡ last - i → k ≡ comparison_length w left
-      → comparisons_fill room (last - i) (drop i words) ≡ not (eqb k 0) && comparisons_fill (room - 1) (last - (i + k)) (drop (i + k) words)
-  unfolding comparisons_fill
-  by_size room i w left k l p e q r =
-      let m : room ≡ suc (room - 1) = omega arith in
-      let here : get_or (drop i words) 0 0 ≡ w = word_here words i ∙ sym e in
-      let s : comparison_length (get_or (drop i words) 0 0) (last - i) ≡ k = ap₂ comparison_length here (sym q) ∙ sym r in
-      let n : last - i - k ≡ last - (i + k) = omega arith in
-      ap (λ (x : ℕ). comparisons_fill x (last - i) (drop i words)) m
-      ∙ ap (λ (x : ℕ). eqb (last - i) 0 || (not (eqb x 0) && comparisons_fill (room - 1) (last - i - x) (drop x (drop i words)))) s
-      ∙ rw (ne_eqb (last - i) 0 (λ q. omega arith), n, drop-drop k i words)
-
-  pub comparing_bad : (room i w left k : ℕ) → Comparing words from last room i → i < last → (room ≡ 0 → ⊥) → w ≡ get_or words i 0 → left ≡ last - i → k ≡ comparison_length w left → k ≡ 0 → false ≡ comparisons_fill 4 (last - from) (drop from words)
-  comparing_bad room i w left k h l p e q r z =
-      sym (by_size room i w left k l (omega arith) e q r ∙ ap (λ (x : ℕ). not (eqb x 0) && comparisons_fill (room - 1) (last - (i + k)) (drop (i + k) words)) z) ∙ h.same
-
-  pub comparing_more : (room i w left k : ℕ) → Comparing words from last room i → i < last → (room ≡ 0 → ⊥) → w ≡ get_or words i 0 → left ≡ last - i → k ≡ comparison_length w left → (k ≡ 0 → ⊥) → w < word_limit → Comparing words from last (room - 1) (i + k)
-  comparing_more room i w left k h l p e q r z b =
-      let f = size_fits w left b (omega arith) in
-      let a = h.after in
-      record {
-        after = omega arith;
-        upto = omega arith;
-        same = sym (by_size room i w left k l (omega arith) e q r ∙ ap (λ (x : Bool). not x && comparisons_fill (room - 1) (last - (i + k)) (drop (i + k) words)) (ne_eqb k 0 z)) ∙ h.same;
-      }
-
-  pub comparing_all : (room i : ℕ) → Comparing words from last room i → last ≤ i → true ≡ comparisons_fill 4 (last - from) (drop from words)
-  unfolding comparisons_fill
-  comparing_all room i h l = let n : last - i ≡ 0 = omega arith in sym (ap (λ (k : ℕ). comparisons_fill room k (drop i words)) n ∙ none room) ∙ h.same
+  comparing_done room rest h z = sym (ap (λ (k : ℕ). comparisons_fill room k rest) z ∙ none room) ∙ h.same
     where
-      none : (k : ℕ) → comparisons_fill k 0 (drop i words) ≡ true
+      none : (k : ℕ) → comparisons_fill k 0 rest ≡ true
       none zero = refl
       none (suc k) = refl
 
+  pub comparing_full : (rest : List ℕ) → Comparing ws 0 rest → eqb (length rest) 0 ≡ comparisons_fill 4 (length ws) ws
+  unfolding comparisons_fill
+  comparing_full rest h = h.same
+
+  pub comparing_bad : (room : ℕ) (rest : List ℕ) → Comparing ws (suc room) rest → 0 < length rest → comparison_length (get_or rest 0 0) (length rest) ≡ 0 → false ≡ comparisons_fill 4 (length ws) ws
+  unfolding comparisons_fill
+  comparing_bad room rest h l z = sym (rw (ne_eqb (length rest) 0 (λ q. omega arith), z)) ∙ h.same
+
+  pub comparing_more : (room : ℕ) (rest behind : List ℕ) → Comparing ws (suc room) rest → IsBehind rest behind → Comparing ws room behind
+  comparing_more room [] behind h b = let l = b.inside in let s = b.some in absurd (omega arith)
+  comparing_more room (w ∷ ws') behind h b =
+      let k : ℕ = comparison_length w (suc (length ws')) in
+      let e : behind ≡ drop k (w ∷ ws') = b.behind_it in
+      let n : length behind ≡ suc (length ws') - k = ap length e ∙ length-drop k (w ∷ ws') in
+      record {
+        short = let s = h.short in omega (arith, n);
+        same = ap₂ (comparisons_fill room) n e ∙ sym (fill_step (length ws') room k w ws' refl b.some) ∙ h.same;
+      }
+
+-- ---- the words behind a comparison
+
+pub words_dropped : (k : ℕ) (chunks : List (List ℕ)) → words_in (drop k chunks) ≡ drop k (words_in chunks)
+words_dropped zero chunks = refl
+words_dropped (suc k) [] = refl
+words_dropped (suc k) (c ∷ cs) = words_dropped k cs
+
+pub behind_by : (chunks behind : List (List ℕ)) (k : ℕ) → 0 < k → k ≤ length chunks → true ≡ eqb (comparison_length (get_or (words_in chunks) 0 0) (length chunks)) k → behind ≡ drop k chunks → IsBehind (words_in chunks) (words_in behind)
+behind_by chunks behind k p h e b =
+    let l = words_in_length chunks in
+    let n : comparison_length (get_or (words_in chunks) 0 0) (length (words_in chunks)) ≡ k =
+    ap (comparison_length (get_or (words_in chunks) 0 0)) l ∙ eqb-true (comparison_length (get_or (words_in chunks) 0 0) (length chunks)) k (sym e) in
+    record {
+      some = omega (arith, n);
+      inside = omega (arith, n);
+      behind_it = ap words_in b ∙ words_dropped k chunks ∙ ap (λ (j : ℕ). drop j (words_in chunks)) (sym n);
+    }
+
+pub no_comparison : (w left : ℕ) → w < word_limit → (1 < left → false ≡ eqb (comparison_length w left) 2) → false ≡ eqb (comparison_length w left) 1 → comparison_length w left ≡ 0
+no_comparison w left h c r = go (sized w left h)
+  where
+    go : Sized w left → comparison_length w left ≡ 0
+    go (sized_constant k f z p q e) = absurd (true_false (eq-eqb (comparison_length w left) 2 e) (sym (c (omega arith))))
+    go (sized_reading f z e) = absurd (true_false (eq-eqb (comparison_length w left) 1 e) (sym r))
+    go (sized_none e) = e
+
 -- ---- the line
 
-module _ (part : Part) (bytes : List ℕ) (end at : ℕ) where
-  abbrev words : List ℕ
-  words = take end (words_of bytes)
+pub between_zero : (n : ℕ) (ws : List ℕ) → between 0 n ws ≡ take n ws
+unfolding between
+between_zero n ws = refl
 
+pub rest_between : (from n : ℕ) (ws : List ℕ) → length ws ≤ n → between from n ws ≡ drop from ws
+unfolding between
+rest_between from n ws h = ap (drop from) (take_all n ws h)
+
+module _ (part : Part) (ws : List ℕ) where
   -- past the last word
-  pub length_none : length words ≤ at → 0 ≡ line_length (line_at part (drop at words))
+  pub length_none : length ws ≡ 0 → 0 ≡ line_length (line_at part ws)
   unfolding line_length line_at keep_if decode
-  length_none h = rw (drop_of_length-le words {i = at} h)
+  length_none h = go ws h
+    where
+      go : (xs : List ℕ) → length xs ≡ 0 → 0 ≡ line_length (line_at part xs)
+      go [] e = refl
+      go (x ∷ xs) e = absurd (omega arith)
 
-  module _ (bounded : Below 256 bytes) (start : at < length words) (size : ℕ) (skips : size ≡ skip_of (word_at bytes at)) where
-    first : get_or (drop at words) 0 0 ≡ word_at bytes at
-    first = word_here words at ∙ sym (before_at bytes end at start)
-
+  module _ (bounded : Below word_limit ws) (size : ℕ) (skips : size ≡ skip_of (get_or ws 0 0)) where
     abbrev count : ℕ
-    count = count_heads part 0 size (drop at words)
+    count = count_heads part size ws
 
-    by_scan : line_length (line_at part (drop at words))
-        ≡ cond (ltb size (length (drop at words)) && is_ending part (get_or (drop at words) size 0) && ltb 0 count && leb count 8 && comparisons_fill 4 (size - count) (drop count (drop at words))) (size + 1) 0
-    by_scan =
-        sym (scan_line_is part (drop at words) (below_drop word_limit at words (below_take word_limit end (words_of bytes) (omega arith) (words_below bytes bounded))))
-        ∙ scan_by part (drop at words) size (ap skip_of first ∙ sym skips)
+    by_scan : line_length (line_at part ws)
+        ≡ cond (ltb size (length ws) && is_ending part (get_or ws size 0) && ltb 0 count && leb count 8 && not (repeats (head_numbers count ws)) && comparisons_fill 4 (size - count) (drop count ws)) (size + 1) 0
+    by_scan = sym (scan_line_is part ws bounded) ∙ scan_by part ws size (sym skips)
 
     -- the line does not fit
-    pub length_long : length words - at ≤ size → 0 ≡ line_length (line_at part (drop at words))
-    length_long h = sym (by_scan ∙ rw (le-ltb size (length (drop at words)) (omega (arith, length-drop at words))))
+    pub length_long : length ws ≤ size → 0 ≡ line_length (line_at part ws)
+    length_long h = sym (by_scan ∙ rw (le-ltb size (length ws) h))
 
-    module _ (fits : at + size < length words) where
-      within : ltb size (length (drop at words)) ≡ true
-      within = lt-ltb size (length (drop at words)) (omega (arith, length-drop at words))
-
-      last_is : (w : ℕ) → w ≡ word_at bytes (at + size) → get_or (drop at words) size 0 ≡ w
-      last_is w e = get_or-drop at words size 0 ∙ sym (before_at bytes end (at + size) fits) ∙ sym e
+    module _ (fits : size < length ws) where
+      within : ltb size (length ws) ≡ true
+      within = lt-ltb size (length ws) fits
 
       -- no ending word
-      pub length_unended : (w : ℕ) (b : Bool) → w ≡ word_at bytes (at + size) → b ≡ is_ending part w → b ≡ false → 0 ≡ line_length (line_at part (drop at words))
-      length_unended w b e q f = sym (by_scan ∙ rw (within, last_is w e, sym q ∙ f))
+      pub length_unended : is_ending part (get_or ws size 0) ≡ false → 0 ≡ line_length (line_at part ws)
+      length_unended e = sym (by_scan ∙ rw (within, e))
 
-      -- the words of the image up to the ending word are those of the part
-      agree : Agree size (drop at words) (drop at (words_of bytes))
-      agree j l = get_or-drop at words j 0 ∙ sym (before_at bytes end (at + j) (omega arith)) ∙ sym (get_or-drop at (words_of bytes) j 0)
+      module _ (ended : is_ending part (get_or ws size 0) ≡ true) (line : List ℕ) (cut : line ≡ take size ws) (heads : ℕ) (counted : heads ≡ count_heads part size line) where
+        agree : Agree size (take size ws) ws
+        agree j l = get_or-take size ws j 0 l
 
-      module _ (w : ℕ) (b : Bool) (e : w ≡ word_at bytes (at + size)) (q : b ≡ is_ending part w) (f : b ≡ true) (middle : ℕ) (m : middle ≡ at + count_heads part 0 (at + size - at) (drop at (words_of bytes))) where
-        heads : count ≡ middle - at
-        heads =
-            let s : at + size - at ≡ size = omega arith in
-            let z = ap (λ (k : ℕ). count_heads part 0 k (drop at (words_of bytes))) s in
-            let c = head_count_agree part size 0 (drop at words) (drop at (words_of bytes)) agree in
-            omega (arith, m, z, c)
+        heads_are : count ≡ heads
+        heads_are = sym (counted ∙ ap (count_heads part size) cut ∙ head_count_agree part size (take size ws) ws agree)
 
-        pub not_before : at ≤ middle
-        not_before = omega (arith, m)
-
-        by_heads : line_length (line_at part (drop at words)) ≡ cond (ltb 0 (middle - at) && leb (middle - at) 8 && comparisons_fill 4 (size - (middle - at)) (drop (middle - at) (drop at words))) (size + 1) 0
+        by_heads : line_length (line_at part ws) ≡ cond (ltb 0 heads && leb heads 8 && not (repeats (head_numbers heads ws)) && comparisons_fill 4 (size - heads) (drop heads ws)) (size + 1) 0
         by_heads =
-            by_scan ∙ ap (λ (h : ℕ). cond (ltb size (length (drop at words)) && is_ending part (get_or (drop at words) size 0) && ltb 0 h && leb h 8 && comparisons_fill 4 (size - h) (drop h (drop at words))) (size + 1) 0) heads
-            ∙ rw (within, last_is w e, sym q ∙ f)
+            by_scan ∙ ap (λ (h : ℕ). cond (ltb size (length ws) && is_ending part (get_or ws size 0) && ltb 0 h && leb h 8 && not (repeats (head_numbers h ws)) && comparisons_fill 4 (size - h) (drop h ws)) (size + 1) 0) heads_are
+            ∙ rw (within, ended)
 
-        pub length_headless : middle ≡ at → 0 ≡ line_length (line_at part (drop at words))
-        length_headless z = sym (by_heads ∙ rw (le-ltb 0 (middle - at) (omega arith)))
+        pub length_headless : heads ≡ 0 → 0 ≡ line_length (line_at part ws)
+        length_headless z = sym (by_heads ∙ rw z)
 
-        pub length_crowded : at + 8 < middle → 0 ≡ line_length (line_at part (drop at words))
-        length_crowded z = sym (by_heads ∙ rw (lt-ltb 0 (middle - at) (omega arith), lt-leb (middle - at) 8 (omega arith)))
+        pub length_crowded : 8 < heads → 0 ≡ line_length (line_at part ws)
+        length_crowded z = sym (by_heads ∙ rw (lt-ltb 0 heads (omega arith), lt-leb heads 8 z))
 
-        module _ (some : middle ≡ at → ⊥) (few : middle ≤ at + 8) (r : Bool) (c : r ≡ comparisons_fill 4 (at + size - middle) (drop middle (words_of bytes))) where
-          by_last : line_length (line_at part (drop at words)) ≡ cond r (size + 1) 0
-          by_last =
-              let n : size - (middle - at) ≡ at + size - middle = omega (arith, not_before) in
-              let o : at + (middle - at) ≡ middle = omega (arith, not_before) in
-              let d : comparisons_fill 4 (size - (middle - at)) (drop (middle - at) (drop at words)) ≡ r =
-              fill_agree 4 (size - (middle - at)) (drop (middle - at) (drop at words)) (drop (middle - at) (drop at (words_of bytes))) (agree_drop size (middle - at) (drop at words) (drop at (words_of bytes)) agree)
-              ∙ ap₂ (comparisons_fill 4) n (drop-drop (middle - at) at (words_of bytes) ∙ ap (λ (k : ℕ). drop k (words_of bytes)) o) ∙ sym c in
-              by_heads ∙ rw (lt-ltb 0 (middle - at) (omega (arith, not_before)), le-leb (middle - at) 8 (omega arith), d)
+        module _ (some : heads ≡ 0 → ⊥) (few : heads ≤ 8) (numbers : ℕ) (gathered : numbers ≡ numbers_of (head_numbers heads line)) where
+          all_fit : heads ≤ size
+          all_fit = omega (arith, counted, head_count_limit part size line)
 
-          pub length_found : r ≡ true → size + 1 ≡ line_length (line_at part (drop at words))
-          length_found s = sym (by_last ∙ rw s)
+          of_line : head_numbers heads line ≡ head_numbers heads ws
+          of_line = ap (head_numbers heads) cut ∙ ap (map first_of) (take_twice heads size ws all_fit)
+            where
+              take_twice : (a b : ℕ) (xs : List ℕ) → a ≤ b → take a (take b xs) ≡ take a xs
+              take_twice zero b xs h = refl
+              take_twice (suc a) zero xs h = absurd (omega arith)
+              take_twice (suc a) (suc b) [] h = refl
+              take_twice (suc a) (suc b) (x ∷ xs) h = ap (λ (ys : List ℕ). x ∷ ys) (take_twice a b xs (omega arith))
 
-          pub length_unsound : r ≡ false → 0 ≡ line_length (line_at part (drop at words))
-          length_unsound s = sym (by_last ∙ rw s)
+          as_many : length (head_numbers heads ws) ≡ heads
+          as_many = omega (arith, length-map (take heads ws) first_of, length-take heads ws, all_fit)
+
+          -- some number stands twice
+          pub length_repeated : (count_ones numbers ≡ heads → ⊥) → 0 ≡ line_length (line_at part ws)
+          length_repeated n =
+              let twice : repeats (head_numbers heads ws) ≡ true =
+              ones_twice (take heads ws) (λ q. n (ap count_ones (gathered ∙ ap numbers_of of_line) ∙ q ∙ as_many)) in
+              sym (by_heads ∙ rw (lt-ltb 0 heads (omega arith), le-leb heads 8 few, twice))
+
+          module _ (once : count_ones numbers ≡ heads) (filled : Bool) (fills : filled ≡ comparisons_fill 4 (size - heads) (drop heads line)) where
+            by_last : line_length (line_at part ws) ≡ cond filled (size + 1) 0
+            by_last =
+                let alone : repeats (head_numbers heads ws) ≡ false =
+                ones_once (take heads ws) (ap count_ones (ap numbers_of (sym of_line) ∙ sym gathered) ∙ once ∙ sym as_many) in
+                let d : comparisons_fill 4 (size - heads) (drop heads ws) ≡ filled =
+                sym (fills ∙ ap (λ (xs : List ℕ). comparisons_fill 4 (size - heads) (drop heads xs)) cut ∙ fill_agree 4 (size - heads) (drop heads (take size ws)) (drop heads ws) (agree_drop size heads (take size ws) ws agree)) in
+                by_heads ∙ rw (lt-ltb 0 heads (omega arith), le-leb heads 8 few, alone, d)
+
+            pub length_found : filled ≡ true → size + 1 ≡ line_length (line_at part ws)
+            length_found s = sym (by_last ∙ rw s)
+
+            pub length_unsound : filled ≡ false → 0 ≡ line_length (line_at part ws)
+            length_unsound s = sym (by_last ∙ rw s)

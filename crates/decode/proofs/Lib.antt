@@ -1,7 +1,9 @@
 pub mod DecodeLaws
+pub mod FormLaws
 pub mod FoundLaws
-pub mod FreshLaws
 pub mod LengthLaws
+pub mod OnesLaws
 pub mod ReadLaws
 pub mod ScanLaws
 pub mod ScanLines
+pub mod WordLaws

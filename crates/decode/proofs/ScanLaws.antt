@@ -1,21 +1,18 @@
 -- Going over a line: the words of a valid line pass, and what passes is a valid line.
-use Rattle.std.proofs.Common.{ℕ, zero, suc, ◌+◌, ◌-◌, ◌*◌, ◌/◌, ◌%◌, ◌^◌, ◌≤◌, ◌<◌, Bool, true, false, not, cond, ◌&&◌, ◌||◌, List, [], ◌∷◌, ◌++◌, map, append_assoc, ◌⊎◌, inl, inr, ◌≡◌, refl, sym, ap, ap₂, ◌∙◌, subst, arith, ltb-true, lt-ltb, eqb-true, eq-eqb, ne_eqb, le-leb, leb-true, length, drop, length-append, pow_mono, shr_lt, lt_of_lt_of_le}
-use Rattle.std.proofs.lemmas.Bool.{not-true}
+use Rattle.std.proofs.Common.{ℕ, zero, suc, ◌+◌, ◌-◌, ◌%◌, ◌^◌, ◌≤◌, ◌<◌, Bool, true, false, not, cond, ◌&&◌, List, [], ◌∷◌, ◌++◌, map, append_assoc, ◌⊎◌, inl, inr, ◌≡◌, refl, sym, ap, ap₂, ◌∙◌, arith, ltb-true, lt-ltb, eqb-true, eq-eqb, ne_eqb, le-leb, length, drop, length-append}
 use Rattle.std.proofs.Math.Dec.{ltb, leb, eqb}
 use Rattle.std.proofs.Math.ListN.{get_or}
 use Rattle.std.proofs.Math.Seq.{get_or_at}
 use Rattle.policy.proofs.ListLaws.{true_false, and_in, and_out}
-use Rattle.policy.specs.Limits.{valid, test_number, comparison_in_range, ending_in_range}
+use Rattle.policy.specs.Limits.{valid, repeats, test_number, comparison_in_range, ending_in_range}
 use Rattle.policy.specs.Line.{PolicyLine, rule, constraint, heads_of, comparisons_of, ending_of}
 use Rattle.policy.specs.List.{all}
-use Rattle.policy.specs.Set.{has, insert}
 use Rattle.policy.specs.declared.comparison.Comparison.{Comparison}
 use Rattle.policy.specs.declared.comparison.Literal.{Literal}
 use Rattle.policy.specs.declared.line.Ending.{Ending}
 use Rattle.policy.specs.declared.line.Test.{Test}
 use Rattle.policy.specs.declared.number.Action.{Action}
 use Rattle.operation.proofs.PartsLaws.{Compares, Written, with_constant, with_reading, written, test_skip, test_first, test_operation_is, test_low}
-use Rattle.decode.proofs.FreshLaws.{Fresh, fresh_out, fresh_all}
 use Rattle.layout.proofs.LayoutLaws.{condition_length, part_length, condition_size_limit}
 use Rattle.policy.proofs.ValidLaws.{ValidParts, valid_out, test_in_range}
 use Rattle.operation.proofs.OperationLaws.{operation_back}
@@ -27,7 +24,7 @@ use Rattle.operation.specs.Fields.{pack, opcode_of, operation_of, first_of, seco
 use Rattle.operation.specs.declared.operation.Operation.{Operation}
 use Rattle.layout.specs.Layout.{condition_words, part_words, line_words}
 use Rattle.decode.specs.Decode.{in_part}
-use Rattle.decode.specs.Steps.Scan.{is_head, is_ending, head_opcodes, head_sound, count_heads, constant_sound, reading_sound, length_by, comparison_length, comparisons_fill, scan_line}
+use Rattle.decode.specs.Steps.Scan.{is_head, is_ending, head_sound, count_heads, head_numbers, constant_sound, reading_sound, length_by, comparison_length, comparisons_fill, scan_line}
 use Rattle.policy.specs.declared.line.Part.{Part}
 
 -- ---- one word, from facts and to facts
@@ -39,58 +36,27 @@ not_head Part.Rules o (inr e) = rw e
 not_head Part.Constraints o (inl e) = rw e
 not_head Part.Constraints o (inr e) = rw e
 
--- a number has no bit past its own
-past : (s k m : ℕ) → s < 2 ^ k → k ≤ m → s / 2 ^ m ≡ 0
-past s k m h l =
-    let z : k ≤ 0 + m = omega arith in
-    let r = shr_lt {n = s} 0 m (lt_of_lt_of_le h (pow_mono z)) in
-    omega (arith, r)
-
--- the operations of heads as bits
-pub head_bit : (part : Part) (n : ℕ) → has (head_opcodes part) n ≡ is_head part (operation_from n)
-unfolding has head_opcodes is_head operation_from
-head_bit Part.Rules zero = refl
-head_bit Part.Rules (suc zero) = refl
-head_bit Part.Rules (suc (suc zero)) = refl
-head_bit Part.Rules (suc (suc (suc zero))) = refl
-head_bit Part.Rules (suc (suc (suc (suc zero)))) = refl
-head_bit Part.Rules (suc (suc (suc (suc (suc zero))))) = refl
-head_bit Part.Rules (suc (suc (suc (suc (suc (suc zero)))))) = refl
-head_bit Part.Rules (suc (suc (suc (suc (suc (suc (suc zero))))))) = refl
-head_bit Part.Rules (suc (suc (suc (suc (suc (suc (suc (suc n)))))))) = rw (past 6 3 (suc (suc (suc (suc (suc (suc (suc (suc n)))))))) (omega arith) (omega arith))
-head_bit Part.Constraints zero = refl
-head_bit Part.Constraints (suc zero) = refl
-head_bit Part.Constraints (suc (suc zero)) = refl
-head_bit Part.Constraints (suc (suc (suc zero))) = refl
-head_bit Part.Constraints (suc (suc (suc (suc zero)))) = refl
-head_bit Part.Constraints (suc (suc (suc (suc (suc zero))))) = refl
-head_bit Part.Constraints (suc (suc (suc (suc (suc (suc zero)))))) = refl
-head_bit Part.Constraints (suc (suc (suc (suc (suc (suc (suc zero))))))) = refl
-head_bit Part.Constraints (suc (suc (suc (suc (suc (suc (suc (suc n)))))))) = rw (past 64 7 (suc (suc (suc (suc (suc (suc (suc (suc n)))))))) (omega arith) (omega arith))
-
-pub record HeadFacts (part : Part) (seen w left : ℕ) : Type 0 where
+pub record HeadFacts (part : Part) (w left : ℕ) : Type 0 where
   pub operation : is_head part (operation_of w) ≡ true
   pub low : w % 2 ^ 22 ≡ left
-  pub unseen : has seen (first_of w) ≡ false
 
-pub head_in : (part : Part) (seen w left : ℕ) → HeadFacts part seen w left → head_sound part seen w left ≡ true
+pub head_in : (part : Part) (w left : ℕ) → HeadFacts part w left → head_sound part w left ≡ true
 unfolding head_sound
-head_in part seen w left h = rw (h.operation, eq-eqb (w % 2 ^ 22) left h.low, h.unseen)
+head_in part w left h = rw (h.operation, eq-eqb (w % 2 ^ 22) left h.low)
 
-pub head_out : (part : Part) (seen w left : ℕ) → head_sound part seen w left ≡ true → HeadFacts part seen w left
+pub head_out : (part : Part) (w left : ℕ) → head_sound part w left ≡ true → HeadFacts part w left
 unfolding head_sound
-head_out part seen w left q =
-    let p = and_out (eqb (w % 2 ^ 22) left && is_head part (operation_of w)) (not (has seen (first_of w))) q in
-    let r = and_out (eqb (w % 2 ^ 22) left) (is_head part (operation_of w)) p.0 in
-    record { operation = r.1; low = eqb-true (w % 2 ^ 22) left r.0; unseen = not-true (has seen (first_of w)) p.1 }
+head_out part w left q =
+    let p = and_out (eqb (w % 2 ^ 22) left) (is_head part (operation_of w)) q in
+    record { operation = p.1; low = eqb-true (w % 2 ^ 22) left p.0 }
 
 and-false : (b : Bool) → b && false ≡ false
 and-false true = refl
 and-false false = refl
 
-pub no_head_is : (part : Part) (seen w left : ℕ) → (operation_of w ≡ Operation.AgainstConstant) ⊎ (operation_of w ≡ Operation.AgainstReading) → head_sound part seen w left ≡ false
+no_head_is : (part : Part) (w left : ℕ) → (operation_of w ≡ Operation.AgainstConstant) ⊎ (operation_of w ≡ Operation.AgainstReading) → head_sound part w left ≡ false
 unfolding head_sound
-no_head_is part seen w left o = rw (not_head part (operation_of w) o, and-false (eqb (w % 2 ^ 22) left))
+no_head_is part w left o = rw (not_head part (operation_of w) o, and-false (eqb (w % 2 ^ 22) left))
 
 pub length_by_is : (w left : ℕ) (o : Operation) → operation_of w ≡ o → comparison_length w left ≡ length_by o w left
 unfolding comparison_length
@@ -205,11 +171,11 @@ module _ (part : Part) (e : Ending) (rest : List ℕ) where
           ap (λ (x : List ℕ). comparisons_fill (suc room) (suc n) (x ++ tail ++ rest)) q ∙ fill_step n room 1 w (tail ++ rest) s (omega arith) ∙ later (suc n - 1) j
 
   -- no head stands where the comparisons begin
-  condition_headless : (cs : List Comparison) (seen m : ℕ) → length cs ≤ 4 → all comparison_in_range cs ≡ true → length (condition_words cs e) ≡ suc m → count_heads part seen m (condition_words cs e ++ rest) ≡ 0
+  condition_headless : (cs : List Comparison) (m : ℕ) → length cs ≤ 4 → all comparison_in_range cs ≡ true → length (condition_words cs e) ≡ suc m → count_heads part m (condition_words cs e ++ rest) ≡ 0
   unfolding condition_words count_heads all
-  condition_headless [] seen m g r l = let z : m ≡ 0 = omega arith in rw z
-  condition_headless (c ∷ cs) seen zero g r l = refl
-  condition_headless (c ∷ cs) seen (suc m) g r l = go (written c (length tail) (and_out (comparison_in_range c) (all comparison_in_range cs) r).0 small)
+  condition_headless [] m g r l = let z : m ≡ 0 = omega arith in rw z
+  condition_headless (c ∷ cs) zero g r l = refl
+  condition_headless (c ∷ cs) (suc m) g r l = go (written c (length tail) (and_out (comparison_in_range c) (all comparison_in_range cs) r).0 small)
     where
       tail : List ℕ
       tail = condition_words cs e
@@ -217,32 +183,33 @@ module _ (part : Part) (e : Ending) (rest : List ℕ) where
       small : length tail < 32
       small = omega (arith, condition_length cs e, condition_size_limit cs)
 
-      go : Written c (length tail) → count_heads part seen (suc m) ((comparison_words c (length tail) ++ tail) ++ rest) ≡ 0
-      go (with_constant w v q o k b h z) = rw (q, no_head_is part seen w (suc m) (inl h.operation))
-      go (with_reading w q o k b h z) = rw (q, no_head_is part seen w (suc m) (inr h.operation))
+      go : Written c (length tail) → count_heads part (suc m) ((comparison_words c (length tail) ++ tail) ++ rest) ≡ 0
+      go (with_constant w v q o k b h z) = rw (q, no_head_is part w (suc m) (inl h.operation))
+      go (with_reading w q o k b h z) = rw (q, no_head_is part w (suc m) (inr h.operation))
 
-  heads_counted : (cs : List Comparison) → length cs ≤ 4 → all comparison_in_range cs ≡ true → (ts : List Test) (seen m : ℕ) → length ts ≤ 8
-      → Fresh seen (map test_number ts) → all test_in_range ts ≡ true → all (λ (t : Test). is_head part (test_operation t)) ts ≡ true → length (part_words ts cs e) ≡ suc m
-      → count_heads part seen m (part_words ts cs e ++ rest) ≡ length ts
+  heads_counted : (cs : List Comparison) → length cs ≤ 4 → all comparison_in_range cs ≡ true → (ts : List Test) (m : ℕ) → length ts ≤ 8
+      → all test_in_range ts ≡ true → all (λ (t : Test). is_head part (test_operation t)) ts ≡ true → length (part_words ts cs e) ≡ suc m
+      → (count_heads part m (part_words ts cs e ++ rest) ≡ length ts) × (head_numbers (length ts) (part_words ts cs e ++ rest) ≡ map test_number ts)
   unfolding part_words count_heads all
-  heads_counted cs f r [] seen m h u k o l = condition_headless cs seen m f r l
-  heads_counted cs f r (x ∷ xs) seen zero h u k o l = absurd (omega (arith, part_length xs cs e, condition_size_limit cs))
-  heads_counted cs f r (x ∷ xs) seen (suc m) h u k o l =
+  heads_counted cs f r [] m h k o l = (condition_headless cs m f r l, refl)
+  heads_counted cs f r (x ∷ xs) zero h k o l = absurd (omega (arith, part_length xs cs e, condition_size_limit cs))
+  heads_counted cs f r (x ∷ xs) (suc m) h k o l =
       let p = and_out (test_in_range x) (all test_in_range xs) k in
       let q = and_out (is_head part (test_operation x)) (all (λ (t : Test). is_head part (test_operation t)) xs) o in
       let n : test_number x < 64 = ltb-true (test_number x) 64 p.0 in
       let j : length tail ≡ suc m = omega arith in
       let b : length tail < 32 = omega (arith, part_length xs cs e, condition_size_limit cs) in
-      let v = fresh_out seen (test_number x) (map test_number xs) n u in
       let w : ℕ = test_word x (length tail) in
       let first = test_first x (length tail) n b in
-      let facts : HeadFacts part seen w (suc m) =
+      let facts : HeadFacts part w (suc m) =
       record {
         operation = ap (is_head part) (test_operation_is x (length tail) n b) ∙ q.0;
         low = test_low x (length tail) n b ∙ j;
-        unseen = ap (has seen) first ∙ v.0;
       } in
-      rw (head_in part seen w (suc m) facts, first) (ap suc (heads_counted cs f r xs (insert seen (test_number x)) m (omega arith) v.1 p.1 q.1 j))
+      let later = heads_counted cs f r xs m (omega arith) p.1 q.1 j in (
+        rw (head_in part w (suc m) facts) (ap suc later.0),
+        ap₂ (λ (y : ℕ) (ys : List ℕ). y ∷ ys) first later.1,
+      )
     where
       tail : List ℕ
       tail = part_words xs cs e
@@ -310,9 +277,9 @@ kind_ending Part.Constraints (constraint c) k e = eq-eqb (ending_word Ending.Nev
 -- ---- a valid line at the start is found
 
 pub scan_by : (part : Part) (ws : List ℕ) (n : ℕ) → skip_of (get_or ws 0 0) ≡ n
-    → scan_line part ws ≡ cond (ltb n (length ws) && is_ending part (get_or ws n 0) && ltb 0 (count_heads part 0 n ws) && leb (count_heads part 0 n ws) 8 && comparisons_fill 4 (n - count_heads part 0 n ws) (drop (count_heads part 0 n ws) ws)) (n + 1) 0
+    → scan_line part ws ≡ cond (ltb n (length ws) && is_ending part (get_or ws n 0) && ltb 0 (count_heads part n ws) && leb (count_heads part n ws) 8 && not (repeats (head_numbers (count_heads part n ws) ws)) && comparisons_fill 4 (n - count_heads part n ws) (drop (count_heads part n ws) ws)) (n + 1) 0
 unfolding scan_line
-scan_by part ws n e = ap (λ (k : ℕ). cond (ltb k (length ws) && is_ending part (get_or ws k 0) && ltb 0 (count_heads part 0 k ws) && leb (count_heads part 0 k ws) 8 && comparisons_fill 4 (k - count_heads part 0 k ws) (drop (count_heads part 0 k ws) ws)) (k + 1) 0) e
+scan_by part ws n e = ap (λ (k : ℕ). cond (ltb k (length ws) && is_ending part (get_or ws k 0) && ltb 0 (count_heads part k ws) && leb (count_heads part k ws) 8 && not (repeats (head_numbers (count_heads part k ws) ws)) && comparisons_fill 4 (k - count_heads part k ws) (drop (count_heads part k ws) ws)) (k + 1) 0) e
 
 parts_found : (part : Part) (ts : List Test) (cs : List Comparison) (e : Ending) (rest : List ℕ) → ValidParts ts cs e → all (λ (t : Test). is_head part (test_operation t)) ts ≡ true → is_ending part (ending_word e) ≡ true
     → scan_line part (part_words ts cs e ++ rest) ≡ length (part_words ts cs e)
@@ -320,7 +287,7 @@ unfolding part_words all
 parts_found part [] cs e rest v k n = absurd (omega (arith, v.some))
 parts_found part (t ∷ ts) cs e rest v k n =
     scan_by part ws m skip
-    ∙ rw (counted, lt-ltb m (length ws) within, ending ∙ n, lt-ltb 0 (suc (length ts)) (omega arith), le-leb (suc (length ts)) 8 v.few_tests, heads_dropped part e rest ts cs, condition_fills part e rest cs 4 (m - suc (length ts)) v.few_comparisons v.few_comparisons v.comparisons left) one
+    ∙ rw (counted, lt-ltb m (length ws) within, ending ∙ n, lt-ltb 0 (suc (length ts)) (omega arith), le-leb (suc (length ts)) 8 v.few_tests, numbers, v.distinct, heads_dropped part e rest ts cs, condition_fills part e rest cs 4 (m - suc (length ts)) v.few_comparisons v.few_comparisons v.comparisons left) one
   where
     m : ℕ
     m = length (part_words ts cs e)
@@ -346,8 +313,14 @@ parts_found part (t ∷ ts) cs e rest v k n =
     left : length (condition_words cs e) ≡ suc (m - suc (length ts))
     left = omega (arith, part_length ts cs e, condition_length cs e, condition_size_limit cs)
 
-    counted : count_heads part 0 m ws ≡ suc (length ts)
-    counted = heads_counted part e rest cs v.few_comparisons v.comparisons (t ∷ ts) 0 m v.few_tests (fresh_all (map test_number (t ∷ ts)) v.distinct) v.tests k refl
+    heads : (count_heads part m ws ≡ suc (length ts)) × (head_numbers (suc (length ts)) ws ≡ map test_number (t ∷ ts))
+    heads = heads_counted part e rest cs v.few_comparisons v.comparisons (t ∷ ts) m v.few_tests v.tests k refl
+
+    counted : count_heads part m ws ≡ suc (length ts)
+    counted = heads.0
+
+    numbers : head_numbers (suc (length ts)) ws ≡ map test_number (t ∷ ts)
+    numbers = heads.1
 
 pub line_found : (part : Part) (l : PolicyLine) (rest : List ℕ) → in_part part l ≡ true → valid l ≡ true → scan_line part (line_words l ++ rest) ≡ length (line_words l)
 unfolding line_words

@@ -1,18 +1,16 @@
 -- What a scan takes is a line: the scan finds the lines that `line_at` finds.
-use Rattle.std.proofs.Common.{ℕ, zero, suc, ◌+◌, ◌-◌, ◌≤◌, ◌<◌, Bool, true, false, cond, ◌&&◌, List, [], ◌∷◌, ◌++◌, map, append_assoc, ◌≡◌, refl, sym, ap, ap₂, ◌∙◌, subst, arith, ltb-true, lt-ltb, leb-true, ne_eqb, length, drop, length-append}
+use Rattle.std.proofs.Common.{ℕ, zero, suc, ◌+◌, ◌-◌, ◌≤◌, ◌<◌, Bool, true, false, not, cond, ◌&&◌, List, [], ◌∷◌, ◌++◌, map, append_assoc, ◌≡◌, refl, sym, ap, ap₂, ◌∙◌, subst, arith, ltb-true, lt-ltb, leb-true, ne_eqb, length, drop, length-append}
 use Rattle.std.proofs.Math.Option.{Option, none, some}
+use Rattle.std.proofs.lemmas.Bool.{not-true}
 use Rattle.std.proofs.Math.Dec.{ltb, leb}
 use Rattle.std.proofs.Math.ListN.{get_or}
 use Rattle.policy.proofs.ListLaws.{true_false, and_in, and_out}
-use Rattle.policy.specs.Limits.{test_number, comparison_in_range, ending_in_range}
+use Rattle.policy.specs.Limits.{repeats, test_number, comparison_in_range, ending_in_range}
 use Rattle.policy.specs.Line.{PolicyLine, heads_of, comparisons_of, ending_of}
 use Rattle.policy.specs.List.{all}
-use Rattle.policy.specs.Set.{insert}
 use Rattle.policy.specs.declared.comparison.Comparison.{Comparison}
-use Rattle.policy.specs.declared.line.Test.{Test}
 use Rattle.operation.proofs.PartsLaws.{Compares, test_again, constant_in_range, constant_again, reading_in_range, reading_again}
 use Rattle.decode.proofs.DecodeLaws.{line_out, line_none}
-use Rattle.decode.proofs.FreshLaws.{Fresh, fresh_in, fresh_none}
 use Rattle.decode.proofs.ScanLaws.{HeadFacts, head_out, Sized, sized_constant, sized_reading, sized_none, sized, fill_step, fill_none, line_found, scan_by, add_head, add_comparison_is, comparison_on_words, end_line}
 use Rattle.policy.proofs.ValidLaws.{ValidParts, valid_in, test_in_range}
 use Rattle.operation.specs.Parts.{test_word, comparison_words, constant_comparison, reading_comparison}
@@ -21,7 +19,7 @@ use Rattle.operation.specs.Fields.{first_of, second_of, skip_of}
 use Rattle.operation.specs.declared.operation.Operation.{Operation}
 use Rattle.layout.specs.Layout.{line_words}
 use Rattle.decode.specs.Decode.{in_part, line_at, line_length}
-use Rattle.decode.specs.Steps.Scan.{is_ending, head_sound, count_heads, comparison_length, comparisons_fill, scan_line}
+use Rattle.decode.specs.Steps.Scan.{is_ending, head_sound, count_heads, head_numbers, comparison_length, comparisons_fill, scan_line}
 use Rattle.policy.specs.declared.line.Part.{Part}
 
 -- ---- comparisons and the ending word: m words and one
@@ -120,7 +118,7 @@ filled part (suc room) (suc m) (w ∷ ws) l b n e = go (sized w (suc m) (b 0)) (
 
 -- ---- heads before them
 
-record Tail (part : Part) (seen m : ℕ) (ws : List ℕ) : Type 0 where
+record Tail (part : Part) (m : ℕ) (ws : List ℕ) : Type 0 where
   line : PolicyLine
   kind : in_part part line ≡ true
   words : ws ≡ line_words line ++ drop (suc m) ws
@@ -129,12 +127,12 @@ record Tail (part : Part) (seen m : ℕ) (ws : List ℕ) : Type 0 where
   comparisons : all comparison_in_range (comparisons_of line) ≡ true
   ending : ending_in_range (ending_of line) ≡ true
   few : length (comparisons_of line) ≤ 4
-  fresh : Fresh seen (map test_number (heads_of line))
-  counted : count_heads part seen m ws ≡ length (heads_of line)
+  counted : count_heads part m ws ≡ length (heads_of line)
+  numbers : head_numbers (count_heads part m ws) ws ≡ map test_number (heads_of line)
 
-tail_headless : (part : Part) (seen m : ℕ) (ws : List ℕ) → count_heads part seen m ws ≡ 0 → Condition part 4 m ws → Tail part seen m ws
+tail_headless : (part : Part) (m : ℕ) (ws : List ℕ) → count_heads part m ws ≡ 0 → Condition part 4 m ws → Tail part m ws
 unfolding all
-tail_headless part seen m ws z t =
+tail_headless part m ws z t =
     record {
       line = t.line;
       kind = t.kind;
@@ -144,14 +142,14 @@ tail_headless part seen m ws z t =
       comparisons = t.comparisons;
       ending = t.ending;
       few = t.few;
-      fresh = rw t.headless (fresh_none seen);
       counted = z ∙ sym (ap length t.headless);
+      numbers = ap (λ (n : ℕ). head_numbers n ws) z ∙ sym (ap (map test_number) t.headless);
     }
 
-tail_head : (part : Part) (seen m w : ℕ) (ws : List ℕ) → w < word_limit → HeadFacts part seen w (suc m) → count_heads part seen (suc m) (w ∷ ws) ≡ suc (count_heads part (insert seen (first_of w)) m ws)
-    → Tail part (insert seen (first_of w)) m ws → Tail part seen (suc m) (w ∷ ws)
+tail_head : (part : Part) (m w : ℕ) (ws : List ℕ) → w < word_limit → HeadFacts part w (suc m) → count_heads part (suc m) (w ∷ ws) ≡ suc (count_heads part m ws)
+    → Tail part m ws → Tail part (suc m) (w ∷ ws)
 unfolding all
-tail_head part seen m w ws l h q t =
+tail_head part m w ws l h q t =
     let r = add_head part w t.line h.operation t.kind in
     let size : suc m ≡ length (line_words t.line) = sym t.size in
     let again : test_word r.test (suc m) ≡ w = test_again r.test w (suc m) r.known l h.low r.operation r.number in
@@ -165,20 +163,22 @@ tail_head part seen m w ws l h q t =
       comparisons = rw r.comparisons t.comparisons;
       ending = rw r.ending t.ending;
       few = rw r.comparisons t.few;
-      fresh = rw (r.heads, r.number) (fresh_in seen (first_of w) (map test_number (heads_of t.line)) first h.unseen t.fresh);
       counted = q ∙ ap suc t.counted ∙ sym (ap length r.heads);
+      numbers =
+          ap (λ (n : ℕ). head_numbers n (w ∷ ws)) q ∙ ap₂ (λ (x : ℕ) (xs : List ℕ). x ∷ xs) (sym r.number) t.numbers
+          ∙ sym (ap (map test_number) r.heads);
     }
 
-scan_tail : (part : Part) (m seen : ℕ) (ws : List ℕ) → m < length ws → Below word_limit ws → is_ending part (get_or ws m 0) ≡ true
-    → comparisons_fill 4 (m - count_heads part seen m ws) (drop (count_heads part seen m ws) ws) ≡ true → Tail part seen m ws
+scan_tail : (part : Part) (m : ℕ) (ws : List ℕ) → m < length ws → Below word_limit ws → is_ending part (get_or ws m 0) ≡ true
+    → comparisons_fill 4 (m - count_heads part m ws) (drop (count_heads part m ws) ws) ≡ true → Tail part m ws
 unfolding count_heads
-scan_tail part zero seen ws l b n e = tail_headless part seen zero ws refl (filled part 4 zero ws l b n e)
-scan_tail part (suc m) seen [] l b n e = absurd (omega arith)
-scan_tail part (suc m) seen (w ∷ ws) l b n e =
-    go (head_sound part seen w (suc m)) refl (λ q. scan_tail part m (insert seen (first_of w)) ws (omega arith) (λ j. b (suc j)) n q)
+scan_tail part zero ws l b n e = tail_headless part zero ws refl (filled part 4 zero ws l b n e)
+scan_tail part (suc m) [] l b n e = absurd (omega arith)
+scan_tail part (suc m) (w ∷ ws) l b n e =
+    go (head_sound part w (suc m)) refl (λ q. scan_tail part m ws (omega arith) (λ j. b (suc j)) n q)
   where
     next : ℕ
-    next = count_heads part (insert seen (first_of w)) m ws
+    next = count_heads part m ws
 
     whole : suc m - 0 ≡ suc m
     whole = omega arith
@@ -186,15 +186,15 @@ scan_tail part (suc m) seen (w ∷ ws) l b n e =
     fewer : suc m - suc next ≡ m - next
     fewer = omega arith
 
-    count : (x : Bool) → head_sound part seen w (suc m) ≡ x → count_heads part seen (suc m) (w ∷ ws) ≡ cond x (suc next) 0
+    count : (x : Bool) → head_sound part w (suc m) ≡ x → count_heads part (suc m) (w ∷ ws) ≡ cond x (suc next) 0
     count x q = ap (λ (y : Bool). cond y (suc next) 0) q
 
-    by : (h : ℕ) → count_heads part seen (suc m) (w ∷ ws) ≡ h → comparisons_fill 4 (suc m - h) (drop h (w ∷ ws)) ≡ true
+    by : (h : ℕ) → count_heads part (suc m) (w ∷ ws) ≡ h → comparisons_fill 4 (suc m - h) (drop h (w ∷ ws)) ≡ true
     by h q = ap (λ (k : ℕ). comparisons_fill 4 (suc m - k) (drop k (w ∷ ws))) (sym q) ∙ e
 
-    go : (x : Bool) → head_sound part seen w (suc m) ≡ x → (comparisons_fill 4 (m - next) (drop next ws) ≡ true → Tail part (insert seen (first_of w)) m ws) → Tail part seen (suc m) (w ∷ ws)
-    go true q later = tail_head part seen m w ws (b 0) (head_out part seen w (suc m) q) (count true q) (later (ap (λ (k : ℕ). comparisons_fill 4 k (drop next ws)) (sym fewer) ∙ by (suc next) (count true q)))
-    go false q later = tail_headless part seen (suc m) (w ∷ ws) (count false q) (filled part 4 (suc m) (w ∷ ws) l b n (ap (λ (k : ℕ). comparisons_fill 4 k (w ∷ ws)) (sym whole) ∙ by 0 (count false q)))
+    go : (x : Bool) → head_sound part w (suc m) ≡ x → (comparisons_fill 4 (m - next) (drop next ws) ≡ true → Tail part m ws) → Tail part (suc m) (w ∷ ws)
+    go true q later = tail_head part m w ws (b 0) (head_out part w (suc m) q) (count true q) (later (ap (λ (k : ℕ). comparisons_fill 4 k (drop next ws)) (sym fewer) ∙ by (suc next) (count true q)))
+    go false q later = tail_headless part (suc m) (w ∷ ws) (count false q) (filled part 4 (suc m) (w ∷ ws) l b n (ap (λ (k : ℕ). comparisons_fill 4 k (w ∷ ws)) (sym whole) ∙ by 0 (count false q)))
 
 -- ---- the scan finds what `line_at` finds
 
@@ -206,16 +206,23 @@ scan_line_is part ws b = go (line_at part ws) refl
     m = skip_of (get_or ws 0 0)
 
     h : ℕ
-    h = count_heads part 0 m ws
+    h = count_heads part m ws
 
-    unscanned : line_at part ws ≡ none → (c : Bool) → ltb m (length ws) && is_ending part (get_or ws m 0) && ltb 0 h && leb h 8 && comparisons_fill 4 (m - h) (drop h ws) ≡ c → cond c (m + 1) 0 ≡ 0
+    before : Bool
+    before = ltb m (length ws) && is_ending part (get_or ws m 0) && ltb 0 h && leb h 8
+
+    once : Bool
+    once = not (repeats (head_numbers h ws))
+
+    unscanned : line_at part ws ≡ none → (c : Bool) → before && once && comparisons_fill 4 (m - h) (drop h ws) ≡ c → cond c (m + 1) 0 ≡ 0
     unscanned q false e = refl
     unscanned q true e =
-        let p = and_out (ltb m (length ws) && is_ending part (get_or ws m 0) && ltb 0 h && leb h 8) (comparisons_fill 4 (m - h) (drop h ws)) e in
-        let r = and_out (ltb m (length ws) && is_ending part (get_or ws m 0) && ltb 0 h) (leb h 8) p.0 in
+        let p = and_out (before && once) (comparisons_fill 4 (m - h) (drop h ws)) e in
+        let o = and_out before once p.0 in
+        let r = and_out (ltb m (length ws) && is_ending part (get_or ws m 0) && ltb 0 h) (leb h 8) o.0 in
         let s = and_out (ltb m (length ws) && is_ending part (get_or ws m 0)) (ltb 0 h) r.0 in
         let u = and_out (ltb m (length ws)) (is_ending part (get_or ws m 0)) s.0 in
-        let x = scan_tail part m 0 ws (ltb-true m (length ws) u.0) b u.1 p.1 in
+        let x = scan_tail part m ws (ltb-true m (length ws) u.0) b u.1 p.1 in
         let parts : ValidParts (heads_of x.line) (comparisons_of x.line) (ending_of x.line) =
         record {
           some = omega (arith, x.counted, ltb-true 0 h s.1);
@@ -224,10 +231,10 @@ scan_line_is part ws b = go (line_at part ws) refl
           ending = x.ending;
           few_tests = omega (arith, x.counted, leb-true h 8 r.1);
           few_comparisons = x.few;
-          distinct = x.fresh.once;
+          distinct = ap repeats (sym x.numbers) ∙ not-true (repeats (head_numbers h ws)) o.1;
         } in
         absurd (line_none part ws q x.line (drop (suc m) ws) x.kind (valid_in x.line parts) x.words)
 
     go : (o : Option PolicyLine) → line_at part ws ≡ o → scan_line part ws ≡ line_length o
-    go none q = scan_by part ws m refl ∙ unscanned q (ltb m (length ws) && is_ending part (get_or ws m 0) && ltb 0 h && leb h 8 && comparisons_fill 4 (m - h) (drop h ws)) refl
+    go none q = scan_by part ws m refl ∙ unscanned q (before && once && comparisons_fill 4 (m - h) (drop h ws)) refl
     go (some l) q = let h = line_out part ws l q in ap (scan_line part) h.words ∙ line_found part l (drop (length (line_words l)) ws) h.kind h.sound

@@ -1,199 +1,234 @@
-//! The lines of an image: whether a whole line that an accepted text may have stands at a word, and its value.
+//! The lines of an image: whether words begin with a whole line that an accepted text may have, and the value of a line.
 #![tactic(auto)]
 
-ghost use Rattle.std.specs.Prelude.{◌≡◌, [], ◌+◌, ◌-◌, ◌/◌, ◌<◌, ◌≤◌, length, drop};
+ghost use Rattle.std.specs.Prelude.{◌≡◌, [], ◌+◌, ◌<◌, ◌≤◌, ◌==◌, false, true, MatchOption, get_or, length};
 ghost use Rattle.line_value.specs.Value.{line_of};
-ghost use Rattle.word.specs.Word.{words_of, between};
+ghost use Rattle.word.specs.Word.{word_limit, Below};
+ghost use Rattle.word.specs.Chunk.{words_in};
+ghost use Rattle.operation.specs.Fields.{first_of};
 ghost use Rattle.decode.specs.Decode.{line_at, line_length};
-ghost use Rattle.decode.specs.Steps.Scan.{is_head, is_ending, head_opcodes, head_sound, count_heads, constant_sound, reading_sound, comparison_length, comparisons_fill, part_at, value_from, line_answer};
-ghost use Rattle.operation.specs.Operation.{operation_from};
+ghost use Rattle.decode.specs.Steps.Scan.{first_head, head_operations, first_ending, ending_numbers, number_lowest, relation_lowest, is_ending, head_sound, count_heads, head_numbers, numbers_of, comparison_length, IsBehind, comparisons_fill, part_at, line_from};
 
 use line_value::Line;
-use operation::{
-    Operation, constant_comparison, ending_word, first, opcode, reading_comparison,
-    relation_code_of, second, skip,
-};
+use operation::{Operation, constant_comparison, first, reading_comparison, skip};
 use policy::{
     Action, COMPARISON_LIMIT, Comparison, Ending, Event, HEAD_LIMIT, Head, Literal, Part, Test,
-    member, with_member,
+    with_member,
 };
-use word::{at_most, word_at, word_in};
+use word::{nth_word, nth_word_or_zero, part as part_of};
 
-// What a word has below its first number: the skip, where all between is 0.
-const BELOW_FIRST: u32 = 0x0040_0000;
-
-// The same below its relation.
-const BELOW_RELATION: u32 = 0x2000;
-
-// The readings that there are, of a field's 64.
-const READINGS: u32 = 16;
+// Numbers that a field has.
+const NUMBERS: u32 = 64;
 
 // The relations that there are, of a field's 8.
 const RELATIONS: u32 = 6;
 
-/// A line, and the word at which the next one starts: the same word where no line stands.
-#[derive(Clone, Copy)]
-pub struct LineAt {
-    pub line: Line,
-    pub next: usize,
+// What the operation of a word counts.
+const OPERATION: u32 = 0x1000_0000;
+
+// The words of comparisons, all but the operation 0.
+const AGAINST_CONSTANT: u32 = 0x3000_0000;
+
+const AGAINST_READING: u32 = 0x4000_0000;
+
+// Bytes are below 256, and so words below 2 ^ 32, whether they are read or not: no code.
+fn bytes_fit(bytes: &[u8])
+    ensures { Below 256 bytes.now }
+{}
+
+fn words_fit(words: &[[u8; 4]])
+    ensures { Below word_limit (words_in words.now) }
+{
+    bytes_fit(words.as_flattened());
 }
 
-// Bit n of the number is 1 where a head of the part may have the operation of number n.
-fn head_opcodes(part: Part) -> u32
-    ensures { result ≡ head_opcodes part }
+// A word less another, turned so that the number is lowest and the operation behind it. Above them stands what lies between the
+// number and the skip, and the skip: 0 where both words have the same. So one comparison tests all but the number.
+fn number_lowest(word: u32, other: u32) -> u32
+    requires { other < 2147483648 }
+    ensures { result ≡ number_lowest word other }
+{
+    let rest = word.wrapping_sub(other);
+    (rest >> 22) + (rest % 0x0040_0000) * 0x0400
+}
+
+// The same with the relation lowest, then the second number, the first, the operation, and the skip.
+fn relation_lowest(word: u32, other: u32) -> u32
+    requires { other < 2147483648 }
+    ensures { result ≡ relation_lowest word other }
+{
+    let rest = word.wrapping_sub(other);
+    (rest >> 13) + (rest % 0x2000) * 0x0008_0000
+}
+
+// The word of the first operation that heads of the part may have, all else 0.
+fn first_head(part: Part) -> u32
+    ensures { result ≡ first_head part }
 {
     match part {
-        Part::Rules => (1 << Operation::Present.opcode()) + (1 << Operation::Absent.opcode()),
-        Part::Constraints => 1 << Operation::Member.opcode(),
+        Part::Rules => Operation::Present.opcode() * OPERATION,
+        Part::Constraints => Operation::Member.opcode() * OPERATION,
     }
 }
 
-// A test of one bit, which is faster than one of each operation.
-fn is_head(part: Part, opcode: u32) -> bool
-    requires { opcode < 16 }
-    ensures { result ≡ is_head part (operation_from opcode) }
+// How many operations that is, one behind the other.
+fn head_operations(part: Part) -> u32
+    ensures { result ≡ head_operations part }
 {
-    (head_opcodes(part) >> opcode) % 2 == 1
+    match part {
+        Part::Rules => 2,
+        Part::Constraints => 1,
+    }
 }
 
-// Here and in the tests of a comparison each test leaves at once: joined by `&&` they take up to 6% more of loading.
+// The number of the head that the word is, with `left` words of its line behind it; none where it is no head of the part.
+fn head_number(part: Part, word: u32, left: u32) -> Option<u8>
+    requires { left < 32 }
+    ensures { MatchOption result (head_sound part word left ≡ false) (λ number. (head_sound part word left ≡ true) × (number ≡ first_of word)) }
+{
+    let number = number_lowest(word, first_head(part) + left);
+    if number < NUMBERS * head_operations(part) {
+        Some((number % NUMBERS) as u8)
+    } else {
+        None
+    }
+}
+
+// The word of an ending of the part, all else 0.
+fn first_ending(part: Part) -> u32
+    ensures { result ≡ first_ending part }
+{
+    match part {
+        Part::Rules => Operation::Proposes.opcode() * OPERATION,
+        Part::Constraints => Operation::Never.opcode() * OPERATION,
+    }
+}
+
+// How many numbers an ending may have.
+fn ending_numbers(part: Part) -> u32
+    ensures { result ≡ ending_numbers part }
+{
+    match part {
+        Part::Rules => NUMBERS,
+        Part::Constraints => 1,
+    }
+}
+
 fn is_ending(part: Part, word: u32) -> bool
     ensures { result ≡ is_ending part word }
 {
-    match part {
-        Part::Rules => {
-            if opcode(word) != Operation::Proposes.opcode() {
-                return false;
-            }
-            word % BELOW_FIRST == 0
-        }
-        Part::Constraints => word == ending_word(Ending::Never),
-    }
-}
-
-// Whether the word may stand as a head, with `left` words of the line behind it.
-fn head_sound(part: Part, seen: u64, word: u32, left: u32) -> bool
-    ensures { result ≡ head_sound part seen word left }
-{
-    word % BELOW_FIRST == left && is_head(part, opcode(word)) && !member(seen, first(word) as u8)
+    number_lowest(word, first_ending(part)) < ending_numbers(part)
 }
 
 // Whether a comparison with a constant may stand here, with `left` words of the line behind its first: its constant, and at least
-// one more.
+// one more. Its reading is left out of what is tested, but for the bits that are 0 up to 15.
 fn constant_sound(word: u32, left: u32) -> bool
-    ensures { result ≡ constant_sound word left }
+    requires some { 1 < left }
+    requires few { left < 32 }
+    ensures { result ≡ (comparison_length word left == 2) }
 {
-    if first(word) >= READINGS {
-        return false;
-    }
-    if relation_code_of(word) >= RELATIONS {
-        return false;
-    }
-    if second(word) != 0 {
-        return false;
-    }
-    if word % BELOW_RELATION + 1 != left {
-        return false;
-    }
-    1 < left
+    let rest = relation_lowest(word, AGAINST_CONSTANT + left - 1);
+    rest % 0x0200 + (rest >> 13) * 0x2000 < RELATIONS
 }
 
 // Whether a comparison with a reading may stand here, with `left` words of the line behind it.
 fn reading_sound(word: u32, left: u32) -> bool
-    ensures { result ≡ reading_sound word left }
+    requires { left < 32 }
+    ensures { result ≡ (comparison_length word left == 1) }
 {
-    if first(word) >= READINGS {
-        return false;
-    }
-    if relation_code_of(word) >= RELATIONS {
-        return false;
-    }
-    if second(word) >= READINGS {
-        return false;
-    }
-    word % BELOW_RELATION == left
+    let rest = relation_lowest(word, AGAINST_READING + left);
+    rest % 0x0008 + ((rest >> 7) % 4) * 0x0080 + (rest >> 13) * 0x2000 < RELATIONS
 }
 
-// How many words the comparison has that the word begins, with `left` words of the line behind it: 0 where none may stand.
-fn comparison_length(word: u32, left: u32) -> usize
-    ensures { result ≡ comparison_length word left }
+// The heads that a line begins with: how many there are, and the set of their numbers.
+struct Heads {
+    count: usize,
+    numbers: u64,
+}
+
+// Those of the words of a line before its ending.
+fn heads_of(part: Part, words: &[[u8; 4]]) -> Heads
+    requires { length words.now < 32 }
+    ensures count { result.count ≡ count_heads part (length words.now) (words_in words.now) }
+    ensures numbers { result.numbers ≡ numbers_of (head_numbers result.count (words_in words.now)) }
 {
-    let operation = Operation::of(word);
-    match operation {
-        Operation::AgainstConstant => { if constant_sound(word, left) { 2 } else { 0 } }
-        Operation::AgainstReading => { if reading_sound(word, left) { 1 } else { 0 } }
-        _ => 0,
+    let mut numbers = 0;
+    for i in 0..words.len() {
+        let left = (words.len() - i) as u32;
+        let Some(number) = head_number(part, nth_word(words, i), left) else {
+            return Heads { count: i, numbers };
+        };
+        numbers = with_member(numbers, number);
+    }
+    Heads {
+        count: words.len(),
+        numbers,
     }
 }
 
-// The first word from `at` on that is no head of the line whose ending word is `last`.
-fn heads_end(image: &[u8], part: Part, at: usize, last: usize) -> usize
-    requires ordered { at ≤ last }
-    requires short { last < at + 32 }
-    requires inside { last ≤ length image.now / 4 }
-    ensures { result ≡ at + count_heads part 0 (last - at) (drop at (words_of image.now)) }
+// The words behind the comparison with which the words of a line before its ending begin; none where they begin with none.
+fn behind_comparison(words: &[[u8; 4]]) -> Option<&[[u8; 4]]>
+    requires some { 0 < length words.now }
+    requires few { length words.now < 32 }
+    ensures { MatchOption result (comparison_length (get_or (words_in words.now) 0 0) (length words.now) ≡ 0) (λ behind. IsBehind (words_in words.now) (words_in behind.now)) }
 {
-    let mut seen: u64 = 0;
-    let mut i = at;
-    while i < last {
-        let word = word_in(image, i);
-        if !head_sound(part, seen, word, (last - i) as u32) {
-            return i;
+    let word = nth_word(words, 0);
+    let left = words.len() as u32;
+    if 1 < left && constant_sound(word, left) {
+        return Some(&words[2..]);
+    }
+    if reading_sound(word, left) {
+        return Some(&words[1..]);
+    }
+    None
+}
+
+// Whether the words are comparisons, at most four.
+fn comparisons_sound(words: &[[u8; 4]]) -> bool
+    requires { length words.now < 32 }
+    ensures { result ≡ comparisons_fill 4 (length words.now) (words_in words.now) }
+{
+    let mut rest = words;
+    for _ in 0..COMPARISON_LIMIT {
+        if rest.is_empty() {
+            return true;
         }
-        seen = with_member(seen, first(word) as u8);
-        i += 1;
-    }
-    i
-}
-
-// Whether comparisons, at most four, stand from `from` up to the ending word `last`.
-fn comparisons_sound(image: &[u8], from: usize, last: usize) -> bool
-    requires ordered { from ≤ last }
-    requires short { last < from + 32 }
-    requires inside { last ≤ length image.now / 4 }
-    ensures { result ≡ comparisons_fill 4 (last - from) (drop from (words_of image.now)) }
-{
-    let mut room = COMPARISON_LIMIT;
-    let mut i = from;
-    while i < last {
-        if room == 0 {
+        let Some(behind) = behind_comparison(rest) else {
             return false;
-        }
-        let words = comparison_length(word_in(image, i), (last - i) as u32);
-        if words == 0 {
-            return false;
-        }
-        room -= 1;
-        i += words;
+        };
+        rest = behind;
     }
-    true
+    rest.is_empty()
 }
 
-/// How many words the line has that starts at the word `at` and ends before the word `end`: 0 where no line that an
-/// accepted text may have does.
-pub fn line_length(image: &[u8], part: Part, at: usize, end: usize) -> usize
-    ensures { result ≡ line_length (line_at part (between at end (words_of image.now))) }
+/// How many words the line of the part has with which the words begin: 0 where they begin with none that an accepted text may have.
+// As many numbers as heads: none stands twice. Each test leaves at once.
+pub fn line_length(words: &[[u8; 4]], part: Part) -> usize
+    ensures { result ≡ line_length (line_at part (words_in words.now)) }
 {
-    let count = at_most(end, image.len() / 4);
-    if count <= at {
+    if words.is_empty() {
         return 0;
     }
-    let size = skip(word_in(image, at)) as usize;
-    if count - at <= size {
+    words_fit(words);
+    let size = skip(nth_word(words, 0)) as usize;
+    if words.len() <= size {
         return 0;
     }
-    let last = at + size;
-    if !is_ending(part, word_in(image, last)) {
+    if !is_ending(part, nth_word(words, size)) {
         return 0;
     }
-    let middle = heads_end(image, part, at, last);
-    if middle == at {
+    let line = part_of(words, 0, size);
+    let Heads { count, numbers } = heads_of(part, line);
+    if count == 0 {
         return 0;
     }
-    if at + HEAD_LIMIT < middle {
+    if HEAD_LIMIT < count {
         return 0;
     }
-    if comparisons_sound(image, middle, last) {
+    if numbers.count_ones() as usize != count {
+        return 0;
+    }
+    if comparisons_sound(part_of(line, count, size)) {
         return size + 1;
     }
     0
@@ -209,14 +244,13 @@ enum LinePart {
 }
 
 // What the word `at` stands for. The constant of a comparison is the next word.
-fn part_at(image: &[u8], at: usize) -> LinePart
-    requires { at < length image.now / 4 }
-    ensures { result ≡ part_at (words_of image.now) at }
+fn part_at(words: &[[u8; 4]], at: usize) -> LinePart
+    requires { at < length words.now }
+    ensures { result ≡ part_at (words_in words.now) at }
 {
-    let word = word_in(image, at);
+    let word = nth_word(words, at);
     let number = first(word) as u8;
-    let operation = Operation::of(word);
-    match operation {
+    match Operation::of(word) {
         Operation::Present => LinePart::Head(Test::Occurs(Literal {
             event: Event(number),
             negated: false,
@@ -225,10 +259,9 @@ fn part_at(image: &[u8], at: usize) -> LinePart
             event: Event(number),
             negated: true,
         })),
-        Operation::AgainstConstant => LinePart::Comparison(constant_comparison(
-            word,
-            word_at(image, at + 1),
-        )),
+        Operation::AgainstConstant => {
+            LinePart::Comparison(constant_comparison(word, nth_word_or_zero(words, at + 1)))
+        }
         Operation::AgainstReading => LinePart::Comparison(reading_comparison(word)),
         Operation::Proposes => LinePart::Ending(Ending::Causes(Action(number))),
         Operation::Member => LinePart::Head(Test::Member(Action(number))),
@@ -237,10 +270,9 @@ fn part_at(image: &[u8], at: usize) -> LinePart
     }
 }
 
-// The value of the line whose words stand from `start` up to `end`.
-fn read_line(image: &[u8], start: usize, end: usize) -> Line
-    requires inside { end ≤ length image.now / 4 }
-    ensures { result ≡ value_from (line_of [] [] Ending.Never) (end - start) 0 (drop start (words_of image.now)) }
+/// The value of the line whose words these are. Nothing is checked, so it is for images that the loader takes.
+pub fn read_line(words: &[[u8; 4]]) -> Line
+    ensures { result ≡ line_from (words_in words.now) }
 {
     let empty = Line::new();
     let mut heads = empty.heads;
@@ -248,9 +280,9 @@ fn read_line(image: &[u8], start: usize, end: usize) -> Line
     let mut head_count = 0;
     let mut comparison_count = 0;
     let mut ending = Ending::Never;
-    let mut at = start;
-    while at < end {
-        let part = part_at(image, at);
+    let mut at = 0;
+    while at < words.len() {
+        let part = part_at(words, at);
         at += 1;
         match part {
             LinePart::Head(test) => {
@@ -277,25 +309,5 @@ fn read_line(image: &[u8], start: usize, end: usize) -> Line
         comparisons,
         comparison_count,
         ending,
-    }
-}
-
-/// The line that starts at the word `at`: its first skip tells where it ends. Nothing is checked, so it is for images that the loader
-/// takes.
-pub fn line_at(image: &[u8], at: usize) -> LineAt
-    ensures { result ≡ line_answer (words_of image.now) at }
-{
-    let count = image.len() / 4;
-    if count <= at {
-        return LineAt {
-            line: Line::new(),
-            next: at,
-        };
-    }
-    let size = skip(word_in(image, at)) as usize + 1;
-    let next = at_most(at + size, count);
-    LineAt {
-        line: read_line(image, at, next),
-        next,
     }
 }

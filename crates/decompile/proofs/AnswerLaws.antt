@@ -1,22 +1,20 @@
 -- Each way through `decompile`.
-use Rattle.std.proofs.Common.{ℕ, ◌+◌, ◌≤◌, ◌<◌, min, List, ◌++◌, ◌≡◌, sym, ap, ◌∙◌, arith, le-leb, length, drop}
+use Rattle.std.proofs.Common.{ℕ, ◌≤◌, ◌<◌, min, List, ◌++◌, ◌≡◌, sym, ap, ◌∙◌, arith, le-leb, length, drop}
 use Rattle.std.proofs.lemmas.Bool.{lt-leb}
 use Rattle.policy.specs.Fault.{refusal}
 use Rattle.policy.specs.Fill.{Filled}
 use Rattle.policy.specs.declared.fault.Fault.{Fault}
 use Rattle.policy.specs.declared.fault.Refusal.{Refusal}
 use Rattle.line_value.specs.declared.Line.{Line}
-use Rattle.word.specs.Word.{words_of}
 use Rattle.image.specs.Held.{policy_in}
 use Rattle.image.specs.Load.{load}
-use Rattle.image.specs.declared.load.Contents.{Contents}
 use Rattle.image.specs.declared.load.Loaded.{Loaded}
 use Rattle.output.specs.Buffer.{appended}
 use Rattle.output.proofs.AppendLaws.{append_start}
 use Rattle.printer.specs.Printed.{text_of}
-use Rattle.decompile.proofs.TextLaws.{taken_text}
+use Rattle.decompile.proofs.TextLaws.{TakenText}
 use Rattle.decompile.specs.Decompile.{output_of, decompiled}
-use Rattle.decompile.specs.Steps.Walk.{values_from, text_of_values}
+use Rattle.decompile.specs.Steps.Walk.{text_of_values}
 use Rattle.decompile.specs.declared.Decompiled.{Decompiled}
 
 -- what the function answers and leaves in the buffer
@@ -31,20 +29,17 @@ module _ (image buffer : List ℕ) where
   unfolding decompiled output_of
   refused r e = answers image buffer (Decompiled.Refused r) buffer (ap (λ (l : Loaded). output_of l (text_of (policy_in image)) buffer) e)
 
-  module _ (contents : Contents) (taken : load image ≡ Loaded.Image contents) where
+  module _ (values : List Line) (t : TakenText image values) where
     text : List ℕ
     text = text_of (policy_in image)
 
-    on_text : decompiled image buffer ≡ output_of (Loaded.Image contents) text buffer
+    on_text : decompiled image buffer ≡ output_of (Loaded.Image t.contents) text buffer
     unfolding decompiled text
-    on_text = ap (λ (l : Loaded). output_of l (text_of (policy_in image)) buffer) taken
-
-    abbrev values : List Line
-    values = values_from (words_of image) (contents.rules + contents.constraints) 1
+    on_text = ap (λ (l : Loaded). output_of l (text_of (policy_in image)) buffer) t.taken
 
     -- the texts of the lines are that of the policy
     same : text_of_values values ≡ text_of (policy_in image)
-    same = (taken_text image contents taken).text
+    same = t.text
 
     pub short : length buffer < length (text_of_values values) → Answers image buffer (Decompiled.Refused (refusal Fault.BufferTooSmall 0)) buffer
     unfolding output_of text

@@ -2,15 +2,13 @@
 #![tactic(auto)]
 
 ghost use Rattle.std.specs.Prelude.{◌≡◌, ◌≤◌, ◌↔◌, IsTrue, min, length};
-ghost use Rattle.word.specs.Word.{words_of};
 ghost use Rattle.output.specs.Buffer.{appended};
 ghost use Rattle.output.specs.Sink.{fed};
 ghost use Rattle.printer.specs.Printed.{longest_text};
 ghost use Rattle.decompile.specs.Decompile.{decompiled};
-ghost use Rattle.decompile.specs.Steps.Walk.{values_from, text_of_values};
+ghost use Rattle.decompile.specs.Steps.Walk.{values_left, text_of_values};
 
-use decode::line_at;
-use image::{Loaded, load_image};
+use image::{Walker, lines};
 use output::{Counter, Page, Sink};
 use policy::{Fault, Refusal};
 use printer::put_line;
@@ -27,45 +25,42 @@ pub enum Decompiled {
     Text(usize),
 }
 
-/// The texts of so many lines, from the first on.
-fn put_text<S: Sink>(sink: &mut S, image: &[u8], lines: usize)
-    ensures { sink.new ≡ fed S.taken sink.old (text_of_values (values_from (words_of image.now) lines 1)) }
+/// The texts of the lines, one after another.
+fn put_text<S: Sink>(sink: &mut S, lines: Walker<'_>)
+    ensures { sink.new ≡ fed S.taken sink.old (text_of_values (values_left lines.entry)) }
 {
-    let mut at = 1;
-    for i in 0..lines {
-        let found = line_at(image, at);
-        put_line(sink, &found.line);
-        at = found.next;
+    for line in lines {
+        put_line(sink, &line);
     }
 }
 
 /// How many bytes the texts have.
 #[tactic(auto, using(output::proofs::SinkLaws::counted_all))]
-fn text_size(image: &[u8], lines: usize) -> usize
-    requires { length (text_of_values (values_from (words_of image.now) lines 1)) ≤ longest_text }
-    ensures { result ≡ length (text_of_values (values_from (words_of image.now) lines 1)) }
+fn text_size(lines: Walker<'_>) -> usize
+    requires { length (text_of_values (values_left lines)) ≤ longest_text }
+    ensures { result ≡ length (text_of_values (values_left lines.entry)) }
 {
     let mut counter = Counter { count: 0 };
-    put_text(&mut counter, image, lines);
+    put_text(&mut counter, lines);
     counter.count
 }
 
 /// Whether the texts have room in so many bytes. Where the longest text has, they need not be counted.
-fn fits(image: &[u8], lines: usize, room: usize) -> bool
-    requires { length (text_of_values (values_from (words_of image.now) lines 1)) ≤ longest_text }
-    ensures { IsTrue result ↔ (length (text_of_values (values_from (words_of image.now) lines 1)) ≤ room) }
+fn fits(lines: Walker<'_>, room: usize) -> bool
+    requires { length (text_of_values (values_left lines)) ≤ longest_text }
+    ensures { IsTrue result ↔ (length (text_of_values (values_left lines.entry)) ≤ room) }
 {
-    TEXT_SIZE <= room || text_size(image, lines) <= room
+    TEXT_SIZE <= room || text_size(lines) <= room
 }
 
 /// Writes the texts from the start of the buffer on. The answer is where they end.
 #[tactic(auto, using(output::proofs::SinkLaws::stored_all))]
-fn write_text(out: &mut [u8], image: &[u8], lines: usize) -> usize
-    ensures end { result ≡ min (length (text_of_values (values_from (words_of image.now) lines 1))) (length out.old) }
-    ensures buffer { out.new ≡ appended out.old 0 (text_of_values (values_from (words_of image.now) lines 1)) }
+fn write_text(out: &mut [u8], lines: Walker<'_>) -> usize
+    ensures end { result ≡ min (length (text_of_values (values_left lines.entry))) (length out.old) }
+    ensures buffer { out.new ≡ appended out.old 0 (text_of_values (values_left lines.entry)) }
 {
     let mut page = Page { bytes: out, end: 0 };
-    put_text(&mut page, image, lines);
+    put_text(&mut page, lines);
     page.end
 }
 
@@ -75,13 +70,11 @@ pub fn decompile(image: &[u8], out: &mut [u8]) -> Decompiled
     ensures answer { result ≡ (decompiled image.now out.old).answer }
     ensures buffer { out.new ≡ (decompiled image.now out.old).buffer }
 {
-    match load_image(image) {
-        Loaded::Refused(refusal) => Decompiled::Refused(refusal),
-        Loaded::Image(contents) => {
-            // The constraints stand straight behind the rules.
-            let lines = contents.rules + contents.constraints;
-            if fits(image, lines, out.len()) {
-                Decompiled::Text(write_text(out, image, lines))
+    match lines(image) {
+        Err(refusal) => Decompiled::Refused(refusal),
+        Ok(lines) => {
+            if fits(lines, out.len()) {
+                Decompiled::Text(write_text(out, lines))
             } else {
                 Decompiled::Refused(Fault::BufferTooSmall.at(0))
             }

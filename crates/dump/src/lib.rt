@@ -3,7 +3,6 @@
 #![tactic(auto)]
 
 mod decompiler;
-mod page;
 mod state;
 
 ghost use Rattle.std.specs.Prelude.{◌≡◌, length};
@@ -14,10 +13,9 @@ ghost use Rattle.dump.specs.Calls.{start_state, held, fed, closed, image_within,
 pub use decompile::TEXT_SIZE;
 use decompile::{Decompiled, decompile};
 pub use decompiler::restore_input;
-use page::{put_image_refusal, put_not_word};
+use output::Page;
 pub use state::State;
 use state::{close, step};
-use word::at_most;
 
 /// Bytes for the words: one word over the largest image, which tells that there are too many.
 pub const DUMP_SIZE: usize = 13068;
@@ -41,28 +39,32 @@ pub fn feed(start: State, chunk: &[u8], image: &mut [u8]) -> State
     ensures image { image.new ≡ (fed (held start image.old) chunk.now).image }
 {
     let mut state = start;
-    let mut i = 0;
-    while i < chunk.len() {
-        state = step(state, chunk[i], image);
-        i += 1;
+    for byte in chunk {
+        state = step(state, *byte, image);
     }
     state
 }
 
 /// What is printed for an image: its text, or why it is refused.
+#[tactic(auto, using(output::proofs::SinkLaws::stored_all))]
 fn put_image(image: &[u8], out: &mut [u8]) -> usize
     ensures answer { result ≡ behind out.old 0 (image_within (length out.old) image.now) }
     ensures buffer { out.new ≡ appended out.old 0 (image_within (length out.old) image.now) }
 {
     let decompiled = decompile(image, out);
     match decompiled {
-        Decompiled::Refused(refusal) => put_image_refusal(out, 0, refusal),
+        Decompiled::Refused(refusal) => {
+            let mut page = Page { bytes: out, end: 0 };
+            report::put_image_refusal(&mut page, refusal);
+            page.end
+        }
         Decompiled::Text(size) => size,
     }
 }
 
 /// The input has ended: puts what is printed for it at the start of `out`, and answers how many bytes it has. A text has room in
 /// `TEXT_SIZE` bytes.
+#[tactic(auto, using(output::proofs::SinkLaws::stored_all))]
 pub fn finish(state: State, image: &mut [u8], out: &mut [u8]) -> usize
     ensures prefix_len { IsPrefixLen result out.new }
     ensures answer { result ≡ behind out.old 0 (finished (length out.old) (closed (held state image.old))) }
@@ -71,8 +73,10 @@ pub fn finish(state: State, image: &mut [u8], out: &mut [u8]) -> usize
 {
     let last = close(state, image);
     if last.broken {
-        return put_not_word(out, 0, std::num::wrapping_add_u64(last.lines, 1));
+        let mut page = Page { bytes: out, end: 0 };
+        report::put_not_word(&mut page, last.lines.wrapping_add(1));
+        return page.end;
     }
-    let size = at_most(last.words, image.len() / 4) * 4;
+    let size = last.words.min(image.len() / 4) * 4;
     put_image(&image[..size], out)
 }

@@ -42,16 +42,20 @@ fn end_line(state: State, image: &mut [u8]) -> State
     if state.digits != DIGITS {
         return break_line(state);
     }
-    let mut words = state.words;
-    if put_word(image, words, state.value) {
-        words += 1;
-    }
-    State {
-        lines: std::num::wrapping_add_u64(state.lines, 1),
-        words,
+    let next = State {
+        lines: state.lines.wrapping_add(1),
+        words: state.words,
         digits: 0,
         value: 0,
         broken: false,
+    };
+    if put_word(image, state.words, state.value) {
+        State {
+            words: state.words + 1,
+            ..next
+        }
+    } else {
+        next
     }
 }
 

@@ -1,7 +1,7 @@
 -- The loader takes exactly the images of policies that an accepted text may have, refuses others at the right location, and
 -- refuses every image in which one word was changed.
 use Rattle.std.proofs.Common.{ℕ, zero, suc, ◌+◌, ◌*◌, ◌%◌, ◌≤◌, ◌<◌, Bool, true, false, ◌&&◌, List, [], ◌∷◌, ◌++◌, map, ◌↔◌, ◌≡◌, refl, sym, ap, ap₂, ◌∙◌, arith, le-leb, eq-eqb, eqb-true, length, length-set, length-append}
-use Rattle.std.proofs.Math.Option.{none, some}
+use Rattle.std.proofs.Math.Option.{some}
 use Rattle.std.proofs.Math.Dec.{leb, eqb}
 use Rattle.std.proofs.Math.ListN.{get_or, set, length-map}
 use Rattle.policy.proofs.ListLaws.{and_in, and_out}
@@ -13,7 +13,8 @@ use Rattle.policy.specs.declared.fault.Fault.{Fault}
 use Rattle.policy.specs.declared.fault.Refusal.{Refusal}
 use Rattle.policy.specs.declared.fault.Source.{Source}
 use Rattle.exactness.proofs.ImageLaws.{below_append, below_cons, below_none, lines_below, rules_between, constraints_between, rules_size, constraints_size, parts_of}
-use Rattle.exactness.proofs.PartLines.{lines_limit, lines_found, AreLines, same_lines, lines_written, lines_fault, no_line_fault, rules_kind, constraints_kind, rules_back, constraints_back, rules_there, constraints_there}
+use Rattle.image.proofs.HeldLaws.{counts_add, HeldParts, held_parts, taken_parts}
+use Rattle.exactness.proofs.PartLines.{lines_limit, lines_found, lines_fault, no_line_fault, rules_kind, constraints_kind, rules_back, constraints_back}
 use Rattle.layout.proofs.SumLaws.{check_word_is, check_sum, check_below, sum_append, sum_set}
 use Rattle.word.proofs.WordLaws.{words_length, words_below, words_of_bytes, bytes_of_words, bytes_length}
 use Rattle.layout.proofs.HeaderLaws.{header_below, form_header, rules_header, constraints_header, header_fields}
@@ -187,37 +188,20 @@ pub record Took (bytes : List ℕ) (contents : Contents) : Type 0 where
   pub form_is : contents.form ≡ form_byte (words_of bytes)
   pub rule_words_are : contents.rule_words ≡ rule_count (words_of bytes)
   pub constraint_words_are : contents.constraint_words ≡ constraint_count (words_of bytes)
-  pub rules_are : contents.rules ≡ length rules
-  pub constraints_are : contents.constraints ≡ length constraints
 
 pub took : (bytes : List ℕ) (contents : Contents) → load bytes ≡ Loaded.Image contents → Took bytes contents
-unfolding body_answer
-took bytes contents e = go (answered bytes)
-  where
-    ws : List ℕ
-    ws = words_of bytes
-
-    body : Checked bytes → (x y : Lines) → rule_lines ws ≡ x → constraint_lines ws ≡ y → body_answer (form_byte ws) (rule_count ws) (constraint_count ws) x y ≡ Loaded.Image contents → Took bytes contents
-    body c (fault n) y p q r = let z : ◌≡◌ {A = ℕ} 0 1 = cc in absurd (omega arith)
-    body c (whole rs) (fault n) p q r = let z : ◌≡◌ {A = ℕ} 0 1 = cc in absurd (omega arith)
-    body c (whole rs) (whole cs) p q r =
-        let same : record { form = form_byte ws; rule_words = rule_count ws; constraint_words = constraint_count ws; rules = length rs; constraints = length cs } ≡ contents = cc in
-        record {
-          checked = c;
-          rules = rs;
-          constraints = cs;
-          rules_whole = p;
-          constraints_whole = q;
-          form_is = sym (ap (λ (x : Contents). x.form) same);
-          rule_words_are = sym (ap (λ (x : Contents). x.rule_words) same);
-          constraint_words_are = sym (ap (λ (x : Contents). x.constraint_words) same);
-          rules_are = sym (ap (λ (x : Contents). x.rules) same);
-          constraints_are = sym (ap (λ (x : Contents). x.constraints) same);
-        }
-
-    go : Answered bytes → Took bytes contents
-    go (early r) = let a : none ≡ some (refusal r.fault 0) = sym (ap refusal_in e) ∙ r.refused in let z : ◌≡◌ {A = ℕ} 0 1 = cc in absurd (omega arith)
-    go (late c q) = body c (rule_lines ws) (constraint_lines ws) refl refl (sym q ∙ e)
+took bytes contents e =
+    let t = taken_parts bytes contents e in
+    record {
+      checked = record { size = t.sized; form = t.known; count = t.counted; check = t.summed };
+      rules = t.rules;
+      constraints = t.constraints;
+      rules_whole = t.rules_whole;
+      constraints_whole = t.constraints_whole;
+      form_is = t.form_is;
+      rule_words_are = t.rule_words_are;
+      constraint_words_are = t.constraint_words_are;
+    }
 
 -- ---- whatever is taken is the image of the policy that it holds
 
@@ -226,36 +210,6 @@ rule_part ws = between 1 (1 + rule_count ws) ws
 
 abbrev constraint_part : List ℕ → List ℕ
 constraint_part ws = between (1 + rule_count ws) (1 + rule_count ws + constraint_count ws) ws
-
-pub counts_add : (ws : List ℕ) → counts_fit ws ≡ true → length ws ≡ 1 + rule_count ws + constraint_count ws + 1
-unfolding counts_fit check_count
-counts_add ws c = eqb-true (length ws) (1 + rule_count ws + constraint_count ws + 1) (and_out (leb (rule_count ws) 2176 && leb (constraint_count ws) 1088) (eqb (length ws) (1 + rule_count ws + constraint_count ws + 1)) c).1
-
--- the words of its parts are those of the lines of its policy
-pub record HeldParts (bytes : List ℕ) (contents : Contents) : Type 0 where
-  pub size : length (words_of bytes) ≡ 1 + contents.rule_words + contents.constraint_words + 1
-  pub rule_part_is : AreLines Part.Rules 128 (between 1 (1 + contents.rule_words) (words_of bytes)) (map rule (policy_in bytes).rules)
-  pub constraint_part_is : AreLines Part.Constraints 64 (between (1 + contents.rule_words) (1 + contents.rule_words + contents.constraint_words) (words_of bytes)) (map constraint (policy_in bytes).constraints)
-  pub rule_count_is : contents.rules ≡ length (map rule (policy_in bytes).rules)
-  pub constraint_count_is : contents.constraints ≡ length (map constraint (policy_in bytes).constraints)
-
-pub held_parts : (bytes : List ℕ) (contents : Contents) → load bytes ≡ Loaded.Image contents → HeldParts bytes contents
-unfolding part_lines policy_in lines_in
-held_parts bytes contents taken =
-    let t = took bytes contents taken in
-    let r = lines_written Part.Rules 128 1 (rule_part (words_of bytes)) t.rules t.rules_whole in
-    let c = lines_written Part.Constraints 64 (1 + rule_count (words_of bytes)) (constraint_part (words_of bytes)) t.constraints t.constraints_whole in
-    let rs : t.rules ≡ map rule (policy_in bytes).rules = sym (rw t.rules_whole (rules_there t.rules r.kind)) in
-    let cs : t.constraints ≡ map constraint (policy_in bytes).constraints = sym (rw t.constraints_whole (constraints_there t.constraints c.kind)) in
-    let n = t.rule_words_are in
-    let m = t.constraint_words_are in
-    record {
-      size = omega (arith, counts_add (words_of bytes) t.checked.count);
-      rule_part_is = same_lines Part.Rules 128 (ap (λ (k : ℕ). between 1 (1 + k) (words_of bytes)) (sym n)) rs r;
-      constraint_part_is = same_lines Part.Constraints 64 (ap₂ (λ (k j : ℕ). between (1 + k) (1 + k + j) (words_of bytes)) (sym n) (sym m)) cs c;
-      rule_count_is = t.rules_are ∙ ap length rs;
-      constraint_count_is = t.constraints_are ∙ ap length cs;
-    }
 
 module _ (bytes : List ℕ) (bounded : Bytes bytes) (contents : Contents) (taken : load bytes ≡ Loaded.Image contents) where
   t : Took bytes contents

@@ -1,7 +1,7 @@
 -- The lines of a part: all that are written are found, and what is found was written.
-use Rattle.std.proofs.Common.{ℕ, zero, suc, ◌+◌, ◌*◌, ◌≤◌, ◌<◌, true, List, [], ◌∷◌, ◌++◌, map, append_assoc, ◌⊎◌, inl, inr, ◌≡◌, refl, sym, ap, ap₂, ◌∙◌, subst, add_assoc, add-zero, arith, length, drop, length-append, drop_at}
+use Rattle.std.proofs.Common.{ℕ, zero, suc, ◌+◌, ◌*◌, ◌≤◌, ◌<◌, true, List, [], ◌∷◌, ◌++◌, map, append_assoc, ◌⊎◌, inl, inr, ◌≡◌, refl, sym, ap, ◌∙◌, add_assoc, add-zero, arith, length, drop, length-append, drop_at}
 use Rattle.std.proofs.Math.Option.{Option, none, some}
-use Rattle.policy.proofs.ListLaws.{true_false, and_in, and_out}
+use Rattle.policy.proofs.ListLaws.{and_in, and_out}
 use Rattle.policy.specs.Limits.{valid}
 use Rattle.policy.specs.Line.{PolicyLine, rule, constraint, heads_of, comparisons_of, ending_of}
 use Rattle.policy.specs.List.{all}
@@ -62,52 +62,6 @@ lines_found part (l ∷ ls) (suc room) at k v h =
     let p = and_out (in_part part l) (all (in_part part) ls) k in
     let q = and_out (valid l) (all valid ls) v in
     line_step part room at l ls p.0 q.0 (lines_found part ls room (at + length (line_words l)) p.1 q.1 (omega arith))
-
--- ---- what is found was written
-
-pub record AreLines (part : Part) (room : ℕ) (ws : List ℕ) (ls : List PolicyLine) : Type 0 where
-  pub kind : all (in_part part) ls ≡ true
-  pub sound : all valid ls ≡ true
-  pub few : length ls ≤ room
-  pub words : ws ≡ lines_words ls
-
-pub same_lines : (part : Part) (room : ℕ) {a b : List ℕ} {xs ys : List PolicyLine} → a ≡ b → xs ≡ ys → AreLines part room a xs → AreLines part room b ys
-same_lines part room {a} {b} {xs} {ys} p q h = subst (λ (z : List ℕ). AreLines part room z ys) p (subst (λ (z : List PolicyLine). AreLines part room a z) q h)
-
-are_none : (part : Part) (room : ℕ) (ls : List PolicyLine) → whole [] ≡ whole ls → AreLines part room [] ls
-unfolding all lines_words
-are_none part room [] e = record { kind = refl; sound = refl; few = omega arith; words = refl }
-are_none part room (l ∷ ls) e = let z : ◌≡◌ {A = ℕ} 0 1 = cc in absurd (omega arith)
-
-are_more : (part : Part) (room : ℕ) (ws : List ℕ) (l : PolicyLine) (rest : Lines) (ls : List PolicyLine) → Stands part ws l → ((ms : List PolicyLine) → rest ≡ whole ms → AreLines part room (drop (length (line_words l)) ws) ms) → add_line l rest ≡ whole ls → AreLines part (suc room) ws ls
-unfolding add_line all lines_words
-are_more part room ws l (fault n) ls s later e = let z : ◌≡◌ {A = ℕ} 0 1 = cc in absurd (omega arith)
-are_more part room ws l (whole ms) [] s later e = let z : ◌≡◌ {A = ℕ} 0 1 = cc in absurd (omega arith)
-are_more part room ws l (whole ms) (x ∷ xs) s later e =
-    let p : l ≡ x = cc in
-    let q : ms ≡ xs = cc in
-    let h = later xs (ap whole q) in
-    record {
-      kind = and_in (ap (in_part part) (sym p) ∙ s.kind) h.kind;
-      sound = and_in (ap valid (sym p) ∙ s.sound) h.sound;
-      few = omega (arith, h.few);
-      words = s.words ∙ ap₂ (λ (a : PolicyLine) (b : List ℕ). line_words a ++ b) p h.words;
-    }
-
-line_written : (part : Part) (room at : ℕ) (ws : List ℕ) (ls : List PolicyLine)
-    → ((l : PolicyLine) (ms : List PolicyLine) → lines_from part room (at + length (line_words l)) (drop (length (line_words l)) ws) ≡ whole ms → AreLines part room (drop (length (line_words l)) ws) ms)
-    → (o : Option PolicyLine) → line_at part ws ≡ o → after_line at o (λ (l : PolicyLine). lines_from part room (at + length (line_words l)) (drop (length (line_words l)) ws)) ≡ whole ls → AreLines part (suc room) ws ls
-unfolding after_line
-line_written part room at ws ls later none q e = let z : ◌≡◌ {A = ℕ} 0 1 = cc in absurd (omega arith)
-line_written part room at ws ls later (some l) q e = are_more part room ws l (lines_from part room (at + length (line_words l)) (drop (length (line_words l)) ws)) ls (line_out part ws l q) (later l) e
-
-pub lines_written : (part : Part) (room at : ℕ) (ws : List ℕ) (ls : List PolicyLine) → lines_from part room at ws ≡ whole ls → AreLines part room ws ls
-unfolding lines_from
-lines_written part zero at [] ls e = are_none part zero ls e
-lines_written part zero at (w ∷ ws) ls e = let z : ◌≡◌ {A = ℕ} 0 1 = cc in absurd (omega arith)
-lines_written part (suc room) at [] ls e = are_none part (suc room) ls e
-lines_written part (suc room) at (w ∷ ws) ls e =
-    line_written part room at (w ∷ ws) ls (λ l ms q. lines_written part room (at + length (line_words l)) (drop (length (line_words l)) (w ∷ ws)) ms q) (line_at part (w ∷ ws)) refl e
 
 -- ---- where none fits
 
@@ -237,15 +191,3 @@ pub constraints_back : (cs : List Constraint) → constraints_in (map constraint
 unfolding constraints_in
 constraints_back [] = refl
 constraints_back (c ∷ cs) = ap (λ (xs : List Constraint). c ∷ xs) (constraints_back cs)
-
-pub rules_there : (ls : List PolicyLine) → all (in_part Part.Rules) ls ≡ true → map rule (rules_in ls) ≡ ls
-unfolding rules_in all in_part
-rules_there [] k = refl
-rules_there (rule r ∷ ls) k = ap (λ (xs : List PolicyLine). rule r ∷ xs) (rules_there ls k)
-rules_there (constraint c ∷ ls) k = absurd (true_false k refl)
-
-pub constraints_there : (ls : List PolicyLine) → all (in_part Part.Constraints) ls ≡ true → map constraint (constraints_in ls) ≡ ls
-unfolding constraints_in all in_part
-constraints_there [] k = refl
-constraints_there (rule r ∷ ls) k = absurd (true_false k refl)
-constraints_there (constraint c ∷ ls) k = ap (λ (xs : List PolicyLine). constraint c ∷ xs) (constraints_there ls k)

@@ -28,9 +28,9 @@ pub struct Sought {
 const LINE_SIZE: usize = 68;
 
 /// Whether a line is sought.
-fn told(line: Line, sought: Sought, values: &[i32; READING_LIMIT]) -> bool
-    requires { Writable (value_words line) }
-    ensures { result ≡ tells sought.part line.ending sought values.now (value_words line) }
+fn told(line: &Line, sought: Sought, values: &[i32; READING_LIMIT]) -> bool
+    requires { Writable (value_words line.now) }
+    ensures { result ≡ tells sought.part line.now.ending sought values.now (value_words line.now) }
 {
     let mut bytes = [0u8; LINE_SIZE];
     let count = put_line(&mut bytes, 0, line);
@@ -111,7 +111,7 @@ pub(crate) fn find(
             return Search::Absent;
         };
         if let Some(line) = line {
-            if told(line, sought, values) {
+            if told(&line, sought, values) {
                 return Search::Found(shown_at(source, text.len() - rest.len(), rest));
             }
         }

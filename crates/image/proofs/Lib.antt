@@ -1,2 +1,4 @@
+pub mod HeldLaws
 pub mod LoadLaws
 pub mod PartLaws
+pub mod ValueLaws

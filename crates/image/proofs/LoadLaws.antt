@@ -1,10 +1,11 @@
 -- The loader's answer, fault by fault, as the code goes through them.
-use Rattle.std.proofs.Common.{ℕ, ◌+◌, ◌/◌, ◌%◌, ◌≤◌, ◌<◌, true, false, List, ◌≡◌, sym, ap, ap₂, ◌∙◌, zero-add, arith, le-leb, eq-eqb, ne_eqb, length, take, take_all}
+use Rattle.std.proofs.Common.{ℕ, ◌+◌, ◌%◌, ◌≤◌, ◌<◌, true, false, List, ◌≡◌, refl, sym, ap, ap₂, ◌∙◌, zero-add, arith, le-leb, eq-eqb, ne_eqb, length, Result, Ok, Err}
 use Rattle.std.proofs.lemmas.Bool.{lt-leb}
+use Rattle.std.specs.Result.{IsErr, IsErrAnd}
 use Rattle.std.proofs.Math.Dec.{eqb}
+use Rattle.policy.proofs.ListLaws.{true_false}
 use Rattle.policy.specs.Fault.{refusal}
 use Rattle.policy.specs.declared.fault.Fault.{Fault}
-use Rattle.word.proofs.WordLaws.{words_length}
 use Rattle.word.specs.Word.{word_limit, words_of, word_at}
 use Rattle.layout.specs.Header.{form_of, rule_count_of, constraint_count_of}
 use Rattle.image.specs.Check.{rule_count, constraint_count, form_byte, well_sized, counts_fit, sums_to_zero}
@@ -13,24 +14,29 @@ use Rattle.image.specs.Lines.{Lines, whole, fault, part_lines}
 use Rattle.image.specs.Load.{body_answer, load_words, load}
 use Rattle.image.specs.Steps.Part.{part_answer}
 use Rattle.policy.specs.declared.line.Part.{Part}
-use Rattle.image.specs.declared.load.PartCheck.{PartCheck}
+use Rattle.image.specs.declared.load.Contents.{Contents}
 use Rattle.image.specs.declared.load.Loaded.{Loaded}
 
 -- ---- the answers for the parts
 
+-- what a `?` passes on
+pub passed_on : (r : Result Contents ℕ) (at : ℕ) → IsErr r → IsErrAnd r (λ (e : ℕ). e ≡ at) → r ≡ Err at
+passed_on (Ok x) at h a = absurd (true_false h refl)
+passed_on (Err e) at h a = ap Err a
+
 module _ (form rule_part_words constraint_part_words : ℕ) where
-  pub rules_fault : (x y : Lines) (at : ℕ) → part_answer 0 x ≡ PartCheck.Fault at → Loaded.Refused (refusal Fault.ImageBody at) ≡ body_answer form rule_part_words constraint_part_words x y
+  pub rules_fault : (x y : Lines) (at : ℕ) → part_answer 0 x ≡ Err at → Loaded.Refused (refusal Fault.ImageBody at) ≡ body_answer form rule_part_words constraint_part_words x y
   unfolding part_answer body_answer
   rules_fault (whole rs) y at e = let z : ◌≡◌ {A = ℕ} 0 1 = cc in absurd (omega arith)
   rules_fault (fault n) y at e = let z : at ≡ n = cc in ap (λ (k : ℕ). Loaded.Refused (refusal Fault.ImageBody k)) z
 
-  pub constraints_fault : (x y : Lines) (n at : ℕ) → part_answer 0 x ≡ PartCheck.Lines n → part_answer 0 y ≡ PartCheck.Fault at → Loaded.Refused (refusal Fault.ImageBody at) ≡ body_answer form rule_part_words constraint_part_words x y
+  pub constraints_fault : (x y : Lines) (n at : ℕ) → part_answer 0 x ≡ Ok n → part_answer 0 y ≡ Err at → Loaded.Refused (refusal Fault.ImageBody at) ≡ body_answer form rule_part_words constraint_part_words x y
   unfolding part_answer body_answer
   constraints_fault (fault m) y n at e q = let z : ◌≡◌ {A = ℕ} 0 1 = cc in absurd (omega arith)
   constraints_fault (whole rs) (whole cs) n at e q = let z : ◌≡◌ {A = ℕ} 0 1 = cc in absurd (omega arith)
   constraints_fault (whole rs) (fault m) n at e q = let z : at ≡ m = cc in ap (λ (k : ℕ). Loaded.Refused (refusal Fault.ImageBody k)) z
 
-  pub both_whole : (x y : Lines) (n m : ℕ) → part_answer 0 x ≡ PartCheck.Lines n → part_answer 0 y ≡ PartCheck.Lines m
+  pub both_whole : (x y : Lines) (n m : ℕ) → part_answer 0 x ≡ Ok n → part_answer 0 y ≡ Ok m
       → Loaded.Image (record { form = form; rule_words = rule_part_words; constraint_words = constraint_part_words; rules = n; constraints = m }) ≡ body_answer form rule_part_words constraint_part_words x y
   unfolding part_answer body_answer
   both_whole (fault k) y n m e q = let z : ◌≡◌ {A = ℕ} 0 1 = cc in absurd (omega arith)
@@ -116,16 +122,13 @@ module _ (bytes : List ℕ) where
       pub load_constraints : rules ≤ 2176 → 1088 < constraints → Loaded.Refused (refusal Fault.ImageCount 0) ≡ load bytes
       load_constraints r h = uncounted (too_many_constraints (words_of bytes) (omega (arith, rules_are)) (omega (arith, constraints_are)))
 
-      pub load_count : rules ≤ 2176 → constraints ≤ 1088 → (length bytes / 4 ≡ 1 + rules + constraints + 1 → ⊥) → Loaded.Refused (refusal Fault.ImageCount 0) ≡ load bytes
+      pub load_count : rules ≤ 2176 → constraints ≤ 1088 → (length (words_of bytes) ≡ 1 + rules + constraints + 1 → ⊥) → Loaded.Refused (refusal Fault.ImageCount 0) ≡ load bytes
       load_count r c h =
-          uncounted (wrong_count (words_of bytes) (omega (arith, rules_are)) (omega (arith, constraints_are)) (λ q. h (omega (arith, words_length bytes, rules_are, constraints_are))))
+          uncounted (wrong_count (words_of bytes) (omega (arith, rules_are)) (omega (arith, constraints_are)) (λ q. h (omega (arith, rules_are, constraints_are))))
 
-      module _ (r : rules ≤ 2176) (c : constraints ≤ 1088) (n : length bytes / 4 ≡ 1 + rules + constraints + 1) where
+      module _ (r : rules ≤ 2176) (c : constraints ≤ 1088) (n : length (words_of bytes) ≡ 1 + rules + constraints + 1) where
         counted : counts_fit (words_of bytes) ≡ true
-        counted = right_count (words_of bytes) (omega (arith, rules_are)) (omega (arith, constraints_are)) (omega (arith, words_length bytes, rules_are, constraints_are))
-
-        all_words : take (length bytes / 4) (words_of bytes) ≡ words_of bytes
-        all_words = take_all (length bytes / 4) (words_of bytes) (omega (arith, words_length bytes))
+        counted = right_count (words_of bytes) (omega (arith, rules_are)) (omega (arith, constraints_are)) (omega (arith, rules_are, constraints_are))
 
         pub load_sum : (total : ℕ) → total ≡ sum (words_of bytes) % word_limit → (total ≡ 0 → ⊥) → Loaded.Refused (refusal Fault.ImageSum 0) ≡ load bytes
         unfolding load_words sums_to_zero

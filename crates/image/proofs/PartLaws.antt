@@ -1,22 +1,27 @@
 -- The lines of a part, one after the other, as the code counts them.
-use Rattle.std.proofs.Common.{ℕ, zero, suc, ◌+◌, ◌-◌, ◌/◌, ◌≤◌, ◌<◌, List, [], ◌∷◌, ◌≡◌, refl, sym, ap, ◌∙◌, add-zero, arith, length, take, drop, length-drop, length-take, drop-drop}
+use Rattle.std.proofs.Common.{ℕ, zero, suc, ◌+◌, ◌-◌, ◌≤◌, ◌<◌, List, [], ◌∷◌, ◌≡◌, refl, sym, ap, ap₂, ◌∙◌, add-zero, add_assoc, arith, length, drop, length-drop, drop-drop, Ok, Err}
 use Rattle.std.proofs.Math.Option.{Option}
 use Rattle.std.proofs.Math.Nat.{sub-zero}
 use Rattle.policy.specs.Line.{PolicyLine}
-use Rattle.word.proofs.WordLaws.{words_length}
-use Rattle.word.specs.Word.{words_of}
 use Rattle.layout.specs.Layout.{line_words}
 use Rattle.decode.proofs.FoundLaws.{Found, is_none, is_line, found}
 use Rattle.decode.specs.Decode.{line_at, line_length}
 use Rattle.image.specs.Lines.{Lines, whole, fault, add_line, after_line, lines_from}
 use Rattle.image.specs.Steps.Part.{part_answer}
 use Rattle.policy.specs.declared.line.Part.{Part}
-use Rattle.image.specs.declared.load.PartCheck.{PartCheck}
 
 count_line_is : (n : ℕ) (l : PolicyLine) (x : Lines) → part_answer n (add_line l x) ≡ part_answer (n + 1) x
 unfolding part_answer add_line
-count_line_is n l (whole ls) = let e : n + suc (length ls) ≡ n + 1 + length ls = omega arith in ap PartCheck.Lines e
+count_line_is n l (whole ls) = let e : n + suc (length ls) ≡ n + 1 + length ls = omega arith in ap Ok e
 count_line_is n l (fault at) = refl
+
+-- a line has no more words than there are
+pub line_inside : (part : Part) (ws : List ℕ) (n : ℕ) → n ≡ line_length (line_at part ws) → n ≤ length ws
+line_inside part ws n e = go (found part ws n e)
+  where
+    go : Found part ws n → n ≤ length ws
+    go (is_none q r) = omega arith
+    go (is_line l q r p b) = b
 
 -- ---- the lines from a word on
 
@@ -45,71 +50,65 @@ unfolding lines_from
 lines_next part room at [] h = absurd (omega arith)
 lines_next part room at (w ∷ ws) h = refl
 
--- what is counted, and what is left
-pub record Counted (part : Part) (bytes : List ℕ) (start end limit at count : ℕ) : Type 0 where
-  pub bound : at ≤ end
+-- what is counted of the words, of which the first has the index `first`, and what is left
+pub record Counted (part : Part) (ws : List ℕ) (first limit at count : ℕ) : Type 0 where
+  pub bound : at ≤ length ws
   pub few : count ≤ limit
-  pub same : part_answer count (lines_from part (limit - count) at (drop at (take end (words_of bytes)))) ≡ part_answer 0 (lines_from part limit start (drop start (take end (words_of bytes))))
+  pub same : part_answer count (lines_from part (limit - count) (first + at) (drop at ws)) ≡ part_answer 0 (lines_from part limit first ws)
 
-module _ (part : Part) (bytes : List ℕ) (start end limit : ℕ) (fits : end ≤ length bytes / 4) where
-  abbrev words : List ℕ
-  words = take end (words_of bytes)
+module _ (part : Part) (ws : List ℕ) (first limit : ℕ) where
+  pub counted_none : Counted part ws first limit 0 0
+  counted_none = record { bound = omega arith; few = omega arith; same = ap₂ (λ (n k : ℕ). part_answer 0 (lines_from part n k ws)) (sub-zero limit) (add-zero first) }
 
-  size : length words ≡ end
-  size = omega (arith, length-take end (words_of bytes), words_length bytes)
+  left : (at : ℕ) → length (drop at ws) ≡ length ws - at
+  left at = length-drop at ws
 
-  left : (at : ℕ) → length (drop at words) ≡ end - at
-  left at = length-drop at words ∙ ap (λ (n : ℕ). n - at) size
+  module _ (at count : ℕ) (h : Counted part ws first limit at count) where
+    -- a line more
+    pub counted_more : (n : ℕ) → at < length ws → count < limit → n ≡ line_length (line_at part (drop at ws)) → 0 < n → Counted part ws first limit (at + n) (count + 1)
+    unfolding after_line
+    counted_more n l f e z = go (found part (drop at ws) n e)
+      where
+        room : limit - count ≡ suc (limit - (count + 1))
+        room = omega arith
 
-  pub counted_none : start ≤ end → Counted part bytes start end limit start 0
-  counted_none h = record { bound = h; few = omega arith; same = ap (λ (n : ℕ). part_answer 0 (lines_from part n start (drop start words))) (sub-zero limit) }
-
-  pub counted_more : (at count n : ℕ) → Counted part bytes start end limit at count → at < end → (count ≡ limit → ⊥) → n ≡ line_length (line_at part (drop at words)) → (n ≡ 0 → ⊥) → (n ≤ end - at) × Counted part bytes start end limit (at + n) (count + 1)
-  unfolding after_line
-  counted_more at count n h l f e z = go (found part (drop at words) n e)
-    where
-      room : limit - count ≡ suc (limit - (count + 1))
-      room = let g = h.few in omega arith
-
-      go : Found part (drop at words) n → (n ≤ end - at) × Counted part bytes start end limit (at + n) (count + 1)
-      go (is_none q r) = absurd (z r)
-      go (is_line x q r p b) =
-          let c = left at in (
-            omega arith,
+        go : Found part (drop at ws) n → Counted part ws first limit (at + n) (count + 1)
+        go (is_none q r) = absurd (omega arith)
+        go (is_line x q r p b) =
+            let c = left at in
             record {
               bound = omega arith;
-              few = let g = h.few in omega arith;
+              few = omega arith;
               same =
-                  ap (λ (xs : List ℕ). part_answer (count + 1) (lines_from part (limit - (count + 1)) (at + n) xs)) (sym (drop-drop n at words))
-                  ∙ ap (λ (k : ℕ). part_answer (count + 1) (lines_from part (limit - (count + 1)) (at + k) (drop k (drop at words)))) r
-                  ∙ sym (count_line_is count x (lines_from part (limit - (count + 1)) (at + length (line_words x)) (drop (length (line_words x)) (drop at words))))
-                  ∙ ap (λ (o : Option PolicyLine). part_answer count (after_line at o (λ (y : PolicyLine). lines_from part (limit - (count + 1)) (at + length (line_words y)) (drop (length (line_words y)) (drop at words))))) (sym q)
-                  ∙ ap (part_answer count) (sym (lines_next part (limit - (count + 1)) at (drop at words) (omega arith)))
-                  ∙ ap (λ (k : ℕ). part_answer count (lines_from part k at (drop at words))) (sym room) ∙ h.same;
-            },
-          )
+                  ap₂ (λ (k : ℕ) (xs : List ℕ). part_answer (count + 1) (lines_from part (limit - (count + 1)) k xs)) (sym (add_assoc first at n)) (sym (drop-drop n at ws))
+                  ∙ ap (λ (k : ℕ). part_answer (count + 1) (lines_from part (limit - (count + 1)) (first + at + k) (drop k (drop at ws)))) r
+                  ∙ sym (count_line_is count x (lines_from part (limit - (count + 1)) (first + at + length (line_words x)) (drop (length (line_words x)) (drop at ws))))
+                  ∙ ap (λ (o : Option PolicyLine). part_answer count (after_line (first + at) o (λ (y : PolicyLine). lines_from part (limit - (count + 1)) (first + at + length (line_words y)) (drop (length (line_words y)) (drop at ws))))) (sym q)
+                  ∙ ap (part_answer count) (sym (lines_next part (limit - (count + 1)) (first + at) (drop at ws) (omega arith)))
+                  ∙ ap (λ (k : ℕ). part_answer count (lines_from part k (first + at) (drop at ws))) (sym room) ∙ h.same;
+            }
 
-  -- no room for another line
-  pub counted_full : (at count : ℕ) → Counted part bytes start end limit at count → at < end → count ≡ limit → PartCheck.Fault at ≡ part_answer 0 (lines_from part limit start (drop start words))
-  unfolding part_answer
-  counted_full at count h l e = ap (part_answer count) (sym (lines_full part (limit - count) at (drop at words) (omega (arith, left at)) (omega arith))) ∙ h.same
+    -- no line
+    pub counted_fault : at < length ws → count < limit → line_length (line_at part (drop at ws)) ≡ 0 → Err (first + at) ≡ part_answer 0 (lines_from part limit first ws)
+    unfolding part_answer after_line
+    counted_fault l f e = go (found part (drop at ws) 0 (sym e))
+      where
+        room : limit - count ≡ suc (limit - (count + 1))
+        room = omega arith
 
-  -- no line
-  pub counted_fault : (at count n : ℕ) → Counted part bytes start end limit at count → at < end → (count ≡ limit → ⊥) → n ≡ line_length (line_at part (drop at words)) → n ≡ 0 → PartCheck.Fault at ≡ part_answer 0 (lines_from part limit start (drop start words))
-  unfolding part_answer after_line
-  counted_fault at count n h l f e z = go (found part (drop at words) n e)
-    where
-      room : limit - count ≡ suc (limit - (count + 1))
-      room = let g = h.few in omega arith
+        go : Found part (drop at ws) 0 → Err (first + at) ≡ part_answer 0 (lines_from part limit first ws)
+        go (is_line x q r p b) = absurd (omega arith)
+        go (is_none q r) =
+            ap (λ (o : Option PolicyLine). part_answer count (after_line (first + at) o (λ (y : PolicyLine). lines_from part (limit - (count + 1)) (first + at + length (line_words y)) (drop (length (line_words y)) (drop at ws))))) (sym q)
+            ∙ ap (part_answer count) (sym (lines_next part (limit - (count + 1)) (first + at) (drop at ws) (omega (arith, left at))))
+            ∙ ap (λ (k : ℕ). part_answer count (lines_from part k (first + at) (drop at ws))) (sym room) ∙ h.same
 
-      go : Found part (drop at words) n → PartCheck.Fault at ≡ part_answer 0 (lines_from part limit start (drop start words))
-      go (is_line x q r p b) = absurd (omega arith)
-      go (is_none q r) =
-          ap (λ (o : Option PolicyLine). part_answer count (after_line at o (λ (y : PolicyLine). lines_from part (limit - (count + 1)) (at + length (line_words y)) (drop (length (line_words y)) (drop at words))))) (sym q)
-          ∙ ap (part_answer count) (sym (lines_next part (limit - (count + 1)) at (drop at words) (omega (arith, left at))))
-          ∙ ap (λ (k : ℕ). part_answer count (lines_from part k at (drop at words))) (sym room) ∙ h.same
+    -- no room for another line
+    pub counted_full : at < length ws → count ≡ limit → Err (first + at) ≡ part_answer 0 (lines_from part limit first ws)
+    unfolding part_answer
+    counted_full l e = ap (part_answer count) (sym (lines_full part (limit - count) (first + at) (drop at ws) (omega (arith, left at)) (omega arith))) ∙ h.same
 
-  pub counted_all : (at count : ℕ) → Counted part bytes start end limit at count → end ≤ at → PartCheck.Lines count ≡ part_answer 0 (lines_from part limit start (drop start words))
-  unfolding part_answer
-  counted_all at count h l =
-      ap PartCheck.Lines (sym (add-zero count)) ∙ ap (part_answer count) (sym (lines_none part (limit - count) at (drop at words) (omega (arith, left at)))) ∙ h.same
+    pub counted_all : length ws ≤ at → Ok count ≡ part_answer 0 (lines_from part limit first ws)
+    unfolding part_answer
+    counted_all l =
+        ap Ok (sym (add-zero count)) ∙ ap (part_answer count) (sym (lines_none part (limit - count) (first + at) (drop at ws) (omega (arith, left at)))) ∙ h.same

@@ -1,2 +1,4 @@
--- Mechanism of the code, which laws tie to the definitions above: a reader need not believe it.
+-- Mechanism of the code: a reader need not believe it.
 pub mod Part
+pub mod Past
+pub mod Values

@@ -4,5 +4,5 @@
 mod load;
 mod walker;
 
-pub use load::{Contents, IMAGE_SIZE, Loaded, load_image};
+pub use load::{Contents, IMAGE_SIZE, Loaded, lines, load_image};
 pub use walker::Walker;

@@ -1,15 +1,19 @@
 //! The loader: which bytes are an image, and where its parts stand.
-ghost use Rattle.std.specs.Prelude.{◌≡◌, ◌+◌, ◌/◌, ◌≤◌, length};
-ghost use Rattle.word.specs.Word.{words_of, between};
+ghost use Rattle.std.specs.Prelude.{◌≡◌, ◌+◌, ◌^◌, ◌<◌, ◌≤◌, MatchResult, map, length};
+ghost use Rattle.std.proofs.Math.Option.{none, some};
+ghost use Rattle.line_value.specs.Value.{line_value};
+ghost use Rattle.word.specs.Chunk.{words_in};
 ghost use Rattle.image.specs.Check.{well_sized};
 ghost use Rattle.image.specs.Lines.{lines_from, part_lines};
-ghost use Rattle.image.specs.Load.{body_answer, load};
-ghost use Rattle.image.specs.Steps.Part.{part_answer};
+ghost use Rattle.image.specs.Load.{body_answer, load, refusal_in};
+ghost use Rattle.image.specs.Held.{lines_held};
+ghost use Rattle.image.specs.Steps.Part.{part_answer, loaded_of};
+ghost use Rattle.image.specs.Steps.Values.{lines_left};
 
 use crate::walker::Walker;
 use layout::{constraint_words_of, form_of, rule_words_of, sum_words};
 use policy::{CONSTRAINT_LIMIT, Fault, Part, RULE_LIMIT, Refusal};
-use word::{word_at, words};
+use word::{nth_word_or_zero, part, words};
 
 // Words of the rules: 128 lines of 17 words, which are eight heads, four comparisons with constants and the ending.
 const RULE_WORD_LIMIT: usize = 2176;
@@ -19,13 +23,6 @@ const CONSTRAINT_WORD_LIMIT: usize = 1088;
 
 /// Bytes of the largest image: both parts, word 0 and the check word, of four bytes each.
 pub const IMAGE_SIZE: usize = 13064;
-
-/// The lines of a part: how many there are, or the first word at which none fits.
-#[derive(Clone, Copy)]
-pub enum PartCheck {
-    Lines(usize),
-    Fault(usize),
-}
 
 /// What stands in an image that the loader took: its form, and how many words and lines each part has.
 #[derive(Clone, Copy)]
@@ -56,56 +53,56 @@ fn well_sized(size: usize) -> bool
     size % 4 == 0
 }
 
-// The lines between two words of an image, at most `limit` of them: a walker goes from line to line.
-fn part_lines(image: &[u8], part: Part, start: usize, end: usize, limit: usize) -> PartCheck
-    requires { (start ≤ end) × (end ≤ length image.now / 4) }
-    ensures { result ≡ part_answer 0 (lines_from part limit start (between start end (words_of image.now))) }
+// How many lines of a part the words are, at most `limit` of them; or where none fits, as an index in the image, in which the first
+// word has the index `first`. A walker goes from line to line.
+fn part_lines(words: &[[u8; 4]], part: Part, limit: usize, first: usize) -> Result<usize, usize>
+    requires { first + length words.now < 2 ^ 32 }
+    ensures { result ≡ part_answer 0 (lines_from part limit first (words_in words.now)) }
 {
-    let mut walker = Walker::new(image, start);
-    let mut count: usize = 0;
-    while walker.at < end {
-        if count == limit {
-            return PartCheck::Fault(walker.at);
+    let mut walker = Walker::new(words, 0);
+    for count in 0..limit {
+        if walker.is_at_end() {
+            return Ok(count);
         }
-        let words = walker.line_length(part, end);
-        if words == 0 {
-            return PartCheck::Fault(walker.at);
-        }
-        walker = walker.moved(words);
-        count += 1;
+        let Some(behind) = walker.past_line(part) else {
+            return Err(first + walker.at);
+        };
+        walker = behind;
     }
-    PartCheck::Lines(count)
+    if walker.is_at_end() {
+        Ok(limit)
+    } else {
+        Err(first + walker.at)
+    }
 }
 
-// The lines of both parts, which fit the image.
-fn load_body(image: &[u8], form: u32, rule_words: usize, constraint_words: usize) -> Loaded
-    requires { 1 + rule_words + constraint_words ≤ length image.now / 4 }
-    ensures { result ≡ body_answer form rule_words constraint_words (part_lines Part.Rules 1 (1 + rule_words) (words_of image.now)) (part_lines Part.Constraints (1 + rule_words) (1 + rule_words + constraint_words) (words_of image.now)) }
+// What stands in an image of which both parts fit the words; or the first word at which no line fits.
+fn load_body(
+    words: &[[u8; 4]],
+    form: u32,
+    rule_words: usize,
+    constraint_words: usize,
+) -> Result<Contents, usize>
+    requires inside { 1 + rule_words + constraint_words ≤ length words.now }
+    requires few { length words.now < 4096 }
+    ensures { loaded_of result ≡ body_answer form rule_words constraint_words (part_lines Part.Rules 1 (1 + rule_words) (words_in words.now)) (part_lines Part.Constraints (1 + rule_words) (1 + rule_words + constraint_words) (words_in words.now)) }
 {
     let middle = 1 + rule_words;
-    let rules = part_lines(image, Part::Rules, 1, middle, RULE_LIMIT);
-    match rules {
-        PartCheck::Fault(location) => Loaded::Refused(Fault::ImageBody.at(location)),
-        PartCheck::Lines(rule_count) => {
-            let constraints = part_lines(
-                image,
-                Part::Constraints,
-                middle,
-                middle + constraint_words,
-                CONSTRAINT_LIMIT,
-            );
-            match constraints {
-                PartCheck::Fault(word) => Loaded::Refused(Fault::ImageBody.at(word)),
-                PartCheck::Lines(constraint_count) => Loaded::Image(Contents {
-                    form,
-                    rule_words,
-                    constraint_words,
-                    rules: rule_count,
-                    constraints: constraint_count,
-                }),
-            }
-        }
-    }
+    let end = middle + constraint_words;
+    let rules = part_lines(part(words, 1, middle), Part::Rules, RULE_LIMIT, 1)?;
+    let constraints = part_lines(
+        part(words, middle, end),
+        Part::Constraints,
+        CONSTRAINT_LIMIT,
+        middle,
+    )?;
+    Ok(Contents {
+        form,
+        rule_words,
+        constraint_words,
+        rules,
+        constraints,
+    })
 }
 
 /// The parts of an image, or why and where it is refused.
@@ -116,7 +113,8 @@ pub fn load_image(image: &[u8]) -> Loaded
     if !well_sized(size) {
         return Loaded::Refused(Fault::ImageSize.at(0));
     }
-    let header = word_at(image, 0);
+    let words = words(image);
+    let header = nth_word_or_zero(words, 0);
     let form = form_of(header);
     if form != 1 {
         return Loaded::Refused(Fault::ImageForm.at(0));
@@ -129,11 +127,27 @@ pub fn load_image(image: &[u8]) -> Loaded
     if CONSTRAINT_WORD_LIMIT < constraint_words {
         return Loaded::Refused(Fault::ImageCount.at(0));
     }
-    if size / 4 != 1 + rule_words + constraint_words + 1 {
+    if words.len() != 1 + rule_words + constraint_words + 1 {
         return Loaded::Refused(Fault::ImageCount.at(0));
     }
-    if sum_words(words(image)) != 0 {
+    if sum_words(words) != 0 {
         return Loaded::Refused(Fault::ImageSum.at(0));
     }
-    load_body(image, form, rule_words, constraint_words)
+    match load_body(words, form, rule_words, constraint_words) {
+        Ok(contents) => Loaded::Image(contents),
+        Err(location) => Loaded::Refused(Fault::ImageBody.at(location)),
+    }
+}
+
+/// The values of the lines of an image that the loader takes, its rules and then its constraints; or why and where it is refused.
+pub fn lines(image: &[u8]) -> Result<Walker<'_>, Refusal>
+    ensures { MatchResult result (λ walker. (refusal_in (load image.now) ≡ none) × (lines_left (words_in walker.words.now) walker.at ≡ map line_value (lines_held image.now))) (λ refusal. refusal_in (load image.now) ≡ some refusal) }
+{
+    match load_image(image) {
+        Loaded::Refused(refusal) => Err(refusal),
+        Loaded::Image(contents) => {
+            let end = 1 + contents.rule_words + contents.constraint_words;
+            Ok(Walker::new(part(words(image), 0, end), 1))
+        }
+    }
 }

@@ -1,55 +1,86 @@
-//! A walker over an image: it refers to the lent bytes and stands at one of their words, given by its index. What it answers is
-//! answered by the functions on the bytes and the index.
-ghost use Rattle.std.specs.Prelude.{◌≡◌, ◌+◌, ◌/◌, min, length};
-ghost use Rattle.word.specs.Word.{words_of, between};
+//! A walker over words of an image: it refers to the lent words and stands at one of them, or behind the last.
+ghost use Rattle.std.specs.Prelude.{◌≡◌, ◌+◌, ◌<◌, ◌≤◌, ◌↔◌, IsTrue, MatchOption, drop, length};
+ghost use Rattle.std.specs.Iterator.{YieldsFirst, item_count};
+ghost use Rattle.word.specs.Chunk.{words_in};
 ghost use Rattle.decode.specs.Decode.{line_at, line_length};
+ghost use Rattle.decode.specs.Steps.Scan.{line_from};
+ghost use Rattle.image.specs.Steps.Values.{lines_left, told_length};
+ghost use Rattle.image.specs.Steps.Past.{IsPast};
 
-use decode::line_length;
+use decode::{line_length, read_line};
+use line_value::Line;
+use operation::skip;
 use policy::Part;
+use word::nth_word;
 
 #[derive(Clone, Copy)]
 pub struct Walker<'a> {
-    pub image: &'a [u8],
+    pub words: &'a [[u8; 4]],
     pub at: usize,
 }
 
-// The word so many words on; the end of the image where it has fewer.
-fn word_after(image: &[u8], at: usize, words: usize) -> usize
-    ensures { result ≡ min (at + words) (length image.now / 4) }
-{
-    let count = image.len() / 4;
-    if count <= at {
-        return count;
+impl<'a> Walker<'a> {
+    pub fn new(words: &'a [[u8; 4]], at: usize) -> Walker<'a>
+        ensures { result ≡ record { words = words.entry; at = at } }
+    {
+        Walker { words, at }
     }
-    if words < count - at {
-        at + words
-    } else {
-        count
+
+    pub fn is_at_end(self) -> bool
+        ensures { IsTrue result ↔ (length self.entry.words.now ≤ self.entry.at) }
+    {
+        self.words.len() <= self.at
+    }
+
+    // The words from here on.
+    fn rest(self) -> &'a [[u8; 4]]
+        ensures { words_in result.now ≡ drop self.entry.at (words_in self.entry.words.now) }
+    {
+        if self.at < self.words.len() {
+            &self.words[self.at..]
+        } else {
+            &[]
+        }
+    }
+
+    /// The walker behind the line of the part that starts here; none where no line that an accepted text may have does.
+    pub fn past_line(self, part: Part) -> Option<Walker<'a>>
+        ensures { MatchOption result (line_length (line_at part (drop self.entry.at (words_in self.entry.words.now))) ≡ 0) (λ behind. IsPast (line_length (line_at part (drop self.entry.at (words_in self.entry.words.now)))) self.entry behind) }
+    {
+        let size = line_length(self.rest(), part);
+        if size == 0 {
+            return None;
+        }
+        Some(Walker {
+            words: self.words,
+            at: self.at + size,
+        })
     }
 }
 
-impl<'a> Walker<'a> {
-    pub fn new(image: &'a [u8], at: usize) -> Walker<'a>
-        ensures { result ≡ record { image = image.entry; at = at } }
-    {
-        Walker { image, at }
-    }
+// How many words the line has with which the words begin, as its first skip tells, but no more than there are.
+fn told_length(words: &[[u8; 4]]) -> usize
+    requires { 0 < length words.now }
+    ensures { result ≡ told_length (words_in words.now) }
+{
+    (skip(nth_word(words, 0)) as usize + 1).min(words.len())
+}
 
-    /// How many words the line has that starts here and ends before the word `end`: 0 where none does.
-    pub fn line_length(self, part: Part, end: usize) -> usize
-        ensures { result ≡ line_length (line_at part (between self.entry.at end (words_of self.entry.image.now))) }
-    {
-        line_length(self.image, part, self.at, end)
-    }
+/// The values of the lines from here on. Nothing is checked, so it is for images that the loader takes.
+impl<'a> Iterator for Walker<'a> {
+    type Item = Line;
 
-    /// The walker so many words on; at the end of the image where it has fewer.
-    pub fn moved(self, words: usize) -> Walker<'a>
-        ensures { result ≡ record { image = self.entry.image; at = min (self.entry.at + words) (length self.entry.image.now / 4) } }
-    {
-        let at = word_after(self.image, self.at, words);
-        Walker {
-            image: self.image,
-            at,
+    ghost next_gives = { YieldsFirst (λ walker. lines_left (words_in walker.words.now) walker.at) };
+
+    ghost remaining = { item_count (λ walker. lines_left (words_in walker.words.now) walker.at) };
+
+    fn next(&mut self) -> Option<Line> {
+        let rest = self.rest();
+        if rest.is_empty() {
+            return None;
         }
+        let size = told_length(rest);
+        self.at += size;
+        Some(read_line(&rest[..size]))
     }
 }

@@ -2,23 +2,18 @@
 //! taken image from line to line. A case is its size in two bytes, the more significant first, and then its bytes.
 #![tactic(auto)]
 
-use image::{Contents, Loaded};
+use image::{Contents, Loaded, Walker};
 use std::io;
 use std::io::{BufWriter, Read, Write};
+use word::{part, words};
 
-/// How many lines stand between two words, going from each to the next.
-fn count_lines(image: &[u8], start: usize, end: usize) -> usize {
-    let mut count = 0;
-    let mut at = start;
-    while at < end {
-        let next = decode::line_at(image, at).next;
-        if next <= at {
-            return count;
-        }
-        at = next;
-        count += 1;
+/// How many lines a walker meets from one word up to another.
+fn count_lines(words: &[[u8; 4]], start: usize, end: usize) -> usize {
+    if start <= end && end <= words.len() {
+        Walker::new(part(words, start, end), 0).count()
+    } else {
+        0
     }
-    count
 }
 
 fn show_image<W: Write>(out: &mut W, image: &[u8], contents: Contents) -> io::Result<()> {
@@ -35,8 +30,9 @@ fn show_image<W: Write>(out: &mut W, image: &[u8], contents: Contents) -> io::Re
     )?;
     if rule_words < 4096 && constraint_words < 4096 {
         let middle = 1 + rule_words;
-        let first = count_lines(image, 1, middle);
-        let second = count_lines(image, middle, middle + constraint_words);
+        let words = words(image);
+        let first = count_lines(words, 1, middle);
+        let second = count_lines(words, middle, middle + constraint_words);
         write!(out, " lines {first} {second}")?;
     }
     writeln!(out)

@@ -1,22 +1,19 @@
 -- Laws of the words of a line: their number, and writing them one after the other.
-use Rattle.std.proofs.Common.{◌≡◌, ℕ, suc, ◌+◌, ◌-◌, ◌*◌, ◌/◌, ◌<◌, ◌≤◌, min, Bool, true, false, ltb, List, [], ◌∷◌, ◌++◌, map, length, get_or, take, drop, replicate, sym, refl, ap, ◌∙◌, ap₂, arith, length-append, length-drop, drop_of_length-le, length-take-le, take_all, drop-cons, get_or-take, ltb-false, ltb-true}
+use Rattle.std.proofs.Common.{◌≡◌, ℕ, suc, ◌+◌, ◌-◌, ◌*◌, ◌/◌, ◌<◌, ◌≤◌, List, [], ◌∷◌, ◌++◌, map, length, get_or, take, drop, sym, refl, ap, ◌∙◌, ap₂, arith, length-append, length-drop, drop_of_length-le, drop-cons}
 use Rattle.std.proofs.Math.Nat.{sub-zero}
 use Rattle.std.proofs.Math.ListN.{get_or-map, length-map}
-use Rattle.std.proofs.Math.Seq.{take-append_seam}
 use Rattle.layout.specs.Steps.Size.{operand_size, comparisons_size, condition_size}
-use Rattle.policy.specs.Line.{PolicyLine, heads_of, comparisons_of, ending_of}
+use Rattle.policy.specs.Line.{PolicyLine, heads_of, comparisons_of, ending_of, operand_constants, constant_count}
 use Rattle.line_value.proofs.LineLaws.{all_held}
-use Rattle.line_value.specs.Value.{padded, counted, head, no_head, no_comparison, line_of, line_value}
+use Rattle.line_value.specs.Value.{head, no_head, no_comparison, line_of, line_value}
 use Rattle.policy.specs.declared.comparison.Comparison.{Comparison}
 use Rattle.policy.specs.declared.comparison.Operand.{Operand}
-use Rattle.policy.specs.declared.comparison.Relation.{Relation}
 use Rattle.policy.specs.declared.line.Ending.{Ending}
 use Rattle.policy.specs.declared.line.Head.{Head}
 use Rattle.line_value.specs.declared.Line.{Line}
 use Rattle.policy.specs.declared.line.Test.{Test}
 use Rattle.word.proofs.WriteLaws.{put_append, put_length, put_none}
-use Rattle.operation.specs.Operation.{relation_code}
-use Rattle.operation.specs.Parts.{test_word, operand_word, constant_words, comparison_word, comparison_words, ending_word}
+use Rattle.operation.specs.Parts.{test_word, constant_words, comparison_words, ending_word}
 use Rattle.word.specs.Steps.Write.{put_words}
 use Rattle.layout.specs.Layout.{condition_words, part_words, line_words}
 use Rattle.layout.specs.Steps.Value.{head_words, tests_of, value_words}
@@ -34,6 +31,10 @@ comparison_length_is c skip = go c.operand
 operand_size_limit : (o : Operand) → (1 ≤ operand_size o) × (operand_size o ≤ 2)
 operand_size_limit (Operand.Constant k) = omega arith
 operand_size_limit (Operand.Reading r) = omega arith
+
+operand_counted : (o : Operand) → operand_size o ≡ 1 + operand_constants o
+operand_counted (Operand.Constant k) = refl
+operand_counted (Operand.Reading r) = refl
 
 pub condition_length : (cs : List Comparison) (e : Ending) → length (condition_words cs e) ≡ condition_size cs
 unfolding condition_words condition_size comparisons_size
@@ -124,222 +125,139 @@ put_constant buffer buffer₁ buffer₂ index w w' k k' h e₁ e₂ p q =
 
 -- ---- the loop over comparisons
 
-module _ {A : Type 0} where
-  taken_at : (xs : List A) (n i : ℕ) (d : A) → i < n → get_or (take n xs) i d ≡ get_or xs i d
-  taken_at xs n i d h = get_or-take n xs i d h
-
-  taken_length : (xs : List A) (n limit : ℕ) → length xs ≡ limit → n ≤ limit → length (take n xs) ≡ n
-  taken_length xs n limit e h = length-take-le n xs (omega arith)
-
-  -- a count past the end takes all
-  pub take_min : (xs : List A) (n limit : ℕ) → length xs ≡ limit → take (min n limit) xs ≡ take n xs
-  take_min xs n limit e = go (ltb n limit) refl
-    where
-      go : (b : Bool) → ltb n limit ≡ b → take (min n limit) xs ≡ take n xs
-      go true q =
-          let h : n < limit = ltb-true n limit q in
-          let m : min n limit ≡ n = omega arith in
-          rw m
-      go false q =
-          let h : limit ≤ n = ltb-false n limit q in
-          let m : min n limit ≡ limit = omega arith in
-          rw m (take_all limit xs (omega arith) ∙ sym (take_all n xs (omega arith)))
-
--- counting the words: those that are counted, with those that are left
-pub record Counting (comparisons : List Comparison) (count size i : ℕ) : Type 0 where
-  pub bound : i ≤ count
-  pub total : size + condition_size (drop i (take count comparisons)) ≡ condition_size (take count comparisons) + 1
-
 -- the words from the comparison i on
 abbrev condition_left : List Comparison → Ending → ℕ → List ℕ
 condition_left cs ending i = condition_words (drop i cs) ending
 
-pub record ConditionLeft (comparisons : List Comparison) (count : ℕ) (ending : Ending) (buffer₀ : List ℕ) (index : ℕ) (buffer : List ℕ) (at left i : ℕ) : Type 0 where
-  pub bound : i ≤ count
-  pub remains : left ≡ condition_size (drop i (take count comparisons))
-  pub writing : Writing (condition_left (take count comparisons) ending) buffer₀ index buffer at i
+pub record ConditionLeft (comparisons : List Comparison) (ending : Ending) (buffer₀ : List ℕ) (index : ℕ) (buffer : List ℕ) (at left i : ℕ) : Type 0 where
+  pub remains : left ≡ condition_size (drop i comparisons)
+  pub writing : Writing (condition_left comparisons ending) buffer₀ index buffer at i
 
 -- what a turn needs, and what holds after it
-pub record ConditionTurn (comparisons : List Comparison) (count : ℕ) (ending : Ending) (buffer₀ : List ℕ) (index : ℕ) (buffer : List ℕ) (at left i words : ℕ) : Type 0 where
+pub record ConditionTurn (comparisons : List Comparison) (ending : Ending) (buffer₀ : List ℕ) (index : ℕ) (buffer : List ℕ) (at left i words : ℕ) : Type 0 where
+  pub sized : words ≡ operand_size (get_or comparisons i no_comparison).operand
   pub enough : words ≤ left
   pub small : left - words < 32
   pub room : at + words ≤ length buffer / 4
-  pub next : (buffer' : List ℕ) → buffer' ≡ put_words buffer at (comparison_words (get_or comparisons i no_comparison) (left - words)) → ConditionLeft comparisons count ending buffer₀ index buffer' (at + words) (left - words) (i + 1)
+  pub next : (buffer' : List ℕ) → buffer' ≡ put_words buffer at (comparison_words (get_or comparisons i no_comparison) (left - words)) → ConditionLeft comparisons ending buffer₀ index buffer' (at + words) (left - words) (i + 1)
 
-module _ (comparisons : List Comparison) (count : ℕ) (long : length comparisons ≡ 4) (limit : count ≤ 4) where
-  abbrev part : List Comparison
-  part = take count comparisons
+module _ (comparisons : List Comparison) (ending : Ending) (buffer₀ : List ℕ) (index : ℕ) where
+  pub condition_none : (size : ℕ) → size ≡ condition_size comparisons → index + size ≤ length buffer₀ / 4 → ConditionLeft comparisons ending buffer₀ index buffer₀ index size 0
+  condition_none size e h = record { remains = e; writing = writing_none (condition_left comparisons ending) buffer₀ index (omega (arith, condition_length comparisons ending)) }
 
-  size_next : (i : ℕ) → i < count → condition_size (drop i part) ≡ operand_size (get_or comparisons i no_comparison).operand + condition_size (drop (i + 1) part)
-  size_next i h =
-      let e : length part ≡ count = taken_length comparisons count 4 long limit in
-      condition_size_next part i no_comparison (omega arith)
-      ∙ ap (λ (c : Comparison). operand_size c.operand + condition_size (drop (i + 1) part)) (taken_at comparisons count i no_comparison h)
+  pub condition_turn : (buffer : List ℕ) (at left i words : ℕ) → length comparisons ≤ 4 → ConditionLeft comparisons ending buffer₀ index buffer at left i → i < length comparisons
+      → words ≡ 1 + operand_constants (get_or comparisons i no_comparison).operand → ConditionTurn comparisons ending buffer₀ index buffer at left i words
+  condition_turn buffer at left i words few h l e =
+      let m : words ≡ operand_size c.operand = e ∙ sym (operand_counted c.operand) in
+      let r = h.remains in
+      let k : left - words ≡ condition_size (drop (i + 1) comparisons) = omega (arith, condition_size_next comparisons i no_comparison l) in
+      record {
+        sized = m;
+        enough = omega (arith, condition_size_next comparisons i no_comparison l);
+        small = omega (arith, condition_size_limit (drop (i + 1) comparisons), length-drop (i + 1) comparisons);
+        room = omega (arith, h.writing.room, condition_size_next comparisons i no_comparison l, condition_length (drop i comparisons) ending);
+        next = λ b q. record {
+          remains = k;
+          writing = more b m (q ∙ ap (λ (n : ℕ). put_words buffer at (comparison_words c n)) k);
+        };
+      }
+    where
+      c : Comparison
+      c = get_or comparisons i no_comparison
 
-  size_end : condition_size (drop count part) ≡ 1
-  unfolding condition_size comparisons_size
-  size_end = let e : length part ≤ count = omega (arith, taken_length comparisons count 4 long limit) in rw (drop_of_length-le part e)
+      more : (b : List ℕ) → words ≡ operand_size c.operand → b ≡ put_words buffer at (comparison_words c (condition_size (drop (i + 1) comparisons)))
+          → Writing (condition_left comparisons ending) buffer₀ index b (at + words) (i + 1)
+      more b m q =
+          rw (q, m, ← comparison_length_is c (condition_size (drop (i + 1) comparisons)))
+          (writing_more (condition_left comparisons ending) buffer₀ index buffer at i (comparison_words c (condition_size (drop (i + 1) comparisons))) (condition_next comparisons ending i no_comparison l) h.writing)
 
-  size_limit_is : (i : ℕ) → condition_size (drop i part) < 10
-  size_limit_is i =
-      let h = condition_size_limit (drop i part) in
-      omega (arith, length-drop i part, taken_length comparisons count 4 long limit)
-
-  pub counting_none : Counting comparisons count 1 0
-  counting_none = record { bound = omega arith; total = omega arith }
-
-  pub counting_limit : (size i : ℕ) → Counting comparisons count size i → size < 11
-  counting_limit size i h = let k = size_limit_is 0 in omega (arith, condition_size_limit (drop i part), h.total)
-
-  pub counting_more : (size i words : ℕ) → Counting comparisons count size i → i < count → words ≡ operand_size (get_or comparisons i no_comparison).operand → Counting comparisons count (size + words) (i + 1)
-  counting_more size i words h l e = record { bound = omega arith; total = omega (arith, size_next i l, h.total) }
-
-  pub counting_all : (size i : ℕ) → Counting comparisons count size i → count ≤ i → size ≡ condition_size part
-  counting_all size i h l =
-      let b = h.bound in
-      let e : i ≡ count = omega arith in
-      omega (arith, size_end, h.total, ap (λ (n : ℕ). condition_size (drop n part)) e)
-
-  module _ (ending : Ending) (buffer₀ : List ℕ) (index : ℕ) where
-    abbrev rest : ℕ → List ℕ
-    rest = condition_left part ending
-
-    pub condition_none : (size : ℕ) → size ≡ condition_size part → index + size ≤ length buffer₀ / 4 → ConditionLeft comparisons count ending buffer₀ index buffer₀ index size 0
-    condition_none size e h = record { bound = omega arith; remains = e; writing = writing_none rest buffer₀ index (omega (arith, condition_length part ending)) }
-
-    pub condition_turn : (buffer : List ℕ) (at left i words : ℕ) → ConditionLeft comparisons count ending buffer₀ index buffer at left i → i < count → words ≡ operand_size (get_or comparisons i no_comparison).operand → ConditionTurn comparisons count ending buffer₀ index buffer at left i words
-    condition_turn buffer at left i words h l e =
-        let n = size_next i l in
-        let r = h.remains in
-        let k : left - words ≡ condition_size (drop (i + 1) part) = omega arith in
-        record {
-          enough = omega arith;
-          small = omega (arith, size_limit_is i);
-          room = omega (arith, h.writing.room, condition_length (drop i part) ending);
-          next = λ b q. record { bound = omega arith; remains = k; writing = more b (q ∙ ap (λ (m : ℕ). put_words buffer at (comparison_words c m)) k) };
-        }
-      where
-        c : Comparison
-        c = get_or comparisons i no_comparison
-
-        step : condition_words (drop i part) ending ≡ comparison_words c (condition_size (drop (i + 1) part)) ++ condition_words (drop (i + 1) part) ending
-        step =
-            condition_next part ending i no_comparison (omega (arith, taken_length comparisons count 4 long limit))
-            ∙ ap (λ (x : Comparison). comparison_words x (condition_size (drop (i + 1) part)) ++ condition_words (drop (i + 1) part) ending) (taken_at comparisons count i no_comparison l)
-
-        more : (b : List ℕ) → b ≡ put_words buffer at (comparison_words c (condition_size (drop (i + 1) part))) → Writing rest buffer₀ index b (at + words) (i + 1)
-        more b q =
-            let m : at + words ≡ at + length (comparison_words c (condition_size (drop (i + 1) part))) = omega (arith, comparison_length_is c (condition_size (drop (i + 1) part))) in
-            rw (q, m) (writing_more rest buffer₀ index buffer at i (comparison_words c (condition_size (drop (i + 1) part))) step h.writing)
-
-    pub condition_all : (buffer buffer' : List ℕ) (at left i w : ℕ) → ConditionLeft comparisons count ending buffer₀ index buffer at left i → count ≤ i → w ≡ ending_word ending → buffer' ≡ put_words buffer at (w ∷ []) → buffer' ≡ put_words buffer₀ index (condition_words part ending)
-    unfolding condition_words
-    condition_all buffer buffer' at left i w h l e q =
-        let b = h.bound in
-        let none : drop i part ≡ [] = drop_of_length-le part {i = i} (omega (arith, taken_length comparisons count 4 long limit)) in
-        q ∙ ap (λ (x : ℕ). put_words buffer at (x ∷ [])) e ∙ ap (λ (cs : List Comparison). put_words buffer at (condition_words cs ending)) (sym none) ∙ h.writing.written
+  pub condition_all : (buffer buffer' : List ℕ) (at left i w : ℕ) → ConditionLeft comparisons ending buffer₀ index buffer at left i → length comparisons ≤ i → w ≡ ending_word ending → buffer' ≡ put_words buffer at (w ∷ []) → buffer' ≡ put_words buffer₀ index (condition_words comparisons ending)
+  unfolding condition_words
+  condition_all buffer buffer' at left i w h l e q =
+      q ∙ ap (λ (x : ℕ). put_words buffer at (x ∷ [])) e ∙ ap (λ (cs : List Comparison). put_words buffer at (condition_words cs ending)) (sym (drop_of_length-le comparisons l)) ∙ h.writing.written
 
 -- ---- the loop over heads
 
 tests_length : (hs : List Head) → length (tests_of hs) ≡ length hs
 unfolding tests_of
-tests_length [] = refl
-tests_length (h ∷ hs) = ap suc (tests_length hs)
+tests_length hs = length-map hs (λ (h : Head). h.0)
 
 tests_at : (hs : List Head) (i : ℕ) (d : Head) → get_or (tests_of hs) i d.0 ≡ (get_or hs i d).0
 unfolding tests_of
 tests_at hs i d = get_or-map (λ (h : Head). h.0) hs i d
 
 -- the words from the head i on
-abbrev head_tail : List Test → ℕ → ℕ → List ℕ
-head_tail ts size i = head_words (drop i ts) (size - i)
+abbrev heads_left : List Head → ℕ → ℕ → List ℕ
+heads_left hs size i = head_words (drop i (tests_of hs)) (size - i)
 
-pub record HeadsLeft (heads : List Head) (count size : ℕ) (buffer₀ : List ℕ) (index : ℕ) (buffer : List ℕ) (i : ℕ) : Type 0 where
-  pub bound : i ≤ count
-  pub writing : Writing (head_tail (tests_of (take count heads)) size) buffer₀ index buffer (index + i) i
+pub record HeadsLeft (heads : List Head) (size : ℕ) (buffer₀ : List ℕ) (index : ℕ) (buffer : List ℕ) (at left i : ℕ) : Type 0 where
+  pub remains : left + i ≡ size
+  pub writing : Writing (heads_left heads size) buffer₀ index buffer at i
 
-module _ (heads : List Head) (count : ℕ) (long : length heads ≡ 8) (limit : count ≤ 8) (size : ℕ) (buffer₀ : List ℕ) (index : ℕ) where
-  abbrev tests : List Test
-  tests = tests_of (take count heads)
+module _ (heads : List Head) (size : ℕ) (buffer₀ : List ℕ) (index : ℕ) where
+  pub heads_none : length heads ≤ size → index + size ≤ length buffer₀ / 4 → HeadsLeft heads size buffer₀ index buffer₀ index size 0
+  heads_none k h =
+      record { remains = omega arith; writing = writing_none (heads_left heads size) buffer₀ index (omega (arith, head_length (tests_of heads) (size - 0), tests_length heads)) }
 
-  pub tests_count : length tests ≡ count
-  tests_count = tests_length (take count heads) ∙ taken_length heads count 8 long limit
-
-  abbrev heads_left : ℕ → List ℕ
-  heads_left = head_tail tests size
-
-  pub heads_none : index + count ≤ length buffer₀ / 4 → HeadsLeft heads count size buffer₀ index buffer₀ 0
-  heads_none h =
-      let e : index + 0 ≡ index = omega arith in
-      record { bound = omega arith; writing = rw e (writing_none heads_left buffer₀ index (omega (arith, head_length tests (size - 0), tests_count))) }
-
-  pub heads_turn : (d : Head) (buffer buffer' : List ℕ) (i w : ℕ) → HeadsLeft heads count size buffer₀ index buffer i → i < count → w ≡ test_word (get_or heads i d).0 (size - i - 1) → buffer' ≡ put_words buffer (index + i) (w ∷ []) → HeadsLeft heads count size buffer₀ index buffer' (i + 1)
-  heads_turn d buffer buffer' i w h l e q =
+  pub heads_turn : (d : Head) (buffer buffer' : List ℕ) (at left i w : ℕ) → HeadsLeft heads size buffer₀ index buffer at left i → length heads ≤ size → i < length heads
+      → w ≡ test_word (get_or heads i d).0 (left - 1) → buffer' ≡ put_words buffer at (w ∷ []) → HeadsLeft heads size buffer₀ index buffer' (at + 1) (left - 1) (i + 1)
+  heads_turn d buffer buffer' at left i w h k l e q =
+      let r = h.remains in
+      let n : size - i ≡ left = omega arith in
+      let m : size - (i + 1) ≡ left - 1 = omega arith in
       record {
-        bound = omega arith;
-        writing = rw (q ∙ ap (λ (x : ℕ). put_words buffer (index + i) (x ∷ [])) e, sym m) (writing_more heads_left buffer₀ index buffer (index + i) i (test_word (get_or heads i d).0 (size - i - 1) ∷ []) step h.writing);
+        remains = omega arith;
+        writing = rw (q, e) (writing_more (heads_left heads size) buffer₀ index buffer at i (test_word (get_or heads i d).0 (left - 1) ∷ [])
+            (heads_next (tests_of heads) size i d.0 (omega (arith, tests_length heads)) ∙ ap₂ (λ (t : Test) (x : ℕ). test_word t (x - 1) ∷ head_words (drop (i + 1) (tests_of heads)) (size - (i + 1))) (tests_at heads i d) n)
+            h.writing);
       }
-    where
-      m : index + i + 1 ≡ index + (i + 1)
-      m = omega arith
 
-      step : head_words (drop i tests) (size - i) ≡ test_word (get_or heads i d).0 (size - i - 1) ∷ head_words (drop (i + 1) tests) (size - (i + 1))
-      step =
-          heads_next tests size i d.0 (omega (arith, tests_count))
-          ∙ ap (λ (t : Test). test_word t (size - i - 1) ∷ head_words (drop (i + 1) tests) (size - (i + 1)))
-          (tests_at (take count heads) i d ∙ ap (λ (x : Head). x.0) (taken_at heads count i d l))
-
-  pub heads_all : (buffer : List ℕ) (i : ℕ) → HeadsLeft heads count size buffer₀ index buffer i → count ≤ i → buffer ≡ put_words buffer₀ index (head_words tests size)
+  pub heads_all : (buffer : List ℕ) (at left i : ℕ) → HeadsLeft heads size buffer₀ index buffer at left i → length heads ≤ i → buffer ≡ put_words buffer₀ index (head_words (tests_of heads) size)
   unfolding head_words
-  heads_all buffer i h l =
-      let none : drop i tests ≡ [] = drop_of_length-le tests {i = i} (omega (arith, tests_count)) in
-      writing_all heads_left buffer₀ index buffer (index + i) i (ap (λ (ts : List Test). head_words ts (size - i)) none) h.writing
-      ∙ ap (λ (k : ℕ). put_words buffer₀ index (head_words tests k)) (sub-zero size)
+  heads_all buffer at left i h l =
+      let none : drop i (tests_of heads) ≡ [] = drop_of_length-le (tests_of heads) {i = i} (omega (arith, tests_length heads)) in
+      writing_all (heads_left heads size) buffer₀ index buffer at i (ap (λ (ts : List Test). head_words ts (size - i)) none) h.writing
+      ∙ ap (λ (k : ℕ). put_words buffer₀ index (head_words (tests_of heads) k)) (sub-zero size)
 
--- ---- the whole line
+-- ---- the whole line, of the heads and the comparisons that its value holds
 
-module _ (line : Line) (heads-long : length line.heads ≡ 8) (comparisons-long : length line.comparisons ≡ 4) (m n : ℕ) (em : m ≡ min line.head_count 8) (en : n ≡ min line.comparison_count 4) where
-  held_heads : take m line.heads ≡ take line.head_count line.heads
-  held_heads = ap (λ (k : ℕ). take k line.heads) em ∙ take_min line.heads line.head_count 8 heads-long
+condition_counted : (cs : List Comparison) → condition_size cs ≡ length cs + constant_count cs + 1
+unfolding condition_size comparisons_size constant_count
+condition_counted [] = refl
+condition_counted (c ∷ cs) = omega (arith, operand_counted c.operand, condition_counted cs)
 
-  held_comparisons : take n line.comparisons ≡ take line.comparison_count line.comparisons
-  held_comparisons = ap (λ (k : ℕ). take k line.comparisons) en ∙ take_min line.comparisons line.comparison_count 4 comparisons-long
+module _ (line : Line) (hs : List Head) (cs : List Comparison) (constants : ℕ) (eh : hs ≡ take line.head_count line.heads) (ec : cs ≡ take line.comparison_count line.comparisons)
+    (ek : constants ≡ constant_count (take line.comparison_count line.comparisons)) where
+  pub rest_counted : length cs + constants + 1 ≡ condition_size cs
+  rest_counted = omega (arith, condition_counted cs, ek ∙ ap constant_count (sym ec))
 
-  value_split : head_words (tests_of (take m line.heads)) (m + condition_size (take n line.comparisons)) ++ condition_words (take n line.comparisons) line.ending ≡ value_words line
-  unfolding value_words
+  -- the words of the heads, and how many the line has
+  first : List ℕ
+  first = head_words (tests_of hs) (length hs + condition_size cs)
+
+  first_length : length first ≡ length hs
+  unfolding first
+  first_length = head_length (tests_of hs) (length hs + condition_size cs) ∙ tests_length hs
+
+  value_split : first ++ condition_words cs line.ending ≡ value_words line
+  unfolding value_words first
   value_split =
-      ap (λ (k : ℕ). head_words (tests_of (take m line.heads)) (k + condition_size (take n line.comparisons)) ++ condition_words (take n line.comparisons) line.ending)
-      (sym (tests_length (take m line.heads) ∙ taken_length line.heads m 8 heads-long (omega arith)))
-      ∙ part_split (tests_of (take m line.heads)) (take n line.comparisons) line.ending
-      ∙ ap₂ (λ (hs : List Head) (cs : List Comparison). part_words (tests_of hs) cs line.ending) held_heads held_comparisons
+      ap (λ (k : ℕ). head_words (tests_of hs) (k + condition_size cs) ++ condition_words cs line.ending) (sym (tests_length hs))
+      ∙ part_split (tests_of hs) cs line.ending
+      ∙ ap₂ (λ (xs : List Head) (ys : List Comparison). part_words (tests_of xs) ys line.ending) eh ec
 
-  pub value_limit : m + condition_size (take n line.comparisons) < 18
-  value_limit = let k = size_limit_is line.comparisons n comparisons-long (omega arith) 0 in omega arith
+  pub value_counted : length hs + (length cs + constants + 1) ≡ length (value_words line)
+  value_counted = omega (arith, ap length value_split, length-append first (condition_words cs line.ending), first_length, condition_length cs line.ending, rest_counted)
 
-  pub value_length : (size : ℕ) → size ≡ m + condition_size (take n line.comparisons) → size ≡ length (value_words line)
-  value_length size e =
-      let a = head_length (tests_of (take m line.heads)) (m + condition_size (take n line.comparisons)) in
-      let b = tests_length (take m line.heads) ∙ taken_length line.heads m 8 heads-long (omega arith) in
-      let d = condition_length (take n line.comparisons) line.ending in
-      let f = length-append (head_words (tests_of (take m line.heads)) (m + condition_size (take n line.comparisons))) (condition_words (take n line.comparisons) line.ending) in
-      omega (arith, ap length value_split)
-
-  pub value_put : (buffer buffer₁ buffer₂ : List ℕ) (index : ℕ) → index + length (value_words line) ≤ length buffer / 4
-      → buffer₁ ≡ put_words buffer index (head_words (tests_of (take m line.heads)) (m + condition_size (take n line.comparisons)))
-      → buffer₂ ≡ put_words buffer₁ (index + m) (condition_words (take n line.comparisons) line.ending)
+  pub value_put : (buffer buffer₁ buffer₂ : List ℕ) (index : ℕ) → index + (length hs + (length cs + constants + 1)) ≤ length buffer / 4
+      → buffer₁ ≡ put_words buffer index (head_words (tests_of hs) (length hs + (length cs + constants + 1)))
+      → buffer₂ ≡ put_words buffer₁ (index + length hs) (condition_words cs line.ending)
       → buffer₂ ≡ put_words buffer index (value_words line)
+  unfolding first
   value_put buffer buffer₁ buffer₂ index h e₁ e₂ =
-      e₂ ∙ ap₂ (λ (b : List ℕ) (k : ℕ). put_words b (index + k) tail) e₁ (sym count) ∙ put_append buffer index first tail (omega (arith, length-append first tail, ap length value_split))
+      e₂ ∙ ap₂ (λ (b : List ℕ) (k : ℕ). put_words b (index + k) (condition_words cs line.ending)) (e₁ ∙ ap (λ (k : ℕ). put_words buffer index (head_words (tests_of hs) (length hs + k))) rest_counted) (sym first_length)
+      ∙ put_append buffer index first (condition_words cs line.ending) (omega (arith, first_length, condition_length cs line.ending, rest_counted))
       ∙ ap (put_words buffer index) value_split
-    where
-      first : List ℕ
-      first = head_words (tests_of (take m line.heads)) (m + condition_size (take n line.comparisons))
-
-      tail : List ℕ
-      tail = condition_words (take n line.comparisons) line.ending
-
-      count : length first ≡ m
-      count = head_length (tests_of (take m line.heads)) (m + condition_size (take n line.comparisons)) ∙ tests_length (take m line.heads) ∙ taken_length line.heads m 8 heads-long (omega arith)
 
 -- ---- the value of a line that is not crowded holds all of it
 

@@ -1,6 +1,7 @@
 -- The words of a line, and the image of a policy. The form is an argument, and word 0 holds it; nothing else
 -- of layout, limits and check words depends on it today, for form 1 is the only one that is known.
-use Rattle.std.specs.Prelude.{ℕ, ◌+◌, ◌-◌, ◌%◌, Bool, List, [], ◌∷◌, ◌++◌, map, length, ◌==◌}
+use Rattle.std.specs.Prelude.{ℕ, ◌-◌, ◌%◌, Bool, List, [], ◌∷◌, ◌++◌, map, length, ◌==◌}
+use Rattle.std.specs.List.{sum as sum_of}
 use Rattle.policy.specs.Line.{PolicyLine, rule, constraint, heads_of, comparisons_of, ending_of}
 use Rattle.policy.specs.Policy.{Policy}
 use Rattle.policy.specs.declared.comparison.Comparison.{Comparison}
@@ -50,8 +51,7 @@ size_limit = 13064
 -- ---- the image
 
 unfoldable pub sum : List ℕ → ℕ
-sum [] = 0
-sum (w ∷ ws) = w + sum ws
+sum ws = sum_of ws
 
 -- the word that brings the sum to 0 modulo 2 ^ 32
 unfoldable pub check_word : List ℕ → ℕ

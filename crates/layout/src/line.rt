@@ -1,5 +1,5 @@
 //! Writing a line: its words into a lent buffer.
-ghost use Rattle.std.specs.Prelude.{◌≡◌, ◌+◌, ◌/◌, ◌<◌, ◌≤◌, length, take};
+ghost use Rattle.std.specs.Prelude.{◌≡◌, ◌+◌, ◌/◌, ◌<◌, ◌≤◌, length};
 ghost use Rattle.operation.specs.Parts.{comparison_words};
 ghost use Rattle.word.specs.Steps.Write.{put_words};
 ghost use Rattle.layout.specs.Layout.{condition_words};
@@ -8,122 +8,77 @@ ghost use Rattle.layout.specs.Steps.Value.{head_words, tests_of, value_words};
 
 use line_value::Line;
 use operation::{comparison_word, ending_word, test_word};
-use policy::{COMPARISON_LIMIT, Comparison, Ending, HEAD_LIMIT, Head, Operand, constant_word};
-use word::{at_most, put_word};
+use policy::{Comparison, Ending, Head, Operand, constant_word};
+use word::put_word;
 
-fn comparison_size(comparison: Comparison) -> usize
-    ensures { result ≡ operand_size comparison.operand }
-{
-    let operand = comparison.operand;
-    match operand {
-        Operand::Constant(_) => 2,
-        Operand::Reading(_) => 1,
-    }
-}
-
-// The words of one comparison, for which there is room.
+/// The words of one comparison, for which there is room.
 fn put_comparison(buffer: &mut [u8], index: usize, comparison: Comparison, skip: u8)
     requires { index + operand_size comparison.operand ≤ length buffer.old / 4 }
     ensures { buffer.new ≡ put_words buffer.old index (comparison_words comparison skip) }
 {
     let operand = comparison.operand;
-    let word = comparison_word(comparison, skip);
+    put_word(buffer, index, comparison_word(comparison, skip));
     match operand {
         Operand::Constant(k) => {
-            put_word(buffer, index, word);
             put_word(buffer, index + 1, constant_word(k));
         }
-        Operand::Reading(_) => {
-            put_word(buffer, index, word);
-        }
+        Operand::Reading(_) => {}
     }
 }
 
-// The words of the first `count` comparisons and of the ending: `size` words, for which there is room.
+/// The words of the comparisons and of the ending: `size` words, for which there is room.
 fn put_condition(
     buffer: &mut [u8],
     index: usize,
-    comparisons: [Comparison; COMPARISON_LIMIT],
-    count: usize,
+    comparisons: &[Comparison],
     ending: Ending,
     size: usize,
 )
-    requires few { count ≤ 4 }
-    requires sized { size ≡ condition_size (take count comparisons) }
+    requires few { length comparisons.now ≤ 4 }
+    requires sized { size ≡ condition_size comparisons.now }
     requires room { index + size ≤ length buffer.old / 4 }
-    ensures { buffer.new ≡ put_words buffer.old index (condition_words (take count comparisons) ending) }
+    ensures { buffer.new ≡ put_words buffer.old index (condition_words comparisons.now ending) }
 {
     let mut at = index;
     let mut left = size;
-    let mut i = 0;
-    while i < count {
-        let comparison = comparisons[i];
-        let words = comparison_size(comparison);
+    for comparison in comparisons {
+        let words = 1 + comparison.operand.constants();
         left -= words;
-        put_comparison(buffer, at, comparison, left as u8);
+        put_comparison(buffer, at, *comparison, left as u8);
         at += words;
-        i += 1;
     }
     put_word(buffer, at, ending_word(ending));
 }
 
-// The words of the first `count` heads of a line of `size` words, for which there is room.
-fn put_heads(buffer: &mut [u8], index: usize, heads: [Head; HEAD_LIMIT], count: usize, size: usize)
-    requires few { count ≤ 8 }
-    requires within { count ≤ size }
+/// The words of the heads of a line of `size` words, for which there is room.
+fn put_heads(buffer: &mut [u8], index: usize, heads: &[Head], size: usize)
+    requires within { length heads.now ≤ size }
     requires short { size < 33 }
     requires room { index + size ≤ length buffer.old / 4 }
-    ensures { buffer.new ≡ put_words buffer.old index (head_words (tests_of (take count heads)) size) }
+    ensures { buffer.new ≡ put_words buffer.old index (head_words (tests_of heads.now) size) }
 {
-    let mut i = 0;
-    while i < count {
-        let head = heads[i];
-        let test = head.0;
-        put_word(buffer, index + i, test_word(test, (size - i - 1) as u8));
-        i += 1;
+    let mut at = index;
+    let mut left = size;
+    for head in heads {
+        left -= 1;
+        put_word(buffer, at, test_word(head.0, left as u8));
+        at += 1;
     }
-}
-
-// How many words the first `count` comparisons and the ending take.
-fn condition_size(comparisons: [Comparison; COMPARISON_LIMIT], count: usize) -> usize
-    requires { count ≤ 4 }
-    ensures { result ≡ condition_size (take count comparisons) }
-{
-    let mut size: usize = 1;
-    let mut i = 0;
-    while i < count {
-        let comparison = comparisons[i];
-        size += comparison_size(comparison);
-        i += 1;
-    }
-    size
 }
 
 /// The words of a line put in at a word index, and how many they are. Where they do not fit, the buffer stays as it is.
-pub fn put_line(buffer: &mut [u8], index: usize, line: Line) -> usize
-    ensures answer { result ≡ length (value_words line) }
-    ensures buffer { buffer.new ≡ put_words buffer.old index (value_words line) }
+pub fn put_line(buffer: &mut [u8], index: usize, line: &Line) -> usize
+    ensures answer { result ≡ length (value_words line.now) }
+    ensures buffer { buffer.new ≡ put_words buffer.old index (value_words line.now) }
 {
-    let heads = line.heads;
-    let comparisons = line.comparisons;
-    let ending = line.ending;
-    let head_count = at_most(line.head_count, HEAD_LIMIT);
-    let comparison_count = at_most(line.comparison_count, COMPARISON_LIMIT);
-    let rest = condition_size(comparisons, comparison_count);
-    let size = head_count + rest;
-    let room = buffer.len() / 4;
-    if index <= room {
-        if size <= room - index {
-            put_heads(buffer, index, heads, head_count, size);
-            put_condition(
-                buffer,
-                index + head_count,
-                comparisons,
-                comparison_count,
-                ending,
-                rest,
-            );
-        }
+    let heads = line.held_heads();
+    let comparisons = line.held_comparisons();
+    let rest = comparisons.len() + line.constants() + 1;
+    let size = heads.len() + rest;
+    let room = (buffer.len() / 4).saturating_sub(index);
+    if size <= room {
+        put_heads(buffer, index, heads, size);
+        put_condition(buffer, index + heads.len(), comparisons, line.ending, rest);
     }
     size
 }

@@ -1,7 +1,7 @@
 //! A line of a rule text by value: a rule or a constraint, with its parts in text order.
 #![tactic(auto)]
 
-ghost use Rattle.std.specs.Prelude.{◌≡◌, [], map, ◌≤◌, take};
+ghost use Rattle.std.specs.Prelude.{◌≡◌, [], map, ◌≤◌, length, take};
 ghost use Rattle.policy.specs.Limits.{head_number};
 ghost use Rattle.policy.specs.Line.{constant_count};
 ghost use Rattle.policy.specs.Steps.Seen.{seen_in};
@@ -24,14 +24,30 @@ pub struct Line {
 }
 
 impl Line {
+    /// The heads that are held.
+    #[tactic(auto, using(crate::proofs::LineLaws::taken_all))]
+    pub fn held_heads(&self) -> &[Head]
+        ensures value { result.now ≡ take self.now.head_count self.now.heads }
+        ensures few { length result.now ≤ 8 }
+    {
+        &self.heads[..self.head_count.min(HEAD_LIMIT)]
+    }
+
+    /// The comparisons that are held.
+    #[tactic(auto, using(crate::proofs::LineLaws::taken_all))]
+    pub fn held_comparisons(&self) -> &[Comparison]
+        ensures value { result.now ≡ take self.now.comparison_count self.now.comparisons }
+        ensures few { length result.now ≤ 4 }
+    {
+        &self.comparisons[..self.comparison_count.min(COMPARISON_LIMIT)]
+    }
+
     /// Whether some event or action stands twice among the heads.
     pub fn has_repeats(self) -> bool
         ensures { result ≡ seen_in 0 (map head_number (take self.head_count self.heads)) }
     {
-        let heads = self.heads;
-        let count = self.head_count.min(HEAD_LIMIT);
         let mut seen = 0;
-        for head in &heads[..count] {
+        for head in self.held_heads() {
             let test = head.0;
             let n = test.number();
             if member(seen, n) {
@@ -47,10 +63,8 @@ impl Line {
         ensures value { result ≡ constant_count (take self.comparison_count self.comparisons) }
         ensures upper_bound { result ≤ 4 }
     {
-        let comparisons = self.comparisons;
-        let count = self.comparison_count.min(COMPARISON_LIMIT);
         let mut constants = 0;
-        for comparison in &comparisons[..count] {
+        for comparison in self.held_comparisons() {
             let operand = comparison.operand;
             constants += operand.constants();
         }

@@ -11,7 +11,8 @@ use Rattle.epoch_line.specs.Epoch.{EpochAnswer, refused, accepted, read_epoch}
 use Rattle.epoch_line.specs.Answer.{answer_read, epoch_read}
 use Rattle.epoch_line.specs.declared.EpochRead.{EpochRead}
 use Rattle.epoch_line.specs.declared.EpochStatus.{EpochStatus}
-use Rattle.exactness.proofs.Exact.{took, counts_add}
+use Rattle.image.proofs.HeldLaws.{counts_add}
+use Rattle.exactness.proofs.Exact.{took}
 use Rattle.image.specs.Load.{load}
 use Rattle.word.specs.Word.{words_of}
 use Rattle.image.specs.declared.load.Loaded.{Loaded}

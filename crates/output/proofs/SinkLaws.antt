@@ -1,10 +1,10 @@
 -- What the sinks are after some bytes.
 use Rattle.std.proofs.Common.{◌≡◌, ℕ, suc, ◌+◌, ◌-◌, ◌^◌, ◌≤◌, ◌<◌, List, [], ◌∷◌, ◌++◌, length, get_or, set, drop, refl, sym, ap, ap₂, ◌∙◌, arith, length-set, drop-cons, drop_of_length-le}
-use Rattle.output.specs.Buffer.{appended}
+use Rattle.output.specs.Buffer.{appended, behind}
 use Rattle.output.specs.Sink.{fed, fed-join, advanced, counted, stored}
 use Rattle.output.specs.declared.counter.Counter.{Counter}
 use Rattle.output.specs.declared.page.Page.{Page}
-use Rattle.output.proofs.AppendLaws.{append_out}
+use Rattle.output.proofs.AppendLaws.{Put, append_out}
 
 advanced-suc : (from by limit : ℕ) → advanced (advanced from 1 limit) by limit ≡ advanced from (suc by) limit
 advanced-suc from by limit = omega arith
@@ -36,6 +36,13 @@ stored_all page (b ∷ bs) =
     ∙ ap₂ (page_of page)
     (ap (λ (n : ℕ). appended (set page.bytes.now page.end b) (advanced page.end 1 n) bs) (sym same) ∙ append-advanced (set page.bytes.now page.end b) page.end bs)
     (ap (advanced (advanced page.end 1 (length page.bytes.now)) (length bs)) same ∙ advanced-suc page.end (length bs) (length page.bytes.now))
+
+-- the buffer of a page and where it ends, once bytes were put on it
+pub page_put : (page after : Page) (bytes : List ℕ) → after ≡ fed stored page bytes → page.end ≤ length page.bytes.now → Put page.bytes.now page.end bytes after.bytes.now after.end
+unfolding behind
+page_put page after bytes e h =
+    let all : after ≡ page_of page (appended page.bytes.now page.end bytes) (advanced page.end (length bytes) (length page.bytes.now)) = e ∙ stored_all page bytes in
+    (ap (λ (p : Page). p.end) all ∙ omega arith, ap (λ (p : Page). p.bytes.now) all)
 
 -- ---- the loop of a page
 

@@ -2,14 +2,15 @@
 ghost use Rattle.std.specs.Prelude.{◌≡◌};
 ghost use Rattle.io.specs.Counts.{IsPrefixLen};
 ghost use Rattle.output.specs.Buffer.{appended, behind};
+ghost use Rattle.output.specs.Sink.{fed};
 ghost use Rattle.questions.specs.Answered.{no_action, outcome_line, explained_line};
 ghost use Rattle.questions.specs.Steps.Answer.{answer_on, question_line};
 
 use crate::line::{Question, Token};
-use crate::page::{put_not_explained, put_not_proposed, put_shown};
 use explanation::{Explained, Outcome, Reason, explain_on, part_of};
+use output::{Page, Sink};
 use policy::Fault;
-use word::at_most;
+use report::{put_not_explained, put_not_proposed, put_shown};
 
 /// Bytes of the longest answer: a number of 20 digits, ` cancelled `, the text, a space, a part of a text's length, and the line end.
 pub const ANSWER_SIZE: usize = 32802;
@@ -40,34 +41,46 @@ fn answer(token: Token, epoch: &[u8], image: &[u8], maker: &[u8], site: &[u8]) -
     }
 }
 
-fn put_reason<'t>(
-    out: &mut [u8],
-    number: u64,
-    why: Reason,
-    maker: &'t [u8],
-    site: &'t [u8],
-) -> usize
-    ensures answer { result ≡ behind out.old 0 (outcome_line maker.now site.now number why.outcome why.shown) }
-    ensures buffer { out.new ≡ appended out.old 0 (outcome_line maker.now site.now number why.outcome why.shown) }
+/// What became of an action, and why.
+fn put_reason<'t, S: Sink>(sink: &mut S, number: u64, why: Reason, maker: &'t [u8], site: &'t [u8])
+    ensures { sink.new ≡ fed S.taken sink.old (outcome_line maker.now site.now number why.outcome why.shown) }
 {
-    let outcome = why.outcome;
     let shown = why.shown;
-    let source = shown.source;
-    match outcome {
-        Outcome::NotProposed => put_not_proposed(out, 0, number),
+    match why.outcome {
+        Outcome::NotProposed => put_not_proposed(sink, number),
         Outcome::Accepted => {
             let part = part_of(maker, site, shown);
-            put_shown(out, 0, number, b" accepted ", source, part)
+            put_shown(sink, number, b" accepted ", shown.source, part);
         }
         Outcome::Cancelled => {
             let part = part_of(maker, site, shown);
-            put_shown(out, 0, number, b" cancelled ", source, part)
+            put_shown(sink, number, b" cancelled ", shown.source, part);
         }
+    }
+}
+
+/// The answer to the question of that number, whose epoch line is held.
+fn put_question<'t, S: Sink>(
+    sink: &mut S,
+    number: u64,
+    question: Question,
+    held: &[u8],
+    image: &[u8],
+    maker: &'t [u8],
+    site: &'t [u8],
+)
+    ensures { sink.new ≡ fed S.taken sink.old (question_line maker.now site.now image.now number question held.now) }
+{
+    let count = question.count.min(held.len());
+    match answer(question.token, &held[..count], image, maker, site) {
+        Explained::Refused(refusal) => put_not_explained(sink, number, refusal.fault),
+        Explained::Because(why) => put_reason(sink, number, why, maker, site),
     }
 }
 
 /// Puts the answer to the question of that number, whose epoch line is held, on the image of both texts, at the start of `out`, and
 /// answers how many bytes it has; `ANSWER_SIZE` are enough.
+#[tactic(auto, using(output::proofs::SinkLaws::stored_all), unfolding(output::specs::Buffer::behind))]
 pub fn put_answer<'t>(
     number: u64,
     question: Question,
@@ -81,14 +94,7 @@ pub fn put_answer<'t>(
     ensures answer { result ≡ behind out.old 0 (question_line maker.now site.now image.now number question held.now) }
     ensures buffer { out.new ≡ appended out.old 0 (question_line maker.now site.now image.now number question held.now) }
 {
-    let count = at_most(question.count, held.len());
-    let token = question.token;
-    let explained = answer(token, &held[..count], image, maker, site);
-    match explained {
-        Explained::Refused(refusal) => {
-            let fault = refusal.fault;
-            put_not_explained(out, 0, number, fault)
-        }
-        Explained::Because(why) => put_reason(out, number, why, maker, site),
-    }
+    let mut page = Page { bytes: out, end: 0 };
+    put_question(&mut page, number, question, held, image, maker, site);
+    page.end
 }

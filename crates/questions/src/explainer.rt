@@ -1,6 +1,7 @@
 //! The questions on two texts as a machine, and the whole run on them.
 ghost use Rattle.std.specs.Prelude.{◌≡◌, ℕ, ◌≤◌, length, take, OnOk, IfErr};
 ghost use Rattle.rule_text.specs.Text.{read_texts};
+ghost use Rattle.output.specs.Buffer.{appended, behind};
 ghost use Rattle.report.specs.Report.{texts_refusal_line};
 ghost use Rattle.stream.specs.Event.{GoOn, Fails};
 ghost use Rattle.stream.specs.Machine.{Sends, IsWriteFailure};
@@ -8,10 +9,11 @@ ghost use Rattle.questions.specs.Run.{AnswersTexts, QuestionsEndBy};
 
 use crate::answer::{ANSWER_SIZE, put_answer};
 use crate::line::{EPOCH_HELD, Question, begun, is_open, take_line};
-use crate::page::put_texts_refusal;
 use codegen::Compiled;
 use image::IMAGE_SIZE;
+use output::Page;
 use policy::Refusal;
+use report::put_texts_refusal;
 use stream::{Ends, Failure, Machine, converse, write_whole};
 
 /// Bytes that are read at once.
@@ -61,7 +63,7 @@ impl<'t> Explainer<'t> {
     fn answer(&mut self)
         ensures { IsAnswered self.old self.new }
     {
-        self.number = std::num::wrapping_add_u64(self.number, 1);
+        self.number = self.number.wrapping_add(1);
         self.used = put_answer(
             self.number,
             self.question,
@@ -109,13 +111,24 @@ impl<'t> Machine for Explainer<'t> {
     }
 }
 
+/// Puts why the texts are refused at the start of a buffer, and answers how many bytes it has.
+#[tactic(auto, using(output::proofs::SinkLaws::stored_all), unfolding(output::specs::Buffer::behind))]
+fn put_refusal(refusal: Refusal, out: &mut [u8]) -> usize
+    ensures answer { result ≡ behind out.old 0 (texts_refusal_line refusal) }
+    ensures buffer { out.new ≡ appended out.old 0 (texts_refusal_line refusal) }
+{
+    let mut page = Page { bytes: out, end: 0 };
+    put_texts_refusal(&mut page, refusal);
+    page.end
+}
+
 /// Writes why the texts are refused.
 fn refuse<E: Ends>(refusal: Refusal, ends: &mut E) -> Result<(), Failure>
     ensures ok { OnOk result (Sends (GoOn 0) (E.known ends.old) (E.known ends.new) (texts_refusal_line refusal)) }
     ensures err { IfErr result (λ e. IsWriteFailure e × ((n : ℕ) × Sends (Fails e) (E.known ends.old) (E.known ends.new) (take n (texts_refusal_line refusal)))) }
 {
     let mut out = [0u8; REFUSAL_SIZE];
-    let end = put_texts_refusal(&mut out, 0, refusal);
+    let end = put_refusal(refusal, &mut out);
     match write_whole(ends, &out[..end]) {
         Ok(()) => Ok(()),
         Err(e) => Err(Failure::Write(e)),

@@ -5,7 +5,6 @@
 mod answer;
 mod explainer;
 mod line;
-mod page;
 mod texts;
 
 pub use answer::{ANSWER_SIZE, put_answer};

@@ -1,9 +1,10 @@
 -- Laws of the compiler's listing.
-use Rattle.std.proofs.Common.{◌≡◌, ℕ, zero, suc, ◌+◌, ◌*◌, ◌/◌, ◌<◌, ◌≤◌, List, [], ◌∷◌, length, take, drop, sym, refl, ap, ◌∙◌, add-one, arith, length-append, drop_of_length-le, drop-cons}
+use Rattle.std.proofs.Common.{◌≡◌, ℕ, zero, suc, ◌+◌, ◌*◌, ◌<◌, ◌≤◌, List, [], ◌∷◌, length, get_or, take, drop, sym, refl, ap, ◌∙◌, add-one, arith, length-append, drop_of_length-le, drop-cons}
 use Rattle.policy.specs.Limits.{Acceptable}
 use Rattle.policy.specs.Policy.{Policy}
 use Rattle.policy.specs.declared.fault.Refusal.{Refusal}
-use Rattle.word.specs.Word.{words_of, word_at}
+use Rattle.word.specs.Chunk.{word_from, words_in}
+use Rattle.word.specs.Word.{words_of}
 use Rattle.layout.specs.Layout.{image_of}
 use Rattle.word.proofs.WordLaws.{words_length}
 use Rattle.acceptance.proofs.Accepted.{accepted_acceptable, texts_acceptable}
@@ -21,21 +22,18 @@ use Rattle.report.proofs.LengthLaws.{refusal_short, texts_refusal_short}
 
 -- ---- the loop over the words of an image
 
-module _ {S : Type 0} (taken : S → ℕ → S) (sink : S) (image : List ℕ) (i : ℕ) where
-  pub word_put : {after : S} → i < length image / 4 → after ≡ fed taken sink (word_line (word_at image i))
-      → fed taken after (word_lines (drop (i + 1) (words_of image))) ≡ fed taken sink (word_lines (drop i (words_of image)))
+module _ {S : Type 0} (taken : S → ℕ → S) (sink : S) (words : List (List ℕ)) (i : ℕ) where
+  pub word_put : {after : S} (d : List ℕ) → i < length words → after ≡ fed taken sink (word_line (word_from (get_or words i d)))
+      → fed taken after (word_lines (words_in (drop (i + 1) words))) ≡ fed taken sink (word_lines (words_in (drop i words)))
   unfolding word_lines
-  word_put h e =
-      let k : i < length (words_of image) = rw (words_length image) h in
-      let here : drop i (words_of image) ≡ word_at image i ∷ drop (i + 1) (words_of image) = rw add-one (drop-cons (words_of image) i 0 k) in
-      let rest : List ℕ = word_lines (drop (i + 1) (words_of image)) in
-      fed_then taken sink (word_line (word_at image i)) rest e refl ∙ ap (fed taken sink) (sym (ap word_lines here))
+  word_put d h e =
+      let here : drop i words ≡ get_or words i d ∷ drop (i + 1) words = rw add-one (drop-cons words i d h) in
+      fed_then taken sink (word_line (word_from (get_or words i d))) (word_lines (words_in (drop (i + 1) words))) e refl
+      ∙ ap (λ (ws : List (List ℕ)). fed taken sink (word_lines (words_in ws))) (sym here)
 
-  pub words_put : length image / 4 ≤ i → sink ≡ fed taken sink (word_lines (drop i (words_of image)))
+  pub words_put : length words ≤ i → sink ≡ fed taken sink (word_lines (words_in (drop i words)))
   unfolding word_lines
-  words_put h =
-      let k : length (words_of image) ≤ i = rw (words_length image) h in
-      sym (ap (λ (ws : List ℕ). fed taken sink (word_lines ws)) (drop_of_length-le (words_of image) k) ∙ fed-none taken sink)
+  words_put h = sym (ap (λ (ws : List (List ℕ)). fed taken sink (word_lines (words_in ws))) (drop_of_length-le words h) ∙ fed-none taken sink)
 
 -- ---- the length of the listing
 

@@ -1,15 +1,35 @@
 //! The epoch lines of a session.
 ghost use Rattle.std.specs.Prelude.{◌≡◌, ◌≤◌, [], ◌∷◌, length};
+ghost use Rattle.output.specs.Sink.{fed};
 ghost use Rattle.session.specs.Owed.{Good, Room, Took};
+ghost use Rattle.session.specs.Printed.{decision_line};
 ghost use Rattle.session.specs.Steps.Ended.{LineEnded};
 ghost use Rattle.session.specs.declared.state.Phase.{Phase};
 
-use crate::page::{put_accept, put_refused};
 use crate::state::{HELD_SIZE, LINE_HELD, OUT_SIZE, State, push};
 use image::IMAGE_SIZE;
 use monitor::Decision;
+use output::{Page, Sink};
+
+/// The decision of an epoch.
+#[tactic(auto, unfolding(crate::specs::Printed::decision_line))]
+fn put_decision<S: Sink>(sink: &mut S, number: u64, decision: Decision)
+    ensures { sink.new ≡ fed S.taken sink.old (decision_line number decision) }
+{
+    match decision {
+        Decision::Refused(refusal) => report::put_refused(sink, number, refusal.fault),
+        Decision::Issued(actions) => report::put_accept(
+            sink,
+            number,
+            actions.accepted,
+            actions.cancelled,
+            actions.visited as u64,
+        ),
+    }
+}
 
 /// The epoch line is complete.
+#[tactic(auto, using(output::proofs::SinkLaws::stored_all))]
 pub(crate) fn end_line(state: State, held: &[u8], image: &[u8], out: &mut [u8; OUT_SIZE]) -> State
     requires start { state.start ≡ 0 }
     requires inside { state.count ≤ length held.now }
@@ -18,31 +38,20 @@ pub(crate) fn end_line(state: State, held: &[u8], image: &[u8], out: &mut [u8; O
     requires room { Room state }
     ensures { LineEnded state held.now image.now out.old result out.new }
 {
-    let mode = state.mode;
-    let size = state.size;
-    let count = state.count;
-    let mut next = state;
-    next.start = 0;
-    next.count = 0;
-    next.epochs = std::num::wrapping_add_u64(state.epochs, 1);
-    let decision = monitor::decide(&image[..size], &held[..count], mode);
-    match decision {
-        Decision::Refused(refusal) => {
-            let fault = refusal.fault;
-            next.used = put_refused(out, state.used, next.epochs, fault);
-        }
-        Decision::Issued(actions) => {
-            next.used = put_accept(
-                out,
-                state.used,
-                next.epochs,
-                actions.accepted,
-                actions.cancelled,
-                actions.visited as u64,
-            );
-        }
+    let decision = monitor::decide(&image[..state.size], &held[..state.count], state.mode);
+    let epochs = state.epochs.wrapping_add(1);
+    let mut page = Page {
+        bytes: out,
+        end: state.used,
+    };
+    put_decision(&mut page, epochs, decision);
+    State {
+        start: 0,
+        count: 0,
+        epochs,
+        used: page.end,
+        ..state
     }
-    next
 }
 
 /// A byte of an epoch line. There is room for a line of the full length and one byte more, which tells that it is too long.

@@ -8,7 +8,6 @@ mod engine;
 mod epoch;
 mod listing;
 mod mode;
-mod page;
 mod state;
 mod text;
 

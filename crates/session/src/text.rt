@@ -8,10 +8,10 @@ ghost use Rattle.session.specs.Steps.Ended.{TextEnded};
 ghost use Rattle.session.specs.declared.state.Phase.{Phase};
 
 use crate::mode::{Picked, pick_mode};
-use crate::page::put_refusal;
 use crate::state::{HELD_SIZE, OUT_SIZE, Phase, State, TEXT_HELD, push};
 use codegen::Compiled;
 use image::IMAGE_SIZE;
+use output::Page;
 use policy::Mode;
 
 /// What the current line of the text picks.
@@ -26,6 +26,7 @@ pub(crate) fn at_run(state: State, held: &[u8]) -> Picked
 }
 
 /// The text is complete: the first `end` bytes that are held. Epochs will be decided in `mode`.
+#[tactic(auto, using(output::proofs::SinkLaws::stored_all))]
 pub(crate) fn end_text(
     state: State,
     mode: Mode,
@@ -42,15 +43,22 @@ pub(crate) fn end_text(
 {
     let compiled = codegen::compile(&held[..end], image);
     match compiled {
-        Compiled::Refused(refusal) => State {
-            phase: Phase::Over,
-            mode,
-            start: 0,
-            count: 0,
-            epochs: 0,
-            size: 0,
-            used: put_refusal(out, state.used, refusal),
-        },
+        Compiled::Refused(refusal) => {
+            let mut page = Page {
+                bytes: out,
+                end: state.used,
+            };
+            report::put_refusal(&mut page, refusal);
+            State {
+                phase: Phase::Over,
+                mode,
+                start: 0,
+                count: 0,
+                epochs: 0,
+                size: 0,
+                used: page.end,
+            }
+        }
         Compiled::Image(size) => State {
             phase: Phase::Epochs,
             mode,

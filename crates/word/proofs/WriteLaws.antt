@@ -1,10 +1,10 @@
 -- Laws of words put into a buffer: what four stores do, and that putting words and then others behind them is putting both.
-use Rattle.std.proofs.Common.{ℕ, suc, ◌+◌, ◌*◌, ◌/◌, ◌%◌, ◌^◌, ◌≤◌, ◌<◌, Bool, true, false, cond, List, [], ◌∷◌, ◌++◌, append_assoc, append-nil, ◌≡◌, refl, sym, ap, ap₂, ◌∙◌, add_assoc, add-zero, arith, le-leb, leb-true, length, take, drop, length-append, length-drop, take-append-drop, take_at, drop-drop, length-take-le}
+use Rattle.std.proofs.Common.{ℕ, ◌+◌, ◌-◌, ◌*◌, ◌/◌, ◌≤◌, ◌<◌, Bool, true, false, cond, List, [], ◌∷◌, ◌++◌, append_assoc, append-nil, ◌≡◌, refl, sym, ap, ap₂, ◌∙◌, add_assoc, add-zero, arith, le-leb, leb-true, length, take, drop, length-append, length-drop, take-append-drop, take_at, drop-drop, length-take-le}
 use Rattle.std.proofs.lemmas.Bool.{lt-leb}
-use Rattle.std.proofs.Math.ListN.{set}
-use Rattle.std.proofs.Math.Seq.{sets-eq, take-append_seam, take-append-le, drop-append-le, drop-append-add}
+use Rattle.std.proofs.Math.Seq.{take-append_seam, take-append-le, drop-append-le, drop-append-add}
 use Rattle.word.proofs.WordLaws.{bytes_append, bytes_length}
-use Rattle.word.specs.Word.{bytes_of}
+use Rattle.std.specs.Int.{w32, to_be_bytes}
+use Rattle.word.specs.Word.{bytes_of, byte_list}
 use Rattle.word.specs.Steps.Write.{put_bytes, fits, put_words}
 
 pub fits_in : (buffer : List ℕ) (index count : ℕ) → index + count ≤ length buffer / 4 → fits buffer index count ≡ true
@@ -23,18 +23,14 @@ pub put_out : (buffer : List ℕ) (index : ℕ) (words : List ℕ) → length bu
 unfolding put_words
 put_out buffer index words h = rw (fits_out buffer index (length words) h)
 
--- four stores
-pub store_word : (buffer : List ℕ) (index w : ℕ) → index < length buffer / 4
-    → set (set (set (set buffer (index * 4) (w / 2 ^ 24 % 256)) (index * 4 + 1) (w / 2 ^ 16 % 256)) (index * 4 + 2) (w / 2 ^ 8 % 256)) (index * 4 + 3) (w % 256)
-    ≡ put_words buffer index (w ∷ [])
+-- the four bytes of a word, written at once
+pub store_word : (buffer bytes : List ℕ) (index w : ℕ) → index < length buffer / 4 → bytes ≡ to_be_bytes w32 w
+    → take (index * 4) buffer ++ (bytes ++ drop (index * 4 + 4 - index * 4) (drop (index * 4) buffer)) ≡ put_words buffer index (w ∷ [])
 unfolding put_bytes bytes_of
-store_word buffer index w h =
-    let e₁ : index * 4 + 1 ≡ suc (index * 4) = omega arith in
-    let e₂ : index * 4 + 2 ≡ suc (suc (index * 4)) = omega arith in
-    let e₃ : index * 4 + 3 ≡ suc (suc (suc (index * 4))) = omega arith in
-    rw (e₁, e₂, e₃)
-    (sets-eq (w / 2 ^ 24 % 256 ∷ w / 2 ^ 16 % 256 ∷ w / 2 ^ 8 % 256 ∷ w % 256 ∷ []) buffer (index * 4) (omega arith)
-    ∙ sym (put_in buffer index (w ∷ []) (omega arith)))
+store_word buffer bytes index w h e =
+    let n : index * 4 + 4 - index * 4 ≡ 4 = omega arith in
+    rw (e, n, put_in buffer index (w ∷ []) (omega arith)) (ap (λ (rest : List ℕ). take (index * 4) buffer ++ (byte_list w ++ rest)) (drop-drop 4 (index * 4) buffer)
+    ∙ sym (append_assoc (take (index * 4) buffer) (byte_list w) (drop (index * 4 + 4) buffer)))
 
 -- ---- one after the other
 

@@ -60,16 +60,14 @@ pub fn word_in(bytes: &[u8], index: usize) -> u32
 }
 
 /// Whether the word fits at the index. Where it does not, the buffer stays as it is.
+#[tactic(auto, using(crate::proofs::WriteLaws::fits_in, crate::proofs::WriteLaws::fits_out, crate::proofs::WriteLaws::put_out, crate::proofs::WriteLaws::store_word))]
 pub fn put_word(buffer: &mut [u8], index: usize, word: u32) -> bool
     ensures answer { result ≡ fits buffer.old index 1 }
     ensures buffer { buffer.new ≡ put_words buffer.old index (word ∷ []) }
 {
     if index < buffer.len() / 4 {
         let at = index * 4;
-        buffer[at] = ((word >> 24) % 256) as u8;
-        buffer[at + 1] = ((word >> 16) % 256) as u8;
-        buffer[at + 2] = ((word >> 8) % 256) as u8;
-        buffer[at + 3] = (word % 256) as u8;
+        buffer[at..at + 4].copy_from_slice(&word.to_be_bytes());
         true
     } else {
         false

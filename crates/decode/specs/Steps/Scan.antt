@@ -1,10 +1,10 @@
 -- How the code goes over a line, word by word. That this finds the lines that `line_at` finds, and their values, is proved
--- (`scan_line_is` in proofs/ScanLines.antt, `line_answer_is` in proofs/ReadLaws.antt): a reader need not believe this file.
-use Rattle.std.specs.Prelude.{ℕ, zero, suc, ◌+◌, ◌-◌, ◌%◌, ◌^◌, min, Bool, true, false, not, cond, ◌&&◌, ◌||◌, List, [], eqb, ltb, leb, length, drop, get_or, set}
+-- (`scan_line_is` in proofs/ScanLines.antt, `line_from_is` in proofs/ReadLaws.antt): a reader need not believe this file.
+use Rattle.std.specs.Prelude.{ℕ, zero, suc, ◌+◌, ◌-◌, ◌*◌, ◌/◌, ◌%◌, ◌^◌, ◌<◌, ◌≤◌, ◌≡◌, Bool, true, false, not, cond, ◌&&◌, ◌||◌, List, [], ◌∷◌, map, fold, eqb, ltb, leb, length, take, drop, get_or, set}
 use Rattle.line_value.specs.Value.{head, line_of}
-use Rattle.policy.specs.Limits.{head_limit, comparison_limit}
 use Rattle.policy.specs.Line.{operand_constants}
-use Rattle.policy.specs.Set.{has, insert}
+use Rattle.policy.specs.Limits.{head_limit, comparison_limit, repeats}
+use Rattle.policy.specs.Set.{insert}
 use Rattle.policy.specs.declared.line.Ending.{Ending}
 use Rattle.line_value.specs.declared.Line.{Line}
 use Rattle.policy.specs.declared.line.Test.{Test}
@@ -12,7 +12,6 @@ use Rattle.operation.specs.Operation.{opcode}
 use Rattle.operation.specs.Parts.{ending_word, event_from, action_from, constant_comparison, reading_comparison}
 use Rattle.operation.specs.Fields.{opcode_of, operation_of, first_of, second_of, relation_code_of, skip_of}
 use Rattle.operation.specs.declared.operation.Operation.{Operation}
-use Rattle.decode.specs.declared.LineAt.{LineAt}
 use Rattle.decode.specs.declared.LinePart.{LinePart}
 use Rattle.policy.specs.declared.line.Part.{Part}
 
@@ -35,25 +34,60 @@ is_head Part.Constraints Operation.Member = true
 is_head Part.Constraints Operation.Never = false
 is_head Part.Constraints Operation.Unknown = false
 
+-- ---- words by one comparison: each less the word that is expected, and turned
+
+-- one word less another, as words are subtracted
+abbrev pub less : ℕ → ℕ → ℕ
+less w other = (w + (2 ^ 32 - other)) % 2 ^ 32
+
+-- the number lowest, the operation behind it, and above them what is below a number
+abbrev pub number_lowest : ℕ → ℕ → ℕ
+number_lowest w other = less w other / 2 ^ 22 + less w other % 2 ^ 22 * 2 ^ 10
+
+-- the relation lowest, the second number and the first behind it, the operation, and above them what is below a relation
+abbrev pub relation_lowest : ℕ → ℕ → ℕ
+relation_lowest w other = less w other / 2 ^ 13 + less w other % 2 ^ 13 * 2 ^ 19
+
+-- the first operation of heads, as a word with nothing else, and how many operations they have
+abbrev pub first_head : Part → ℕ
+first_head Part.Rules = opcode Operation.Present * 2 ^ 28
+first_head Part.Constraints = opcode Operation.Member * 2 ^ 28
+
+abbrev pub head_operations : Part → ℕ
+head_operations Part.Rules = 2
+head_operations Part.Constraints = 1
+
+-- the same of endings, and how many numbers they have
+abbrev pub first_ending : Part → ℕ
+first_ending Part.Rules = opcode Operation.Proposes * 2 ^ 28
+first_ending Part.Constraints = opcode Operation.Never * 2 ^ 28
+
+abbrev pub ending_numbers : Part → ℕ
+ending_numbers Part.Rules = 64
+ending_numbers Part.Constraints = 1
+
+-- ---- a line
+
 -- the ending word of a line: the action of a rule is free, all other bits are given
 unfoldable pub is_ending : Part → ℕ → Bool
 is_ending Part.Rules w = eqb (opcode_of w) (opcode Operation.Proposes) && eqb (w % 2 ^ 22) 0
 is_ending Part.Constraints w = eqb w (ending_word Ending.Never)
 
--- the operations of heads, one bit each
-unfoldable pub head_opcodes : Part → ℕ
-head_opcodes Part.Rules = 2 ^ opcode Operation.Present + 2 ^ opcode Operation.Absent
-head_opcodes Part.Constraints = 2 ^ opcode Operation.Member
-
 -- whether the word w may stand as a head, with `left` words of the line behind it
-unfoldable pub head_sound : Part → ℕ → ℕ → ℕ → Bool
-head_sound part seen w left = eqb (w % 2 ^ 22) left && is_head part (operation_of w) && not (has seen (first_of w))
+unfoldable pub head_sound : Part → ℕ → ℕ → Bool
+head_sound part w left = eqb (w % 2 ^ 22) left && is_head part (operation_of w)
 
 -- how many heads there are, of n words before the ending word
-unfoldable pub count_heads : Part → ℕ → ℕ → List ℕ → ℕ
-count_heads part seen zero ws = 0
-count_heads part seen (suc n) ws =
-    cond (head_sound part seen (get_or ws 0 0) (suc n)) (suc (count_heads part (insert seen (first_of (get_or ws 0 0))) n (drop 1 ws))) 0
+unfoldable pub count_heads : Part → ℕ → List ℕ → ℕ
+count_heads part zero ws = 0
+count_heads part (suc n) ws = cond (head_sound part (get_or ws 0 0) (suc n)) (suc (count_heads part n (drop 1 ws))) 0
+
+-- the numbers of so many heads, and as a set
+abbrev pub head_numbers : ℕ → List ℕ → List ℕ
+head_numbers n ws = map first_of (take n ws)
+
+abbrev pub numbers_of : List ℕ → ℕ
+numbers_of ns = fold insert 0 ns
 
 unfoldable pub constant_sound : ℕ → ℕ → Bool
 constant_sound w left = ltb (first_of w) 16 && ltb (relation_code_of w) 6 && eqb (second_of w) 0 && eqb (w % 2 ^ 13 + 1) left && ltb 1 left
@@ -75,6 +109,12 @@ length_by Operation.Unknown w left = 0
 unfoldable pub comparison_length : ℕ → ℕ → ℕ
 comparison_length w left = length_by (operation_of w) w left
 
+-- the words behind the comparison that words begin with
+pub record IsBehind (ws behind : List ℕ) : Type 0 where
+  pub some : 0 < comparison_length (get_or ws 0 0) (length ws)
+  pub inside : comparison_length (get_or ws 0 0) (length ws) ≤ length ws
+  pub behind_it : behind ≡ drop (comparison_length (get_or ws 0 0) (length ws)) ws
+
 -- whether comparisons, at most so many, fill n words
 unfoldable pub comparisons_fill : ℕ → ℕ → List ℕ → Bool
 comparisons_fill zero n ws = eqb n 0
@@ -87,8 +127,8 @@ comparisons_fill (suc room) n ws =
 unfoldable pub scan_line : Part → List ℕ → ℕ
 scan_line part ws =
     let n : ℕ = skip_of (get_or ws 0 0) in
-    let h : ℕ = count_heads part 0 n ws in
-    cond (ltb n (length ws) && is_ending part (get_or ws n 0) && ltb 0 h && leb h 8 && comparisons_fill 4 (n - h) (drop h ws)) (n + 1) 0
+    let h : ℕ = count_heads part n ws in
+    cond (ltb n (length ws) && is_ending part (get_or ws n 0) && ltb 0 h && leb h 8 && not (repeats (head_numbers h ws)) && comparisons_fill 4 (n - h) (drop h ws)) (n + 1) 0
 
 -- ---- the value of a line, word by word
 
@@ -127,15 +167,12 @@ with_part (LinePart.Ending e) l =
     record { heads = l.heads; head_count = l.head_count; comparisons = l.comparisons; comparison_count = l.comparison_count; ending = e }
 with_part LinePart.Nothing l = l
 
--- so many words, of which the first k are constants
-unfoldable pub value_from : Line → ℕ → ℕ → List ℕ → Line
-value_from l zero k ws = l
-value_from l (suc n) (suc k) ws = value_from l n k (drop 1 ws)
-value_from l (suc n) zero ws = value_from (with_part (part_at ws 0) l) n (constants_of (part_at ws 0)) (drop 1 ws)
+-- with the parts of more words, of which the first k are constants
+unfoldable pub with_words : Line → ℕ → List ℕ → Line
+with_words l k [] = l
+with_words l (suc k) (w ∷ ws) = with_words l k ws
+with_words l zero (w ∷ ws) = with_words (with_part (part_at (w ∷ ws) 0) l) (constants_of (part_at (w ∷ ws) 0)) ws
 
--- the line at a word, up to the word that its first skip tells, and where the next one starts; past the last word a line with no part
-unfoldable pub line_answer : List ℕ → ℕ → LineAt
-line_answer ws at =
-    let next : ℕ = min (at + (skip_of (get_or ws at 0) + 1)) (length ws) in
-    cond (ltb at (length ws)) (record { line = value_from (line_of [] [] Ending.Never) (next - at) 0 (drop at ws); next = next })
-    (record { line = line_of [] [] Ending.Never; next = at })
+-- the line that words say
+abbrev pub line_from : List ℕ → Line
+line_from ws = with_words (line_of [] [] Ending.Never) 0 ws

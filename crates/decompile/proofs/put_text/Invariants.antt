@@ -1,10 +1,9 @@
-use Rattle.std.proofs.Common.{◌≡◌, ◌-◌}
-use Rattle.word.specs.Word.{words_of}
+use Rattle.std.proofs.Common.{◌≡◌}
 use Rattle.output.specs.Sink.{fed}
-use Rattle.decompile.proofs.WalkLaws.{left_text}
+use Rattle.decompile.specs.Steps.Walk.{values_left, text_of_values}
 use Rattle.decompile.proofs.put_text.Given as goal
 
-abbrev pub invariant-loop-i : goal.invariant-loop-i
-invariant-loop-i g l =
-    fed g.S.Sink.taken l.sink (left_text (words_of l.image) (l.lines - l.i) l.at)
-    ≡ fed g.S.Sink.taken l.initial.sink (left_text (words_of l.image) l.lines 1)
+abbrev pub invariant-loop-line : goal.invariant-loop-line
+invariant-loop-line g l =
+    (goal.iterator-loop-line g).can_next l.line-iterator × (goal.iterator-loop-line g).is_finite l.line-iterator
+    × (fed g.S.Sink.taken l.sink (text_of_values (values_left l.line-iterator)) ≡ fed g.S.Sink.taken l.initial.sink (text_of_values (values_left l.initial.lines)))

@@ -1,36 +1,53 @@
-use Rattle.std.proofs.Common.{ℕ, ◌+◌, ◌-◌, ◌≤◌, List, ◌≡◌, sym, ap, subst, ◌∙◌, arith, length, drop, take}
-use Rattle.word.specs.Word.{between, words_of}
+use Rattle.std.proofs.Common.{ℕ, ◌+◌, ◌≡◌, ◌≤◌, List, refl, ap, sym, ◌∙◌, subst, arith, length, drop, Ok}
+use Rattle.policy.proofs.ListLaws.{true_false}
+use Rattle.word.proofs.ChunkLaws.{words_in_length}
+use Rattle.word.specs.Chunk.{words_in}
 use Rattle.decode.specs.Decode.{line_at, line_length}
-use Rattle.image.specs.declared.walker.Walker.{Walker}
 use Rattle.image.proofs.PartLaws.{Counted, counted_full, counted_fault, counted_more, counted_all}
 use Rattle.image.proofs.load.part_lines.Goals as goal
 
-pub returns-then-count-limit : goal.returns-then-count-limit
-unfolding between
-returns-then-count-limit c =
-    counted_full c.args.part c.args.image.now c.args.start c.args.end c.args.limit c.requires.1 _ _ c.loop-walker.invariant.1 c.loop-walker-test.true c.if-count-limit.true
+pub returns-then-is_at_end : goal.returns-then-is_at_end
+returns-then-is_at_end c =
+    let k = ap length c.loop-count.invariant.same_words in
+    let l = words_in_length c.args.words.now in
+    let e : length c.loop-count.walker.words.now ≤ c.loop-count.walker.at = c.if-is_at_end.ensures.0 refl in
+    counted_all c.args.part (words_in c.args.words.now) c.args.first c.args.limit c.loop-count.walker.at c.loop-count.count c.loop-count.invariant.counted (omega arith)
 
-pub returns-then-words-eq0 : goal.returns-then-words-eq0
-unfolding between
-returns-then-words-eq0 c =
-    let e : c.line_length-words.result ≡ line_length (line_at c.args.part (drop c.loop-walker.walker.at (take c.args.end (words_of c.args.image.now)))) =
-    c.line_length-words.ensures ∙ ap (λ (b : List ℕ). line_length (line_at c.args.part (drop c.loop-walker.walker.at (take c.args.end (words_of b))))) c.loop-walker.invariant.0 in
-    counted_fault c.args.part c.args.image.now c.args.start c.args.end c.args.limit c.requires.1 _ _ _ c.loop-walker.invariant.1 c.loop-walker-test.true c.if-count-limit.false e c.if-words-eq0.true
+pub returns-in_default : goal.returns-in_default
+returns-in_default c =
+    let k = ap length c.loop-count.invariant.same_words in
+    let l = words_in_length c.args.words.now in
+    let e : length c.loop-count.walker.words.now ≤ c.loop-count.walker.at → ⊥ = λ q. true_false (c.if-is_at_end.ensures.1 q) refl in
+    counted_fault c.args.part (words_in c.args.words.now) c.args.first c.args.limit c.loop-count.walker.at c.loop-count.count c.loop-count.invariant.counted (omega arith) c.loop-count-test.true
+    (subst (λ (chunks : List (List ℕ)). line_length (line_at c.args.part (drop c.loop-count.walker.at (words_in chunks))) ≡ 0) c.loop-count.invariant.same_words c.in_default.ensures)
 
-pub loop-walker-preserved : goal.loop-walker-preserved
-unfolding between
-loop-walker-preserved c =
-    let e : c.line_length-words.result ≡ line_length (line_at c.args.part (drop c.loop-walker.walker.at (take c.args.end (words_of c.args.image.now)))) =
-    c.line_length-words.ensures ∙ ap (λ (b : List ℕ). line_length (line_at c.args.part (drop c.loop-walker.walker.at (take c.args.end (words_of b))))) c.loop-walker.invariant.0 in
-    let m = counted_more c.args.part c.args.image.now c.args.start c.args.end c.args.limit c.requires.1 _ _ _ c.loop-walker.invariant.1 c.loop-walker-test.true c.if-count-limit.false e c.if-words-eq0.false in
-    let n : c.line_length-words.result ≤ c.args.end - c.loop-walker.walker.at = m.0 in
-    let k : c.moved-walker.result.at ≡ c.loop-walker.walker.at + c.line_length-words.result =
-    omega (arith, n, ap (λ (w : Walker). w.at) c.moved-walker.ensures, ap length c.loop-walker.invariant.0, c.requires.1, c.loop-walker-test.true) in (
-      ap (λ (w : Walker). w.image.now) c.moved-walker.ensures ∙ c.loop-walker.invariant.0,
-      subst (λ (i : ℕ). Counted c.args.part c.args.image.now c.args.start c.args.end c.args.limit i (c.loop-walker.count + 1)) (sym k) m.1,
-    )
+pub loop-count-preserved : goal.loop-count-preserved
+loop-count-preserved c =
+    let k = ap length c.loop-count.invariant.same_words in
+    let l = words_in_length c.args.words.now in
+    let e : length c.loop-count.walker.words.now ≤ c.loop-count.walker.at → ⊥ = λ q. true_false (c.if-is_at_end.ensures.1 q) refl in
+    let p = c.in-Some.ensures in
+    let n : ℕ = line_length (line_at c.args.part (drop c.loop-count.walker.at (words_in c.loop-count.walker.words.now))) in
+    let q : n ≡ line_length (line_at c.args.part (drop c.loop-count.walker.at (words_in c.args.words.now))) =
+    ap (λ (chunks : List (List ℕ)). line_length (line_at c.args.part (drop c.loop-count.walker.at (words_in chunks)))) c.loop-count.invariant.same_words in
+    record {
+      same_words = ap (λ w. w.now) p.same ∙ c.loop-count.invariant.same_words;
+      counted =
+          subst (λ (i : ℕ). Counted c.args.part (words_in c.args.words.now) c.args.first c.args.limit i (c.loop-count.count + 1)) (sym p.moved)
+          (counted_more c.args.part (words_in c.args.words.now) c.args.first c.args.limit c.loop-count.walker.at c.loop-count.count c.loop-count.invariant.counted n (omega arith) c.loop-count-test.true q p.some);
+    }
 
-pub returns : goal.returns
-unfolding between
-returns c =
-    counted_all c.args.part c.args.image.now c.args.start c.args.end c.args.limit c.requires.1 _ _ c.loop-walker.invariant.1 c.loop-walker-test.false
+pub returns-then-is_at_end-2 : goal.returns-then-is_at_end-2
+returns-then-is_at_end-2 c =
+    let k = ap length c.loop-count.invariant.same_words in
+    let l = words_in_length c.args.words.now in
+    let e : length c.loop-count.walker.words.now ≤ c.loop-count.walker.at = c.if-is_at_end-2.ensures.0 refl in
+    let all : c.args.limit ≡ c.loop-count.count = omega arith in
+    ap Ok all ∙ counted_all c.args.part (words_in c.args.words.now) c.args.first c.args.limit c.loop-count.walker.at c.loop-count.count c.loop-count.invariant.counted (omega arith)
+
+pub returns-else-is_at_end-2 : goal.returns-else-is_at_end-2
+returns-else-is_at_end-2 c =
+    let k = ap length c.loop-count.invariant.same_words in
+    let l = words_in_length c.args.words.now in
+    let e : length c.loop-count.walker.words.now ≤ c.loop-count.walker.at → ⊥ = λ q. true_false (c.if-is_at_end-2.ensures.1 q) refl in
+    counted_full c.args.part (words_in c.args.words.now) c.args.first c.args.limit c.loop-count.walker.at c.loop-count.count c.loop-count.invariant.counted (omega arith) (omega arith)

@@ -1,9 +1,7 @@
-use Rattle.std.proofs.Common.{◌-◌, ◌≡◌}
+use Rattle.std.proofs.Common.{◌≡◌}
+use Rattle.word.specs.Chunk.{words_in}
 use Rattle.image.proofs.PartLaws.{Counted}
 use Rattle.image.proofs.load.part_lines.Given as goal
 
-abbrev pub invariant-loop-walker : goal.invariant-loop-walker
-invariant-loop-walker l = (l.walker.image.now ≡ l.image) × Counted l.part l.image l.start l.end l.limit l.walker.at l.count
-
-abbrev pub decreases-loop-walker : goal.decreases-loop-walker
-decreases-loop-walker l = l.end - l.walker.at
+abbrev pub invariant-loop-count : goal.invariant-loop-count
+invariant-loop-count l = record { same_words : l.walker.words.now ≡ l.words; counted : Counted l.part (words_in l.words) l.first l.limit l.walker.at l.count }

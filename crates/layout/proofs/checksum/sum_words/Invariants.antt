@@ -1,10 +1,8 @@
-use Rattle.std.proofs.Common.{◌-◌, length}
+use Rattle.std.proofs.Common.{◌≡◌, ◌%◌, take}
 use Rattle.word.specs.Chunk.{words_in}
-use Rattle.layout.proofs.SumLaws.{Summing}
+use Rattle.word.specs.Word.{word_limit}
+use Rattle.layout.specs.Layout.{sum}
 use Rattle.layout.proofs.checksum.sum_words.Given as goal
 
-abbrev pub invariant-loop-i : goal.invariant-loop-i
-invariant-loop-i l = Summing (words_in l.words) l.total l.i
-
-abbrev pub decreases-loop-i : goal.decreases-loop-i
-decreases-loop-i l = length l.words - l.i
+abbrev pub invariant-loop-word : goal.invariant-loop-word
+invariant-loop-word l = l.total ≡ sum (words_in (take l.word-index l.words)) % word_limit

@@ -10,11 +10,11 @@ returns-in-Constant c =
     let f : SFits w32 c.in-Constant.k = search rules in
     let a = c.args in
     let room : a.index + 2 ≤ length a.buffer.now / 4 = rw c.in-Constant.is at c.requires in
-    put_constant _ _ _ _ _ _ _ _ room c.put_word.ensures.buffer c.put_word-in-Constant.ensures.buffer c.comparison_word-word.ensures (c.constant_word.ensures ∙ ap (of_z w32) (to_z-of_z f))
+    put_constant _ _ _ _ _ _ _ _ room c.put_word.ensures.buffer c.put_word-in-Constant.ensures.buffer c.comparison_word.ensures (c.constant_word.ensures ∙ ap (of_z w32) (to_z-of_z f))
     ∙ ap (λ (ks : List ℕ). put_words a.buffer.now a.index (comparison_word a.comparison a.skip ∷ ks)) (sym (ap constant_words c.in-Constant.is))
 
 pub returns-in-Reading : goal.returns-in-Reading
 unfolding comparison_words constant_words
 returns-in-Reading c =
-    c.put_word-in-Reading.ensures.buffer
-    ∙ ap₂ (λ (w : ℕ) (ks : List ℕ). put_words c.args.buffer.now c.args.index (w ∷ ks)) c.comparison_word-word.ensures (sym (ap constant_words c.in-Reading.is))
+    c.put_word.ensures.buffer
+    ∙ ap₂ (λ (w : ℕ) (ks : List ℕ). put_words c.args.buffer.now c.args.index (w ∷ ks)) c.comparison_word.ensures (sym (ap constant_words c.in-Reading.is))

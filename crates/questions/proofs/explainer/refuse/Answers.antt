@@ -15,22 +15,22 @@ refusal_put : (x : Refusal) (out after : List ℕ) (end : ℕ) → x.location < 
 refusal_put x out after end small room put = put_take out 0 (texts_refusal_line x) after end (omega (arith, texts_refusal_short x small)) put
 
 pub slice_bounds-out-end : goal.slice_bounds-out-end
-slice_bounds-out-end g c = put_within _ _ _ _ _ (c.put_texts_refusal-end.ensures.answer, c.put_texts_refusal-end.ensures.buffer)
+slice_bounds-out-end g c = put_within _ _ _ _ _ (c.put_refusal-end.ensures.answer, c.put_refusal-end.ensures.buffer)
 
 pub slice_bounds-write_whole-end : goal.slice_bounds-write_whole-end
 slice_bounds-write_whole-end g c =
-    sym (length-take-le _ _ (put_within _ _ _ _ _ (c.put_texts_refusal-end.ensures.answer, c.put_texts_refusal-end.ensures.buffer)))
+    sym (length-take-le _ _ (put_within _ _ _ _ _ (c.put_refusal-end.ensures.answer, c.put_refusal-end.ensures.buffer)))
 
 pub returns-in-Ok-clause-ok : goal.returns-in-Ok-clause-ok
 returns-in-Ok-clause-ok g c =
-    let put = c.put_texts_refusal-end.ensures in
+    let put = c.put_refusal-end.ensures in
     let x = c.args.refusal in
     let small : x.location < 2 ^ 64 = search rules in
     subst (Sends _ _ _) (refusal_put x _ _ _ small (search (rules, arith)) (put.answer, put.buffer)) c.in-Ok.ensures.ok
 
 pub returns-in-Err-clause-err : goal.returns-in-Err-clause-err
 returns-in-Err-clause-err g c =
-    let put = c.put_texts_refusal-end.ensures in
+    let put = c.put_refusal-end.ensures in
     let x = c.args.refusal in
     let small : x.location < 2 ^ 64 = search rules in
     let old = g.E.Ends.known c.args.ends.now in

@@ -1,11 +1,12 @@
 use Rattle.std.proofs.Common.{arith}
+use Rattle.output.proofs.SinkLaws.{page_put}
 use Rattle.session.proofs.EndLaws.{text_refused, text_accepted}
 use Rattle.session.proofs.text.end_text.Goals as goal
 
 pub returns-in-Refused : goal.returns-in-Refused
 returns-in-Refused c =
     text_refused _ _ c.args.state _ _ c.compile-compiled.result _ c.compile-compiled.ensures.answer c.compile-compiled.ensures.buffer c.compile-compiled.auto.out c.requires.image_sized c.requires.out_sized c.requires.room
-    _ _ _ c.in-Refused.is (omega arith) (c.put_refusal.ensures.answer, c.put_refusal.ensures.buffer)
+    _ _ _ c.in-Refused.is (omega arith) (page_put _ _ _ c.put_refusal.ensures (omega arith))
 
 pub returns-in-Image : goal.returns-in-Image
 returns-in-Image c =

@@ -1,0 +1,76 @@
+-- What a walker gives: over the words of valid lines their values.
+use Rattle.std.proofs.Common.{ℕ, zero, suc, ◌+◌, ◌<◌, min, true, List, [], ◌∷◌, ◌++◌, map, ◌≡◌, refl, sym, ap, ap₂, ◌∙◌, arith, length, take, drop, drop_at, drop-drop, length-append}
+use Rattle.policy.proofs.ListLaws.{and_out}
+use Rattle.policy.specs.Limits.{valid}
+use Rattle.policy.specs.Line.{PolicyLine}
+use Rattle.policy.specs.List.{all}
+use Rattle.line_value.specs.Value.{line_value}
+use Rattle.line_value.specs.declared.Line.{Line}
+use Rattle.word.proofs.ChunkLaws.{words_in_length}
+use Rattle.word.specs.Chunk.{word_from, words_in}
+use Rattle.operation.specs.Fields.{skip_of}
+use Rattle.layout.specs.Layout.{line_words, lines_words}
+use Rattle.decode.proofs.FoundLaws.{line_some}
+use Rattle.decode.proofs.ReadLaws.{line_from_is, first_skip}
+use Rattle.decode.specs.Steps.Scan.{line_from}
+use Rattle.image.specs.Steps.Values.{values_behind, told_length}
+
+take_some : (k : ℕ) (xs : List ℕ) → take (min k (length xs)) xs ≡ take k xs
+take_some zero xs = let z : min 0 (length xs) ≡ 0 = omega arith in ap (λ (n : ℕ). take n xs) z
+take_some (suc k) [] = let z : min (suc k) 0 ≡ 0 = omega arith in ap (λ (n : ℕ). take n []) z
+take_some (suc k) (x ∷ xs) = let e : min (suc k) (suc (length xs)) ≡ suc (min k (length xs)) = omega arith in ap (λ (n : ℕ). take n (x ∷ xs)) e ∙ ap (λ (ys : List ℕ). x ∷ ys) (take_some k xs)
+
+drop_some : (k : ℕ) (xs : List ℕ) → drop (min k (length xs)) xs ≡ drop k xs
+drop_some zero xs = let z : min 0 (length xs) ≡ 0 = omega arith in ap (λ (n : ℕ). drop n xs) z
+drop_some (suc k) [] = let z : min (suc k) 0 ≡ 0 = omega arith in ap (λ (n : ℕ). drop n []) z
+drop_some (suc k) (x ∷ xs) = let e : min (suc k) (suc (length xs)) ≡ suc (min k (length xs)) = omega arith in ap (λ (n : ℕ). drop n (x ∷ xs)) e ∙ drop_some k xs
+
+take_front : (xs ys : List ℕ) → take (length xs) (xs ++ ys) ≡ xs
+take_front [] ys = refl
+take_front (x ∷ xs) ys = ap (λ (zs : List ℕ). x ∷ zs) (take_front xs ys)
+
+values_skip : (k : ℕ) (ws : List ℕ) → values_behind k ws ≡ values_behind 0 (drop k ws)
+unfolding values_behind
+values_skip zero ws = refl
+values_skip (suc k) [] = refl
+values_skip (suc k) (w ∷ ws) = values_skip k ws
+
+pub values_none : (ws : List ℕ) → length ws ≡ 0 → values_behind 0 ws ≡ []
+unfolding values_behind
+values_none [] e = refl
+values_none (w ∷ ws) e = absurd (omega arith)
+
+-- the first line, and those behind it
+pub values_next : (ws : List ℕ) → 0 < length ws → values_behind 0 ws ≡ line_from (take (told_length ws) ws) ∷ values_behind 0 (drop (told_length ws) ws)
+unfolding values_behind
+values_next [] h = absurd (omega arith)
+values_next (w ∷ ws) h =
+    let n : min (skip_of w + 1) (suc (length ws)) ≡ suc (min (skip_of w) (length ws)) = omega arith in
+    ap (λ (xs : List Line). line_from (w ∷ take (skip_of w) ws) ∷ xs) (values_skip (skip_of w) ws)
+    ∙ ap₂ (λ (xs ys : List ℕ). line_from (w ∷ xs) ∷ values_behind 0 ys) (sym (take_some (skip_of w) ws)) (sym (drop_some (skip_of w) ws)) ∙ sym (ap (λ (k : ℕ). line_from (take k (w ∷ ws)) ∷ values_behind 0 (drop k (w ∷ ws))) n)
+
+pub lines_given : (ls : List PolicyLine) → all valid ls ≡ true → values_behind 0 (lines_words ls) ≡ map line_value ls
+unfolding lines_words all values_behind
+lines_given [] v = refl
+lines_given (l ∷ ls) v =
+    let q = and_out (valid l) (all valid ls) v in
+    let rest : List ℕ = lines_words ls in
+    let some = line_some l in
+    let told : told_length (line_words l ++ rest) ≡ length (line_words l) = omega (arith, first_skip l rest q.0, length-append (line_words l) rest) in
+    values_next (line_words l ++ rest) (omega (arith, length-append (line_words l) rest))
+    ∙ ap (λ (k : ℕ). line_from (take k (line_words l ++ rest)) ∷ values_behind 0 (drop k (line_words l ++ rest))) told
+    ∙ ap₂ (λ (xs ys : List ℕ). line_from xs ∷ values_behind 0 ys) (take_front (line_words l) rest) (drop_at (line_words l) rest (length (line_words l)) refl)
+    ∙ ap₂ (λ (x : Line) (xs : List Line). x ∷ xs) (line_from_is l q.0) (lines_given ls q.1)
+
+words_taken : (k : ℕ) (chunks : List (List ℕ)) → words_in (take k chunks) ≡ take k (words_in chunks)
+words_taken zero chunks = refl
+words_taken (suc k) [] = refl
+words_taken (suc k) (c ∷ cs) = ap (λ (ws : List ℕ). word_from c ∷ ws) (words_taken k cs)
+
+-- the same at a word of the image
+pub values_step : (ws : List ℕ) (at size : ℕ) (rest : List (List ℕ)) → words_in rest ≡ drop at ws → 0 < length rest → size ≡ told_length (words_in rest)
+    → values_behind 0 (drop at ws) ≡ line_from (words_in (take size rest)) ∷ values_behind 0 (drop (at + size) ws)
+values_step ws at size rest e h t =
+    ap (values_behind 0) (sym e) ∙ values_next (words_in rest) (omega (arith, words_in_length rest))
+    ∙ ap (λ (k : ℕ). line_from (take k (words_in rest)) ∷ values_behind 0 (drop k (words_in rest))) (sym t)
+    ∙ ap₂ (λ (x : List ℕ) (y : List ℕ). line_from x ∷ values_behind 0 y) (sym (words_taken size rest)) (ap (drop size) e ∙ drop-drop size at ws)
