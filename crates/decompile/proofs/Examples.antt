@@ -12,7 +12,7 @@ use Rattle.layout.specs.Header.{pack_header}
 use Rattle.layout.specs.Layout.{condition_words, part_words, line_words, lines_words, known_form, check_count, sum, check_word, check_words, header_word, rule_part_words, constraint_part_words, content_words, image_words, image_of}
 use Rattle.lexer.specs.Byte.{bytes, bytes_equal, is, hex_value}
 use Rattle.lexer.specs.Lines.{prepend, pieces, lines_of, non_empty, tokens_of}
-use Rattle.lexer.specs.Number.{decimal_from, is_empty, number_of, positive, negative, decimal_of, pattern_of, hexadecimal_of, constant_of}
+use Rattle.lexer.specs.Number.{decimal_from, number_of, positive, negative, decimal_of, pattern_of, hexadecimal_of, constant_of}
 use Rattle.lexer.specs.Token.{named, literal_of, action_of, reading_of, relation_of, operand_of, both, comparison_of}
 use Rattle.operation.specs.Fields.{pack}
 use Rattle.operation.specs.Operation.{operation_from, relation_from}

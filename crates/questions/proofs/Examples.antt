@@ -10,8 +10,8 @@ use Rattle.policy.specs.Limits.{is_reading_value, test_number, operand_in_range,
 use Rattle.pdl.specs.Greedy.{try_next, kept_below, greedy}
 use Rattle.pdl.specs.Yield.{literal_holds, rule_holds, propose, proposals, constraint_holds, conflict, resolve, accepted, cancelled}
 use Rattle.lexer.specs.Byte.{bytes, bytes_equal, is, hex_value}
-use Rattle.lexer.specs.Number.{decimal_from, is_empty, number_of, positive, negative, decimal_of, pattern_of, hexadecimal_of, constant_of}
-use Rattle.lexer.specs.Lines.{prepend, pieces, lines_of, non_empty, tokens_of, take_leading}
+use Rattle.lexer.specs.Number.{decimal_from, number_of, positive, negative, decimal_of, pattern_of, hexadecimal_of, constant_of}
+use Rattle.lexer.specs.Lines.{prepend, pieces, lines_of, non_empty, tokens_of}
 use Rattle.lexer.specs.Token.{named, literal_of, action_of, reading_of, relation_of, operand_of, both, comparison_of}
 use Rattle.syntax.specs.Grammar.{comparisons_from, condition_from, joined, rule_after, constraint_after, after, line_from}
 use Rattle.syntax.specs.Judge.{judge_line, is_comment, tokens_answer, line_answer}

@@ -1,5 +1,6 @@
 //! A line as it is read, part by part, before it is judged.
 ghost use Rattle.std.specs.Prelude.{◌≡◌};
+ghost use Rattle.std.specs.Result.{result_map_both};
 ghost use Rattle.line_value.specs.Steps.Push.{push_count};
 ghost use Rattle.std.specs.Prelude.{◌≤◌};
 ghost use Rattle.syntax.specs.Steps.Draft.{new_draft, push_head, push_comparison, end_as};
@@ -75,12 +76,12 @@ impl Draft {
         }
     }
 
-    // The line, or the first of its faults.
+    // The first of the faults of the line, if it has one.
     #[tactic(auto, unfolding(crate::specs::Steps::Judged::judged))]
-    pub(crate) fn judged(&self) -> Result<Line, Fault>
-        ensures { result ≡ judged self.now }
+    pub(crate) fn judged(&self) -> Result<(), Fault>
+        ensures { result_map_both (λ _. self.now.line) (λ fault. fault) result ≡ judged self.now }
     {
-        let line = self.line;
+        let line = &self.line;
         if !self.in_range {
             return Err(Fault::OutOfRange);
         }
@@ -90,6 +91,6 @@ impl Draft {
         if line.has_repeats() {
             return Err(Fault::Duplicate);
         }
-        Ok(line)
+        Ok(())
     }
 }

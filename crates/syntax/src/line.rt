@@ -139,6 +139,6 @@ pub fn read_line(text: &[u8]) -> Result<(Option<Line>, &[u8]), Fault>
     }
     let mut draft = Draft::new();
     let behind = read_parts(&mut draft, first).ok_or(Fault::Syntax)?;
-    let line = draft.judged()?;
-    Ok((Some(line), without_end(behind)))
+    draft.judged()?;
+    Ok((Some(draft.line), without_end(behind)))
 }

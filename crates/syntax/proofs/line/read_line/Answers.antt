@@ -26,17 +26,17 @@ returns-in_err-behind c =
     let r : c.from_residual.result ≡ Err Fault.Syntax = grind arith in
     rw r (sym (line_misshapen c.args.text.now h q (rw (n, c.new-draft.ensures, c.skip_spaces-first.ensures) at c.read_parts.ensures)))
 
-pub returns-in_err-line : goal.returns-in_err-line
-returns-in_err-line c =
+pub returns-in_err-judged : goal.returns-in_err-judged
+returns-in_err-judged c =
     let h = rw c.skip_spaces-first.ensures at (sym c.at_token_end.ensures ∙ c.if-at_token_end.false) in
     let q = ne_eqb _ _ (rw c.skip_spaces-first.ensures at c.if-first-eq35.false) in
     let n : c.read_parts.result ≡ Some c.in_ok-behind.behind = grind arith in
-    let r : c.from_residual-in_err-line.result ≡ Err c.in_err-line.field-0.0 = grind arith in
-    rw r (sym (line_faulty c.args.text.now h q _ _ (rw (n, c.new-draft.ensures, c.skip_spaces-first.ensures) at c.read_parts.ensures) _ c.in_err-line.ensures))
+    let r : c.from_residual-in_err-judged.result ≡ Err c.in_err-judged.field-0.0 = grind arith in
+    rw r (sym (line_faulty c.args.text.now h q _ _ (rw (n, c.new-draft.ensures, c.skip_spaces-first.ensures) at c.read_parts.ensures) _ c.in_err-judged.ensures))
 
 pub returns : goal.returns
 returns c =
     let h = rw c.skip_spaces-first.ensures at (sym c.at_token_end.ensures ∙ c.if-at_token_end.false) in
     let q = ne_eqb _ _ (rw c.skip_spaces-first.ensures at c.if-first-eq35.false) in
     let n : c.read_parts.result ≡ Some c.in_ok-behind.behind = grind arith in
-    rw c.without_end-2.ensures (sym (line_good c.args.text.now h q _ _ (rw (n, c.new-draft.ensures, c.skip_spaces-first.ensures) at c.read_parts.ensures) _ c.in_ok-line.ensures))
+    rw c.without_end-2.ensures (sym (line_good c.args.text.now h q _ _ (rw (n, c.new-draft.ensures, c.skip_spaces-first.ensures) at c.read_parts.ensures) _ c.in_ok-judged.ensures))
