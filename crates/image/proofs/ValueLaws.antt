@@ -1,5 +1,5 @@
 -- What a walker gives: over the words of valid lines their values.
-use Rattle.std.proofs.Common.{ℕ, zero, suc, ◌+◌, ◌<◌, min, true, List, [], ◌∷◌, ◌++◌, map, ◌≡◌, refl, sym, ap, ap₂, ◌∙◌, arith, length, take, drop, drop_at, drop-drop, length-append}
+use Rattle.std.proofs.Common.{ℕ, zero, suc, ◌+◌, ◌<◌, min, true, List, [], ◌∷◌, ◌++◌, map, ◌≡◌, refl, sym, ap, ap₂, ◌∙◌, arith, length, take, drop, take_at, drop_at, drop-drop, length-append, zero-add}
 use Rattle.policy.proofs.ListLaws.{and_out}
 use Rattle.policy.specs.Limits.{valid}
 use Rattle.policy.specs.Line.{PolicyLine}
@@ -13,7 +13,7 @@ use Rattle.layout.specs.Layout.{line_words, lines_words}
 use Rattle.decode.proofs.FoundLaws.{line_some}
 use Rattle.decode.proofs.ReadLaws.{line_from_is, first_skip}
 use Rattle.decode.specs.Steps.Scan.{line_from}
-use Rattle.image.specs.Steps.Values.{values_behind, told_length}
+use Rattle.image.specs.Steps.Values.{values_behind, lines_left, told_length}
 
 take_some : (k : ℕ) (xs : List ℕ) → take (min k (length xs)) xs ≡ take k xs
 take_some zero xs = let z : min 0 (length xs) ≡ 0 = omega arith in ap (λ (n : ℕ). take n xs) z
@@ -24,10 +24,6 @@ drop_some : (k : ℕ) (xs : List ℕ) → drop (min k (length xs)) xs ≡ drop k
 drop_some zero xs = let z : min 0 (length xs) ≡ 0 = omega arith in ap (λ (n : ℕ). drop n xs) z
 drop_some (suc k) [] = let z : min (suc k) 0 ≡ 0 = omega arith in ap (λ (n : ℕ). drop n []) z
 drop_some (suc k) (x ∷ xs) = let e : min (suc k) (suc (length xs)) ≡ suc (min k (length xs)) = omega arith in ap (λ (n : ℕ). drop n (x ∷ xs)) e ∙ drop_some k xs
-
-take_front : (xs ys : List ℕ) → take (length xs) (xs ++ ys) ≡ xs
-take_front [] ys = refl
-take_front (x ∷ xs) ys = ap (λ (zs : List ℕ). x ∷ zs) (take_front xs ys)
 
 values_skip : (k : ℕ) (ws : List ℕ) → values_behind k ws ≡ values_behind 0 (drop k ws)
 unfolding values_behind
@@ -49,18 +45,26 @@ values_next (w ∷ ws) h =
     ap (λ (xs : List Line). line_from (w ∷ take (skip_of w) ws) ∷ xs) (values_skip (skip_of w) ws)
     ∙ ap₂ (λ (xs ys : List ℕ). line_from (w ∷ xs) ∷ values_behind 0 ys) (sym (take_some (skip_of w) ws)) (sym (drop_some (skip_of w) ws)) ∙ sym (ap (λ (k : ℕ). line_from (take k (w ∷ ws)) ∷ values_behind 0 (drop k (w ∷ ws))) n)
 
+-- where the words of a valid line stand, the line's value comes first, and then what those behind it give
+pub line_given : (ws : List ℕ) (at : ℕ) (l : PolicyLine) (rest : List ℕ) → drop at ws ≡ line_words l ++ rest → valid l ≡ true → lines_left ws at ≡ line_value l ∷ lines_left ws (at + length (line_words l))
+line_given ws at l rest e v =
+    let some = line_some l in
+    let told : told_length (line_words l ++ rest) ≡ length (line_words l) = omega (arith, first_skip l rest v, length-append (line_words l) rest) in
+    ap (values_behind 0) e ∙ values_next (line_words l ++ rest) (omega (arith, length-append (line_words l) rest))
+    ∙ ap (λ (k : ℕ). line_from (take k (line_words l ++ rest)) ∷ values_behind 0 (drop k (line_words l ++ rest))) told
+    ∙ ap₂ (λ (x : Line) (xs : List Line). x ∷ xs) (ap line_from (take_at (line_words l) rest (length (line_words l)) refl) ∙ line_from_is l v)
+    (ap (λ (xs : List ℕ). values_behind 0 (drop (length (line_words l)) xs)) (sym e) ∙ ap (values_behind 0) (drop-drop (length (line_words l)) at ws))
+
 pub lines_given : (ls : List PolicyLine) → all valid ls ≡ true → values_behind 0 (lines_words ls) ≡ map line_value ls
 unfolding lines_words all values_behind
 lines_given [] v = refl
 lines_given (l ∷ ls) v =
     let q = and_out (valid l) (all valid ls) v in
-    let rest : List ℕ = lines_words ls in
-    let some = line_some l in
-    let told : told_length (line_words l ++ rest) ≡ length (line_words l) = omega (arith, first_skip l rest q.0, length-append (line_words l) rest) in
-    values_next (line_words l ++ rest) (omega (arith, length-append (line_words l) rest))
-    ∙ ap (λ (k : ℕ). line_from (take k (line_words l ++ rest)) ∷ values_behind 0 (drop k (line_words l ++ rest))) told
-    ∙ ap₂ (λ (xs ys : List ℕ). line_from xs ∷ values_behind 0 ys) (take_front (line_words l) rest) (drop_at (line_words l) rest (length (line_words l)) refl)
-    ∙ ap₂ (λ (x : Line) (xs : List Line). x ∷ xs) (line_from_is l q.0) (lines_given ls q.1)
+    line_given (line_words l ++ lines_words ls) 0 l (lines_words ls) refl q.0
+    ∙ ap (λ (xs : List Line). line_value l ∷ xs) (ap (values_behind 0) (behind (length (line_words l)) ∙ drop_at (line_words l) (lines_words ls) (length (line_words l)) refl) ∙ lines_given ls q.1)
+  where
+    behind : (k : ℕ) → drop (0 + k) (line_words l ++ lines_words ls) ≡ drop k (line_words l ++ lines_words ls)
+    behind k = ap (λ (j : ℕ). drop j (line_words l ++ lines_words ls)) (zero-add k)
 
 words_taken : (k : ℕ) (chunks : List (List ℕ)) → words_in (take k chunks) ≡ take k (words_in chunks)
 words_taken zero chunks = refl
