@@ -1,19 +1,11 @@
 -- Laws of the sum of words: summing one after the other, one word changed, and the word that brings the sum to 0.
-use Rattle.std.proofs.Common.{◌≡◌, ℕ, ◌+◌, ◌/◌, ◌%◌, ◌<◌, min, List, [], ◌∷◌, ◌++◌, length, get_or, take, set, sym, ap, ◌∙◌, arith, length-take, get_or-take}
+use Rattle.std.proofs.Common.{◌≡◌, ℕ, ◌+◌, ◌%◌, ◌<◌, min, List, [], ◌∷◌, ◌++◌, length, get_or, take, set, sym, ap, ◌∙◌, arith}
 use Rattle.std.proofs.lemmas.List.{take_min}
 use Rattle.std.proofs.lemmas.List.Sums.{sum_by-append, sum_by-set}
 use Rattle.word.proofs.ChunkLaws.{words_in_length}
-use Rattle.word.proofs.WordLaws.{words_length}
 use Rattle.word.specs.Chunk.{words_in}
-use Rattle.word.specs.Word.{word_limit, words_of, between}
+use Rattle.word.specs.Word.{word_limit, between}
 use Rattle.layout.specs.Layout.{sum, check_word}
-
--- the words before an index
-pub before_length : (bytes : List ℕ) (end count : ℕ) → count ≡ min end (length bytes / 4) → count ≡ length (take end (words_of bytes))
-before_length bytes end count e = omega (arith, length-take end (words_of bytes), words_length bytes)
-
-pub before_at : (bytes : List ℕ) (end i : ℕ) → i < length (take end (words_of bytes)) → get_or (words_of bytes) i 0 ≡ get_or (take end (words_of bytes)) i 0
-before_at bytes end i h = sym (get_or-take end (words_of bytes) i 0 (omega (arith, length-take end (words_of bytes))))
 
 -- ---- the last word
 

@@ -1,12 +1,10 @@
 //! The parts of a rule: event literals, and comparisons of readings.
 
 ghost use Rattle.std.specs.Prelude.{◌≡◌};
-ghost use Rattle.policy.specs.Epoch.{reading_value};
 ghost use Rattle.policy.specs.Comparison.{relation_holds};
 ghost use Rattle.policy.specs.Line.{operand_constants};
 
 use crate::number::{Event, Reading};
-use crate::set::ReadingSet;
 
 /// `E1`, or `!E1` where negated.
 #[derive(Clone, Copy)]
@@ -67,19 +65,5 @@ impl Operand {
             Operand::Constant(_) => 1,
             Operand::Reading(_) => 0,
         }
-    }
-}
-
-impl Reading {
-    /// Its value on an epoch; none where the epoch does not give it. The values stand by the numbers of their readings.
-    #[tactic(auto, unfolding(crate::specs::Epoch::reading_value))]
-    pub fn value(self, given: ReadingSet, values: &[i32]) -> Option<i32>
-        ensures { result ≡ reading_value (record { given = given; values = values.now }) self }
-    {
-        if !given.has(self) {
-            return None;
-        }
-        let value = values.get(self.0 as usize)?;
-        Some(*value)
     }
 }

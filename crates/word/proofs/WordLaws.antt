@@ -1,9 +1,7 @@
 -- Laws of bytes and words, both ways, and of packing a word and taking it apart.
 use Rattle.std.proofs.Common.{ℕ, zero, suc, ◌+◌, ◌*◌, ◌/◌, ◌%◌, ◌^◌, ◌<◌, List, [], ◌∷◌, ◌++◌, append-nil, ◌≡◌, refl, sym, ap, ap₂, ◌∙◌, arith, length, shr-shr}
-use Rattle.std.proofs.Math.ListN.{get_or}
 use Rattle.std.proofs.Math.Pow.{split}
 use Rattle.word.specs.Word.{word_limit, Below, join, words_of, bytes_of, byte_list}
-use Rattle.word.specs.Steps.Swap.{swap}
 
 -- ---- words of bytes
 
@@ -17,21 +15,6 @@ words_length (a ∷ b ∷ c ∷ []) = refl
 words_length (a ∷ b ∷ []) = refl
 words_length (a ∷ []) = refl
 words_length [] = refl
-
-four_more : (j k : ℕ) → suc j * 4 + k ≡ suc (suc (suc (suc (j * 4 + k))))
-four_more j k = omega arith
-
-pub word_at : (bytes : List ℕ) (i : ℕ) → i < length bytes / 4 → get_or (words_of bytes) i 0 ≡ join (get_or bytes (i * 4) 0) (get_or bytes (i * 4 + 1) 0) (get_or bytes (i * 4 + 2) 0) (get_or bytes (i * 4 + 3) 0)
-unfolding words_of
-word_at (a ∷ b ∷ c ∷ d ∷ rest) zero h = refl
-word_at (a ∷ b ∷ c ∷ d ∷ rest) (suc j) h =
-    let l : j < length rest / 4 = omega arith in
-    let e : suc j * 4 ≡ suc (suc (suc (suc (j * 4)))) = omega arith in
-    rw (four_more j 1, four_more j 2, four_more j 3, e) (word_at rest j l)
-word_at (a ∷ b ∷ c ∷ []) i h = absurd (omega arith)
-word_at (a ∷ b ∷ []) i h = absurd (omega arith)
-word_at (a ∷ []) i h = absurd (omega arith)
-word_at [] i h = absurd (omega arith)
 
 join_below : (a b c d : ℕ) → a < 256 → b < 256 → c < 256 → d < 256 → join a b c d < word_limit
 join_below a b c d ha hb hc hd = omega arith
@@ -86,10 +69,6 @@ byte_4 a b c d ha hb hc hd = omega arith
 
 bytes_join : (a b c d : ℕ) → a < 256 → b < 256 → c < 256 → d < 256 → byte_list (join a b c d) ≡ a ∷ b ∷ c ∷ d ∷ []
 bytes_join a b c d ha hb hc hd = rw (byte_1 a b c d ha hb hc hd, byte_2 a b c d ha hb hc hd, byte_3 a b c d ha hb hc hd, byte_4 a b c d ha hb hc hd)
-
-pub swap_join : (a b c d : ℕ) → a < 256 → b < 256 → c < 256 → d < 256 → swap (join d c b a) ≡ join a b c d
-unfolding swap
-swap_join a b c d ha hb hc hd = rw (byte_1 d c b a hd hc hb ha, byte_2 d c b a hd hc hb ha, byte_3 d c b a hd hc hb ha, byte_4 d c b a hd hc hb ha)
 
 -- bytes to words to bytes
 pub bytes_of_words : (bytes : List ℕ) → Below 256 bytes → length bytes % 4 ≡ 0 → bytes_of (words_of bytes) ≡ bytes
