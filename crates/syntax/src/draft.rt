@@ -1,8 +1,7 @@
 //! A line as it is read, part by part, before it is judged.
-ghost use Rattle.std.specs.Prelude.{◌≡◌};
+ghost use Rattle.std.specs.Prelude.{◌≡◌, ◌≤◌};
 ghost use Rattle.std.specs.Result.{result_map_both};
 ghost use Rattle.line_value.specs.Steps.Push.{push_count};
-ghost use Rattle.std.specs.Prelude.{◌≤◌};
 ghost use Rattle.syntax.specs.Steps.Draft.{new_draft, push_head, push_comparison, end_as};
 ghost use Rattle.syntax.specs.Steps.Judged.{judged};
 
