@@ -154,7 +154,7 @@ fn read_items(line: &[u8]) -> EpochRead
                 rest = behind;
             }
             Entry::Value(reading, value, behind) => {
-                twice = twice || read.given.has(reading);
+                twice |= read.given.has(reading);
                 read.given = read.given.insert(reading);
                 read.values[reading.0 as usize] = value;
                 rest = behind;

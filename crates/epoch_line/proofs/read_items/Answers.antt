@@ -1,11 +1,8 @@
-use Rattle.std.proofs.Common.{to_z-of_z, w32, SFits, ◌||◌, ◌≡◌, refl, sym, ◌∙◌, rules}
-use Rattle.policy.proofs.FlagLaws.{or_yes, or_no}
-use Rattle.policy.specs.Set.{has_reading}
+use Rattle.std.proofs.Common.{to_z-of_z, w32, SFits, refl, sym, ◌∙◌, rules}
 use Rattle.epoch_line.proofs.EpochLaws.{read_ended, read_turn, item_shorter, reading_small}
 use Rattle.epoch_line.specs.Epoch.{add_item}
 use Rattle.epoch_line.specs.Steps.EpochScan.{found, scanned, add_scanned}
 use Rattle.epoch_line.proofs.read_items.Goals as goal
-use Rattle.epoch_line.proofs.read_items.Goals.{then-twice, else-twice}
 
 pub returns-then-is_empty : goal.returns-then-is_empty
 returns-then-is_empty c =
@@ -41,9 +38,7 @@ unfolding found add_scanned add_item
 loop-front-preserved-in-Value c =
     let s = scanned c.loop-front.out_of_range c.loop-front.twice c.loop-front.read.events c.loop-front.read.given c.loop-front.read.values in
     let f : SFits w32 c.in-Value.value = search rules in
-    let t : c.if-twice.twice ≡ (c.loop-front.twice || has_reading c.loop-front.read.given c.in-Value.reading) =
-    elim c.if-twice.branch [ then-twice w ↦ or_yes _ _ _ w.if-twice.true w.twice-is | else-twice w ↦ or_no _ _ _ w.if-twice.false (w.twice-is ∙ w.has-twice.ensures) ] in
-    record { same = rw (to_z-of_z f, c.insert-read-in-Value.ensures, t) (sym (read_turn s c.loop-front.rest.now _ c.skip_spaces-front.ensures _ c.is_empty.ensures _ c.in-Value.ensures c.if-is_empty.false) ∙ c.loop-front.invariant.same); accepted = c.loop-front.invariant.accepted }
+    record { same = rw (to_z-of_z f, c.insert-read-in-Value.ensures, c.has-twice.ensures) (sym (read_turn s c.loop-front.rest.now _ c.skip_spaces-front.ensures _ c.is_empty.ensures _ c.in-Value.ensures c.if-is_empty.false) ∙ c.loop-front.invariant.same); accepted = c.loop-front.invariant.accepted }
 
 pub loop-front-smaller : goal.loop-front-smaller
 unfolding found
