@@ -2,17 +2,12 @@
 //! why it is refused. What is printed for which input is `dump`'s: this program names the ends, and says which of them failed.
 #![tactic(auto)]
 
-use std::env::{Env, FillError};
+use files::has_arguments;
 use std::io;
 use stream::{Failure, Pair};
 
 fn say(rt: HostRuntime, what: &str, error: &io::Error) {
     files::say(rt, "decompiler", what, error);
-}
-
-/// Whether the command line has words behind the program's name.
-fn has_arguments(rt: &impl Env) -> bool {
-    !matches!(rt.arg(1, &mut []), Err(FillError::NotPresent))
 }
 
 fn main(rt: HostRuntime) {

@@ -1,6 +1,9 @@
 //! The files that a program's arguments name, and what is said of a failure.
 #![tactic(auto)]
 
+ghost use Rattle.std.specs.Prelude.{◌≡◌, None, false};
+
+use std::env::{Env, FillError};
 use std::fs::File;
 use std::io;
 use std::io::Read;
@@ -17,7 +20,11 @@ pub struct Named<'n> {
 
 impl<'n> Named<'n> {
     /// The file of this name. Nothing is opened yet.
-    pub fn new(rt: HostRuntime, name: &'n str) -> Named<'n> {
+    pub fn new(rt: HostRuntime, name: &'n str) -> Named<'n>
+        ensures named { result.name.now ≡ name.now }
+        ensures unopened { result.file ≡ None }
+        ensures unread { result.ended ≡ false }
+    {
         Named {
             rt,
             name,
@@ -41,6 +48,11 @@ impl<'n> Read for Named<'n> {
         }
         got
     }
+}
+
+/// Whether the command line has words behind the program's name.
+pub fn has_arguments(rt: &impl Env) -> bool {
+    !matches!(rt.arg(1, &mut []), Err(FillError::NotPresent))
 }
 
 /// The system's words for an error, without its number.

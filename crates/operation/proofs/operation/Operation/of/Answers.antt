@@ -1,4 +1,4 @@
-use Rattle.std.proofs.Common.{sym, ap, ◌∙◌}
+use Rattle.std.proofs.Common.{sym, ap, ◌∙◌, arith}
 use Rattle.operation.specs.Operation.{operation_from}
 use Rattle.operation.proofs.OperationLaws.{operation_other}
 use Rattle.operation.proofs.operation.Operation.of.Goals as goal
@@ -33,5 +33,4 @@ returns-in-7 c = ap operation_from (sym c.in-7.is ∙ c.opcode.ensures)
 
 pub returns-in_default : goal.returns-in_default
 returns-in_default c =
-    operation_other _ c.in_default.in_default-own.rest.0.0.0.0.0.0.1 c.in_default.in_default-own.rest.0.0.0.0.0.1 c.in_default.in_default-own.rest.0.0.0.0.1 c.in_default.in_default-own.rest.0.0.0.1 c.in_default.in_default-own.rest.0.0.1 c.in_default.in_default-own.rest.0.1 c.in_default.in_default-own.rest.1
-    ∙ ap operation_from c.opcode.ensures
+    operation_other _ (omega arith) (omega arith) (omega arith) (omega arith) (omega arith) (omega arith) (omega arith) ∙ ap operation_from c.opcode.ensures
