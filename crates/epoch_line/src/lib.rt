@@ -114,16 +114,12 @@ fn refused(fault: Fault) -> EpochRead
     }
 }
 
-// The answer at the end of the line. A number out of range comes before a reading given twice.
+// The answer at the end of the line, from what was read. A number out of range comes before a reading given twice.
+#[inline(always)]
 #[tactic(auto, unfolding(crate::specs::Steps::EpochScan::finish_read))]
-fn finished(
-    out_of_range: bool,
-    twice: bool,
-    events: EventSet,
-    given: ReadingSet,
-    values: [i32; READING_LIMIT],
-) -> EpochRead
-    ensures { result ≡ finish_read (scanned out_of_range twice events given values) }
+fn finished(out_of_range: bool, twice: bool, read: EpochRead) -> EpochRead
+    requires { read.status ≡ EpochStatus.Accepted }
+    ensures { result ≡ finish_read (scanned out_of_range twice read.events read.given read.values) }
 {
     if out_of_range {
         return refused(Fault::EpochRange);
@@ -131,12 +127,7 @@ fn finished(
     if twice {
         return refused(Fault::DuplicateReading);
     }
-    EpochRead {
-        status: EpochStatus::Accepted,
-        events,
-        given,
-        values,
-    }
+    read
 }
 
 // The tokens of the line, one after another. At a byte 10 no token stands: that is malformed too.
@@ -145,24 +136,27 @@ fn read_items(line: &[u8]) -> EpochRead
 {
     let mut out_of_range = false;
     let mut twice = false;
-    let mut events = EventSet::EMPTY;
-    let mut given = ReadingSet::EMPTY;
-    let mut values = [0; READING_LIMIT];
+    let mut read = EpochRead {
+        status: EpochStatus::Accepted,
+        events: EventSet::EMPTY,
+        given: ReadingSet::EMPTY,
+        values: [0; READING_LIMIT],
+    };
     let mut rest = line;
     loop {
         let front = skip_spaces(rest);
         if front.is_empty() {
-            return finished(out_of_range, twice, events, given, values);
+            return finished(out_of_range, twice, read);
         }
         match item(front) {
             Entry::Event(event, behind) => {
-                events = events.insert(event);
+                read.events = read.events.insert(event);
                 rest = behind;
             }
             Entry::Value(reading, value, behind) => {
-                twice = twice || given.has(reading);
-                given = given.insert(reading);
-                values[reading.0 as usize] = value;
+                twice = twice || read.given.has(reading);
+                read.given = read.given.insert(reading);
+                read.values[reading.0 as usize] = value;
                 rest = behind;
             }
             Entry::OutOfRange(behind) => {

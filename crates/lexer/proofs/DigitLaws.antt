@@ -1,8 +1,9 @@
 -- Laws of reading numbers: clipping early or late is the same, and the digits in front of a token against the token.
 use Rattle.std.specs.Prelude.{Some, None, option_and_then}
-use Rattle.std.proofs.Common.{ℕ, ◌+◌, ◌*◌, ◌-◌, ◌<◌, ◌≤◌, Bool, true, false, not, ◌&&◌, ◌||◌, cond, List, [], ◌∷◌, ◌≡◌, refl, sym, ap, ap₂, ◌∙◌, arith, eqb-true, length, take, drop}
+use Rattle.std.proofs.Common.{ℕ, ◌+◌, ◌*◌, ◌-◌, ◌<◌, ◌≤◌, Bool, true, false, not, ◌||◌, cond, List, [], ◌∷◌, ◌≡◌, refl, sym, ap, ap₂, ◌∙◌, arith, eqb-true, length, take, drop}
 use Rattle.std.proofs.lemmas.List.{take_rest}
 use Rattle.std.proofs.Math.ListN.{get_or}
+use Rattle.std.proofs.Math.Bool.{or-true}
 use Rattle.std.proofs.Math.Option.{Option, none, some}
 use Rattle.std.proofs.Math.Dec.{eqb}
 use Rattle.policy.proofs.ListLaws.{true_false}
@@ -13,7 +14,7 @@ use Rattle.lexer.proofs.RunLaws.{whole_token, same_end, broken_token}
 use Rattle.lexer.specs.Byte.{is_digit}
 use Rattle.lexer.specs.Token.{named}
 use Rattle.lexer.specs.Number.{decimal_from, is_empty, number_of}
-use Rattle.lexer.specs.Steps.Scan.{in_token, token_in, behind_token, clip, leading_digits, starts_number, number_before, digits_in, number_in, name_in}
+use Rattle.lexer.specs.Steps.Scan.{in_token, token_in, behind_token, clip, further_digits, starts_digit, number_before, digits_in, number_in, name_in}
 use Rattle.lexer.specs.Lines.{take_leading, drop_leading}
 
 -- ---- clipping
@@ -34,42 +35,43 @@ unfolding decimal_from
 digits_past [] v w h e q = absurd (omega arith)
 digits_past (b ∷ s) v w h e q = rw (e, take_rest (b ∷ s) 1) (clip_decimal w (v * 10 + (b - 48)) (take_leading is_digit s) (ap clip q ∙ omega arith))
 
--- ---- whether the digits in front are a number
+-- ---- the number that the digits in front are, by the first
 
-number_of_more : (b : ℕ) (t : List ℕ) → all is_digit (b ∷ t) ≡ true → number_of (b ∷ t) ≡ cond (is_empty t || not (eqb b 48)) (some (decimal_from 0 (b ∷ t))) none
-unfolding number_of
-number_of_more b t e = rw e
+abbrev pub starts_zero : List ℕ → Bool
+starts_zero [] = false
+starts_zero (b ∷ s) = eqb b 48
 
-module _ (b : ℕ) (s : List ℕ) where
-  digits_more : is_digit b ≡ true → digits_in (b ∷ s) ≡ number_before (drop_leading is_digit s) (cond (is_empty (take_leading is_digit s) || not (eqb b 48)) (some (decimal_from 0 (b ∷ take_leading is_digit s))) none)
-  unfolding digits_in all
-  digits_more e = rw (e, number_of_more b (take_leading is_digit s) (rw (e, leading_pass is_digit s)))
+-- a digit and what follows it
+number_of_more : (b : ℕ) (s : List ℕ) → is_digit b ≡ true → number_of (b ∷ take_leading is_digit s) ≡ cond (is_empty (take_leading is_digit s) || not (eqb b 48)) (some (decimal_from (b - 48) (take_leading is_digit s))) none
+unfolding number_of all decimal_from
+number_of_more b s e =
+    rw (e, leading_pass is_digit s) (ap (λ (v : ℕ). cond (is_empty (take_leading is_digit s) || not (eqb b 48)) (some (decimal_from v (take_leading is_digit s))) none) (omega arith))
 
-pub digits_by_start : (text : List ℕ) → digits_in text ≡ cond (starts_number text) (Some (leading_digits text)) None
-unfolding number_before digits_in number_of
-digits_by_start [] = refl
-digits_by_start (b ∷ s) =
-    elim (is_digit b) as (λ x. is_digit b ≡ x → digits_in (b ∷ s) ≡ cond (starts_number (b ∷ s)) (Some (leading_digits (b ∷ s))) None) [
-      | true ↦ λ e. digits_more b s e ∙ started s e
-      | false ↦ λ e. no_digit e ∙ not_started s e
-    ] refl
+zero_only : (s : List ℕ) → number_before (drop_leading is_digit s) (cond (is_empty (take_leading is_digit s) || false) (some (decimal_from 0 (take_leading is_digit s))) none) ≡ cond (starts_digit s) None (Some (0, s))
+unfolding number_before decimal_from
+zero_only [] = refl
+zero_only (c ∷ s) =
+    elim (is_digit c) as (λ x. number_before (cond x (drop_leading is_digit s) (c ∷ s)) (cond (is_empty (cond x (c ∷ take_leading is_digit s) []) || false) (some (decimal_from 0 (cond x (c ∷ take_leading is_digit s) []))) none) ≡ cond x None (Some (0, c ∷ s))) [ true ↦ refl | false ↦ refl ]
+
+pub digits_by_first : (text : List ℕ) →
+    digits_in text
+    ≡ cond (starts_zero text) (cond (starts_digit (take (length text - 1) (drop 1 text))) None (Some (0, take (length text - 1) (drop 1 text))))
+    (cond (starts_digit text) (Some (further_digits (get_or text 0 0 - 48) (take (length text - 1) (drop 1 text)))) None)
+unfolding digits_in number_of number_before
+digits_by_first [] = refl
+digits_by_first (b ∷ s) =
+    rw (take_rest (b ∷ s) 1)
+    (elim (eqb b 48) as (λ x. eqb b 48 ≡ x → digits_in (b ∷ s) ≡ cond x (cond (starts_digit s) None (Some (0, s))) (cond (is_digit b) (Some (further_digits (b - 48) s)) None)) [
+      | true ↦ λ e. zero (eqb-true b 48 e)
+      | false ↦ λ e. other e (is_digit b) refl
+    ] refl)
   where
-    followed : (c : ℕ) (s : List ℕ) (x z : Bool) → is_digit c ≡ x → number_before (cond x (drop_leading is_digit s) (c ∷ s)) (cond (is_empty (cond x (c ∷ take_leading is_digit s) []) || not z) (some (decimal_from 0 (b ∷ cond x (c ∷ take_leading is_digit s) []))) none) ≡ cond (not (z && x)) (Some (clip (decimal_from 0 (b ∷ cond x (c ∷ take_leading is_digit s) [])), cond x (drop_leading is_digit s) (c ∷ s))) None
-    followed c s true true e = refl
-    followed c s true false e = refl
-    followed c s false true e = refl
-    followed c s false false e = refl
+    zero : b ≡ 48 → digits_in (b ∷ s) ≡ cond (starts_digit s) None (Some (0, s))
+    zero e = rw (e, number_of_more 48 s refl) (zero_only s)
 
-    started : (s : List ℕ) → is_digit b ≡ true → number_before (drop_leading is_digit s) (cond (is_empty (take_leading is_digit s) || not (eqb b 48)) (some (decimal_from 0 (b ∷ take_leading is_digit s))) none) ≡ cond (starts_number (b ∷ s)) (Some (leading_digits (b ∷ s))) None
-    started [] e = rw e
-    started (c ∷ s) e = rw e (followed c s (is_digit c) (eqb b 48) refl)
-
-    no_digit : is_digit b ≡ false → digits_in (b ∷ s) ≡ None
-    no_digit e = rw e
-
-    not_started : (s : List ℕ) → is_digit b ≡ false → None ≡ cond (starts_number (b ∷ s)) (Some (leading_digits (b ∷ s))) None
-    not_started [] e = rw e
-    not_started (c ∷ s) e = rw e
+    other : eqb b 48 ≡ false → (x : Bool) → is_digit b ≡ x → digits_in (b ∷ s) ≡ cond x (Some (further_digits (b - 48) s)) None
+    other e true h = rw (h, number_of_more b s h, e, or-true (is_empty (take_leading is_digit s)))
+    other e false h = rw h
 
 -- ---- the digits in front of a token against the token
 

@@ -1,2 +1,2 @@
--- What the reading functions find at a position of a text. Nothing here needs to be read to believe the statements.
+-- What the reading functions find in front of a text. Nothing here needs to be read to believe the statements.
 pub mod Scan

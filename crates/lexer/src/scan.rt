@@ -4,7 +4,7 @@ ghost use Rattle.std.specs.Prelude.{◌≡◌, true, false, ◌&&◌, ◌+◌, �
 ghost use Rattle.policy.specs.List.{all};
 ghost use Rattle.lexer.specs.Byte.{is_digit};
 ghost use Rattle.lexer.specs.Number.{is_empty};
-ghost use Rattle.lexer.specs.Steps.Scan.{token_in, without_spaces, keyword_in, in_token, clip, clip_limit, leading_digits, starts_number, digits_in, number_in, name_in, event_in, action_in, reading_in};
+ghost use Rattle.lexer.specs.Steps.Scan.{token_in, without_spaces, keyword_in, in_token, clip, clip_limit, further_digits, starts_digit, digits_in, number_in, name_in, event_in, action_in, reading_in};
 ghost use Rattle.lexer.specs.Lines.{behind_line};
 
 use crate::class::{ends_token, is_digit, is_space};
@@ -87,13 +87,14 @@ fn shifted(value: u32, digit: u8) -> u32
     }
 }
 
-// The value of the digits in front, at most 3,000,000,000; 0 if there are none.
+// The value of further digits in front, behind those of a value.
 #[tactic(auto, unfolding(crate::specs::Number::decimal_from))]
-fn leading_digits(text: &[u8]) -> (u32, &[u8])
-    ensures value { result.0 ≡ (leading_digits text.now).0 }
-    ensures rest { result.1.now ≡ (leading_digits text.now).1 }
+fn further_digits(from: u32, text: &[u8]) -> (u32, &[u8])
+    requires { from ≤ clip_limit }
+    ensures value { result.0 ≡ (further_digits from text.now).0 }
+    ensures rest { result.1.now ≡ (further_digits from text.now).1 }
 {
-    let mut value = 0;
+    let mut value = from;
     let mut rest = text;
     while let [b, others @ ..] = rest {
         if !is_digit(*b) {
@@ -105,26 +106,26 @@ fn leading_digits(text: &[u8]) -> (u32, &[u8])
     (value, rest)
 }
 
-// Whether the digits in front are a number: 0, or digits that do not start with 0.
-fn starts_number(text: &[u8]) -> bool
-    ensures { result ≡ starts_number text.now }
+fn starts_digit(text: &[u8]) -> bool
+    ensures { result ≡ starts_digit text.now }
 {
-    match text {
-        [b'0', b'0'..=b'9', ..] => false,
-        [b'0'..=b'9', ..] => true,
-        _ => false,
-    }
+    matches!(text, [b'0'..=b'9', ..])
 }
 
-/// The number that the digits in front are, at most 3,000,000,000.
-#[tactic(auto, using(crate::proofs::DigitLaws::digits_by_start))]
+/// The number that the digits in front are, at most 3,000,000,000: 0, or digits that do not start with 0.
+#[tactic(auto, using(crate::proofs::DigitLaws::digits_by_first))]
 pub fn digits(text: &[u8]) -> Option<(u32, &[u8])>
     ensures { option_map (λ r. (r.0, r.1.now)) result ≡ digits_in text.now }
 {
-    if starts_number(text) {
-        Some(leading_digits(text))
-    } else {
-        None
+    match text {
+        [b'0', rest @ ..] => {
+            if starts_digit(rest) {
+                return None;
+            }
+            Some((0, rest))
+        }
+        [first @ b'1'..=b'9', rest @ ..] => Some(further_digits((*first - b'0') as u32, rest)),
+        _ => None,
     }
 }
 

@@ -60,6 +60,7 @@ fn negated(text: &[u8]) -> Option<(Option<i32>, &[u8])>
 }
 
 // A number, or a minus and a number other than 0.
+#[inline(always)]
 #[tactic(auto, using(crate::proofs::ConstantLaws::decimal_by_sign))]
 fn decimal(text: &[u8]) -> Option<(Option<i32>, &[u8])>
     ensures { option_map (λ r. (r.0, r.1.now)) result ≡ decimal_in text.now }
@@ -103,6 +104,7 @@ fn hexadecimal(text: &[u8]) -> Option<(Option<i32>, &[u8])>
 
 /// The constant that the token in front is, in a rule text or an epoch line, and what stands behind it; no constant where the token is
 /// one that is out of range.
+#[inline(always)]
 #[tactic(auto, using(crate::proofs::PatternLaws::constant_by_form))]
 pub fn constant(text: &[u8]) -> Option<(Option<i32>, &[u8])>
     ensures { option_map (λ r. (r.0, r.1.now)) result ≡ constant_in text.now }

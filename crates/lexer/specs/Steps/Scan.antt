@@ -1,6 +1,6 @@
 -- What stands in front of a text, and what is left behind it.
 use Prim.Native.Char.{code}
-use Rattle.std.specs.Prelude.{ℕ, ◌%◌, ◌^◌, min, Bool, false, not, ◌&&◌, cond, eqb, List, [], ◌∷◌, Option as Maybe, Some, None}
+use Rattle.std.specs.Prelude.{ℕ, ◌%◌, ◌^◌, min, Bool, false, not, cond, List, [], ◌∷◌, Option as Maybe, Some, None}
 use Rattle.std.proofs.Math.Option.{Option, none, some}
 use Rattle.lexer.specs.Byte.{bytes_equal, is_space, ends_token, is_digit, is_hex_digit}
 use Rattle.lexer.specs.Token.{named}
@@ -37,15 +37,13 @@ unfoldable pub number_before : List ℕ → Option ℕ → Maybe (ℕ × List �
 number_before rest none = None
 number_before rest (some n) = Some (clip n, rest)
 
--- the value of the digits in front, and what stands behind them
-abbrev pub leading_digits : List ℕ → ℕ × List ℕ
-leading_digits text = (clip (decimal_from 0 (take_leading is_digit text)), drop_leading is_digit text)
+-- the value of further digits in front, behind those of a value, and what stands behind them
+abbrev pub further_digits : ℕ → List ℕ → ℕ × List ℕ
+further_digits v text = (clip (decimal_from v (take_leading is_digit text)), drop_leading is_digit text)
 
--- the digits in front are a number: 0, or digits that do not start with 0
-abbrev pub starts_number : List ℕ → Bool
-starts_number [] = false
-starts_number (b ∷ []) = is_digit b
-starts_number (b ∷ c ∷ bs) = is_digit b && not (eqb b (code "0") && is_digit c)
+abbrev pub starts_digit : List ℕ → Bool
+starts_digit [] = false
+starts_digit (b ∷ s) = is_digit b
 
 -- the number that the digits in front are
 unfoldable pub digits_in : List ℕ → Maybe (ℕ × List ℕ)

@@ -1,7 +1,7 @@
 use Rattle.std.proofs.Common.{sym, ◌∙◌, arith}
 use Rattle.std.proofs.lemmas.Grind.{common_steps}
 use Rattle.lexer.proofs.DigitLaws.{digits_past}
-use Rattle.lexer.proofs.scan.leading_digits.Goals as goal
+use Rattle.lexer.proofs.scan.further_digits.Goals as goal
 
 pub loop-rest-preserved : goal.loop-rest-preserved
 loop-rest-preserved c = record {
