@@ -49,8 +49,7 @@ fn put_next(out: &mut [u8], cursors: Cursors, line: &Line) -> Cursors
     ensures answer { result ≡ cursors_after line.now.ending cursors (length (value_words line.now)) }
     ensures buffer { out.new ≡ put_words out.old (cursor_for line.now.ending cursors) (value_words line.now) }
 {
-    let ending = line.ending;
-    match ending {
+    match line.ending {
         Ending::Causes(_) => {
             let words = put_line(out, cursors.rules, line);
             Cursors {
@@ -115,8 +114,7 @@ pub fn compile_texts(maker: &[u8], site: &[u8], out: &mut [u8]) -> Compiled
     ensures answer { result ≡ (compiled_texts maker.now site.now out.old).answer }
     ensures buffer { out.new ≡ (compiled_texts maker.now site.now out.old).buffer }
 {
-    let read = read_texts(maker, site);
-    match read {
+    match read_texts(maker, site) {
         Err(refusal) => Compiled::Refused(refusal),
         Ok(counts) => {
             let rule_words = words(counts.rules);

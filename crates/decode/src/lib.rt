@@ -7,7 +7,7 @@ ghost use Rattle.word.specs.Word.{word_limit, Below};
 ghost use Rattle.word.specs.Chunk.{words_in};
 ghost use Rattle.operation.specs.Fields.{first_of};
 ghost use Rattle.decode.specs.Decode.{line_at, line_length};
-ghost use Rattle.decode.specs.Steps.Scan.{first_head, head_operations, first_ending, ending_numbers, number_lowest, relation_lowest, is_ending, head_sound, count_heads, head_numbers, numbers_of, comparison_length, IsBehind, comparisons_fill, part_at, line_from};
+ghost use Rattle.decode.specs.Steps.Scan.{first_head, head_operations, first_ending, ending_numbers, number_lowest, relation_lowest, is_ending, head_sound, count_heads, head_numbers, numbers_of, comparison_length, IsBehind, comparisons_fill, part_at, line_from, constants_of, with_part};
 
 use line_value::Line;
 use operation::{Operation, constant_comparison, first, reading_comparison, skip};
@@ -270,44 +270,51 @@ fn part_at(words: &[[u8; 4]], at: usize) -> LinePart
     }
 }
 
+// How many constants follow the word.
+#[tactic(auto, unfolding(crate::specs::Steps::Scan::constants_of))]
+fn constants_of(part: LinePart) -> usize
+    ensures count { result ≡ constants_of part }
+    ensures few { result ≤ 1 }
+{
+    match part {
+        LinePart::Comparison(comparison) => comparison.operand.constants(),
+        LinePart::Head(_) | LinePart::Ending(_) | LinePart::Nothing => 0,
+    }
+}
+
+// The line with one part more, where there is room for it.
+#[tactic(auto, unfolding(crate::specs::Steps::Scan::with_part))]
+fn push_part(line: &mut Line, part: LinePart)
+    ensures { line.new ≡ with_part part line.old }
+{
+    match part {
+        LinePart::Head(test) => {
+            if line.head_count < HEAD_LIMIT {
+                line.heads[line.head_count] = Head(test);
+                line.head_count += 1;
+            }
+        }
+        LinePart::Comparison(comparison) => {
+            if line.comparison_count < COMPARISON_LIMIT {
+                line.comparisons[line.comparison_count] = comparison;
+                line.comparison_count += 1;
+            }
+        }
+        LinePart::Ending(ending) => line.ending = ending,
+        LinePart::Nothing => {}
+    }
+}
+
 /// The value of the line whose words these are. Nothing is checked, so it is for images that the loader takes.
 pub fn read_line(words: &[[u8; 4]]) -> Line
     ensures { result ≡ line_from (words_in words.now) }
 {
-    let empty = Line::new();
-    let mut heads = empty.heads;
-    let mut comparisons = empty.comparisons;
-    let mut head_count = 0;
-    let mut comparison_count = 0;
-    let mut ending = Ending::Never;
+    let mut line = Line::new();
     let mut at = 0;
     while at < words.len() {
         let part = part_at(words, at);
-        at += 1;
-        match part {
-            LinePart::Head(test) => {
-                if head_count < HEAD_LIMIT {
-                    heads[head_count] = Head(test);
-                    head_count += 1;
-                }
-            }
-            LinePart::Comparison(comparison) => {
-                let operand = comparison.operand;
-                at += operand.constants();
-                if comparison_count < COMPARISON_LIMIT {
-                    comparisons[comparison_count] = comparison;
-                    comparison_count += 1;
-                }
-            }
-            LinePart::Ending(last) => ending = last,
-            LinePart::Nothing => {}
-        }
+        push_part(&mut line, part);
+        at += 1 + constants_of(part);
     }
-    Line {
-        heads,
-        head_count,
-        comparisons,
-        comparison_count,
-        ending,
-    }
+    line
 }

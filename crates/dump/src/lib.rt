@@ -51,8 +51,7 @@ fn put_image(image: &[u8], out: &mut [u8]) -> usize
     ensures answer { result ≡ behind out.old 0 (image_within (length out.old) image.now) }
     ensures buffer { out.new ≡ appended out.old 0 (image_within (length out.old) image.now) }
 {
-    let decompiled = decompile(image, out);
-    match decompiled {
+    match decompile(image, out) {
         Decompiled::Refused(refusal) => {
             let mut page = Page { bytes: out, end: 0 };
             report::put_image_refusal(&mut page, refusal);

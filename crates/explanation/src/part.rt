@@ -30,8 +30,7 @@ fn part_at<'a>(text: &'a [u8], start: usize, count: usize) -> &'a [u8]
 pub fn part_of<'t>(maker: &'t [u8], site: &'t [u8], shown: Shown) -> &'t [u8]
     ensures { result.now ≡ shown_part maker.now site.now shown }
 {
-    let source = shown.source;
-    match source {
+    match shown.source {
         Source::Neither => &maker[0..0],
         Source::Maker => part_at(maker, shown.start, shown.length),
         Source::Site => part_at(site, shown.start, shown.length),

@@ -52,12 +52,10 @@ fn no_part() -> Shown
 fn first_shown(maker: &[u8], site: &[u8], sought: Sought, values: &[i32; READING_LIMIT]) -> Shown
     ensures { result ≡ first_shown (sought_by sought values.now) maker.now site.now }
 {
-    let first = find(maker, Source::Maker, sought, values);
-    match first {
+    match find(maker, Source::Maker, sought, values) {
         Search::Found(shown) => shown,
         Search::Absent => {
-            let second = find(site, Source::Site, sought, values);
-            match second {
+            match find(site, Source::Site, sought, values) {
                 Search::Found(shown) => shown,
                 Search::Absent => no_part(),
             }
@@ -117,12 +115,10 @@ fn reason_for(
 pub fn explain_on(image: &[u8], maker: &[u8], site: &[u8], line: &[u8], number: u32) -> Explained
     ensures { result ≡ explained_on maker.now site.now line.now number image.now }
 {
-    let decision = decide(image, line, Mode::Actions);
-    match decision {
+    match decide(image, line, Mode::Actions) {
         Decision::Refused(refusal) => Explained::Refused(refusal),
         Decision::Issued(actions) => {
-            let check = Action::new(number);
-            match check {
+            match Action::new(number) {
                 None => Explained::Refused(Fault::EpochRange.at(0)),
                 Some(action) => {
                     let why = reason_for(
@@ -146,8 +142,7 @@ pub fn explain(maker: &[u8], site: &[u8], line: &[u8], number: u32) -> Explained
     ensures { result ≡ explained maker.now site.now line.now number }
 {
     let mut image = [0u8; IMAGE_SIZE];
-    let compiled = compile_texts(maker, site, &mut image);
-    match compiled {
+    match compile_texts(maker, site, &mut image) {
         Compiled::Refused(refusal) => Explained::Refused(refusal),
         Compiled::Image(size) => explain_on(&image[..size], maker, site, line, number),
     }
@@ -158,8 +153,7 @@ pub fn explain(maker: &[u8], site: &[u8], line: &[u8], number: u32) -> Explained
 pub fn explanation<'t, 'e>(maker: &'t [u8], site: &'t [u8], line: &'e [u8], number: u32) -> &'t [u8]
     ensures { result.now ≡ part_shown maker.now site.now (explained maker.now site.now line.now number) }
 {
-    let answer = explain(maker, site, line, number);
-    match answer {
+    match explain(maker, site, line, number) {
         Explained::Refused(_) => &maker[0..0],
         Explained::Because(why) => {
             let shown = why.shown;

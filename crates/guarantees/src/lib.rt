@@ -47,8 +47,7 @@ pub fn compile_and_decide(
     ensures err { IfErr result (λ refusal. (read_texts maker.now site.now ≡ stopped refusal) × (decisions.new ≡ decisions.old)) }
 {
     let mut image = [0u8; IMAGE_SIZE];
-    let compiled = codegen::compile_texts(maker, site, &mut image);
-    match compiled {
+    match codegen::compile_texts(maker, site, &mut image) {
         Compiled::Refused(refusal) => Err(refusal),
         Compiled::Image(size) => {
             decide_lines(&image[..size], lines, decisions);

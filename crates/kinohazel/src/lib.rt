@@ -64,8 +64,7 @@ pub extern "C" fn kinohazel_compile_nonnull(text: &[u8], out: &mut [u8]) -> Comp
     ensures answer { result ≡ compilation_of (compiled text.now out.old).answer }
     ensures buffer { out.new ≡ (compiled text.now out.old).buffer }
 {
-    let answer = codegen::compile(text, out);
-    match answer {
+    match codegen::compile(text, out) {
         Compiled::Refused(refusal) => Compilation {
             fault: fault_number(refusal),
             line: refusal.location as u64,
@@ -95,8 +94,7 @@ pub extern "C" fn kinohazel_compile_texts_nonnull(
     ensures answer { result ≡ texts_compilation_of (compiled_texts maker.now site.now out.old).answer }
     ensures buffer { out.new ≡ (compiled_texts maker.now site.now out.old).buffer }
 {
-    let answer = codegen::compile_texts(maker, site, out);
-    match answer {
+    match codegen::compile_texts(maker, site, out) {
         Compiled::Refused(refusal) => {
             let source = refusal.source;
             TextsCompilation {
@@ -120,8 +118,7 @@ pub extern "C" fn kinohazel_compile_texts_nonnull(
 pub extern "C" fn kinohazel_check_nonnull(image: &[u8]) -> ImageCheck
     ensures { result ≡ check_of (load image.now) }
 {
-    let answer = image::load_image(image);
-    match answer {
+    match image::load_image(image) {
         Loaded::Refused(refusal) => ImageCheck {
             fault: fault_number(refusal),
             word: refusal.location as u64,
@@ -143,8 +140,7 @@ pub extern "C" fn kinohazel_text_nonnull(image: &[u8], out: &mut [u8]) -> TextWr
     ensures answer { result ≡ text_written_of (decompiled image.now out.old).answer }
     ensures buffer { out.new ≡ (decompiled image.now out.old).buffer }
 {
-    let answer = decompile::decompile(image, out);
-    match answer {
+    match decompile::decompile(image, out) {
         Decompiled::Refused(refusal) => TextWritten {
             fault: fault_number(refusal),
             word: refusal.location as u64,

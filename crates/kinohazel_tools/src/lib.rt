@@ -62,8 +62,7 @@ pub extern "C" fn kinohazel_explain_nonnull(
     ensures { result ≡ explanation_of (explained maker.now site.now line.now action) }
 {
     let number = action_number(action);
-    let answer = explanation::explain(maker, site, line, number);
-    match answer {
+    match explanation::explain(maker, site, line, number) {
         Explained::Refused(refusal) => {
             let fault = refusal.fault;
             let source = refusal.source;

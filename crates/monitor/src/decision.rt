@@ -52,13 +52,11 @@ fn decide_epoch(
 pub fn decide(image: &[u8], line: &[u8], mode: Mode) -> Decision
     ensures { result ≡ decision_in mode image.now line.now }
 {
-    let loaded = load_image(image);
-    match loaded {
+    match load_image(image) {
         Loaded::Refused(refusal) => Decision::Refused(refusal),
         Loaded::Image(contents) => {
             let epoch = read_epoch(line);
-            let status = epoch.status;
-            match status {
+            match epoch.status {
                 EpochStatus::Refused(fault) => Decision::Refused(fault.at(0)),
                 EpochStatus::Accepted => {
                     let values = epoch.values;

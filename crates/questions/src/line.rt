@@ -88,8 +88,7 @@ pub fn is_open(question: Question) -> bool
     if question.spaced {
         return true;
     }
-    let token = question.token;
-    match token {
+    match question.token {
         Token::Empty => false,
         Token::Letter => true,
         Token::Zero => true,

@@ -55,8 +55,7 @@ fn tallied(counts: TextCounts, line: Line) -> Result<TextCounts, Fault>
 {
     let rules = counts.rules;
     let constraints = counts.constraints;
-    let ending = line.ending;
-    match ending {
+    match line.ending {
         Ending::Causes(_) => {
             if rules.lines < RULE_LIMIT {
                 Ok(TextCounts {

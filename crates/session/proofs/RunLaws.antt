@@ -1,10 +1,10 @@
 -- Laws of the lines that pick a mode.
-use Rattle.std.proofs.Common.{◌≡◌, ℕ, suc, ◌+◌, ◌<◌, ◌≤◌, Bool, true, false, ◌&&◌, eqb, List, [], ◌∷◌, length, get_or, drop, refl, ap, ◌∙◌, ap₂, arith, drop_of_length-le, eq-eqb, ne_eqb}
+use Rattle.std.proofs.Common.{◌≡◌, ℕ, suc, ◌<◌, Bool, true, false, ◌&&◌, eqb, List, [], ◌∷◌, length, refl, sym, ap, ◌∙◌, arith}
 use Rattle.std.proofs.Math.Option.{none, some}
+use Rattle.std.specs.Cmp.Lexicographic.{pointwise}
 use Prim.Native.String.{String}
 use Rattle.policy.specs.declared.mode.Mode.{Mode}
 use Rattle.lexer.specs.Byte.{bytes, bytes_equal, is}
-use Rattle.line_value.proofs.LineLaws.{items_past}
 use Rattle.session.specs.Printed.{mode_of}
 
 and_none : (b : Bool) → (b && false) ≡ false
@@ -20,20 +20,17 @@ same_long [] (y ∷ ys) h = refl
 same_long (x ∷ xs) [] h = refl
 same_long (x ∷ xs) (y ∷ ys) h = ap (◌&&◌ (eqb x y)) (same_long xs ys (λ e. h (ap suc e))) ∙ and_none (eqb x y)
 
-module _ (s t : List ℕ) (i : ℕ) (h : i < length s) (k : i < length t) where
-  at_both : bytes_equal (drop i s) (drop i t) ≡ (eqb (get_or s i 0) (get_or t i 0) && bytes_equal (drop (i + 1) s) (drop (i + 1) t))
-  unfolding bytes_equal
-  at_both = ap₂ bytes_equal (items_past s i 0 h) (items_past t i 0 k)
-
-  pub same_differs : (get_or s i 0 ≡ get_or t i 0 → ⊥) → bytes_equal (drop i s) (drop i t) ≡ false
-  same_differs n = at_both ∙ rw (ne_eqb (get_or s i 0) (get_or t i 0) n)
-
-  pub same_past : get_or s i 0 ≡ get_or t i 0 → bytes_equal (drop i s) (drop i t) ≡ bytes_equal (drop (i + 1) s) (drop (i + 1) t)
-  same_past e = at_both ∙ rw (eq-eqb (get_or s i 0) (get_or t i 0) e)
-
-pub same_end : (s t : List ℕ) (i : ℕ) → length s ≤ i → length t ≤ i → bytes_equal (drop i s) (drop i t) ≡ true
+-- the comparison of slices is that of the definition
+same_pointwise : (s t : List ℕ) → pointwise eqb s t ≡ bytes_equal s t
 unfolding bytes_equal
-same_end s t i h k = rw (drop_of_length-le s h, drop_of_length-le t k)
+same_pointwise [] [] = refl
+same_pointwise [] (y ∷ ys) = refl
+same_pointwise (x ∷ xs) [] = refl
+same_pointwise (x ∷ xs) (y ∷ ys) = ap (◌&&◌ (eqb x y)) (same_pointwise xs ys)
+
+pub is_word : (word : String) (line t : List ℕ) (b c : Bool) → t ≡ bytes word → b ≡ pointwise eqb line t → b ≡ c → is word line ≡ c
+unfolding is
+is_word word line t b c e f g = sym (same_pointwise line (bytes word)) ∙ ap (pointwise eqb line) (sym e) ∙ sym f ∙ g
 
 -- ---- modes
 

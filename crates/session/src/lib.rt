@@ -60,8 +60,7 @@ fn step(
     requires room { Room state }
     ensures { Took state held.old image.old out.old (byte ∷ []) result held.new image.new out.new }
 {
-    let phase = state.phase;
-    match phase {
+    match state.phase {
         Phase::Text => text_byte(state, byte, held, image, out),
         Phase::Epochs => line_byte(state, byte, held, image, out),
         Phase::Over => state,
@@ -110,11 +109,9 @@ pub fn finish(
     requires room { Room state }
     ensures { Finished state held.now image.old out.old result image.new out.new }
 {
-    let phase = state.phase;
-    match phase {
+    match state.phase {
         Phase::Text => {
-            let picked = at_run(state, held);
-            match picked {
+            match at_run(state, held) {
                 Picked::Mode(mode) => end_text(state, mode, state.start, held, image, out),
                 // No epoch follows: the mode does not matter.
                 Picked::Nothing => end_text(state, Mode::Actions, state.count, held, image, out),

@@ -41,8 +41,7 @@ pub(crate) fn end_text(
     requires room { Room state }
     ensures { TextEnded (take end held.now) mode state out.old result image.new out.new }
 {
-    let compiled = codegen::compile(&held[..end], image);
-    match compiled {
+    match codegen::compile(&held[..end], image) {
         Compiled::Refused(refusal) => {
             let mut page = Page {
                 bytes: out,
@@ -101,8 +100,7 @@ pub(crate) fn text_byte(
     if byte != b'\n' {
         return push(state, byte, HELD_SIZE, held);
     }
-    let picked = at_run(state, held);
-    match picked {
+    match at_run(state, held) {
         Picked::Mode(mode) => end_text(state, mode, state.start, held, image, out),
         Picked::Nothing => line_behind(push(state, byte, TEXT_HELD, held)),
     }

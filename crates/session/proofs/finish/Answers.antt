@@ -5,8 +5,8 @@ use Rattle.session.proofs.FinishLaws.{finish_run, finish_text, finish_none, fini
 use Rattle.session.proofs.TextByteLaws.{text_count}
 use Rattle.session.proofs.finish.Goals as goal
 
-pub at_run-picked-requires : goal.at_run-picked-requires
-at_run-picked-requires c =
+pub at_run-requires : goal.at_run-requires
+at_run-requires c =
     record { ordered = c.requires.good.ordered; inside = text_count _ _ _ _ c.requires.good c.in-Text.is }
 
 pub end_text-requires : goal.end_text-requires
@@ -25,12 +25,12 @@ end_line-requires c =
 pub returns-in-Mode : goal.returns-in-Mode
 returns-in-Mode c =
     finish_run _ _ _ _ c.requires.good _ _ _ _ c.in-Text.is
-    (sym c.at_run-picked.ensures ∙ ap mode_in c.in-Mode.is) c.end_text.ensures
+    (sym c.at_run.ensures ∙ ap mode_in c.in-Mode.is) c.end_text.ensures
 
 pub returns-in-Nothing : goal.returns-in-Nothing
 returns-in-Nothing c =
     finish_text _ _ _ _ c.requires.good _ _ _ _ c.in-Text.is
-    (sym c.at_run-picked.ensures ∙ ap mode_in c.in-Nothing.is) c.end_text-in-Nothing.ensures
+    (sym c.at_run.ensures ∙ ap mode_in c.in-Nothing.is) c.end_text-in-Nothing.ensures
 
 pub returns-then-state-eq0 : goal.returns-then-state-eq0
 returns-then-state-eq0 c = finish_none _ _ _ _ c.requires.good c.in-Epochs.is c.if-state-eq0.true

@@ -1,20 +1,20 @@
-use Rattle.std.proofs.Common.{sym, ◌∙◌}
-use Rattle.lexer.specs.Byte.{bytes, is}
-use Rattle.session.proofs.RunLaws.{picks_actions, picks_events, picks_none}
+use Rattle.std.proofs.Common.{sym}
+use Rattle.lexer.specs.Byte.{bytes}
+use Rattle.session.proofs.RunLaws.{is_word, picks_actions, picks_events, picks_none}
 use Rattle.session.proofs.mode.pick_mode.Goals as goal
 
-pub returns-then-same_bytes : goal.returns-then-same_bytes
-unfolding is bytes
-returns-then-same_bytes c = sym (picks_actions _ (sym c.same_bytes.ensures ∙ c.if-same_bytes.true))
+pub returns-then-eq : goal.returns-then-eq
+unfolding bytes
+returns-then-eq c = sym (picks_actions _ (is_word "run" _ _ _ _ c.as_slice.ensures c.eq.ensures c.if-eq.true))
 
-pub returns-then-same_bytes-2 : goal.returns-then-same_bytes-2
-unfolding is bytes
-returns-then-same_bytes-2 c =
-    sym (picks_events _ (sym c.same_bytes.ensures ∙ c.if-same_bytes.false)
-    (sym c.same_bytes-2.ensures ∙ c.if-same_bytes-2.true))
+pub returns-then-eq-2 : goal.returns-then-eq-2
+unfolding bytes
+returns-then-eq-2 c =
+    sym (picks_events _ (is_word "run" _ _ _ _ c.as_slice.ensures c.eq.ensures c.if-eq.false)
+    (is_word "run events" _ _ _ _ c.as_slice-else-eq.ensures c.eq-else-eq.ensures c.if-eq-2.true))
 
-pub returns : goal.returns
-unfolding is bytes
-returns c =
-    sym (picks_none _ (sym c.same_bytes.ensures ∙ c.if-same_bytes.false)
-    (sym c.same_bytes-2.ensures ∙ c.if-same_bytes-2.false))
+pub returns-else-eq-2 : goal.returns-else-eq-2
+unfolding bytes
+returns-else-eq-2 c =
+    sym (picks_none _ (is_word "run" _ _ _ _ c.as_slice.ensures c.eq.ensures c.if-eq.false)
+    (is_word "run events" _ _ _ _ c.as_slice-else-eq.ensures c.eq-else-eq.ensures c.if-eq-2.false))

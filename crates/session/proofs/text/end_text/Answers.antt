@@ -5,10 +5,10 @@ use Rattle.session.proofs.text.end_text.Goals as goal
 
 pub returns-in-Refused : goal.returns-in-Refused
 returns-in-Refused c =
-    text_refused _ _ c.args.state _ _ c.compile-compiled.result _ c.compile-compiled.ensures.answer c.compile-compiled.ensures.buffer c.compile-compiled.auto.out c.requires.image_sized c.requires.out_sized c.requires.room
+    text_refused _ _ c.args.state _ _ c.compile.result _ c.compile.ensures.answer c.compile.ensures.buffer c.compile.auto.out c.requires.image_sized c.requires.out_sized c.requires.room
     _ _ _ c.in-Refused.is (omega arith) (page_put _ _ _ c.put_refusal.ensures (omega arith))
 
 pub returns-in-Image : goal.returns-in-Image
 returns-in-Image c =
-    text_accepted _ _ c.args.state _ _ c.compile-compiled.result _ c.compile-compiled.ensures.answer c.compile-compiled.ensures.buffer c.compile-compiled.auto.out c.requires.image_sized c.requires.out_sized c.requires.room
+    text_accepted _ _ c.args.state _ _ c.compile.result _ c.compile.ensures.answer c.compile.ensures.buffer c.compile.auto.out c.requires.image_sized c.requires.out_sized c.requires.room
     _ c.in-Image.is

@@ -8,8 +8,8 @@ pub returns-then-byte-ne10 : goal.returns-then-byte-ne10
 returns-then-byte-ne10 c =
     text_pushed _ _ _ _ c.requires.good c.requires.phase _ _ _ c.if-byte-ne10.true c.push.ensures
 
-pub at_run-picked-requires : goal.at_run-picked-requires
-at_run-picked-requires c =
+pub at_run-requires : goal.at_run-requires
+at_run-requires c =
     record { ordered = c.requires.good.ordered; inside = text_count _ _ _ _ c.requires.good c.requires.phase }
 
 pub end_text-requires : goal.end_text-requires
@@ -21,11 +21,11 @@ pub returns-in-Mode : goal.returns-in-Mode
 returns-in-Mode c =
     took_end _ _ _ _ _ c.if-byte-ne10.false
     (text_run _ _ _ _ c.requires.good c.requires.phase _ _ _ _
-    (sym c.at_run-picked.ensures ∙ ap mode_in c.in-Mode.is) c.end_text.ensures)
+    (sym c.at_run.ensures ∙ ap mode_in c.in-Mode.is) c.end_text.ensures)
 
 pub returns-in-Nothing : goal.returns-in-Nothing
 returns-in-Nothing c =
     rw c.line_behind.ensures
     (took_end _ _ _ _ _ c.if-byte-ne10.false
     (text_line _ _ _ _ c.requires.good c.requires.phase c.push-in-Nothing.result _
-    (sym c.at_run-picked.ensures ∙ ap mode_in c.in-Nothing.is) (pushed_end _ _ [] [] _ c.if-byte-ne10.false c.push-in-Nothing.ensures)))
+    (sym c.at_run.ensures ∙ ap mode_in c.in-Nothing.is) (pushed_end _ _ [] [] _ c.if-byte-ne10.false c.push-in-Nothing.ensures)))
