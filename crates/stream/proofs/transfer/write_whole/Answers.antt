@@ -35,7 +35,7 @@ loop-turn-preserved g c =
           let event = went (take w.in-Ok.n rest) in
           let long : w.in-Ok.n ≤ length rest = w.in-Ok.ensures.bound in
           let some : 0 < length (take w.in-Ok.n rest) = omega (arith, length-take-le w.in-Ok.n rest long, w.in-Ok.n-test.1) in
-          let more = sends_went _ _ _ w.in-Ok.ensures.bytes w.in-Ok.ensures.unread w.in-Ok.ensures.history in
+          let more : Sends (IsJust event) _ _ (take w.in-Ok.n rest) = sends_went _ _ _ w.in-Ok.ensures.bytes w.in-Ok.ensures.unread w.in-Ok.ensures.history in
           rw w.done-is (record {
             some = λ h. omega (arith, c.loop-turn.invariant.within);
             within = omega (arith, ap length (take_rest xs done), length-drop done xs);
@@ -43,7 +43,7 @@ loop-turn-preserved g c =
           })
       | in-Err+else-ne w ↦
           let event = write_failed w.in-Err.e in
-          let failed = sends_failed _ _ w.in-Err.e w.in-Err.ensures.bytes w.in-Err.ensures.unread w.in-Err.ensures.history in
+          let failed : Sends (IsJust event) _ _ [] = sends_failed _ _ w.in-Err.e w.in-Err.ensures.bytes w.in-Err.ensures.unread w.in-Err.ensures.history in
           rw w.done-is (record {
             some = λ h. omega (arith, within);
             within = within;
