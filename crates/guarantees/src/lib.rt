@@ -7,6 +7,7 @@
 pub mod decision_laws;
 pub mod explanation_laws;
 pub mod image_laws;
+pub mod load_laws;
 pub mod policy_laws;
 pub mod program_laws;
 pub mod reading_laws;
