@@ -1,7 +1,7 @@
 //! The decompiler's whole run.
 ghost use Rattle.std.specs.Prelude.{◌≡◌, OnOk, IfErr};
 ghost use Rattle.stream.specs.Machine.{AnswersAll, ListingEndsBy, nothing};
-ghost use Rattle.dump.specs.Calls.{start_state};
+ghost use Rattle.dump.specs.Steps.Calls.{start_state};
 ghost use Rattle.dump.specs.Dump.{restored};
 
 use crate::DUMP_SIZE;
@@ -33,7 +33,7 @@ impl Decompiler {
 }
 
 impl Summary for Decompiler {
-    ghost use Rattle.dump.specs.Decompiler.{restored_of};
+    ghost use Rattle.dump.specs.Steps.Decompiler.{restored_of};
 
     ghost printed = { restored_of };
 

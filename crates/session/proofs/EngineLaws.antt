@@ -6,8 +6,8 @@ use Rattle.stream.specs.Lines.{due_for, whole_part}
 use Rattle.stream.proofs.LineLaws.{due_emptied}
 use Rattle.stream.proofs.MachineLaws.{starts_append}
 use Rattle.session.specs.Printed.{mode_of, printed, due}
-use Rattle.session.specs.Owed.{printed_behind, current, left_in, owed, Good, Seen, see_byte, see, nothing_seen, picked, given_for, seen_in, seen_by, Room, TracksIn, Tracks, Took, start_state, emptied}
-use Rattle.session.specs.Kept.{Starting}
+use Rattle.session.specs.Steps.Owed.{printed_behind, current, left_in, owed, Good, Seen, see_byte, see, nothing_seen, picked, given_for, seen_in, seen_by, Room, TracksIn, Tracks, Took, start_state, emptied}
+use Rattle.session.specs.Steps.Kept.{Starting}
 use Rattle.session.specs.declared.state.Phase.{Phase}
 use Rattle.session.specs.declared.state.State.{State}
 use Rattle.session.proofs.DueLaws.{due_seen}

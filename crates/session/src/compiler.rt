@@ -22,7 +22,7 @@ struct Compiler {
 }
 
 impl Summary for Compiler {
-    ghost use Rattle.session.specs.Compiler.{listed_of};
+    ghost use Rattle.session.specs.Steps.Compiler.{listed_of};
 
     ghost printed = { listed_of };
 

@@ -1,7 +1,7 @@
 -- What an explainer hands out from here on.
 use Rattle.std.specs.Prelude.{◌≡◌, ℕ, List, ◌++◌, length, take}
 use Rattle.questions.specs.Answered.{next}
-use Rattle.questions.specs.Asked.{answer_held}
+use Rattle.questions.specs.Steps.Asked.{answer_held}
 use Rattle.questions.specs.Steps.Held.{start_question, Held, held_by}
 use Rattle.questions.specs.Steps.Left.{answers_to_end, answers_so_far}
 use Rattle.questions.specs.declared.explainer.Explainer.{Explainer}

@@ -1,6 +1,6 @@
 -- What an engine hands out from here on.
 use Rattle.std.specs.Prelude.{ℕ, List}
-use Rattle.session.specs.Owed.{owed, given_for, seen_by}
+use Rattle.session.specs.Steps.Owed.{owed, given_for, seen_by}
 use Rattle.session.specs.declared.engine.Engine.{Engine}
 
 abbrev pub printed_of : Engine → List ℕ → List ℕ

@@ -1,6 +1,6 @@
 -- What a decompiler prints at the end of its input, if these bytes come before it.
 use Rattle.std.specs.Prelude.{ℕ, List}
-use Rattle.dump.specs.Calls.{held, fed, closed, finished}
+use Rattle.dump.specs.Steps.Calls.{held, fed, closed, finished}
 use Rattle.dump.specs.declared.decompiler.Decompiler.{Decompiler}
 
 abbrev pub restored_of : Decompiler → List ℕ → List ℕ

@@ -122,12 +122,19 @@ pub record Finished (s : State) (held image out : List ℕ) (r : State) (image' 
   pub tracks : (x : Seen) → Tracks x s held → Tracks (seen_by r held) r held
   pub good : Good r held image' out'
 
--- the calls of a session, in chunks of any sizes: what was consumed and what was handed out by all of them together
+-- ---- the calls of a session, in chunks of any sizes
+
+-- what holds of a call that took these bytes, whatever waits then
+pub record Moved (s : State) (held image out bytes : List ℕ) (r : State) (held' image' out' : List ℕ) : Type 0 where
+  pub owes : (rest : List ℕ) → owed r held' image' out' rest ≡ owed s held image out (bytes ++ rest)
+  pub tracks : (x : Seen) → Tracks x s held → Tracks (see x bytes) r held'
+  pub good : Good r held' image' out'
+
+-- what was consumed and what was handed out by all of them together
 pub data Called : List ℕ → List ℕ → State → List ℕ → List ℕ → List ℕ → Type 0 where
   begun : {held image out : List ℕ} → length held ≡ 32780 → length image ≡ 13064 → length out ≡ 65536 → Called [] [] start_state held image out
-  fed : {consumed handed held image out held' image' out' : List ℕ} {s r : State} (chunk : List ℕ) (taken : ℕ)
-      → Called consumed handed s held image out → Fed s held image out chunk taken r held' image' out'
-      → Called (consumed ++ take taken chunk) handed r held' image' out'
+  fed : {consumed handed held image out held' image' out' : List ℕ} {s r : State} (bytes : List ℕ)
+      → Called consumed handed s held image out → Moved s held image out bytes r held' image' out' → Called (consumed ++ bytes) handed r held' image' out'
   handed_out : {consumed handed held image out : List ℕ} {s : State}
       → Called consumed handed s held image out → Called consumed (handed ++ take s.used out) (emptied s) held image out
 

@@ -1,7 +1,7 @@
 -- What a session keeps beside `Good`, each in at most one way.
 use Rattle.std.specs.Prelude.{ℕ, ◌≤◌, List}
 use denote.Struct.Props.{props}
-use Rattle.session.specs.Owed.{Fitting, Good}
+use Rattle.session.specs.Steps.Owed.{Fitting, Good}
 use Rattle.session.specs.declared.state.Phase.{Phase}
 use Rattle.session.specs.declared.state.State.{State}
 
