@@ -8,6 +8,7 @@ pub mod decision_laws;
 pub mod image_laws;
 pub mod policy_laws;
 pub mod reading_laws;
+pub mod writing_laws;
 
 ghost use Rattle.std.specs.Prelude.{◌≡◌, IfOk, IfErr};
 ghost use Rattle.rule_text.specs.Text.{read_texts, stopped};
