@@ -122,12 +122,12 @@ refused_exactly mode image line bounded r = (λ h. ⊎_elim as_first (λ x. epoc
         ap (λ (x : Mode). decision_in x image line) m ∙ (conflict_exactly image bounded contents t line e q).1 none ∙ ap Decision.Refused (sym w)
 
 -- and under which faults, at which locations
-pub decision_faults : (mode : Mode) (image line : List ℕ) → Bytes image → (r : Refusal) → decision_in mode image line ≡ Decision.Refused r → OfDecisionIn (length (words_of image)) r
+pub decision_faults : (mode : Mode) (image line : List ℕ) → Bytes image → (r : Refusal) → decision_in mode image line ≡ Decision.Refused r → OfDecisionIn mode (length (words_of image)) r
 decision_faults mode image line bounded r h = go ((refused_exactly mode image line bounded r).0 h)
   where
-    go : RefusedIn mode image line r → OfDecisionIn (length (words_of image)) r
+    go : RefusedIn mode image line r → OfDecisionIn mode (length (words_of image)) r
     go (as_first f) = of_either (either_faults image line r f)
-    go (for_conflict m contents t e q none w) = of_conflict w
+    go (for_conflict m contents t e q none w) = of_conflict m w
 
 -- ---- the image of a policy that an accepted text may have
 
