@@ -1,5 +1,5 @@
 -- What is held of a question answers it as the whole line does, and what the program prints for all of its input.
-use Rattle.std.proofs.Common.{ℕ, suc, ◌+◌, ◌*◌, ◌-◌, min, ◌≤◌, ◌<◌, Bool, true, false, not, cond, ◌&&◌, ◌||◌, List, [], ◌∷◌, ◌++◌, append_assoc, append-nil, ◌⊎◌, inl, inr, ◌≡◌, refl, sym, ap, ap₂, ◌∙◌, add-one, arith, lt-ltb, le-ltb, ltb-true, ltb-false, eqb-true, eqb, ltb, length, take, drop, set, length-set, length-append, length-take, take_all, take-suc-set, length-take-le, fold}
+use Rattle.std.proofs.Common.{ℕ, ◌+◌, ◌*◌, ◌-◌, min, ◌≤◌, ◌<◌, Bool, true, false, not, cond, ◌&&◌, ◌||◌, List, [], ◌∷◌, ◌++◌, append_assoc, append-nil, ◌⊎◌, inl, inr, ◌≡◌, refl, sym, ap, ap₂, ◌∙◌, add-one, arith, lt-ltb, le-ltb, ltb-true, ltb-false, eqb-true, eqb, ltb, length, take, set, length-set, length-append, length-take, take_all, take-suc-set, length-take-le, fold}
 use Rattle.std.proofs.lemmas.Bool.{not-true}
 use Rattle.std.proofs.lemmas.List.Sums.{fold-append}
 use Rattle.std.proofs.Math.Path.{subst⁻¹}
@@ -199,21 +199,15 @@ data Split (line : List ℕ) : Type 0 where
   alone : line ≡ word_of line → epoch_of line ≡ [] → Split line
   spaced : line ≡ word_of line ++ 32 ∷ epoch_of line → Split line
 
-behind_first : (b n : ℕ) (s : List ℕ) → drop (suc n + 1) (b ∷ s) ≡ drop (n + 1) s
-behind_first b n s = let e : suc n + 1 ≡ suc (n + 1) = omega arith in ap (λ (k : ℕ). drop k (b ∷ s)) e
-
 split : (line : List ℕ) → Split line
 unfolding word_of epoch_of
 split [] = alone refl refl
 split (b ∷ s) = go (is_space b) refl (split s)
   where
-    n : ℕ
-    n = length (take_leading in_word s)
-
     go : (x : Bool) → is_space b ≡ x → Split s → Split (b ∷ s)
     go true e k = let h : b ≡ 32 = eqb-true b 32 e in spaced (rw e (ap (λ (c : ℕ). c ∷ s) h))
-    go false e (alone f g) = alone (rw e (ap (λ (t : List ℕ). b ∷ t) f)) (rw e (behind_first b n s ∙ g))
-    go false e (spaced f) = spaced (rw e (ap (λ (t : List ℕ). b ∷ t) (f ∙ ap (λ (t : List ℕ). take_leading in_word s ++ 32 ∷ t) (sym (behind_first b n s)))))
+    go false e (alone f g) = alone (rw e (ap (λ (t : List ℕ). b ∷ t) f)) (rw e g)
+    go false e (spaced f) = spaced (rw e (ap (λ (t : List ℕ). b ∷ t) f))
 
 word_words : (line : List ℕ) → all in_word (word_of line) ≡ true
 unfolding word_of all

@@ -6,7 +6,7 @@ use Rattle.std.proofs.Math.Option.{Option, none, some}
 use Rattle.policy.specs.Fault.{refusal}
 use Rattle.policy.specs.declared.fault.Fault.{Fault}
 use Rattle.lexer.specs.Byte.{bytes, is_space}
-use Rattle.lexer.specs.Lines.{lines_of, take_leading}
+use Rattle.lexer.specs.Lines.{lines_of, take_leading, drop_leading}
 use Rattle.lexer.specs.Token.{named}
 use Rattle.epoch_line.specs.Epoch.{epoch_limit}
 use Rattle.rule_text.specs.Text.{Progress, reading, stopped, read_texts}
@@ -27,7 +27,7 @@ unfoldable pub word_of : List ℕ → List ℕ
 word_of line = take_leading in_word line
 
 unfoldable pub epoch_of : List ℕ → List ℕ
-epoch_of line = drop (length (word_of line) + 1) line
+epoch_of line = drop 1 (drop_leading in_word line)
 
 -- a first word that is not `A` and a number is refused under 12; as always, 1 comes before it
 unfoldable pub no_action : List ℕ → Explained
