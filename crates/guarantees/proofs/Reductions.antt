@@ -25,7 +25,7 @@ use Rattle.layout.specs.Layout.{known_form, image_of}
 use Rattle.exactness.proofs.Exact.{image_taken, image_holds}
 use Rattle.exactness.specs.Exact.{contents_of}
 use Rattle.meaning.proofs.Decided.{reduction_of, events_decided_are, image_bounded}
-use Rattle.monitor.specs.Decision.{actions_of, tried_event_words, rules_in, constraints_in, decided_by, decision_in, answer_of}
+use Rattle.monitor.specs.Decision.{actions_of, tried_event_words, rule_words_in, constraint_words_in, decided_by, decision_in, answer_of}
 use Rattle.monitor.specs.declared.decision.Decision.{Decision}
 use Rattle.guarantees.proofs.Decisions.{refused_for, refused_cases, either_faults, not_refused}
 use Rattle.guarantees.specs.Machine.{yield_in}
@@ -67,7 +67,7 @@ module _ (image : List ℕ) (bounded : Bytes image) (contents : Contents) (taken
 
   module _ (line : List ℕ) (e : Epoch) (read : read_epoch line ≡ accepted e) where
     abbrev words : ℕ
-    words = tried_event_words (rules_in contents (words_of image)) (constraints_in contents (words_of image)) e
+    words = tried_event_words (rule_words_in contents (words_of image)) (constraint_words_in contents (words_of image)) e
 
     decided : decision_in Mode.Events image line ≡ reduction_of P e words
     decided = events_decided_are image bounded contents taken line e read
