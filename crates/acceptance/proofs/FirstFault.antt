@@ -39,8 +39,8 @@ stays r (l ∷ ls) = stays r ls
 -- ---- one line
 
 module _ (n : ℕ) (p : Policy) (l : List ℕ) where
-  here_taken : (q : Policy) → Takes p l q → read_line (reading n p) l ≡ reading (suc n) q
-  unfolding read_line advance
+  here_taken : (q : Policy) → Takes p l q → read_next_line (reading n p) l ≡ reading (suc n) q
+  unfolding read_next_line advance
   here_taken q (Takes.passed s) = ap (advance n p) (skipped_answer l s)
   here_taken q (Takes.one_rule r a k) = ap (advance n p) (accepted_answer l (rule r) a) ∙ rw (lt-ltb _ _ k) refl
   here_taken q (Takes.one_constraint c a k) = ap (advance n p) (accepted_answer l (constraint c) a) ∙ rw (lt-ltb _ _ k) refl

@@ -13,9 +13,9 @@ use Rattle.operation.specs.declared.operation.Operation.{Operation}
 -- ---- which words are run
 
 -- a comparison with a constant has it in the word behind
-abbrev pub constant_count : Operation → ℕ
-constant_count Operation.AgainstConstant = 1
-constant_count _ = 0
+abbrev pub constants_behind : Operation → ℕ
+constants_behind Operation.AgainstConstant = 1
+constants_behind _ = 0
 
 -- how many of the words behind a word are passed over: its constant always; "a test that fails passes over `skip` further words"
 abbrev pub passes : Bool → Operation → ℕ → ℕ
