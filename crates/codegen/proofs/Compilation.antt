@@ -1,7 +1,7 @@
 -- What a compilation has done: the statements about `compiled` and `compiled_texts`.
 use Rattle.std.proofs.Common.{ℕ, ◌≤◌, ◌<◌, List, ◌↔◌, ◌≡◌, refl, sym, ap, ◌∙◌, arith, le-leb, leb-true, length}
 use Rattle.std.proofs.lemmas.Bool.{lt-leb}
-use Rattle.std.proofs.Math.Option.{some}
+use Rattle.std.proofs.Math.Option.{Option, some}
 use Rattle.std.proofs.Math.Dec.{leb}
 use Rattle.policy.proofs.ListLaws.{and_out}
 use Rattle.policy.proofs.FillLaws.{Delivered, fill_delivered, fill_unchanged}
@@ -135,20 +135,25 @@ module _ (maker site buffer : List ℕ) where
 
 -- ---- what an image keeps of a text: its rules in their order and its constraints in theirs, and nothing else
 
-pub same_images : (s t out out' : List ℕ) (m n : ℕ) → (compiled s out).answer ≡ Compiled.Image m → (compiled t out').answer ≡ Compiled.Image n → (written_in m s out ≡ written_in n t out') ↔ (policy_of s ≡ policy_of t)
-same_images s t out out' m n d e = (there, back)
+same_written : (known known' : Option Policy) (made made' : Filled Compiled) (out out' : List ℕ) (m n : ℕ) → WrittenBy known made out m → WrittenBy known' made' out' n
+    → (written_by m made ≡ written_by n made') ↔ (known ≡ known')
+same_written known known' made made' out out' m n a b = (there, back)
   where
-    a : Written s out m
-    a = image_written s out m d
-
-    b : Written t out' n
-    b = image_written t out' n e
-
-    there : written_in m s out ≡ written_in n t out' → policy_of s ≡ policy_of t
+    there : written_by m made ≡ written_by n made' → known ≡ known'
     there k = a.read ∙ ap some (sym a.holds ∙ ap policy_in k ∙ b.holds) ∙ sym b.read
 
-    back : policy_of s ≡ policy_of t → written_in m s out ≡ written_in n t out'
+    back : known ≡ known' → written_by m made ≡ written_by n made'
     back k =
         let q : some a.policy ≡ some b.policy = sym a.read ∙ k ∙ b.read in
         let p : a.policy ≡ b.policy = cc in
         a.image ∙ ap (image_of newest_form) p ∙ sym b.image
+
+pub same_images : (s t out out' : List ℕ) (m n : ℕ) → (compiled s out).answer ≡ Compiled.Image m → (compiled t out').answer ≡ Compiled.Image n → (written_in m s out ≡ written_in n t out') ↔ (policy_of s ≡ policy_of t)
+same_images s t out out' m n d e =
+    same_written (policy_of s) (policy_of t) (compiled s out) (compiled t out') out out' m n (image_written s out m d) (image_written t out' n e)
+
+pub pairs_same_images : (maker site maker' site' out out' : List ℕ) (m n : ℕ) → (compiled_texts maker site out).answer ≡ Compiled.Image m → (compiled_texts maker' site' out').answer ≡ Compiled.Image n
+    → (written_by m (compiled_texts maker site out) ≡ written_by n (compiled_texts maker' site' out')) ↔ (policy_of_texts maker site ≡ policy_of_texts maker' site')
+pairs_same_images maker site maker' site' out out' m n d e =
+    same_written (policy_of_texts maker site) (policy_of_texts maker' site') (compiled_texts maker site out) (compiled_texts maker' site' out') out out' m n
+    (texts_written maker site out m d) (texts_written maker' site' out' n e)

@@ -13,13 +13,13 @@ use Rattle.rule_text.specs.Text.{policy_of, policy_of_texts}
 use Rattle.codegen.specs.declared.Compiled.{Compiled}
 use Rattle.codegen.specs.Compile.{newest_form, compiled, compiled_texts}
 
--- the bytes that a compilation of so many bytes wrote
+-- the first bytes of the buffer, as many as were answered
 abbrev pub written_by : ℕ → Filled Compiled → List ℕ
 written_by size made = take size made.buffer
 
--- a compilation of so many bytes into a buffer, of what has this policy, if it is accepted
+-- a compilation into a buffer that answered so many bytes, of texts that have this policy: they are accepted
 pub record WrittenBy (known : Option Policy) (made : Filled Compiled) (buffer : List ℕ) (size : ℕ) : Type 0 where
-  -- there is a policy, and the bytes are its image
+  -- the bytes are the policy's image, and as many as were answered
   pub policy : Policy
   pub read : known ≡ some policy
   pub acceptable : Acceptable policy
@@ -28,7 +28,7 @@ pub record WrittenBy (known : Option Policy) (made : Filled Compiled) (buffer : 
   -- what lies behind the image is as it was
   pub behind : drop size made.buffer ≡ drop size buffer
   pub largest : size ≤ size_limit
-  -- the loader takes the bytes and holds the policy, which compiles to them again
+  -- the loader takes the bytes and holds the policy, whose image they are
   pub taken : load (written_by size made) ≡ Loaded.Image (contents_of newest_form policy)
   pub holds : policy_in (written_by size made) ≡ policy
   pub again : image_of newest_form (policy_in (written_by size made)) ≡ written_by size made

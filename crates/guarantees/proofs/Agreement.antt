@@ -31,8 +31,8 @@ use Rattle.guarantees.proofs.Reductions.{written_reduces, written_conflict, writ
 use Rattle.monitor.specs.Decision.{decision_in, decision, answer_of}
 use Rattle.monitor.specs.declared.decision.Decision.{Decision}
 use Rattle.guarantees.specs.Decisions.{CheckFailed, Obeys, ObeysEvents}
-use Rattle.guarantees.specs.Claims.{CompilesTo, TextsCompileTo, answers, answers_told}
-use Rattle.guarantees.specs.Machine.{yield_in, answer, step_in, steps, ToldLine, steps_told, machine_of, machine_told_of, machine, machine_told, machine_of_texts, machine_of_texts_told}
+use Rattle.guarantees.specs.Claims.{CompilesTo, TextsCompileTo, answers}
+use Rattle.guarantees.specs.Machine.{yield_in, answer, step, steps, ToldLine, machine_of, machine, machine_of_texts}
 
 -- the image is that of the policy, which there is
 pub record ImageOf (known : Option Policy) (image : List ℕ) : Type 0 where
@@ -66,8 +66,8 @@ alone_writes text image = (there, back)
         record { buffer = c.buffer; size = c.size; accepted = ap (λ (o : Filled Compiled). o.answer) e ∙ c.accepted; written = ap (λ (o : Filled Compiled). take c.size o.buffer) e ∙ c.written }
 
 module _ (p : Policy) (ok : Acceptable p) where
-  pub same_answer : (mode : Mode) (line : List ℕ) → answer_of (decision_in mode (image_of newest_form p) line) ≡ step_in mode p line
-  unfolding step_in answer yield_in
+  pub same_answer : (mode : Mode) (line : List ℕ) → answer_of (decision_in mode (image_of newest_form p) line) ≡ step mode p line
+  unfolding step answer yield_in
   same_answer mode line = go mode (read_epoch line) refl
     where
       go : (m : Mode) (a : EpochAnswer) → read_epoch line ≡ a → answer_of (decision_in m (image_of newest_form p) line) ≡ answer m p a
@@ -75,28 +75,17 @@ module _ (p : Policy) (ok : Acceptable p) where
       go Mode.Actions (accepted e) q = written_yields newest_form newest_known p ok line e q
       go Mode.Events (accepted e) q = written_reduces newest_form newest_known p ok line e q
 
-  same_answers : (lines : List (List ℕ)) → answers (image_of newest_form p) lines ≡ steps p lines
+  same_answers : (lines : List ToldLine) → answers (image_of newest_form p) lines ≡ steps p lines
   unfolding answers steps
   same_answers [] = refl
-  same_answers (l ∷ ls) = ap₂ (λ (a : Answer) (rest : List Answer). a ∷ rest) (same_answer Mode.Actions l) (same_answers ls)
-
-  same_answers_told : (lines : List ToldLine) → answers_told (image_of newest_form p) lines ≡ steps_told p lines
-  unfolding answers_told steps_told
-  same_answers_told [] = refl
-  same_answers_told (x ∷ xs) = ap₂ (λ (a : Answer) (rest : List Answer). a ∷ rest) (same_answer x.mode x.line) (same_answers_told xs)
+  same_answers (x ∷ xs) = ap₂ (λ (a : Answer) (rest : List Answer). a ∷ rest) (same_answer x.mode x.line) (same_answers xs)
 
 module _ (known : Option Policy) (image : List ℕ) (t : ImageOf known image) where
-  agrees : (lines : List (List ℕ)) → some (answers image lines) ≡ machine_of known lines
+  agrees : (lines : List ToldLine) → some (answers image lines) ≡ machine_of known lines
   unfolding machine_of
   agrees lines =
       ap some (ap (λ (i : List ℕ). answers i lines) t.same ∙ same_answers t.policy t.acceptable lines)
       ∙ sym (ap (map (λ (p : Policy). steps p lines)) t.read)
-
-  agrees_told : (lines : List ToldLine) → some (answers_told image lines) ≡ machine_told_of known lines
-  unfolding machine_told_of
-  agrees_told lines =
-      ap some (ap (λ (i : List ℕ). answers_told i lines) t.same ∙ same_answers_told t.policy t.acceptable lines)
-      ∙ sym (ap (map (λ (p : Policy). steps_told p lines)) t.read)
 
   refuses_change : (i v : ℕ) → i < length (words_of image) → v < word_limit → ¬ (v ≡ word_at image i) → (mode : Mode) (line : List ℕ) → CheckFailed (answer_of (decision_in mode (changed image i v) line))
   refuses_change =
@@ -131,42 +120,26 @@ module _ (known : Option Policy) (image : List ℕ) (t : ImageOf known image) wh
 
 -- ---- the first half
 
--- on the bytes that the compiler wrote for a text, the answers for every list of epoch lines, refused ones included, are those
--- of the reference machine on the text: as many, and each the same in every field
-pub decisions_agree : (text image : List ℕ) → CompilesTo text image → (lines : List (List ℕ)) → some (answers image lines) ≡ machine text lines
+-- on the bytes that the compiler wrote for a text, the answers for every list of epoch lines with the mode of each, refused ones
+-- included, are those of the reference machine on the text: as many, and each the same in every field
+pub decisions_agree : (text image : List ℕ) → CompilesTo text image → (lines : List ToldLine) → some (answers image lines) ≡ machine text lines
 decisions_agree text image c = agrees (policy_of text) image (image_of_text text image c)
 
 -- the same for the maker's and the site's text
-pub texts_decisions_agree : (maker site image : List ℕ) → TextsCompileTo maker site image → (lines : List (List ℕ)) → some (answers image lines) ≡ machine_of_texts maker site lines
+pub texts_decisions_agree : (maker site image : List ℕ) → TextsCompileTo maker site image → (lines : List ToldLine) → some (answers image lines) ≡ machine_of_texts maker site lines
 texts_decisions_agree maker site image c = agrees (policy_of_texts maker site) image (image_of_texts maker site image c)
-
--- the same for every list of epoch lines with the mode of each, mixed freely
-pub told_decisions_agree : (text image : List ℕ) → CompilesTo text image → (lines : List ToldLine) → some (answers_told image lines) ≡ machine_told text lines
-told_decisions_agree text image c = agrees_told (policy_of text) image (image_of_text text image c)
-
-pub texts_told_decisions_agree : (maker site image : List ℕ) → TextsCompileTo maker site image → (lines : List ToldLine) → some (answers_told image lines) ≡ machine_of_texts_told maker site lines
-texts_told_decisions_agree maker site image c = agrees_told (policy_of_texts maker site) image (image_of_texts maker site image c)
 
 -- ---- the second half
 
 -- with any other value in the place of any one word, the decision on every line is refused under one of 7 to 10, at the
 -- location 0 and with empty sets
 pub change_refused : (text image : List ℕ) → CompilesTo text image → (i v : ℕ) → i < length (words_of image) → v < word_limit → ¬ (v ≡ word_at image i)
-    → (line : List ℕ) → CheckFailed (answer_of (decision (changed image i v) line))
-change_refused text image c i v l small other = refuses_change (policy_of text) image (image_of_text text image c) i v l small other Mode.Actions
+    → (mode : Mode) (line : List ℕ) → CheckFailed (answer_of (decision_in mode (changed image i v) line))
+change_refused text image c = refuses_change (policy_of text) image (image_of_text text image c)
 
 pub texts_change_refused : (maker site image : List ℕ) → TextsCompileTo maker site image → (i v : ℕ) → i < length (words_of image) → v < word_limit → ¬ (v ≡ word_at image i)
-    → (line : List ℕ) → CheckFailed (answer_of (decision (changed image i v) line))
-texts_change_refused maker site image c i v l small other = refuses_change (policy_of_texts maker site) image (image_of_texts maker site image c) i v l small other Mode.Actions
-
--- in either mode
-pub change_refused_in : (text image : List ℕ) → CompilesTo text image → (i v : ℕ) → i < length (words_of image) → v < word_limit → ¬ (v ≡ word_at image i)
     → (mode : Mode) (line : List ℕ) → CheckFailed (answer_of (decision_in mode (changed image i v) line))
-change_refused_in text image c = refuses_change (policy_of text) image (image_of_text text image c)
-
-pub texts_change_refused_in : (maker site image : List ℕ) → TextsCompileTo maker site image → (i v : ℕ) → i < length (words_of image) → v < word_limit → ¬ (v ≡ word_at image i)
-    → (mode : Mode) (line : List ℕ) → CheckFailed (answer_of (decision_in mode (changed image i v) line))
-texts_change_refused_in maker site image c = refuses_change (policy_of_texts maker site) image (image_of_texts maker site image c)
+texts_change_refused maker site image c = refuses_change (policy_of_texts maker site) image (image_of_texts maker site image c)
 
 -- the changed bytes are as many, and their words are those of the image but for that one
 pub change_only : (text image : List ℕ) → CompilesTo text image → (i v : ℕ) → v < word_limit → (length (changed image i v) ≡ length image) × (words_of (changed image i v) ≡ set (words_of image) i v)
@@ -175,31 +148,19 @@ change_only text image c = changes_one (policy_of text) image (image_of_text tex
 pub texts_change_only : (maker site image : List ℕ) → TextsCompileTo maker site image → (i v : ℕ) → v < word_limit → (length (changed image i v) ≡ length image) × (words_of (changed image i v) ≡ set (words_of image) i v)
 texts_change_only maker site image c = changes_one (policy_of_texts maker site) image (image_of_texts maker site image c)
 
--- ---- what the policy asks of a decision, on the image of a text
+-- ---- what the policy asks of a decision, on the image of two texts
 
--- a decision that is not refused is a maximal action cancellation of what the text's rules propose
-pub decision_obeys : (text image : List ℕ) → CompilesTo text image → (p : Policy) → policy_of text ≡ some p → (line : List ℕ) (e : Epoch) → read_epoch line ≡ accepted e → Obeys p e (answer_of (decision image line))
-decision_obeys text image c = obeys (policy_of text) image (image_of_text text image c)
+module _ (maker site image : List ℕ) (c : TextsCompileTo maker site image) where
+  -- a decision that is not refused is a maximal action cancellation of what the texts' rules propose
+  pub decision_obeys : (p : Policy) → policy_of_texts maker site ≡ some p → (line : List ℕ) (e : Epoch) → read_epoch line ≡ accepted e → Obeys p e (answer_of (decision image line))
+  decision_obeys = obeys (policy_of_texts maker site) image (image_of_texts maker site image c)
 
-pub texts_decision_obeys : (maker site image : List ℕ) → TextsCompileTo maker site image → (p : Policy) → policy_of_texts maker site ≡ some p → (line : List ℕ) (e : Epoch) → read_epoch line ≡ accepted e → Obeys p e (answer_of (decision image line))
-texts_decision_obeys maker site image c = obeys (policy_of_texts maker site) image (image_of_texts maker site image c)
+  -- in the second mode a decision is refused under 17 exactly if no reduction of the epoch is free of conflict
+  pub events_conflict_refused : (p : Policy) → policy_of_texts maker site ≡ some p → (line : List ℕ) (e : Epoch) → read_epoch line ≡ accepted e
+      → (decision_in Mode.Events image line ≡ Decision.Refused (refusal Fault.Unavoidable 0)) ↔ ¬ Reducible p.constraints (proposed_with p.rules) e
+  events_conflict_refused = conflict_refused (policy_of_texts maker site) image (image_of_texts maker site image c)
 
--- ---- the second mode on the image of a text
-
--- a decision is refused under 17 exactly if no reduction of the epoch is free of conflict
-pub events_conflict_refused : (text image : List ℕ) → CompilesTo text image → (p : Policy) → policy_of text ≡ some p → (line : List ℕ) (e : Epoch) → read_epoch line ≡ accepted e
-    → (decision_in Mode.Events image line ≡ Decision.Refused (refusal Fault.Unavoidable 0)) ↔ ¬ Reducible p.constraints (proposed_with p.rules) e
-events_conflict_refused text image c = conflict_refused (policy_of text) image (image_of_text text image c)
-
-pub texts_events_conflict_refused : (maker site image : List ℕ) → TextsCompileTo maker site image → (p : Policy) → policy_of_texts maker site ≡ some p → (line : List ℕ) (e : Epoch) → read_epoch line ≡ accepted e
-    → (decision_in Mode.Events image line ≡ Decision.Refused (refusal Fault.Unavoidable 0)) ↔ ¬ Reducible p.constraints (proposed_with p.rules) e
-texts_events_conflict_refused maker site image c = conflict_refused (policy_of_texts maker site) image (image_of_texts maker site image c)
-
--- otherwise the kept events are a maximal such reduction, and what they propose is issued
-pub events_decision_obeys : (text image : List ℕ) → CompilesTo text image → (p : Policy) → policy_of text ≡ some p → (line : List ℕ) (e : Epoch) → read_epoch line ≡ accepted e
-    → Reducible p.constraints (proposed_with p.rules) e → ObeysEvents p e (kept_events p e) (answer_of (decision_in Mode.Events image line))
-events_decision_obeys text image c = obeys_events (policy_of text) image (image_of_text text image c)
-
-pub texts_events_decision_obeys : (maker site image : List ℕ) → TextsCompileTo maker site image → (p : Policy) → policy_of_texts maker site ≡ some p → (line : List ℕ) (e : Epoch) → read_epoch line ≡ accepted e
-    → Reducible p.constraints (proposed_with p.rules) e → ObeysEvents p e (kept_events p e) (answer_of (decision_in Mode.Events image line))
-texts_events_decision_obeys maker site image c = obeys_events (policy_of_texts maker site) image (image_of_texts maker site image c)
+  -- otherwise the kept events are a maximal such reduction, and what they propose is issued
+  pub events_decision_obeys : (p : Policy) → policy_of_texts maker site ≡ some p → (line : List ℕ) (e : Epoch) → read_epoch line ≡ accepted e
+      → Reducible p.constraints (proposed_with p.rules) e → ObeysEvents p e (kept_events p e) (answer_of (decision_in Mode.Events image line))
+  events_decision_obeys = obeys_events (policy_of_texts maker site) image (image_of_texts maker site image c)

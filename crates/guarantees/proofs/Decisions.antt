@@ -11,14 +11,14 @@ use Rattle.policy.specs.Limits.{valid, Acceptable}
 use Rattle.policy.specs.Line.{constraint, heads_of}
 use Rattle.policy.specs.List.{all}
 use Rattle.policy.specs.Policy.{Policy, Constraint}
-use Rattle.policy.specs.Set.{no_actions}
+use Rattle.policy.specs.Set.{ActionSet, no_actions}
 use Rattle.policy.specs.declared.fault.Fault.{Fault}
 use Rattle.policy.specs.declared.fault.Refusal.{Refusal}
 use Rattle.policy.specs.declared.line.Test.{Test}
 use Rattle.policy.specs.declared.mode.Mode.{Mode}
 use Rattle.policy.specs.declared.number.Action.{Action}
 use Rattle.pdl.proofs.Monitor.{accepted_with_cancelled, cancelled_apart, cancelled_trial, giving_back_violates, maximal_cancellation, nothing_cancelled}
-use Rattle.pdl.specs.Answer.{refuses}
+use Rattle.pdl.specs.Answer.{refuses, issues}
 use Rattle.pdl.specs.Pdl.{NameActions}
 use Rattle.pdl.specs.Yield.{cancelled}
 use Rattle.acceptance.proofs.Refusals.{epoch_faults}
@@ -37,7 +37,7 @@ use Rattle.monitor.proofs.DecideLaws.{image_refused, line_refused}
 use Rattle.monitor.specs.Decision.{decided_by, on_epoch_line, on_image, decision_in, decision, answer_of}
 use Rattle.monitor.specs.declared.decision.Actions.{Actions}
 use Rattle.monitor.specs.declared.decision.Decision.{Decision}
-use Rattle.guarantees.specs.Decisions.{RefusedFor, the_image, the_line, OfDecision, of_image, of_line, CheckFailed, yield_of, Obeys}
+use Rattle.guarantees.specs.Decisions.{RefusedFor, the_image, the_line, OfDecision, of_image, of_line, CheckFailed, NotRefused, yield_of, Obeys}
 
 -- ---- refusals
 
@@ -64,38 +64,25 @@ refused_cases mode image line r = image_case (load image) refl
     image_case (Loaded.Refused s) q h = let w : s ≡ r = cc in inl (the_image (q ∙ ap Loaded.Refused w))
     image_case (Loaded.Image contents) q h = line_case contents q (read_epoch line) refl h
 
--- a decision in the first mode is refused exactly if the loader refuses the image or, where it takes it, the line is refused; never
--- because actions clash
-pub refused_exactly : (image line : List ℕ) (r : Refusal) → (decision image line ≡ Decision.Refused r) ↔ RefusedFor image line r
-unfolding decided_by
-refused_exactly image line r = (λ h. ⊎_elim (λ f. f) (λ x. issued_refuses _ r x.4) (refused_cases Mode.Actions image line r h), refused_for Mode.Actions image line r)
-  where
-    issued_refuses : (actions : Actions) (s : Refusal) → Decision.Issued actions ≡ Decision.Refused s → RefusedFor image line r
-    issued_refuses actions s e = let z : ◌≡◌ {A = ℕ} 0 1 = cc in absurd (omega arith)
-
--- and under which faults, at which locations
-pub decision_faults : (image line : List ℕ) (r : Refusal) → decision image line ≡ Decision.Refused r → OfDecision (length (words_of image)) r
+-- under which faults, at which locations
+pub either_faults : (image line : List ℕ) (r : Refusal) → RefusedFor image line r → OfDecision (length (words_of image)) r
 unfolding epoch_read answer_read
-decision_faults image line r e = go ((refused_exactly image line r).0 e)
-  where
-    go : RefusedFor image line r → OfDecision (length (words_of image)) r
-    go (the_image q) = of_image (refusals image r (ap refusal_in q))
-    go (the_line contents t f q w) = of_line (epoch_faults line r (ap (λ (a : EpochAnswer). refusal_in_epoch (answer_read a)) q ∙ ap some (sym w)))
+either_faults image line r (the_image q) = of_image (refusals image r (ap refusal_in q))
+either_faults image line r (the_line contents t f q w) = of_line (epoch_faults line r (ap (λ (a : EpochAnswer). refusal_in_epoch (answer_read a)) q ∙ ap some (sym w)))
 
 -- whatever was handed over, the sets of a refusal are empty, in either mode
-pub refused_empty_in : (mode : Mode) (image line : List ℕ) → (answer_of (decision_in mode image line)).is_refused ≡ true
+pub refused_empty : (mode : Mode) (image line : List ℕ) → (answer_of (decision_in mode image line)).is_refused ≡ true
     → ((answer_of (decision_in mode image line)).accepted ≡ no_actions) × ((answer_of (decision_in mode image line)).cancelled ≡ no_actions)
-refused_empty_in mode image line = go (decision_in mode image line)
+refused_empty mode image line = go (decision_in mode image line)
   where
     go : (d : Decision) → (answer_of d).is_refused ≡ true → ((answer_of d).accepted ≡ no_actions) × ((answer_of d).cancelled ≡ no_actions)
     go (Decision.Refused r) h = (refl, refl)
     go (Decision.Issued actions) h = let z : ◌≡◌ {A = ℕ} 0 1 = cc in absurd (omega arith)
 
-pub refused_empty : (image line : List ℕ) → (answer_of (decision image line)).is_refused ≡ true
-    → ((answer_of (decision image line)).accepted ≡ no_actions) × ((answer_of (decision image line)).cancelled ≡ no_actions)
-refused_empty = refused_empty_in Mode.Actions
-
 -- ---- what the image's policy yields
+
+pub not_refused : {s t : ActionSet} → NotRefused (issues s t)
+not_refused = record { is_refused = refl; number = refl; text = refl; location = refl }
 
 has_action_is : (c : Constraint) → valid (constraint c) ≡ true → ¬ (c.actions ≡ [])
 unfolding heads_of
@@ -123,7 +110,7 @@ module _ (image : List ℕ) (bounded : Bytes image) (contents : Contents) (taken
     -- and so it is a maximal action cancellation of what that policy proposes
     pub obeys_policy : Obeys P e (answer_of (decision image line))
     obeys_policy = subst (Obeys P e) (sym holds_policy) (record {
-      issued = refl;
+      issued = not_refused;
       maximal = maximal_cancellation P (name_actions P.constraints (held_acceptable image bounded contents taken).constraints_valid) e;
       rest = accepted_with_cancelled P e;
       apart = cancelled_apart P e;
@@ -135,10 +122,10 @@ module _ (image : List ℕ) (bounded : Bytes image) (contents : Contents) (taken
 -- ---- one word changed
 
 -- bytes that pass the checks 7 to 10, with any other value in the place of one word, are refused whatever the line and its mode
-pub image_changed_in : (image : List ℕ) → Bytes image → Checked image
+pub image_changed : (image : List ℕ) → Bytes image → Checked image
     → (i v : ℕ) → i < length (words_of image) → v < word_limit → ¬ (v ≡ word_at image i)
     → (mode : Mode) (line : List ℕ) → CheckFailed (answer_of (decision_in mode (changed image i v) line))
-image_changed_in image bounded ok i v l small other mode line = go (one_word_changed image bounded ok i v l small other)
+image_changed image bounded ok i v l small other mode line = go (one_word_changed image bounded ok i v l small other)
   where
     refused_load : (x : Loaded) (r : Refusal) → refusal_in x ≡ some r → x ≡ Loaded.Refused r
     refused_load (Loaded.Refused s) r e = let w : s ≡ r = cc in ap Loaded.Refused w
@@ -149,11 +136,6 @@ image_changed_in image bounded ok i v l small other mode line = go (one_word_cha
         subst (λ (d : Decision). CheckFailed (answer_of d))
         (image_refused mode (changed image i v) line (refusal r.fault 0) (refused_load (load (changed image i v)) (refusal r.fault 0) r.refused))
         (record { is_refused = refl; from = r.from; upto = r.upto; text = refl; location = refl; accepts = refl; cancels = refl })
-
-pub image_changed : (image : List ℕ) → Bytes image → Checked image
-    → (i v : ℕ) → i < length (words_of image) → v < word_limit → ¬ (v ≡ word_at image i)
-    → (line : List ℕ) → CheckFailed (answer_of (decision (changed image i v) line))
-image_changed image bounded ok i v l small other = image_changed_in image bounded ok i v l small other Mode.Actions
 
 -- ---- the image of a policy that an accepted text may have
 
@@ -175,4 +157,4 @@ module _ (form : ℕ) (known : known_form form ≡ true) (p : Policy) (ok : Acce
   -- with any other value in the place of one word it is refused whatever the line and its mode
   pub written_changed : (i v : ℕ) → i < length (words_of (image_of form p)) → v < word_limit → ¬ (v ≡ word_at (image_of form p) i)
       → (mode : Mode) (line : List ℕ) → CheckFailed (answer_of (decision_in mode (changed (image_of form p) i v) line))
-  written_changed = image_changed_in (image_of form p) (image_bounded form known p ok) (took (image_of form p) (contents_of form p) (image_taken form known p ok)).checked
+  written_changed = image_changed (image_of form p) (image_bounded form known p ok) (took (image_of form p) (contents_of form p) (image_taken form known p ok)).checked

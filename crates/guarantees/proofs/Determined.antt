@@ -1,73 +1,145 @@
--- What a policy asks of an answer to an epoch is met by one answer alone.
-use Rattle.std.proofs.Common.{ℕ, ◌<◌, ◌≡◌, inl, inr, Bool, true, false, ◌||◌, refl, sym, ap, ◌∙◌, arith, zero, suc, ltb-true, ltb-false}
+-- What a policy asks of an answer to an epoch is met by one answer alone, in either mode.
+use Rattle.std.proofs.Common.{ℕ, List, ◌<◌, ◌≡◌, ⊎_elim, Bool, true, false, ◌||◌, refl, sym, ap, ◌∙◌, arith, zero, suc, ltb-true, ltb-false}
 use Rattle.std.proofs.Math.Dec.{ltb}
-use Rattle.policy.proofs.ListLaws.{bool_ext, true_false}
-use Rattle.policy.proofs.SetLaws.{has_union, has_insert_cases, has_below, has_below_past}
-use Rattle.policy.specs.Epoch.{Epoch}
-use Rattle.policy.specs.Policy.{Policy}
-use Rattle.policy.specs.Set.{ActionSet, has, has_action, below, insert_action, actions_below}
+use Rattle.policy.proofs.ListLaws.{bool_ext, true_false, not_false_is}
+use Rattle.policy.proofs.SetLaws.{has_union, has_insert_cases, has_below, has_below_past, set_ext}
+use Rattle.policy.specs.Epoch.{Epoch, Readings}
+use Rattle.policy.specs.Policy.{Policy, Constraint}
+use Rattle.policy.specs.Set.{ActionSet, EventSet, has, has_action, below, insert, union_actions, set_of}
 use Rattle.policy.specs.declared.number.Action.{Action}
-use Rattle.pdl.proofs.Resolution.{actions_ext, conflict_in, conflict_more, no_conflict}
+use Rattle.pdl.proofs.GreedyLaws.{Within}
+use Rattle.pdl.proofs.Proposals.{more_proposed}
+use Rattle.pdl.proofs.Resolution.{actions_ext}
 use Rattle.pdl.specs.Answer.{Answer}
-use Rattle.pdl.specs.Pdl.{◌⊆◌}
+use Rattle.pdl.specs.Pdl.{Violated, ◌⊆◌}
+use Rattle.pdl.specs.Reduction.{proposed_with}
 use Rattle.pdl.specs.Yield.{proposed}
-use Rattle.guarantees.specs.Decisions.{Obeys}
+use Rattle.guarantees.specs.Decisions.{NotRefused, Obeys, ObeysEvents}
+
+-- ---- what is kept of candidates is told by the trials alone
+
+module _ (Bad : ℕ → Type 0) (more : (s t : ℕ) → Within s t → Bad s → Bad t) (candidates : ℕ) where
+  record Kept (s : ℕ) : Type 0 where
+    within : Within s candidates
+    good : ¬ Bad s
+    trial : (n : ℕ) → has candidates n ≡ true → has s n ≡ false → Bad (insert (below s n) n)
+
+  -- a number that one set keeps is kept by another that keeps no others below it
+  kept_too : (s t : ℕ) → Kept s → Kept t → (n : ℕ) → ((m : ℕ) → m < n → has t m ≡ true → has s m ≡ true) → has s n ≡ true → has t n ≡ true
+  kept_too s t ks kt n lower h = not_false_is (has t n) (λ q. ks.good (more (insert (below t n) n) s inside (kt.trial n (ks.within n h) q)))
+    where
+      under : (m : ℕ) (b : Bool) → ltb m n ≡ b → has (below t n) m ≡ true → has s m ≡ true
+      under m true l k = let u = ltb-true m n l in lower m u (sym (has_below t n m u) ∙ k)
+      under m false l k = absurd (true_false k (has_below_past t n m (ltb-false m n l)))
+
+      inside : Within (insert (below t n) n) s
+      inside m k = ⊎_elim (λ q. ap (has s) q ∙ h) (under m (ltb m n) refl) (has_insert_cases (below t n) n m k)
+
+  same_under : (s t : ℕ) → Kept s → Kept t → (n m : ℕ) → m < n → has s m ≡ has t m
+  same_under s t ks kt zero m h = absurd (omega (arith, h))
+  same_under s t ks kt (suc n) m h =
+      bool_ext _ _
+      (kept_too s t ks kt m (λ k l e. same_under s t ks kt n k (omega (arith, l, h)) ∙ e))
+      (kept_too t s kt ks m (λ k l e. sym (same_under s t ks kt n k (omega (arith, l, h))) ∙ e))
+
+  kept_same : (s t : ℕ) → Kept s → Kept t → s ≡ t
+  kept_same s t ks kt = set_ext s t (λ n. same_under s t ks kt (suc n) n (omega arith))
+
+-- ---- the other proposed actions
 
 or_right : (a b : Bool) → a ≡ false → a || b ≡ true → b ≡ true
 or_right true b e h = absurd (true_false refl e)
 or_right false b e h = h
 
+or_later : (a b : Bool) → b ≡ true → a || b ≡ true
+or_later true b h = refl
+or_later false b h = h
+
+module _ (all s : ActionSet) where
+  -- all but those of s
+  pub record Others (t : ActionSet) : Type 0 where
+    pub rest : union_actions s t ≡ all
+    pub apart : (x : Action) → has_action t x ≡ true → has_action s x ≡ false
+
+  either : (t : ActionSet) → Others t → (x : Action) → has_action s x || has_action t x ≡ has_action all x
+  either t o x = sym (has_union s.bits t.bits x.0) ∙ ap (λ (u : ActionSet). has_action u x) o.rest
+
+  pub other_in : (t : ActionSet) → Others t → (x : Action) → has_action all x ≡ true → has_action s x ≡ false → has_action t x ≡ true
+  other_in t o x h k = or_right (has_action s x) (has_action t x) k (either t o x ∙ h)
+
+  other_too : (t u : ActionSet) → Others t → Others u → (x : Action) → has_action t x ≡ true → has_action u x ≡ true
+  other_too t u ot ou x h = other_in u ou x (sym (either t ot x) ∙ or_later (has_action s x) (has_action t x) h) (ot.apart x h)
+
+  others_same : (t u : ActionSet) → Others t → Others u → t ≡ u
+  others_same t u ot ou = actions_ext t u (λ x. bool_ext _ _ (other_too t u ot ou x) (other_too u t ou ot x))
+
+same_answer : (a b : Answer) → NotRefused a → NotRefused b → a.accepted ≡ b.accepted → a.cancelled ≡ b.cancelled → a ≡ b
+same_answer a b x y s t = same
+  where
+    same : ◌≡◌ {A = Answer}
+        (record { is_refused = a.is_refused; number = a.number; text = a.text; location = a.location; accepted = a.accepted; cancelled = a.cancelled })
+        (record { is_refused = b.is_refused; number = b.number; text = b.text; location = b.location; accepted = b.accepted; cancelled = b.cancelled })
+    same = rw (x.is_refused, y.is_refused, x.number, y.number, x.text, y.text, x.location, y.location, s, t)
+
+-- a constraint that holds on a set holds on a larger one
+more_violated : (cs : List Constraint) (rs : Readings) (s t : ActionSet) → s ⊆ t → Violated cs rs s → Violated cs rs t
+more_violated cs rs s t h v =
+    record {
+      constraint = v.constraint;
+      listed = v.listed;
+      holds = record { members = λ a m. h a (v.holds.members a m); condition = v.holds.condition };
+    }
+
 module _ (p : Policy) (e : Epoch) where
-  -- what is accepted and cancelled is what is proposed
-  parts : (a : Answer) → Obeys p e a → (x : Action) → has_action a.accepted x || has_action a.cancelled x ≡ has_action (proposed p.rules e) x
-  parts a o x = sym (has_union a.accepted.bits a.cancelled.bits x.0) ∙ ap (λ (s : ActionSet). has_action s x) o.rest
+  -- ---- the first mode
 
-  cancelled_too : (a : Answer) → Obeys p e a → (x : Action) → has_action (proposed p.rules e) x ≡ true → has_action a.accepted x ≡ false → has_action a.cancelled x ≡ true
-  cancelled_too a o x h k = or_right (has_action a.accepted x) (has_action a.cancelled x) k (parts a o x ∙ h)
+  abbrev Clashes : ℕ → Type 0
+  Clashes s = Violated p.constraints e.readings (set_of s)
 
-  proposed_too : (a : Answer) → Obeys p e a → (x : Action) → has_action a.cancelled x ≡ true → has_action (proposed p.rules e) x ≡ true
-  proposed_too a o x h = sym (parts a o x) ∙ either (has_action a.accepted x) h
-    where
-      either : (y : Bool) {z : Bool} → z ≡ true → y || z ≡ true
-      either true q = refl
-      either false q = q
+  more_clashes : (s t : ℕ) → Within s t → Clashes s → Clashes t
+  more_clashes s t h = more_violated p.constraints e.readings (set_of s) (set_of t) (λ a. h a.0)
 
-  -- an action that one answer accepts is accepted by another that accepts no other actions below it
-  accepted_too : (a b : Answer) → Obeys p e a → Obeys p e b → (x : Action) → ((y : Action) → y.0 < x.0 → has_action b.accepted y ≡ true → has_action a.accepted y ≡ true)
-      → has_action a.accepted x ≡ true → has_action b.accepted x ≡ true
-  accepted_too a b oa ob x lower h = go (has_action b.accepted x) refl
-    where
-      go : (y : Bool) → has_action b.accepted x ≡ y → has_action b.accepted x ≡ true
-      go true q = q
-      go false q =
-          let trial = ob.lowest_first x (cancelled_too b ob x (oa.maximal.within x h) q) in
-          let inside : insert_action (actions_below b.accepted x) x ⊆ a.accepted =
-          (λ z m. elim (has_insert_cases (below b.accepted.bits x.0) x.0 z.0 m) [ inl s ↦ rw s h | inr k ↦ under z k ]) in
-          absurd (true_false (conflict_more p.constraints e.readings _ a.accepted inside (conflict_in p.constraints e.readings _ trial)) (no_conflict p.constraints e.readings a.accepted oa.maximal.satisfies))
-        where
-          under : (z : Action) → has (below b.accepted.bits x.0) z.0 ≡ true → has_action a.accepted z ≡ true
-          under z k = at (ltb z.0 x.0) refl
-            where
-              at : (l : Bool) → ltb z.0 x.0 ≡ l → has_action a.accepted z ≡ true
-              at true l = let u = ltb-true z.0 x.0 l in lower z u (sym (has_below b.accepted.bits x.0 z.0 u) ∙ k)
-              at false l = absurd (true_false k (has_below_past b.accepted.bits x.0 z.0 (ltb-false z.0 x.0 l)))
+  others : (a : Answer) → Obeys p e a → Others (proposed p.rules e) a.accepted a.cancelled
+  others a o = record { rest = o.rest; apart = o.apart }
 
-  same_under : (a b : Answer) → Obeys p e a → Obeys p e b → (n : ℕ) (x : Action) → x.0 < n → has_action a.accepted x ≡ has_action b.accepted x
-  same_under a b oa ob zero x h = absurd (omega (arith, h))
-  same_under a b oa ob (suc n) x h =
-      bool_ext _ _
-      (accepted_too a b oa ob x (λ y l m. same_under a b oa ob n y (omega (arith, l, h)) ∙ m))
-      (accepted_too b a ob oa x (λ y l m. sym (same_under a b oa ob n y (omega (arith, l, h))) ∙ m))
+  accepted_kept : (a : Answer) → Obeys p e a → Kept Clashes more_clashes (proposed p.rules e).bits a.accepted.bits
+  accepted_kept a o =
+      record {
+        within = λ n. o.maximal.within (record { 0 = n });
+        good = λ v. o.maximal.satisfies v.constraint v.listed v.holds;
+        trial = λ n h k. o.lowest_first (record { 0 = n }) (other_in (proposed p.rules e) a.accepted a.cancelled (others a o) (record { 0 = n }) h k);
+      }
 
-  pub accepted_determined : (a b : Answer) → Obeys p e a → Obeys p e b → a.accepted ≡ b.accepted
-  accepted_determined a b oa ob = actions_ext a.accepted b.accepted (λ x. same_under a b oa ob (suc x.0) x (omega arith))
+  pub answer_determined : (a b : Answer) → Obeys p e a → Obeys p e b → a ≡ b
+  answer_determined a b oa ob =
+      let s : a.accepted ≡ b.accepted = ap set_of (kept_same Clashes more_clashes (proposed p.rules e).bits a.accepted.bits b.accepted.bits (accepted_kept a oa) (accepted_kept b ob)) in
+      let t : a.cancelled ≡ b.cancelled = others_same (proposed p.rules e) a.accepted a.cancelled b.cancelled (others a oa) (rw s (others b ob)) in
+      same_answer a b oa.issued ob.issued s t
 
-  cancelled_other : (a b : Answer) → Obeys p e a → Obeys p e b → (x : Action) → has_action a.cancelled x ≡ true → has_action b.cancelled x ≡ true
-  cancelled_other a b oa ob x h =
-      cancelled_too b ob x (proposed_too a oa x h) (ap (λ (s : ActionSet). has_action s x) (sym (accepted_determined a b oa ob)) ∙ oa.apart x h)
+  -- ---- the second mode
 
-  pub answer_determined : (a b : Answer) → Obeys p e a → Obeys p e b → (a.accepted ≡ b.accepted) × (a.cancelled ≡ b.cancelled)
-  answer_determined a b oa ob = (
-    accepted_determined a b oa ob,
-    actions_ext a.cancelled b.cancelled (λ x. bool_ext _ _ (cancelled_other a b oa ob x) (cancelled_other b a ob oa x)),
-  )
+  abbrev Conflicts : ℕ → Type 0
+  Conflicts kept = Violated p.constraints e.readings (proposed_with p.rules e (set_of kept))
+
+  more_conflicts : (s t : ℕ) → Within s t → Conflicts s → Conflicts t
+  more_conflicts s t h =
+      more_violated p.constraints e.readings (proposed_with p.rules e (set_of s)) (proposed_with p.rules e (set_of t))
+      (more_proposed p.rules (set_of s) (set_of t) e.events e.readings (λ x. h x.0))
+
+  event_others : (kept : EventSet) (a : Answer) → ObeysEvents p e kept a → Others (proposed p.rules e) a.accepted a.cancelled
+  event_others kept a o = record { rest = o.rest; apart = o.apart }
+
+  events_kept : (kept : EventSet) (a : Answer) → ObeysEvents p e kept a → Kept Conflicts more_conflicts e.events.bits kept.bits
+  events_kept kept a o =
+      record {
+        within = λ n. o.maximal.reduction.within (record { 0 = n });
+        good = λ v. o.maximal.reduction.consistent v.constraint v.listed v.holds;
+        trial = λ n. o.own_trial (record { 0 = n });
+      }
+
+  pub events_answer_determined : (kept kept' : EventSet) (a b : Answer) → ObeysEvents p e kept a → ObeysEvents p e kept' b → (kept ≡ kept') × (a ≡ b)
+  events_answer_determined kept kept' a b oa ob =
+      let k : kept ≡ kept' = ap set_of (kept_same Conflicts more_conflicts e.events.bits kept.bits kept'.bits (events_kept kept a oa) (events_kept kept' b ob)) in
+      let s : a.accepted ≡ b.accepted = oa.accepts ∙ ap (proposed_with p.rules e) k ∙ sym ob.accepts in
+      let t : a.cancelled ≡ b.cancelled = others_same (proposed p.rules e) a.accepted a.cancelled b.cancelled (event_others kept a oa) (rw s (event_others kept' b ob)) in
+      (k, same_answer a b oa.issued ob.issued s t)

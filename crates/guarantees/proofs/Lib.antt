@@ -1,6 +1,7 @@
 pub mod Decisions
 pub mod Determined
 pub mod Agreement
+pub mod Lone
 pub mod Exactness
 pub mod Words
 pub mod Output

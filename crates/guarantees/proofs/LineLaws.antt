@@ -8,7 +8,7 @@ use Rattle.codegen.specs.Compile.{newest_form}
 use Rattle.monitor.specs.Decision.{decision_in, answer_of}
 use Rattle.monitor.specs.declared.decision.Decision.{Decision}
 use Rattle.pdl.specs.Answer.{Answer}
-use Rattle.guarantees.specs.Machine.{steps_told}
+use Rattle.guarantees.specs.Machine.{steps}
 use Rattle.guarantees.specs.Together.{told, decided_lines}
 use Rattle.guarantees.specs.declared.Told.{Told}
 use Rattle.guarantees.proofs.Agreement.{same_answer}
@@ -34,8 +34,8 @@ all_done image (x ∷ lines) (d ∷ ds) (suc n) h = ap (λ r. decision_in x.mode
 
 module _ (p : Policy) (ok : Acceptable p) where
   lines_agree : (lines : List Told) (ds : List Decision) (n : ℕ) → n ≡ min (length lines) (length ds)
-      → map answer_of (take n (decided_lines (image_of newest_form p) lines ds)) ≡ steps_told p (take (length ds) (told lines))
-  unfolding decided_lines told steps_told
+      → map answer_of (take n (decided_lines (image_of newest_form p) lines ds)) ≡ steps p (take (length ds) (told lines))
+  unfolding decided_lines told steps
   lines_agree [] [] zero h = refl
   lines_agree [] (d ∷ ds) zero h = refl
   lines_agree [] ds (suc n) h = absurd (omega (arith, h))
@@ -46,5 +46,5 @@ module _ (p : Policy) (ok : Acceptable p) where
       ap₂ (λ (a : Answer) (rest : List Answer). a ∷ rest) (same_answer p ok x.mode x.line.now) (lines_agree lines ds n (omega (arith, h)))
 
   pub decided_agree : (lines : List Told) (ds : List Decision)
-      → map answer_of (take (min (length lines) (length ds)) (decided_lines (image_of newest_form p) lines ds)) ≡ steps_told p (take (length ds) (told lines))
+      → map answer_of (take (min (length lines) (length ds)) (decided_lines (image_of newest_form p) lines ds)) ≡ steps p (take (length ds) (told lines))
   decided_agree lines ds = lines_agree lines ds _ refl

@@ -27,7 +27,7 @@ use Rattle.exactness.specs.Exact.{contents_of}
 use Rattle.meaning.proofs.Decided.{reduction_of, events_decided_are, image_bounded}
 use Rattle.monitor.specs.Decision.{actions_of, tried_event_words, rules_in, constraints_in, decided_by, decision_in, answer_of}
 use Rattle.monitor.specs.declared.decision.Decision.{Decision}
-use Rattle.guarantees.proofs.Decisions.{refused_for, refused_cases, decision_faults}
+use Rattle.guarantees.proofs.Decisions.{refused_for, refused_cases, either_faults, not_refused}
 use Rattle.guarantees.specs.Machine.{yield_in}
 use Rattle.guarantees.specs.Decisions.{RefusedIn, as_first, for_conflict, OfDecisionIn, of_either, of_conflict, ObeysEvents}
 
@@ -90,7 +90,7 @@ module _ (image : List ℕ) (bounded : Bytes image) (contents : Contents) (taken
         let avoidable = reducible_avoids P e r in
         let inside = line_inside line e read in
         subst (ObeysEvents P e (kept_events P e)) (sym (reduces_policy ∙ issued_is P e words avoidable)) (record {
-          issued = refl;
+          issued = not_refused;
           maximal = kept_maximal P e inside avoidable;
           accepts = refl;
           within = issued_within P e;
@@ -105,9 +105,9 @@ module _ (image : List ℕ) (bounded : Bytes image) (contents : Contents) (taken
 -- ---- refusals in either mode
 
 -- a decision is refused exactly for what it is refused for in the first mode or, in the second, where no reduction is free of conflict
-pub refused_exactly_in : (mode : Mode) (image line : List ℕ) → Bytes image → (r : Refusal) → (decision_in mode image line ≡ Decision.Refused r) ↔ RefusedIn mode image line r
+pub refused_exactly : (mode : Mode) (image line : List ℕ) → Bytes image → (r : Refusal) → (decision_in mode image line ≡ Decision.Refused r) ↔ RefusedIn mode image line r
 unfolding decided_by
-refused_exactly_in mode image line bounded r = (λ h. ⊎_elim as_first (λ x. epoch_case mode h x.0 x.1 x.2 x.3 x.4) (refused_cases mode image line r h), back)
+refused_exactly mode image line bounded r = (λ h. ⊎_elim as_first (λ x. epoch_case mode h x.0 x.1 x.2 x.3 x.4) (refused_cases mode image line r h), back)
   where
     epoch_case : (m : Mode) → decision_in m image line ≡ Decision.Refused r → (contents : Contents) → load image ≡ Loaded.Image contents → (e : Epoch) → read_epoch line ≡ accepted e
         → decided_by m contents (words_of image) e ≡ Decision.Refused r → RefusedIn m image line r
@@ -122,11 +122,11 @@ refused_exactly_in mode image line bounded r = (λ h. ⊎_elim as_first (λ x. e
         ap (λ (x : Mode). decision_in x image line) m ∙ (conflict_exactly image bounded contents t line e q).1 none ∙ ap Decision.Refused (sym w)
 
 -- and under which faults, at which locations
-pub faults_in : (mode : Mode) (image line : List ℕ) → Bytes image → (r : Refusal) → decision_in mode image line ≡ Decision.Refused r → OfDecisionIn (length (words_of image)) r
-faults_in mode image line bounded r h = go ((refused_exactly_in mode image line bounded r).0 h)
+pub decision_faults : (mode : Mode) (image line : List ℕ) → Bytes image → (r : Refusal) → decision_in mode image line ≡ Decision.Refused r → OfDecisionIn (length (words_of image)) r
+decision_faults mode image line bounded r h = go ((refused_exactly mode image line bounded r).0 h)
   where
     go : RefusedIn mode image line r → OfDecisionIn (length (words_of image)) r
-    go (as_first f) = of_either (decision_faults image line r (refused_for Mode.Actions image line r f))
+    go (as_first f) = of_either (either_faults image line r f)
     go (for_conflict m contents t e q none w) = of_conflict w
 
 -- ---- the image of a policy that an accepted text may have

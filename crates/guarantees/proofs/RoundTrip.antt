@@ -1,10 +1,10 @@
 -- The text that is written from an image compiles to that image, and tells the policies apart.
 use Rattle.std.proofs.Common.{ℕ, ◌≤◌, List, ◌++◌, ◌↔◌, ◌≡◌, sym, ap, ◌∙◌, arith, length, drop}
-use Rattle.std.proofs.Math.Option.{some}
+use Rattle.std.proofs.Math.Option.{Option, some}
 use Rattle.policy.specs.Fill.{Filled, deliver}
 use Rattle.policy.specs.Limits.{Acceptable}
 use Rattle.policy.specs.Policy.{Policy}
-use Rattle.rule_text.specs.Text.{policy_of}
+use Rattle.rule_text.specs.Text.{policy_of, policy_of_texts}
 use Rattle.word.proofs.WordLaws.{bytes_below}
 use Rattle.word.specs.Word.{Bytes}
 use Rattle.layout.specs.Layout.{image_words, image_of}
@@ -18,9 +18,9 @@ use Rattle.codegen.proofs.Compilation.{text_delivered}
 use Rattle.codegen.specs.Compile.{newest_form, compiled}
 use Rattle.codegen.specs.declared.Compiled.{Compiled}
 use Rattle.decompile.proofs.Decompilation.{text_written, never_short}
-use Rattle.guarantees.proofs.Agreement.{image_of_text}
+use Rattle.guarantees.proofs.Agreement.{ImageOf, image_of_text, image_of_texts}
 use Rattle.guarantees.proofs.Exactness.{newest_only, printed_compiles}
-use Rattle.guarantees.specs.Claims.{CompilesTo, DecompilesTo}
+use Rattle.guarantees.specs.Claims.{CompilesTo, TextsCompileTo, DecompilesTo}
 
 -- the text is that of the policy which the image holds, an acceptable one whose image it is
 record TextOfImage (image text : List ℕ) : Type 0 where
@@ -50,10 +50,10 @@ text_recompiles image text bounded d buffer room =
     let k : compiled text buffer ≡ deliver Compiled.Refused Compiled.Image image buffer = rw t.same (e ∙ ap (λ (i : List ℕ). deliver Compiled.Refused Compiled.Image i buffer) t.again) in
     (ap (λ (o : Filled Compiled). o.answer) k, ap (λ (o : Filled Compiled). o.buffer) k)
 
--- the written text of a text's image is that of the text's policy
-record TextOfText (text written : List ℕ) : Type 0 where
+-- the written text of the image of what has this policy is that policy's
+record TextOf (known : Option Policy) (written : List ℕ) : Type 0 where
   pub policy : Policy
-  pub read : policy_of text ≡ some policy
+  pub read : known ≡ some policy
   pub acceptable : Acceptable policy
   pub same : written ≡ text_of policy
 
@@ -61,32 +61,37 @@ pub image_bytes : (p : Policy) → Bytes (image_of newest_form p)
 unfolding image_of
 image_bytes p = bytes_below (image_words newest_form p)
 
-text_of_text : (text image written : List ℕ) → CompilesTo text image → DecompilesTo image written → TextOfText text written
-text_of_text text image written c d =
-    let i = image_of_text text image c in
+text_of_known : (known : Option Policy) (image written : List ℕ) → ImageOf known image → DecompilesTo image written → TextOf known written
+text_of_known known image written i d =
     let bounded : Bytes image = rw i.same (image_bytes i.policy) in
     let holds : policy_in image ≡ i.policy = ap policy_in i.same ∙ image_holds newest_form newest_known i.policy i.acceptable in
     record { policy = i.policy; read = i.read; acceptable = i.acceptable; same = (text_of_image image written bounded d).same ∙ ap text_of holds }
 
--- two accepted texts give equal written texts exactly if they have the same rules in the same order and the same constraints in
--- theirs
-pub same_texts : (s t i j u v : List ℕ) → CompilesTo s i → CompilesTo t j → DecompilesTo i u → DecompilesTo j v → (u ≡ v) ↔ (policy_of s ≡ policy_of t)
-same_texts s t i j u v c d f g = (there, back)
+same_restored : (known known' : Option Policy) (u v : List ℕ) → TextOf known u → TextOf known' v → (u ≡ v) ↔ (known ≡ known')
+same_restored known known' u v a b = (there, back)
   where
-    a : TextOfText s u
-    a = text_of_text s i u c f
-
-    b : TextOfText t v
-    b = text_of_text t j v d g
-
-    there : u ≡ v → policy_of s ≡ policy_of t
+    there : u ≡ v → known ≡ known'
     there e = a.read ∙ ap some (text_injective a.policy b.policy a.acceptable b.acceptable (sym a.same ∙ e ∙ b.same)) ∙ sym b.read
 
-    back : policy_of s ≡ policy_of t → u ≡ v
+    back : known ≡ known' → u ≡ v
     back e =
         let q : some a.policy ≡ some b.policy = sym a.read ∙ e ∙ b.read in
         let p : a.policy ≡ b.policy = cc in
         a.same ∙ ap text_of p ∙ sym b.same
+
+-- two accepted texts give equal written texts exactly if they have the same rules in the same order and the same constraints in
+-- theirs
+pub same_texts : (s t i j u v : List ℕ) → CompilesTo s i → CompilesTo t j → DecompilesTo i u → DecompilesTo j v → (u ≡ v) ↔ (policy_of s ≡ policy_of t)
+same_texts s t i j u v c d f g =
+    same_restored (policy_of s) (policy_of t) u v (text_of_known (policy_of s) i u (image_of_text s i c) f) (text_of_known (policy_of t) j v (image_of_text t j d) g)
+
+-- the same of two pairs of texts
+pub pairs_same_texts : (maker site maker' site' i j u v : List ℕ) → TextsCompileTo maker site i → TextsCompileTo maker' site' j → DecompilesTo i u → DecompilesTo j v
+    → (u ≡ v) ↔ (policy_of_texts maker site ≡ policy_of_texts maker' site')
+pairs_same_texts maker site maker' site' i j u v c d f g =
+    same_restored (policy_of_texts maker site) (policy_of_texts maker' site') u v
+    (text_of_known (policy_of_texts maker site) i u (image_of_texts maker site i c) f)
+    (text_of_known (policy_of_texts maker' site') j v (image_of_texts maker' site' j d) g)
 
 -- some accepted text compiles to an image whose written text has 27,968 bytes
 pub bound_reached : (text : List ℕ) × ((image : List ℕ) × ((written : List ℕ) × (CompilesTo text image × (DecompilesTo image written × (length written ≡ longest_text)))))

@@ -27,15 +27,12 @@ use Rattle.guarantees.specs.Decisions.{decided_actions}
 use Rattle.guarantees.proofs.Decisions.{holds_policy}
 
 -- a refused decision reports 0, in either mode
-pub refused_fetches_none_in : (mode : Mode) (image line : List ℕ) → (answer_of (decision_in mode image line)).is_refused ≡ true → visited_in (decision_in mode image line) ≡ 0
-refused_fetches_none_in mode image line = go (decision_in mode image line)
+pub refused_fetches_none : (mode : Mode) (image line : List ℕ) → (answer_of (decision_in mode image line)).is_refused ≡ true → visited_in (decision_in mode image line) ≡ 0
+refused_fetches_none mode image line = go (decision_in mode image line)
   where
     go : (d : Decision) → (answer_of d).is_refused ≡ true → visited_in d ≡ 0
     go (Decision.Refused r) h = refl
     go (Decision.Issued actions) h = let z : ◌≡◌ {A = ℕ} 0 1 = cc in absurd (omega arith)
-
-pub refused_fetches_none : (image line : List ℕ) → (answer_of (decision image line)).is_refused ≡ true → visited_in (decision image line) ≡ 0
-refused_fetches_none = refused_fetches_none_in Mode.Actions
 
 module _ (image : List ℕ) (bounded : Bytes image) (contents : Contents) (taken : load image ≡ Loaded.Image contents) where
   abbrev P : ℕ

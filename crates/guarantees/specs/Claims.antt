@@ -6,7 +6,7 @@ use Rattle.codegen.specs.Compile.{compiled, compiled_texts}
 use Rattle.codegen.specs.declared.Compiled.{Compiled}
 use Rattle.decompile.specs.Decompile.{decompiled}
 use Rattle.decompile.specs.declared.Decompiled.{Decompiled}
-use Rattle.monitor.specs.Decision.{decision_in, decision, answer_of}
+use Rattle.monitor.specs.Decision.{decision_in, answer_of}
 use Rattle.pdl.specs.Answer.{Answer}
 use Rattle.word.specs.Word.{Bytes}
 use Rattle.guarantees.specs.Machine.{ToldLine}
@@ -33,13 +33,9 @@ pub record DecompilesTo (image text : List ℕ) : Type 0 where
   pub accepted : (decompiled image buffer).answer ≡ Decompiled.Text size
   pub written : take size (decompiled image buffer).buffer ≡ text
 
--- the decisions on an image, line after line, each as an `Answer`
-unfoldable pub answers : List ℕ → List (List ℕ) → List Answer
-answers image lines = map (λ (line : List ℕ). answer_of (decision image line)) lines
-
--- each in its own mode
-unfoldable pub answers_told : List ℕ → List ToldLine → List Answer
-answers_told image lines = map (λ (x : ToldLine). answer_of (decision_in x.mode image x.line)) lines
+-- the decisions on an image, line after line, each in its own mode and as an `Answer`
+unfoldable pub answers : List ℕ → List ToldLine → List Answer
+answers image lines = map (λ (x : ToldLine). answer_of (decision_in x.mode image x.line)) lines
 
 -- some accepted text compiles to the image
 pub record SomeText (image : List ℕ) : Type 0 where

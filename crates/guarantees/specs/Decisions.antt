@@ -57,6 +57,13 @@ pub record CheckFailed (a : Answer) : Type 0 where
   pub accepts : a.accepted ≡ no_actions
   pub cancels : a.cancelled ≡ no_actions
 
+-- not refused, with the number and the place of no fault
+pub record NotRefused (a : Answer) : Type 0 where
+  pub is_refused : a.is_refused ≡ false
+  pub number : a.number ≡ 0
+  pub text : a.text ≡ 0
+  pub location : a.location ≡ 0
+
 -- ---- what the first mode decides, that of action cancellation
 
 -- what a policy yields on an epoch
@@ -65,7 +72,7 @@ yield_of p e = issues (Yield.accepted p e) (Yield.cancelled p e)
 
 -- what a policy asks of an answer to an epoch
 pub record Obeys (p : Policy) (e : Epoch) (a : Answer) : Type 0 where
-  pub issued : a.is_refused ≡ false
+  pub issued : NotRefused a
   -- a maximal action cancellation: within what is proposed, with no constraint that holds, and maximal
   pub maximal : MaximalIn p.constraints e.readings (proposed p.rules e) a.accepted
   -- the cancelled actions are the others
@@ -80,6 +87,11 @@ pub record Obeys (p : Policy) (e : Epoch) (a : Answer) : Type 0 where
   -- where nothing clashes, nothing is cancelled
   pub conservative : Satisfies p.constraints e.readings (proposed p.rules e) → a.cancelled ≡ no_actions
 
+-- an action that a constraint of its own forbids: it is not accepted, and where it is proposed and the epoch is not refused, it is cancelled
+pub record KeptOut (p : Policy) (e : Epoch) (x : Action) (a : Answer) : Type 0 where
+  pub rejected : has_action a.accepted x ≡ false
+  pub cancelled : a.is_refused ≡ false → has_action (proposed p.rules e) x ≡ true → has_action a.cancelled x ≡ true
+
 -- ---- how many trials there are
 
 -- the actions that were proposed, of which each was tried once
@@ -90,7 +102,7 @@ decided_actions a = union_actions a.accepted a.cancelled
 
 -- what a policy asks of an answer to an epoch of which these events are kept
 pub record ObeysEvents (p : Policy) (e : Epoch) (kept : EventSet) (a : Answer) : Type 0 where
-  pub issued : a.is_refused ≡ false
+  pub issued : NotRefused a
   -- the kept events are a maximal reduction of the epoch that is free of conflict
   pub maximal : MaximalReduction p.constraints (proposed_with p.rules) e kept
   -- what they propose is accepted

@@ -11,7 +11,7 @@ use Rattle.lexer.specs.Byte.{bytes}
 use Rattle.rule_text.specs.Text.{policy_of}
 use Rattle.layout.specs.Layout.{image_words}
 use Rattle.codegen.specs.Compile.{newest_form}
-use Rattle.guarantees.specs.Machine.{machine, machine_told}
+use Rattle.guarantees.specs.Machine.{ToldLine, machine}
 
 pub record Told : Type 0 where
   pub mode : Mode
@@ -98,8 +98,11 @@ examples =
     (some (refused_under 17 ∷ decided (0 ∷ []) (1 ∷ []) ∷ decided [] [] ∷ []))
     ∷ []
 
+abbrev line_of : Told → ToldLine
+line_of x = record { mode = x.mode; line = bytes x.line }
+
 -- what the definitions say of a row
 unfoldable pub computed : Example → Example
-computed (answers text lines expected) = answers text lines (machine (bytes text) (map bytes lines))
+computed (answers text lines expected) = answers text lines (machine (bytes text) (map (λ (line : String). line_of (by_actions line)) lines))
 computed (words text expected) = words text (Option.map (image_words newest_form) (policy_of (bytes text)))
-computed (told text lines expected) = told text lines (machine_told (bytes text) (map (λ (x : Told). record { mode = x.mode; line = bytes x.line }) lines))
+computed (told text lines expected) = told text lines (machine (bytes text) (map line_of lines))

@@ -24,43 +24,25 @@ answer mode p (refused f) = refuses (refusal f 0)
 answer mode p (accepted e) = yield_in mode p e
 
 -- its step for an epoch line
-unfoldable pub step_in : Mode → Policy → List ℕ → Answer
-step_in mode p line = answer mode p (read_epoch line)
-
--- it keeps nothing from one line to the next
-module _ (p : Policy) where
-  -- in the first mode
-  abbrev pub step : List ℕ → Answer
-  step line = step_in Mode.Actions p line
-
-  unfoldable pub steps : List (List ℕ) → List Answer
-  steps lines = map step lines
+unfoldable pub step : Mode → Policy → List ℕ → Answer
+step mode p line = answer mode p (read_epoch line)
 
 -- an epoch line and its mode
 pub record ToldLine : Type 0 where
   pub mode : Mode
   pub line : List ℕ
 
--- in the mode of each line
-unfoldable pub steps_told : Policy → List ToldLine → List Answer
-steps_told p lines = map (λ (x : ToldLine). step_in x.mode p x.line) lines
+-- it keeps nothing from one line to the next
+unfoldable pub steps : Policy → List ToldLine → List Answer
+steps p lines = map (λ (x : ToldLine). step x.mode p x.line) lines
 
 -- from the text it has the rules and the never lines; there are none where the text is refused
-unfoldable pub machine_of : Option Policy → List (List ℕ) → Option (List Answer)
+unfoldable pub machine_of : Option Policy → List ToldLine → Option (List Answer)
 machine_of known lines = Option.map (λ (p : Policy). steps p lines) known
 
-unfoldable pub machine_told_of : Option Policy → List ToldLine → Option (List Answer)
-machine_told_of known lines = Option.map (λ (p : Policy). steps_told p lines) known
-
-abbrev pub machine : List ℕ → List (List ℕ) → Option (List Answer)
+abbrev pub machine : List ℕ → List ToldLine → Option (List Answer)
 machine text lines = machine_of (policy_of text) lines
 
-abbrev pub machine_told : List ℕ → List ToldLine → Option (List Answer)
-machine_told text lines = machine_told_of (policy_of text) lines
-
 -- the same from the maker's and the site's text
-abbrev pub machine_of_texts : List ℕ → List ℕ → List (List ℕ) → Option (List Answer)
+abbrev pub machine_of_texts : List ℕ → List ℕ → List ToldLine → Option (List Answer)
 machine_of_texts maker site lines = machine_of (policy_of_texts maker site) lines
-
-abbrev pub machine_of_texts_told : List ℕ → List ℕ → List ToldLine → Option (List Answer)
-machine_of_texts_told maker site lines = machine_told_of (policy_of_texts maker site) lines

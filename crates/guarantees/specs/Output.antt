@@ -12,7 +12,7 @@ use Rattle.monitor.specs.Decision.{decision_in, visited_in}
 use Rattle.report.specs.Report.{refusal_line, words_field, accept_line}
 use Rattle.session.specs.Printed.{Session, text_only, with_epochs, split_at_run, text_part, next}
 use Rattle.pdl.specs.Answer.{Answer}
-use Rattle.guarantees.specs.Machine.{step_in}
+use Rattle.guarantees.specs.Machine.{step}
 
 -- of a refused epoch the line shows its fault's number and no sets
 unfoldable pub answer_line : ℕ → Answer → ℕ → List ℕ
@@ -24,7 +24,7 @@ module _ (words : Mode → Policy → List ℕ → ℕ) where
   -- after n epochs
   unfoldable pub answer_lines : Mode → Policy → ℕ → List (List ℕ) → List ℕ
   answer_lines mode p n [] = []
-  answer_lines mode p n (line ∷ lines) = answer_line (next n) (step_in mode p line) (words mode p line) ++ answer_lines mode p (next n) lines
+  answer_lines mode p n (line ∷ lines) = answer_line (next n) (step mode p line) (words mode p line) ++ answer_lines mode p (next n) lines
 
   unfoldable pub machine_lines : Progress → Session → List ℕ
   machine_lines (stopped r) s = refusal_line r

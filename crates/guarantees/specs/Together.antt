@@ -6,7 +6,7 @@ use Rattle.layout.specs.Layout.{image_of}
 use Rattle.codegen.specs.Compile.{newest_form}
 use Rattle.monitor.specs.Decision.{decision_in, answer_of}
 use Rattle.monitor.specs.declared.decision.Decision.{Decision}
-use Rattle.guarantees.specs.Machine.{ToldLine, steps_told}
+use Rattle.guarantees.specs.Machine.{ToldLine, steps}
 use Rattle.guarantees.specs.declared.Told.{Told}
 
 -- the lines that are lent, each with its mode
@@ -26,4 +26,4 @@ pub record DecidedBy (maker site : List ℕ) (lines : List Told) (old new : List
   pub policy : Policy
   pub read : read_texts maker site ≡ reading count policy
   pub decided : new ≡ decided_lines (image_of newest_form policy) lines old
-  pub agreed : map answer_of (take (min (length lines) (length old)) new) ≡ steps_told policy (take (length old) (told lines))
+  pub agreed : map answer_of (take (min (length lines) (length old)) new) ≡ steps policy (take (length old) (told lines))

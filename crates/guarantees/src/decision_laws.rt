@@ -1,23 +1,25 @@
 //! Laws of decisions. A law is a function with no parameters and an empty body, whose contract is the statement.
 
 ghost use Rattle.std.specs.Prelude.{List, ℕ, ◌≡◌, ◌<◌, length, ◌↔◌, true, ◌*◌, ◌+◌, ◌≤◌};
-ghost use Rattle.guarantees.specs.Claims.{CompilesTo, answers_told, TextsCompileTo};
-ghost use Rattle.guarantees.specs.Machine.{ToldLine, machine_told, machine_of_texts_told};
+ghost use Rattle.guarantees.specs.Claims.{CompilesTo, answers, TextsCompileTo};
+ghost use Rattle.guarantees.specs.Machine.{ToldLine, machine, machine_of_texts};
 ghost use Rattle.std.proofs.Math.Option.{some};
-ghost use Rattle.guarantees.specs.Decisions.{CheckFailed, RefusedIn, Obeys, ObeysEvents};
+ghost use Rattle.guarantees.specs.Decisions.{CheckFailed, RefusedIn, OfDecisionIn, KeptOut, Obeys, ObeysEvents};
 ghost use Rattle.policy.specs.declared.mode.Mode.{Mode};
+ghost use Rattle.policy.specs.declared.number.Action.{Action};
+ghost use mathlib.Core.List.{Memᴰ};
 ghost use Rattle.monitor.specs.Decision.{answer_of, decision_in, decision, visited_in};
 ghost use Rattle.exactness.specs.Exact.{changed};
 ghost use Rattle.word.specs.Word.{word_at, word_limit, words_of, Bytes};
 ghost use Rattle.monitor.specs.declared.decision.Decision.{Decision};
 ghost use Rattle.policy.specs.declared.fault.Refusal.{Refusal};
-ghost use Rattle.policy.specs.Set.{no_actions};
+ghost use Rattle.policy.specs.Set.{EventSet, no_actions};
 ghost use Rattle.policy.specs.Epoch.{Epoch};
 ghost use Rattle.policy.specs.Policy.{Policy};
 ghost use Rattle.epoch_line.specs.Epoch.{accepted, read_epoch};
 ghost use Rattle.rule_text.specs.Text.{policy_of_texts};
 ghost use Rattle.pdl.specs.Answer.{Answer};
-ghost use Rattle.pdl.specs.Pdl.{Reducible};
+ghost use Rattle.pdl.specs.Pdl.{Reducible, lone};
 ghost use Rattle.pdl.specs.Reduction.{kept_events, proposed_with};
 ghost use Rattle.policy.specs.declared.fault.Fault.{Fault};
 ghost use Rattle.policy.specs.Fault.{refusal};
@@ -28,12 +30,12 @@ ghost use Rattle.image.specs.Load.{load};
 /// For every text, the bytes that the compiler wrote for it and every list of epoch lines with the mode of each, refused ones included: the list of
 /// decisions on those bytes is that of the reference machine, which sees the text and no image.
 pub fn decisions_agree()
-    ensures { (text image : List ℕ) → CompilesTo text image → (lines : List ToldLine) → some (answers_told image lines) ≡ machine_told text lines }
+    ensures { (text image : List ℕ) → CompilesTo text image → (lines : List ToldLine) → some (answers image lines) ≡ machine text lines }
 {}
 
 /// The same for the maker's and the site's text as one.
 pub fn texts_decisions_agree()
-    ensures { (maker site image : List ℕ) → TextsCompileTo maker site image → (lines : List ToldLine) → some (answers_told image lines) ≡ machine_of_texts_told maker site lines }
+    ensures { (maker site image : List ℕ) → TextsCompileTo maker site image → (lines : List ToldLine) → some (answers image lines) ≡ machine_of_texts maker site lines }
 {}
 
 /// Whichever one word of a compiled image is changed, to whatever other value, the decision on every line is refused by a check of the image.
@@ -51,6 +53,11 @@ pub fn refused_exactly()
     ensures { (mode : Mode) (image line : List ℕ) → Bytes image → (r : Refusal) → (decision_in mode image line ≡ Decision.Refused r) ↔ RefusedIn mode image line r }
 {}
 
+/// A decision is refused under 7 to 10 at the place 0, under 11 at the place of a word, or under 1, 12 to 14 or 17 at the place 0, and it names no text.
+pub fn decision_faults()
+    ensures { (mode : Mode) (image line : List ℕ) → Bytes image → (r : Refusal) → decision_in mode image line ≡ Decision.Refused r → OfDecisionIn (length (words_of image)) r }
+{}
+
 /// A refused decision has empty sets.
 pub fn refused_empty()
     ensures { (mode : Mode) (image line : List ℕ) → (answer_of (decision_in mode image line)).is_refused ≡ true → ((answer_of (decision_in mode image line)).accepted ≡ no_actions) × ((answer_of (decision_in mode image line)).cancelled ≡ no_actions) }
@@ -61,9 +68,9 @@ pub fn decision_obeys()
     ensures { (maker site image : List ℕ) → TextsCompileTo maker site image → (p : Policy) → policy_of_texts maker site ≡ some p → (line : List ℕ) (e : Epoch) → read_epoch line ≡ accepted e → Obeys p e (answer_of (decision image line)) }
 {}
 
-/// What a policy asks of a decision by actions is met by one accepted and one cancelled set alone.
+/// What a policy asks of a decision by actions is met by one answer alone.
 pub fn answer_determined()
-    ensures { (p : Policy) (e : Epoch) (a b : Answer) → Obeys p e a → Obeys p e b → (a.accepted ≡ b.accepted) × (a.cancelled ≡ b.cancelled) }
+    ensures { (p : Policy) (e : Epoch) (a b : Answer) → Obeys p e a → Obeys p e b → a ≡ b }
 {}
 
 /// By events: where some reduction of the epoch is free of conflict, the kept events are a maximal one and what they propose is issued.
@@ -71,9 +78,19 @@ pub fn events_decision_obeys()
     ensures { (maker site image : List ℕ) → TextsCompileTo maker site image → (p : Policy) → policy_of_texts maker site ≡ some p → (line : List ℕ) (e : Epoch) → read_epoch line ≡ accepted e → Reducible p.constraints (proposed_with p.rules) e → ObeysEvents p e (kept_events p e) (answer_of (decision_in Mode.Events image line)) }
 {}
 
+/// What a policy asks of a decision by events is met by one set of kept events and one answer alone.
+pub fn events_answer_determined()
+    ensures { (p : Policy) (e : Epoch) (kept kept' : EventSet) (a b : Answer) → ObeysEvents p e kept a → ObeysEvents p e kept' b → (kept ≡ kept') × (a ≡ b) }
+{}
+
 /// By events: the epoch is refused exactly where no reduction of it is free of conflict.
 pub fn events_conflict_refused()
     ensures { (maker site image : List ℕ) → TextsCompileTo maker site image → (p : Policy) → policy_of_texts maker site ≡ some p → (line : List ℕ) (e : Epoch) → read_epoch line ≡ accepted e → (decision_in Mode.Events image line ≡ Decision.Refused (refusal Fault.Unavoidable 0)) ↔ ¬ Reducible p.constraints (proposed_with p.rules) e }
+{}
+
+/// A constraint with one action and no comparison keeps that action out of every decision, in either mode.
+pub fn lone_constraint_cancels()
+    ensures { (maker site image : List ℕ) → TextsCompileTo maker site image → (p : Policy) → policy_of_texts maker site ≡ some p → (x : Action) → Memᴰ (lone x) p.constraints → (mode : Mode) (line : List ℕ) (e : Epoch) → read_epoch line ≡ accepted e → KeptOut p e x (answer_of (decision_in mode image line)) }
 {}
 
 /// A decision by actions fetches at most P + 64 x N words, P and N the words of the rules and of the constraints.

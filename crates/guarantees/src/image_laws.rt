@@ -4,15 +4,15 @@ ghost use Rattle.std.specs.Prelude.{List, ℕ, ◌↔◌, ◌≡◌, ◌++◌, d
 ghost use Rattle.word.specs.Word.{Bytes};
 ghost use Rattle.image.specs.declared.load.Contents.{Contents};
 ghost use Rattle.image.specs.declared.load.Loaded.{Loaded};
-ghost use Rattle.guarantees.specs.Claims.{SomeText, CompilesTo, DecompilesTo};
+ghost use Rattle.guarantees.specs.Claims.{SomeText, CompilesTo, TextsCompileTo, DecompilesTo};
 ghost use Rattle.image.specs.Load.{load};
 ghost use Rattle.exactness.specs.Exact.{Checked};
 ghost use Rattle.policy.specs.declared.fault.Fault.{Fault};
 ghost use Rattle.policy.specs.Fault.{refusal};
 ghost use Rattle.codegen.specs.declared.Compiled.{Compiled};
-ghost use Rattle.codegen.specs.Written.{Written, written_in};
-ghost use Rattle.codegen.specs.Compile.{compiled};
-ghost use Rattle.rule_text.specs.Text.{policy_of};
+ghost use Rattle.codegen.specs.Written.{Written, WrittenTexts, written_in, written_by};
+ghost use Rattle.codegen.specs.Compile.{compiled, compiled_texts};
+ghost use Rattle.rule_text.specs.Text.{policy_of, policy_of_texts};
 ghost use Rattle.image.specs.Held.{policy_in};
 ghost use Rattle.printer.specs.Printed.{text_of};
 
@@ -36,6 +36,16 @@ pub fn same_images()
     ensures { (s t out out' : List ℕ) (m n : ℕ) → (compiled s out).answer ≡ Compiled.Image m → (compiled t out').answer ≡ Compiled.Image n → (written_in m s out ≡ written_in n t out') ↔ (policy_of s ≡ policy_of t) }
 {}
 
+/// The same of a pair of texts compiled as one: a compilation that answers a size has written just the image of their policy.
+pub fn texts_written()
+    ensures { (maker site buffer : List ℕ) (size : ℕ) → (compiled_texts maker site buffer).answer ≡ Compiled.Image size → WrittenTexts maker site buffer size }
+{}
+
+/// Two pairs of texts give the same image exactly if each pair as one has the same rules in the same order and the same constraints in theirs.
+pub fn pairs_same_images()
+    ensures { (maker site maker' site' out out' : List ℕ) (m n : ℕ) → (compiled_texts maker site out).answer ≡ Compiled.Image m → (compiled_texts maker' site' out').answer ≡ Compiled.Image n → (written_by m (compiled_texts maker site out) ≡ written_by n (compiled_texts maker' site' out')) ↔ (policy_of_texts maker site ≡ policy_of_texts maker' site') }
+{}
+
 /// Compiling the text of what was loaded yields the bytes that were loaded.
 pub fn loaded_compiles()
     ensures { (bytes : List ℕ) → Bytes bytes → (contents : Contents) → load bytes ≡ Loaded.Image contents → CompilesTo (text_of (policy_in bytes)) bytes }
@@ -49,4 +59,9 @@ pub fn text_recompiles()
 /// Two texts are written back as the same text exactly if they have the same rules in the same order and the same constraints in theirs.
 pub fn same_texts()
     ensures { (s t i j u v : List ℕ) → CompilesTo s i → CompilesTo t j → DecompilesTo i u → DecompilesTo j v → (u ≡ v) ↔ (policy_of s ≡ policy_of t) }
+{}
+
+/// Two pairs of texts are written back as the same text exactly if each pair as one has the same rules in the same order and the same constraints in theirs.
+pub fn pairs_same_texts()
+    ensures { (maker site maker' site' i j u v : List ℕ) → TextsCompileTo maker site i → TextsCompileTo maker' site' j → DecompilesTo i u → DecompilesTo j v → (u ≡ v) ↔ (policy_of_texts maker site ≡ policy_of_texts maker' site') }
 {}

@@ -5,8 +5,10 @@
 #![tactic(auto)]
 
 pub mod decision_laws;
+pub mod explanation_laws;
 pub mod image_laws;
 pub mod policy_laws;
+pub mod program_laws;
 pub mod reading_laws;
 
 ghost use Rattle.std.specs.Prelude.{◌≡◌, IfOk, IfErr};

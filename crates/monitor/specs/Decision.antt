@@ -1,5 +1,5 @@
--- What is decided on an image and an epoch line, in each mode. Past the faults for which it is
--- refused it speaks of what the image's words do when they are run, and not of a policy.
+-- What is decided on an image and an epoch line, in each mode (docs/REFERENCE.md, "What an epoch yields" and "Running an image"). Past
+-- the faults for which it is refused it speaks of what the image's words do when they are run, and not of a policy.
 use Rattle.std.specs.Prelude.{ℕ, ◌+◌, Bool, cond, List}
 use Rattle.std.proofs.Math.Option.{Option, none, some}
 use Rattle.policy.specs.Epoch.{Epoch, Readings}
@@ -45,7 +45,7 @@ tried_words constraints rs s = trials_cost (conflict_by constraints rs) (trial_w
 abbrev pub visited_by : List ℕ → List ℕ → Epoch → ℕ
 visited_by rules constraints e = rule_fetches (all_events e.events) e.readings rules + tried_words constraints e.readings (proposed_by rules e)
 
--- "All other proposed actions are cancelled."
+-- the proposed actions that are not kept are cancelled
 abbrev pub actions_of : ActionSet → ActionSet → ℕ → Actions
 actions_of all kept visited = record { accepted = kept; cancelled = actions_without all kept; visited = visited }
 
@@ -73,7 +73,7 @@ clash_words rules constraints e kept =
     rule_fetches (keeping e.events (set_of kept)) e.readings rules
     + trial_fetches e.readings (proposed_with_by rules e (set_of kept)) constraints
 
--- "one trial with no event and one for each event"
+-- how many all trials fetch: one with no event, and one for each event of the epoch, kept or not
 unfoldable pub tried_event_words : List ℕ → List ℕ → Epoch → ℕ
 tried_event_words rules constraints e =
     clash_words rules constraints e 0 + trials_cost (clash_by rules constraints e) (clash_words rules constraints e) e.events.bits
@@ -103,7 +103,7 @@ unfoldable pub decided_by : Mode → Contents → List ℕ → Epoch → Decisio
 decided_by Mode.Actions contents words e = Decision.Issued (issued_by contents words e)
 decided_by Mode.Events contents words e = reduction_by (rules_in contents words) (constraints_in contents words) e
 
--- ---- "A decision looks at the image first, then the epoch."
+-- ---- the image's faults come first, then those of the line
 
 unfoldable pub on_epoch_line : Mode → Contents → List ℕ → EpochAnswer → Decision
 on_epoch_line mode contents words (refused fault) = Decision.Refused (refusal fault 0)
@@ -131,7 +131,7 @@ abbrev pub answer_of : Decision → Answer
 answer_of (Decision.Refused r) = refuses r
 answer_of (Decision.Issued actions) = issues actions.accepted actions.cancelled
 
--- how many words were fetched: "A refused decision reports 0."
+-- how many words were fetched: none where the decision is refused
 abbrev pub visited_in : Decision → ℕ
 visited_in (Decision.Refused r) = 0
 visited_in (Decision.Issued actions) = actions.visited

@@ -2,4 +2,4 @@ use Rattle.guarantees.proofs.Agreement as laws
 use Rattle.guarantees.proofs.decision_laws.decision_obeys.Goals as goal
 
 pub returns : goal.returns
-returns c = laws.texts_decision_obeys
+returns c = laws.decision_obeys

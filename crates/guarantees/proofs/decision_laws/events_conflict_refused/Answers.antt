@@ -2,4 +2,4 @@ use Rattle.guarantees.proofs.Agreement as laws
 use Rattle.guarantees.proofs.decision_laws.events_conflict_refused.Goals as goal
 
 pub returns : goal.returns
-returns c = laws.texts_events_conflict_refused
+returns c = laws.events_conflict_refused

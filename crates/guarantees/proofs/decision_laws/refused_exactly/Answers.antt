@@ -2,4 +2,4 @@ use Rattle.guarantees.proofs.Reductions as laws
 use Rattle.guarantees.proofs.decision_laws.refused_exactly.Goals as goal
 
 pub returns : goal.returns
-returns c = laws.refused_exactly_in
+returns c = laws.refused_exactly

@@ -2,4 +2,4 @@ use Rattle.guarantees.proofs.Agreement as laws
 use Rattle.guarantees.proofs.decision_laws.texts_change_refused.Goals as goal
 
 pub returns : goal.returns
-returns c = laws.texts_change_refused_in
+returns c = laws.texts_change_refused

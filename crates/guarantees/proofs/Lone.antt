@@ -1,0 +1,61 @@
+-- A constraint with one action and no comparison keeps that action out of every decision.
+use Rattle.std.proofs.Common.{ℕ, Bool, true, false, cond, List, ◌≡◌, refl, sym, ap, ◌∙◌, arith}
+use Rattle.std.proofs.Math.Option.{some}
+use Rattle.std.proofs.Math.Path.{subst⁻¹}
+use mathlib.Core.List.Memᴰ
+use mathlib.Core.List.{Memᴰ}
+use Rattle.policy.proofs.ListLaws.{not_true_is}
+use Rattle.policy.proofs.SetLaws.{has_empty}
+use Rattle.policy.specs.Epoch.{Epoch}
+use Rattle.policy.specs.Fault.{refusal}
+use Rattle.policy.specs.Policy.{Policy}
+use Rattle.policy.specs.Set.{ActionSet, has_action}
+use Rattle.policy.specs.declared.fault.Fault.{Fault}
+use Rattle.policy.specs.declared.mode.Mode.{Mode}
+use Rattle.policy.specs.declared.number.Action.{Action}
+use Rattle.pdl.proofs.Monitor.{lone_never_accepted, lone_always_cancelled}
+use Rattle.pdl.proofs.Reduction.{issued_satisfies, issued_with_withheld, withheld_apart}
+use Rattle.pdl.specs.Answer.{refuses, issues}
+use Rattle.pdl.specs.Pdl.{Satisfies, lone}
+use Rattle.pdl.specs.Reduction.{issued, withheld, unavoidable}
+use Rattle.pdl.specs.Yield.{proposed}
+use Rattle.epoch_line.specs.Epoch.{accepted, read_epoch}
+use Rattle.rule_text.specs.Text.{policy_of_texts}
+use Rattle.monitor.specs.Decision.{decision_in, answer_of}
+use Rattle.guarantees.proofs.Agreement.{image_of_texts, same_answer}
+use Rattle.guarantees.proofs.Determined.{other_in}
+use Rattle.guarantees.specs.Claims.{TextsCompileTo}
+use Rattle.guarantees.specs.Decisions.{KeptOut}
+use Rattle.guarantees.specs.Machine.{yield_in, answer, step}
+
+module _ (p : Policy) (e : Epoch) (a : Action) (listed : Memᴰ (lone a) p.constraints) where
+  rejects : (s : ActionSet) → Satisfies p.constraints e.readings s → has_action s a ≡ false
+  rejects s good =
+      not_true_is (has_action s a)
+      (λ h. good (lone a) listed (record { members = λ b k. ap (has_action s) (Memᴰ.eq_of_singleton k) ∙ h; condition = λ c k. absurd (Memᴰ.not-nil k) }))
+
+  kept_out : (mode : Mode) → KeptOut p e a (yield_in mode p e)
+  unfolding yield_in
+  kept_out Mode.Actions = record { rejected = lone_never_accepted p a listed e; cancelled = λ q. lone_always_cancelled p a listed e }
+  kept_out Mode.Events = go (unavoidable p e) refl
+    where
+      go : (b : Bool) → unavoidable p e ≡ b → KeptOut p e a (cond b (refuses (refusal Fault.Unavoidable 0)) (issues (issued p e) (withheld p e)))
+      go true q = record { rejected = has_empty a.0; cancelled = λ r. let z : ◌≡◌ {A = ℕ} 0 1 = cc in absurd (omega arith) }
+      go false q =
+          let out = rejects (issued p e) (issued_satisfies p e q) in
+          record {
+            rejected = out;
+            cancelled = λ r h. other_in (proposed p.rules e) (issued p e) (withheld p e) (record { rest = issued_with_withheld p e; apart = withheld_apart p e }) a h out;
+          }
+
+pub lone_constraint_cancels : (maker site image : List ℕ) → TextsCompileTo maker site image → (p : Policy) → policy_of_texts maker site ≡ some p
+    → (x : Action) → Memᴰ (lone x) p.constraints → (mode : Mode) (line : List ℕ) (e : Epoch) → read_epoch line ≡ accepted e
+    → KeptOut p e x (answer_of (decision_in mode image line))
+unfolding step answer
+lone_constraint_cancels maker site image c p q x listed mode line e r =
+    let t = image_of_texts maker site image c in
+    let k : some p ≡ some t.policy = sym q ∙ t.read in
+    let same : t.policy ≡ p = cc in
+    subst⁻¹ (KeptOut p e x)
+    (ap (λ (i : List ℕ). answer_of (decision_in mode i line)) t.same ∙ same_answer t.policy t.acceptable mode line ∙ ap (λ (y : Policy). step mode y line) same ∙ ap (answer mode p) r)
+    (kept_out p e x listed mode)

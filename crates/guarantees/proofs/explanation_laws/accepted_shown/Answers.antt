@@ -1,0 +1,5 @@
+use Rattle.guarantees.proofs.Explanations as laws
+use Rattle.guarantees.proofs.explanation_laws.accepted_shown.Goals as goal
+
+pub returns : goal.returns
+returns c = laws.accepted_shown
