@@ -1,5 +1,5 @@
 -- A refused text has the first fault of its lines, a refused epoch line the first of its tests.
-use Rattle.std.proofs.Common.{ℕ, suc, ◌≤◌, ◌<◌, Bool, true, false, cond, not, List, [], ◌∷◌, ◌++◌, ◌⊎◌, inl, inr, ◌≡◌, refl, sym, ap, ◌∙◌, length, subst, ltb-true, ltb-false, le-ltb, lt-ltb, ◌↔◌, fold}
+use Rattle.std.proofs.Common.{ℕ, suc, ◌+◌, ◌≤◌, ◌<◌, Bool, true, false, cond, not, List, [], ◌∷◌, ◌++◌, ◌⊎◌, inl, inr, ◌≡◌, refl, sym, ap, ap₂, ◌∙◌, arith, length, subst, ltb-true, ltb-false, le-ltb, lt-ltb, ◌↔◌, fold}
 use Rattle.std.proofs.lemmas.List.Sums.{fold-append}
 use Rattle.std.proofs.Math.Dec.{eqb, ltb}
 use Rattle.std.proofs.Math.Option.{Option, none, some}
@@ -13,11 +13,11 @@ use Rattle.policy.specs.declared.fault.Fault.{Fault}
 use Rattle.policy.specs.declared.fault.Refusal.{Refusal}
 use Rattle.policy.specs.declared.fault.Source.{Source}
 use Rattle.lexer.specs.Lines.{lines_of, tokens_of}
-use Rattle.syntax.specs.Judge.{LineAnswer, skipped, refused, accepted, line_answer}
 use Rattle.rule_text.specs.Text.{Progress, reading, stopped, advance, read_line, with_rule, with_constraint, empty_policy, text_limit, read_text_behind, in_text, read_text, read_site, read_texts, policy_read, policy_of}
 use Rattle.epoch_line.specs.Epoch as Epoch
 use Rattle.epoch_line.specs.Epoch.{Item, EpochAnswer, items_of, item_in_range, given_by, epoch_limit, judge_epoch, read_epoch}
-use Rattle.acceptance.specs.FirstFault.{LineFault, FirstFault, TextsFault, EpochFault}
+use Rattle.acceptance.proofs.OneLine.{Kinds, kinds, skipped_answer, accepted_answer, refused_answer}
+use Rattle.acceptance.specs.FirstFault.{Takes, TakesAll, TextAccepted, LineFault, FirstFault, TextsFault, EpochFault}
 
 abbrev refusal_of : Refusal → Progress → Refusal
 refusal_of x (reading n p) = x
@@ -39,100 +39,120 @@ stays r (l ∷ ls) = stays r ls
 -- ---- one line
 
 module _ (n : ℕ) (p : Policy) (l : List ℕ) where
-  abbrev Here : Refusal → Type 0
-  Here r = (f : Fault) × LineFault p l f × (refusal f n ≡ r)
-
-  refused_here : (r : Refusal) → read_line (reading n p) l ≡ stopped r → Here r
+  here_taken : (q : Policy) → Takes p l q → read_line (reading n p) l ≡ reading (suc n) q
   unfolding read_line advance
-  refused_here r h = go (line_answer l) refl h
-    where
-      full : (b : Bool) (q : Policy) → (b ≡ false → LineFault p l Fault.TooManyLines) → cond b (reading (suc n) q) (stopped (refusal Fault.TooManyLines n)) ≡ stopped r → Here r
-      full true q k h = goes_on (suc n) q r h
-      full false q k h = (Fault.TooManyLines, k refl, ap (refusal_of r) h)
-
-      go : (a : LineAnswer) → line_answer l ≡ a → advance n p a ≡ stopped r → Here r
-      go skipped e h = goes_on (suc n) p r h
-      go (refused f) e h = (f, LineFault.own f e, ap (refusal_of r) h)
-      go (accepted (rule x)) e h = full (ltb (length p.rules) rule_limit) (with_rule p x) (λ q. LineFault.one_rule_more x e (ltb-false _ _ q)) h
-      go (accepted (constraint x)) e h =
-          full (ltb (length p.constraints) constraint_limit) (with_constraint p x) (λ q. LineFault.one_constraint_more x e (ltb-false _ _ q)) h
+  here_taken q (Takes.nothing s) = ap (advance n p) (skipped_answer l s)
+  here_taken q (Takes.one_rule r a k) = ap (advance n p) (accepted_answer l (rule r) a) ∙ rw (lt-ltb _ _ k) refl
+  here_taken q (Takes.one_constraint c a k) = ap (advance n p) (accepted_answer l (constraint c) a) ∙ rw (lt-ltb _ _ k) refl
 
   here_refused : (f : Fault) → LineFault p l f → read_line (reading n p) l ≡ stopped (refusal f n)
   unfolding read_line advance
-  here_refused g (LineFault.own f e) = ap (advance n p) e
-  here_refused g (LineFault.one_rule_more x e k) = ap (advance n p) e ∙ rw (le-ltb _ _ k) refl
-  here_refused g (LineFault.one_constraint_more x e k) = ap (advance n p) e ∙ rw (le-ltb _ _ k) refl
+  here_refused f (LineFault.own g r) = ap (advance n p) (refused_answer l g r)
+  here_refused f (LineFault.one_rule_more r a k) = ap (advance n p) (accepted_answer l (rule r) a) ∙ rw (le-ltb _ _ k) refl
+  here_refused f (LineFault.one_constraint_more c a k) = ap (advance n p) (accepted_answer l (constraint c) a) ∙ rw (le-ltb _ _ k) refl
+
+-- each line is taken, or has a fault
+here : (p : Policy) (l : List ℕ) → ((q : Policy) × Takes p l q) ⊎ ((f : Fault) × LineFault p l f)
+here p l = go (kinds l)
+  where
+    go : Kinds l → ((q : Policy) × Takes p l q) ⊎ ((f : Fault) × LineFault p l f)
+    go (Kinds.is_skipped s) = inl (p, Takes.nothing s)
+    go (Kinds.is_refused f r) = inr (f, LineFault.own f r)
+    go (Kinds.is_accepted (rule r) a) = room (ltb (length p.rules) rule_limit) refl
+      where
+        room : (b : Bool) → ltb (length p.rules) rule_limit ≡ b → ((q : Policy) × Takes p l q) ⊎ ((f : Fault) × LineFault p l f)
+        room true e = inl (with_rule p r, Takes.one_rule r a (ltb-true _ _ e))
+        room false e = inr (Fault.TooManyLines, LineFault.one_rule_more r a (ltb-false _ _ e))
+    go (Kinds.is_accepted (constraint c) a) = room (ltb (length p.constraints) constraint_limit) refl
+      where
+        room : (b : Bool) → ltb (length p.constraints) constraint_limit ≡ b → ((q : Policy) × Takes p l q) ⊎ ((f : Fault) × LineFault p l f)
+        room true e = inl (with_constraint p c, Takes.one_constraint c a (ltb-true _ _ e))
+        room false e = inr (Fault.TooManyLines, LineFault.one_constraint_more c a (ltb-false _ _ e))
 
 -- ---- the lines of a text behind a policy
 
-record First (n : ℕ) (p : Policy) (ls : List (List ℕ)) (r : Refusal) : Type 0 where
+all_taken : (ls : List (List ℕ)) (n : ℕ) (p q : Policy) → TakesAll p ls q → fold read_line (reading n p) ls ≡ reading (n + length ls) q
+unfolding TakesAll
+all_taken [] n p q e = ap₂ reading (omega arith) e
+all_taken (l ∷ ls) n p q t =
+    ap (λ (s : Progress). fold read_line s ls) (here_taken n p l t.0 t.1) ∙ all_taken ls (suc n) t.0 q t.2
+    ∙ ap (λ (k : ℕ). reading k q) (omega arith)
+
+record First (p : Policy) (ls : List (List ℕ)) : Type 0 where
   before : List (List ℕ)
   line : List ℕ
   after : List (List ℕ)
   lines : ls ≡ before ++ line ∷ after
-  number : ℕ
   policy : Policy
-  taken : fold read_line (reading n p) before ≡ reading number policy
+  taken : TakesAll p before policy
   kind : Fault
   fault : LineFault policy line kind
-  same : refusal kind number ≡ r
 
-first_among : (ls : List (List ℕ)) (n : ℕ) (p : Policy) (r : Refusal) → fold read_line (reading n p) ls ≡ stopped r → First n p ls r
-first_among [] n p r h = goes_on n p r h
-first_among (l ∷ ls) n p r h = go (first_among ls) (read_line (reading n p) l) refl
+-- all are taken, or one is the first that is not
+among : (ls : List (List ℕ)) (p : Policy) → ((q : Policy) × TakesAll p ls q) ⊎ First p ls
+unfolding TakesAll
+among [] p = inl (p, refl)
+among (l ∷ ls) p = go (here p l) (among ls)
   where
-    go : ((m : ℕ) (q : Policy) (r : Refusal) → fold read_line (reading m q) ls ≡ stopped r → First m q ls r) → (s : Progress) → read_line (reading n p) l ≡ s → First n p (l ∷ ls) r
-    go later (stopped x) e =
-        let q : x ≡ r = ap (refusal_of r) (sym (stays x ls) ∙ ap (λ (s : Progress). fold read_line s ls) (sym e) ∙ h) in
-        let here = refused_here n p l r (e ∙ ap stopped q) in
-        record { before = []; line = l; after = ls; lines = refl; number = n; policy = p; taken = refl; kind = here.0; fault = here.1; same = here.2 }
-    go later (reading m q) e =
-        let f = later m q r (ap (λ (s : Progress). fold read_line s ls) (sym e) ∙ h) in
-        record {
-          before = l ∷ f.before;
-          line = f.line;
-          after = f.after;
-          lines = ap (λ (x : List (List ℕ)). l ∷ x) f.lines;
-          number = f.number;
-          policy = f.policy;
-          taken = ap (λ (s : Progress). fold read_line s f.before) e ∙ f.taken;
-          kind = f.kind;
-          fault = f.fault;
-          same = f.same;
-        }
+    go : ((q : Policy) × Takes p l q) ⊎ ((f : Fault) × LineFault p l f) → ((q : Policy) → ((r : Policy) × TakesAll q ls r) ⊎ First q ls)
+        → ((q : Policy) × TakesAll p (l ∷ ls) q) ⊎ First p (l ∷ ls)
+    go (inr h) later = inr (record { before = []; line = l; after = ls; lines = refl; policy = p; taken = refl; kind = h.0; fault = h.1 })
+    go (inl h) later = further (later h.0)
+      where
+        further : ((r : Policy) × TakesAll h.0 ls r) ⊎ First h.0 ls → ((q : Policy) × TakesAll p (l ∷ ls) q) ⊎ First p (l ∷ ls)
+        further (inl t) = inl (t.0, (h.0, h.1, t.1))
+        further (inr f) =
+            inr
+            (record {
+              before = l ∷ f.before;
+              line = f.line;
+              after = f.after;
+              lines = ap (λ (x : List (List ℕ)). l ∷ x) f.lines;
+              policy = f.policy;
+              taken = (h.0, h.1, f.taken);
+              kind = f.kind;
+              fault = f.fault;
+            })
 
-module _ (p : Policy) (text : List ℕ) where
-  Behind : Refusal → Type 0
-  Behind r = (f : Fault) × (n : ℕ) × FirstFault p text f n × (refusal f n ≡ r)
-
-  behind_first : (r : Refusal) → length text ≤ text_limit → read_text_behind p text ≡ stopped r → Behind r
-  unfolding read_text_behind Behind
-  behind_first r short h =
-      let f = first_among (lines_of text) 1 p r (sym (rw (le-ltb _ _ short) refl) ∙ h) in
-      (f.kind, f.number, record { before = f.before; line = f.line; after = f.after; lines = f.lines; policy = f.policy; taken = f.taken; fault = f.fault }, f.same)
-
-  first_behind : (f : Fault) (n : ℕ) → length text ≤ text_limit → FirstFault p text f n → read_text_behind p text ≡ stopped (refusal f n)
+-- a text that is short enough
+module _ (p : Policy) (text : List ℕ) (short : length text ≤ text_limit) where
+  taken_behind : (q : Policy) → TakesAll p (lines_of text) q → read_text_behind p text ≡ reading (1 + length (lines_of text)) q
   unfolding read_text_behind
-  first_behind f n short t =
+  taken_behind q t = rw (le-ltb _ _ short) (all_taken (lines_of text) 1 p q t)
+
+  first_behind : (f : Fault) (n : ℕ) → FirstFault p text f n → read_text_behind p text ≡ stopped (refusal f n)
+  unfolding read_text_behind
+  first_behind f n t =
       rw (le-ltb _ _ short)
       (ap (fold read_line (reading 1 p)) t.lines ∙ fold-append read_line (reading 1 p) t.before (t.line ∷ t.after)
-      ∙ ap (λ (s : Progress). fold read_line s (t.line ∷ t.after)) t.taken
+      ∙ ap (λ (s : Progress). fold read_line s (t.line ∷ t.after)) (all_taken t.before 1 p t.policy t.taken ∙ ap (λ (k : ℕ). reading k t.policy) (omega (arith, t.number)))
       ∙ ap (λ (s : Progress). fold read_line s t.after) (here_refused n t.policy t.line f t.fault)
       ∙ stays (refusal f n) t.after)
+
+-- what reading a text behind a policy comes to, and why
+data Comes (p : Policy) (text : List ℕ) : Type 0 where
+  long : text_limit < length text → Comes p text
+  taken : length text ≤ text_limit → (q : Policy) → TakesAll p (lines_of text) q → Comes p text
+  fails : length text ≤ text_limit → (f : Fault) (n : ℕ) → FirstFault p text f n → Comes p text
+
+comes : (p : Policy) (text : List ℕ) → Comes p text
+comes p text = go (ltb text_limit (length text)) refl
+  where
+    lines : length text ≤ text_limit → ((q : Policy) × TakesAll p (lines_of text) q) ⊎ First p (lines_of text) → Comes p text
+    lines h (inl t) = Comes.taken h t.0 t.1
+    lines h (inr f) =
+        Comes.fails h f.kind (suc (length f.before))
+        (record { before = f.before; line = f.line; after = f.after; lines = f.lines; number = refl; policy = f.policy; taken = f.taken; fault = f.fault })
+
+    go : (b : Bool) → ltb text_limit (length text) ≡ b → Comes p text
+    go true e = Comes.long (ltb-true _ _ e)
+    go false e = lines (ltb-false _ _ e) (among (lines_of text) p)
 
 long_behind : (p : Policy) (text : List ℕ) → text_limit < length text → read_text_behind p text ≡ stopped (refusal Fault.TooLong 0)
 unfolding read_text_behind
 long_behind p text h = rw (lt-ltb _ _ h) refl
 
-text_fault : (p : Policy) (text : List ℕ) (r : Refusal) → read_text_behind p text ≡ stopped r
-    → ((text_limit < length text) × (refusal Fault.TooLong 0 ≡ r)) ⊎ ((length text ≤ text_limit) × Behind p text r)
-text_fault p text r h = go (ltb text_limit (length text)) refl
-  where
-    go : (b : Bool) → ltb text_limit (length text) ≡ b → ((text_limit < length text) × (refusal Fault.TooLong 0 ≡ r)) ⊎ ((length text ≤ text_limit) × Behind p text r)
-    go true e = let k = ltb-true _ _ e in inl (k, ap (refusal_of r) (sym (long_behind p text k) ∙ h))
-    go false e = let k = ltb-false _ _ e in inr (k, behind_first p text r k h)
-
--- ---- two texts
+-- ---- one text
 
 abbrev policy_or : Policy → Option Policy → Policy
 policy_or p none = p
@@ -142,53 +162,61 @@ abbrev is_known : Option Policy → Bool
 is_known none = false
 is_known (some p) = true
 
+text_taken : (text : List ℕ) (p : Policy) → TextAccepted text p → read_text text ≡ reading (1 + length (lines_of text)) p
+unfolding read_text in_text
+text_taken text p a = ap (in_text Source.Maker) (taken_behind empty_policy text a.short p a.taken)
+
+pub text_accepted_exactly : (text : List ℕ) (p : Policy) → (policy_of text ≡ some p) ↔ TextAccepted text p
+unfolding policy_of policy_read read_text in_text
+text_accepted_exactly text p = (λ h. go (comes empty_policy text) h, λ a. ap policy_read (text_taken text p a))
+  where
+    stops : (r : Refusal) → read_text_behind empty_policy text ≡ stopped r → policy_of text ≡ some p → TextAccepted text p
+    stops r e h = absurd (true_false refl (sym (ap is_known (sym (ap (λ (s : Progress). policy_read (in_text Source.Maker s)) e) ∙ h))))
+
+    go : Comes empty_policy text → policy_of text ≡ some p → TextAccepted text p
+    go (Comes.long k) h = stops (refusal Fault.TooLong 0) (long_behind empty_policy text k) h
+    go (Comes.fails k f n t) h = stops (refusal f n) (first_behind empty_policy text k f n t) h
+    go (Comes.taken k q t) h =
+        let a : TextAccepted text q = record { short = k; taken = t } in
+        subst (TextAccepted text) (ap (policy_or q) (sym (ap policy_read (text_taken text q a)) ∙ h)) a
+
+-- ---- two texts
+
 module _ (maker site : List ℕ) where
-  pub texts_refused_exactly : (r : Refusal) → (read_texts maker site ≡ stopped r) ↔ TextsFault maker site r
-  unfolding read_texts read_site read_text in_text policy_of policy_read Behind
-  texts_refused_exactly r = (λ h. makers (read_text_behind empty_policy maker) refl h, back r)
+  site_read : (p : Policy) → TextAccepted maker p → read_texts maker site ≡ in_text Source.Site (read_text_behind p site)
+  unfolding read_texts read_site
+  site_read p a = ap (λ (s : Progress). read_site s site) (text_taken maker p a)
+
+  maker_stopped : (x : Refusal) → read_text_behind empty_policy maker ≡ stopped x → read_texts maker site ≡ stopped (within Source.Maker x)
+  unfolding read_texts read_site read_text in_text
+  maker_stopped x e = ap (λ (s : Progress). read_site (in_text Source.Maker s) site) e
+
+  back : (r : Refusal) → TextsFault maker site r → read_texts maker site ≡ stopped r
+  unfolding in_text
+  back r (TextsFault.maker_long h) = maker_stopped (refusal Fault.TooLong 0) (long_behind empty_policy maker h)
+  back r (TextsFault.in_maker h f n t) = maker_stopped (refusal f n) (first_behind empty_policy maker h f n t)
+  back r (TextsFault.site_long p a h) = site_read p a ∙ ap (in_text Source.Site) (long_behind p site h)
+  back r (TextsFault.in_site p a h f n t) = site_read p a ∙ ap (in_text Source.Site) (first_behind p site h f n t)
+
+  there : (r : Refusal) → read_texts maker site ≡ stopped r → TextsFault maker site r
+  unfolding in_text
+  there r h = makers (comes empty_policy maker)
     where
-      there : (source : Source) (x : Refusal) → stopped (within source x) ≡ stopped r → within source x ≡ r
-      there source x h = ap (refusal_of r) h
+      so : (x : Refusal) → TextsFault maker site x → TextsFault maker site r
+      so x t = subst (TextsFault maker site) (ap (refusal_of r) (sym (back x t) ∙ h)) t
 
-      of_makers : (x : Refusal) → read_text_behind empty_policy maker ≡ stopped x → TextsFault maker site (within Source.Maker x)
-      of_makers x e =
-          elim (text_fault empty_policy maker x e) [
-            | inl t ↦ subst (λ y. TextsFault maker site (within Source.Maker y)) t.1 (TextsFault.maker_long t.0)
-            | inr t ↦ subst (λ y. TextsFault maker site (within Source.Maker y)) t.1.3 (TextsFault.in_maker t.0 t.1.0 t.1.1 t.1.2)
-          ]
+      sites : (p : Policy) → TextAccepted maker p → Comes p site → TextsFault maker site r
+      sites p a (Comes.long k) = so (within Source.Site (refusal Fault.TooLong 0)) (TextsFault.site_long p a k)
+      sites p a (Comes.fails k f n t) = so (within Source.Site (refusal f n)) (TextsFault.in_site p a k f n t)
+      sites p a (Comes.taken k q t) = goes_on (1 + length (lines_of site)) q r (sym (site_read p a ∙ ap (in_text Source.Site) (taken_behind p site k q t)) ∙ h)
 
-      of_sites : (p : Policy) → policy_of maker ≡ some p → (x : Refusal) → read_text_behind p site ≡ stopped x → TextsFault maker site (within Source.Site x)
-      of_sites p k x e =
-          elim (text_fault p site x e) [
-            | inl t ↦ subst (λ y. TextsFault maker site (within Source.Site y)) t.1 (TextsFault.site_long p k t.0)
-            | inr t ↦ subst (λ y. TextsFault maker site (within Source.Site y)) t.1.3 (TextsFault.in_site p k t.0 t.1.0 t.1.1 t.1.2)
-          ]
+      makers : Comes empty_policy maker → TextsFault maker site r
+      makers (Comes.long k) = so (within Source.Maker (refusal Fault.TooLong 0)) (TextsFault.maker_long k)
+      makers (Comes.fails k f n t) = so (within Source.Maker (refusal f n)) (TextsFault.in_maker k f n t)
+      makers (Comes.taken k p t) = sites p (record { short = k; taken = t }) (comes p site)
 
-      sites : (p : Policy) → policy_of maker ≡ some p → (s : Progress) → read_text_behind p site ≡ s → in_text Source.Site s ≡ stopped r → TextsFault maker site r
-      sites p k (reading n q) e h = goes_on n q r h
-      sites p k (stopped x) e h = subst (TextsFault maker site) (there Source.Site x h) (of_sites p k x e)
-
-      makers : (s : Progress) → read_text_behind empty_policy maker ≡ s → read_site (in_text Source.Maker s) site ≡ stopped r → TextsFault maker site r
-      makers (reading n p) e h = sites p (ap (λ (s : Progress). policy_read (in_text Source.Maker s)) e) (read_text_behind p site) refl h
-      makers (stopped x) e h = subst (TextsFault maker site) (there Source.Maker x h) (of_makers x e)
-
-      by_maker : (x : Refusal) → read_text_behind empty_policy maker ≡ stopped x → read_texts maker site ≡ stopped (within Source.Maker x)
-      by_maker x e = ap (λ (s : Progress). read_site (in_text Source.Maker s) site) e
-
-      by_site : (p : Policy) → policy_of maker ≡ some p → (x : Refusal) → read_text_behind p site ≡ stopped x → read_texts maker site ≡ stopped (within Source.Site x)
-      by_site p k x e = at (read_text_behind empty_policy maker) refl k
-        where
-          at : (s : Progress) → read_text_behind empty_policy maker ≡ s → policy_read (in_text Source.Maker s) ≡ some p → read_texts maker site ≡ stopped (within Source.Site x)
-          at (reading n q) m k =
-              ap (λ (s : Progress). read_site (in_text Source.Maker s) site) m ∙ ap (λ (y : Policy). in_text Source.Site (read_text_behind y site)) (ap (policy_or p) k)
-              ∙ ap (in_text Source.Site) e
-          at (stopped y) m k = absurd (true_false refl (sym (ap is_known k)))
-
-      back : (r : Refusal) → TextsFault maker site r → read_texts maker site ≡ stopped r
-      back r (TextsFault.maker_long h) = by_maker (refusal Fault.TooLong 0) (long_behind empty_policy maker h)
-      back r (TextsFault.in_maker h f n t) = by_maker (refusal f n) (first_behind empty_policy maker f n h t)
-      back r (TextsFault.site_long p k h) = by_site p k (refusal Fault.TooLong 0) (long_behind p site h)
-      back r (TextsFault.in_site p k h f n t) = by_site p k (refusal f n) (first_behind p site f n h t)
+  pub texts_refused_exactly : (r : Refusal) → (read_texts maker site ≡ stopped r) ↔ TextsFault maker site r
+  texts_refused_exactly r = (there r, back r)
 
 -- ---- an epoch line
 

@@ -6,7 +6,9 @@ pub mod FirstFault
 pub mod Given
 pub mod Locations
 pub mod Named
+pub mod OneLine
 pub mod Patterns
+pub mod Prefixed
 pub mod Refusals
 pub mod Texts
 pub mod Wide

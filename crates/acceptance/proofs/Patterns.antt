@@ -16,7 +16,7 @@ use Rattle.policy.specs.declared.number.Reading.{Reading}
 use Rattle.lexer.proofs.HexLaws.{hex_bound}
 use Rattle.lexer.specs.Byte.{bytes, is_hex_digit}
 use Rattle.lexer.specs.Number.{number_of, positive, decimal_of, hex_number, pattern_digits, too_large, pattern_of, hexadecimal_of, constant_of}
-use Rattle.lexer.specs.Token.{Token, named, reading_of, relation_of, operand_of, both, compare, comparison_of}
+use Rattle.lexer.specs.Token.{Token, named, reading_of, relation_of, operand_of, both, compare, comparison_by, comparison_of}
 use Rattle.epoch_line.specs.Epoch.{Item, value, assignment_of, item_in_range}
 use Rattle.token.proofs.PatternLaws.{not_pattern, pattern_word, pattern_wide}
 use Rattle.acceptance.specs.Patterns.{prefixed, IsPattern, HasWord, Hexadecimal}
@@ -60,10 +60,10 @@ module _ (ds : List ℕ) (e : all is_hex_digit ds ≡ true) (h : pattern_digits 
   wide_operand = ap (map Operand.Constant) wide
 
   pub wide_comparison : (r q : Token) (c : Comparison) → comparison_of r q (prefixed ds) ≡ some c → comparison_in_range c ≡ false
-  unfolding comparison_of both comparison_in_range operand_in_range is_reading_value
-  wide_comparison r q c p = go (reading_of r) (relation_of q) (sym (ap (both (λ (f : Operand → Comparison) (x : Operand). f x) (both compare (reading_of r) (relation_of q))) wide_operand) ∙ p)
+  unfolding comparison_of comparison_in_range operand_in_range is_reading_value
+  wide_comparison r q c p = go (reading_of r) (relation_of q) (sym (ap (comparison_by (reading_of r) (relation_of q)) wide_operand) ∙ p)
     where
-      go : (x : Option Reading) (y : Option Relation) → both (λ (f : Operand → Comparison) (o : Operand). f o) (both compare x y) (some (Operand.Constant too_large)) ≡ some c → comparison_in_range c ≡ false
+      go : (x : Option Reading) (y : Option Relation) → comparison_by x y (some (Operand.Constant too_large)) ≡ some c → comparison_in_range c ≡ false
       go none y k = let z : ◌≡◌ {A = ℕ} 0 1 = cc in absurd (omega arith)
       go (some x) none k = let z : ◌≡◌ {A = ℕ} 0 1 = cc in absurd (omega arith)
       go (some x) (some y) k =

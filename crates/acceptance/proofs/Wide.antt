@@ -15,11 +15,11 @@ use Rattle.lexer.specs.Byte.{is_hex_digit}
 use Rattle.lexer.specs.Number.{pattern_digits}
 use Rattle.lexer.specs.Token.{Token, comparison_of}
 use Rattle.lexer.specs.Lines.{tokens_of}
-use Rattle.syntax.specs.Judge.{refused, judge_line, tokens_answer, line_answer}
+use Rattle.syntax.specs.Judge.{refused, judge_line, line_answer}
 use Rattle.epoch_line.specs.Epoch as Epoch
 use Rattle.epoch_line.specs.Epoch.{Item, items_of, item_in_range, assignment_of, epoch_limit, judge_epoch, read_epoch}
 use Rattle.acceptance.proofs.Patterns.{wide_comparison}
-use Rattle.acceptance.proofs.Written.{line_read}
+use Rattle.acceptance.proofs.OneLine.{written_answer}
 use Rattle.acceptance.specs.Patterns.{prefixed}
 use Rattle.acceptance.specs.Written.{IsWritten}
 
@@ -32,15 +32,11 @@ module _ {A : Type 0} (p : A → Bool) (x : A) (fails : p x ≡ false) where
 -- ---- lines of a text
 
 module _ (line : List ℕ) (l : PolicyLine) (w : IsWritten line l) where
-  judged : line_answer line ≡ judge_line (some l)
-  unfolding line_answer tokens_answer
-  judged = ap tokens_answer w.tokens ∙ rw w.no_comment (ap judge_line (line_read (w.first ∷ w.others) l w.written))
-
   pub comparison_refused : (before after : List Comparison) (c : Comparison) → comparisons_of l ≡ before ++ c ∷ after → comparison_in_range c ≡ false
       → line_answer line ≡ refused Fault.OutOfRange
   unfolding judge_line in_range
   comparison_refused before after c e f =
-      judged ∙ rw (ap (all comparison_in_range) e ∙ some_fails comparison_in_range c f before after, and-false (all (λ (t : Test). ltb (test_number t) set_limit) (heads_of l))) refl
+      written_answer line l w ∙ rw (ap (all comparison_in_range) e ∙ some_fails comparison_in_range c f before after, and-false (all (λ (t : Test). ltb (test_number t) set_limit) (heads_of l))) refl
 
   -- whatever its reading, its relation and the rest of the line
   pub wide_constant_refused : (ds : List ℕ) → all is_hex_digit ds ≡ true → pattern_digits < length ds → (r q : Token) (c : Comparison) → comparison_of r q (prefixed ds) ≡ some c

@@ -1,6 +1,6 @@
 -- Which fault a refused text and a refused epoch line have, where there could be several: the first line that has one, and for an
 -- epoch line the first in the order of the tests.
-use Rattle.std.specs.Prelude.{ℕ, ◌≤◌, ◌<◌, ◌⊎◌, true, false, List, ◌∷◌, ◌++◌, ◌≡◌, eqb, length, fold}
+use Rattle.std.specs.Prelude.{ℕ, suc, ◌≤◌, ◌<◌, ◌⊎◌, true, false, List, [], ◌∷◌, ◌++◌, ◌≡◌, eqb, length}
 use Rattle.std.proofs.Math.Option.{none, some}
 use Rattle.policy.specs.Limits.{rule_limit, constraint_limit, repeats}
 use Rattle.policy.specs.Line.{rule, constraint}
@@ -11,25 +11,42 @@ use Rattle.policy.specs.declared.fault.Fault.{Fault}
 use Rattle.policy.specs.declared.fault.Refusal.{Refusal}
 use Rattle.policy.specs.declared.fault.Source.{Source}
 use Rattle.lexer.specs.Lines.{lines_of, tokens_of}
-use Rattle.syntax.specs.Judge.{refused, accepted, line_answer}
-use Rattle.rule_text.specs.Text.{reading, read_line, empty_policy, text_limit, policy_of}
+use Rattle.rule_text.specs.Text.{with_rule, with_constraint, empty_policy, text_limit}
 use Rattle.epoch_line.specs.Epoch.{Item, items_of, item_in_range, given_by, epoch_limit}
+use Rattle.acceptance.specs.OneLine.{LineSkipped, LineAccepted, LineRefused}
+
+-- a line that can stand behind those of a policy, and the policy with it: a skipped one adds nothing, an accepted one comes last of its kind, if there
+-- is room for one more
+pub data Takes (p : Policy) (line : List ℕ) : Policy → Type 0 where
+  nothing : LineSkipped line → Takes p line p
+  one_rule : (r : Rule) → LineAccepted line (rule r) → length p.rules < rule_limit → Takes p line (with_rule p r)
+  one_constraint : (c : Constraint) → LineAccepted line (constraint c) → length p.constraints < constraint_limit → Takes p line (with_constraint p c)
+
+-- such lines, one behind another
+unfoldable pub TakesAll : Policy → List (List ℕ) → Policy → Type 0
+TakesAll p [] q = p ≡ q
+TakesAll p (line ∷ lines) q = (m : Policy) × Takes p line m × TakesAll m lines q
+
+-- an accepted text and its policy: it is short enough, and each of its lines is taken
+pub record TextAccepted (text : List ℕ) (p : Policy) : Type 0 where
+  pub short : length text ≤ text_limit
+  pub taken : TakesAll empty_policy (lines_of text) p
 
 -- for what a line is refused behind the lines of a policy: for a fault of its own, or as one line too many of its kind
 pub data LineFault (p : Policy) (line : List ℕ) : Fault → Type 0 where
-  own : (f : Fault) → line_answer line ≡ refused f → LineFault p line f
-  one_rule_more : (r : Rule) → line_answer line ≡ accepted (rule r) → rule_limit ≤ length p.rules → LineFault p line Fault.TooManyLines
-  one_constraint_more : (c : Constraint) → line_answer line ≡ accepted (constraint c) → constraint_limit ≤ length p.constraints
-      → LineFault p line Fault.TooManyLines
+  own : (f : Fault) → LineRefused line f → LineFault p line f
+  one_rule_more : (r : Rule) → LineAccepted line (rule r) → rule_limit ≤ length p.rules → LineFault p line Fault.TooManyLines
+  one_constraint_more : (c : Constraint) → LineAccepted line (constraint c) → constraint_limit ≤ length p.constraints → LineFault p line Fault.TooManyLines
 
--- line n of a text behind a policy is the first that is refused: those before it are skipped, or accepted and within the limits
+-- line n of a text behind a policy is the first that is refused: those before it are taken
 pub record FirstFault (p : Policy) (text : List ℕ) (f : Fault) (n : ℕ) : Type 0 where
   pub before : List (List ℕ)
   pub line : List ℕ
   pub after : List (List ℕ)
   pub lines : lines_of text ≡ before ++ line ∷ after
+  pub number : n ≡ suc (length before)
   pub policy : Policy
-  pub taken : fold read_line (reading 1 p) before ≡ reading n policy
+  pub taken : TakesAll p before policy
   pub fault : LineFault policy line f
 
 -- for what two texts are refused, read as one: the maker's text first, each for its length before its lines, and the site's lines behind
@@ -37,8 +54,8 @@ pub record FirstFault (p : Policy) (text : List ℕ) (f : Fault) (n : ℕ) : Typ
 pub data TextsFault (maker site : List ℕ) : Refusal → Type 0 where
   maker_long : text_limit < length maker → TextsFault maker site (within Source.Maker (refusal Fault.TooLong 0))
   in_maker : length maker ≤ text_limit → (f : Fault) (n : ℕ) → FirstFault empty_policy maker f n → TextsFault maker site (within Source.Maker (refusal f n))
-  site_long : (p : Policy) → policy_of maker ≡ some p → text_limit < length site → TextsFault maker site (within Source.Site (refusal Fault.TooLong 0))
-  in_site : (p : Policy) → policy_of maker ≡ some p → length site ≤ text_limit → (f : Fault) (n : ℕ) → FirstFault p site f n
+  site_long : (p : Policy) → TextAccepted maker p → text_limit < length site → TextsFault maker site (within Source.Site (refusal Fault.TooLong 0))
+  in_site : (p : Policy) → TextAccepted maker p → length site ≤ text_limit → (f : Fault) (n : ℕ) → FirstFault p site f n
       → TextsFault maker site (within Source.Site (refusal f n))
 
 -- the tests of an epoch line, one behind another

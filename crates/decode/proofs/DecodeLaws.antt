@@ -1,5 +1,5 @@
 -- The words of a line read back, and when a line stands at the start of words.
-use Rattle.std.proofs.Common.{ℕ, ◌+◌, ◌<◌, Bool, true, false, cond, ◌&&◌, List, [], ◌∷◌, ◌++◌, map, ◌≡◌, refl, sym, ap, ap₂, ◌∙◌, arith, ltb-true, eqb-true, eq-eqb, length, drop}
+use Rattle.std.proofs.Common.{ℕ, ◌+◌, ◌<◌, Bool, true, false, cond, ◌&&◌, List, [], ◌∷◌, ◌++◌, map, ◌↔◌, ◌≡◌, refl, sym, ap, ap₂, ◌∙◌, arith, ltb-true, eqb-true, eq-eqb, length, drop}
 use Rattle.std.proofs.Math.Option.{Option, none, some}
 use Rattle.std.proofs.Math.Dec.{eqb}
 use Rattle.std.proofs.Math.ListN.{get_or, length-map}
@@ -19,7 +19,9 @@ use Rattle.policy.proofs.ValidLaws.{valid_out, test_in_range}
 use Rattle.operation.specs.Parts.{test_word, comparison_words, ending_word, event_from}
 use Rattle.operation.specs.Fields.{operation_of}
 use Rattle.layout.specs.Layout.{condition_words, part_words, line_words}
-use Rattle.decode.specs.Decode.{Stands, add_literal, add_member, add_comparison, decode_word, decode, is_prefix, in_part, stands_at, keep_if, line_at}
+use Rattle.decode.specs.Decode.{line_at}
+use Rattle.decode.specs.Stands.{in_part, Stands}
+use Rattle.decode.specs.Steps.Decoding.{add_literal, add_member, add_comparison, decode_word, decode, is_prefix, stands_at, keep_if}
 use Rattle.operation.specs.declared.operation.Operation.{Operation}
 use Rattle.policy.specs.declared.line.Part.{Part}
 
@@ -145,3 +147,13 @@ line_none part ws e l rest i v q =
     let g : line_at part ws ≡ some l = ap (line_at part) q ∙ f in
     let z : ◌≡◌ {A = ℕ} 0 1 = cc in
     omega arith
+
+-- what stands is found, so there is one line at most that does
+pub line_found_exactly : (part : Part) (ws : List ℕ) (l : PolicyLine) → (line_at part ws ≡ some l) ↔ Stands part ws l
+line_found_exactly part ws l =
+    (line_out part ws l, λ s. ap (line_at part) s.words ∙ line_in_is part l (drop (length (line_words l)) ws) s.kind s.sound)
+
+pub one_line_stands : (part : Part) (ws : List ℕ) (l m : PolicyLine) → Stands part ws l → Stands part ws m → l ≡ m
+one_line_stands part ws l m a b =
+    let e : some l ≡ some m = sym ((line_found_exactly part ws l).1 a) ∙ (line_found_exactly part ws m).1 b in
+    cc

@@ -13,7 +13,8 @@ use Rattle.operation.specs.Fields.{first_of, skip_of}
 use Rattle.decode.proofs.OnesLaws.{ones_once, ones_twice}
 use Rattle.decode.proofs.ScanLaws.{scan_by, Sized, sized_constant, sized_reading, sized_none, sized, fill_step}
 use Rattle.decode.proofs.ScanLines.{scan_line_is}
-use Rattle.decode.specs.Decode.{decode, keep_if, line_at, line_length}
+use Rattle.decode.specs.Decode.{line_at, line_length}
+use Rattle.decode.specs.Steps.Decoding.{decode, keep_if}
 use Rattle.decode.specs.Steps.Scan.{is_ending, head_sound, count_heads, head_numbers, numbers_of, comparison_length, IsBehind, comparisons_fill}
 use Rattle.policy.specs.declared.line.Part.{Part}
 

@@ -23,7 +23,7 @@ use Rattle.word.specs.Word.{word_limit}
 use Rattle.operation.specs.Fields.{pack, opcode_of, operation_of, first_of, second_of, relation_code_of, skip_of}
 use Rattle.operation.specs.declared.operation.Operation.{Operation}
 use Rattle.layout.specs.Layout.{condition_words, part_words, line_words}
-use Rattle.decode.specs.Decode.{in_part}
+use Rattle.decode.specs.Stands.{in_part}
 use Rattle.decode.specs.Steps.Scan.{is_head, is_ending, head_sound, count_heads, head_numbers, constant_sound, reading_sound, length_by, comparison_length, comparisons_fill, scan_line}
 use Rattle.policy.specs.declared.line.Part.{Part}
 

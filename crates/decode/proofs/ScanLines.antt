@@ -18,7 +18,8 @@ use Rattle.word.specs.Word.{word_limit, Below}
 use Rattle.operation.specs.Fields.{first_of, second_of, skip_of}
 use Rattle.operation.specs.declared.operation.Operation.{Operation}
 use Rattle.layout.specs.Layout.{line_words}
-use Rattle.decode.specs.Decode.{in_part, line_at, line_length}
+use Rattle.decode.specs.Decode.{line_at, line_length}
+use Rattle.decode.specs.Stands.{in_part}
 use Rattle.decode.specs.Steps.Scan.{is_ending, head_sound, count_heads, head_numbers, comparison_length, comparisons_fill, scan_line}
 use Rattle.policy.specs.declared.line.Part.{Part}
 

@@ -1,79 +1,16 @@
--- The line that words of an image begin with.
-use Rattle.std.specs.Prelude.{ℕ, Bool, true, false, cond, ◌&&◌, List, [], ◌∷◌, ◌++◌, ◌≡◌, eqb, length, drop}
+-- The line that words of an image begin with, as a function. `line_at` finds a line exactly where it `Stands`, and no two lines stand at
+-- one place: both are laws (`line_found_exactly` and `one_line_stands` in guarantees), so that how it finds the line need not be read.
+use Rattle.std.specs.Prelude.{ℕ, List, length}
 use Rattle.std.proofs.Math.Option.{Option, none, some}
-use Rattle.policy.specs.Limits.{valid}
-use Rattle.policy.specs.Line.{PolicyLine, rule, constraint}
-use Rattle.policy.specs.declared.comparison.Comparison.{Comparison}
-use Rattle.policy.specs.declared.comparison.Literal.{Literal}
-use Rattle.policy.specs.declared.number.Action.{Action}
-use Rattle.operation.specs.Parts.{event_from, action_from, constant_comparison, reading_comparison}
-use Rattle.operation.specs.Fields.{operation_of}
-use Rattle.operation.specs.declared.operation.Operation.{Operation}
-use Rattle.layout.specs.Layout.{line_words}
+use Rattle.policy.specs.Line.{PolicyLine}
 use Rattle.policy.specs.declared.line.Part.{Part}
-
--- one part more in front: a literal before a rule, an action before a constraint, a comparison before either
-unfoldable pub add_literal : Literal → Option PolicyLine → Option PolicyLine
-add_literal l (some (rule r)) = some (rule (record { literals = l ∷ r.literals; action = r.action; comparisons = r.comparisons }))
-add_literal l (some (constraint c)) = none
-add_literal l none = none
-
-unfoldable pub add_member : Action → Option PolicyLine → Option PolicyLine
-add_member a (some (constraint c)) = some (constraint (record { actions = a ∷ c.actions; comparisons = c.comparisons }))
-add_member a (some (rule r)) = none
-add_member a none = none
-
-unfoldable pub add_comparison : Comparison → Option PolicyLine → Option PolicyLine
-add_comparison c (some (rule r)) = some (rule (record { literals = r.literals; action = r.action; comparisons = c ∷ r.comparisons }))
-add_comparison c (some (constraint k)) = some (constraint (record { actions = k.actions; comparisons = c ∷ k.comparisons }))
-add_comparison c none = none
-
--- what a word says, with the word after it, the line behind it and the line behind that word
-unfoldable pub decode_word : Operation → ℕ → ℕ → Option PolicyLine → Option PolicyLine → Option PolicyLine
-decode_word Operation.Present w k rest behind = add_literal (record { event = event_from w; negated = false }) rest
-decode_word Operation.Absent w k rest behind = add_literal (record { event = event_from w; negated = true }) rest
-decode_word Operation.AgainstConstant w k rest behind = add_comparison (constant_comparison w k) behind
-decode_word Operation.AgainstReading w k rest behind = add_comparison (reading_comparison w) rest
-decode_word Operation.Proposes w k rest behind = some (rule (record { literals = []; action = action_from w; comparisons = [] }))
-decode_word Operation.Member w k rest behind = add_member (action_from w) rest
-decode_word Operation.Never w k rest behind = some (constraint (record { actions = []; comparisons = [] }))
-decode_word Operation.Unknown w k rest behind = none
-
--- by the operations alone: skips, unused fields and the order of the parts are not looked at
-unfoldable pub decode : List ℕ → Option PolicyLine
-decode [] = none
-decode (w ∷ []) = decode_word (operation_of w) w 0 none none
-decode (w ∷ k ∷ rest) = decode_word (operation_of w) w k (decode (k ∷ rest)) (decode rest)
-
-unfoldable pub is_prefix : List ℕ → List ℕ → Bool
-is_prefix [] ys = true
-is_prefix (x ∷ xs) [] = false
-is_prefix (x ∷ xs) (y ∷ ys) = eqb x y && is_prefix xs ys
-
--- rules stand in the first part, constraints in the second
-unfoldable pub in_part : Part → PolicyLine → Bool
-in_part Part.Rules (rule r) = true
-in_part Part.Rules (constraint c) = false
-in_part Part.Constraints (rule r) = false
-in_part Part.Constraints (constraint c) = true
-
--- a line of a part that an accepted text may have, of which the words are the beginning
-unfoldable pub stands_at : Part → List ℕ → PolicyLine → Bool
-stands_at part ws l = in_part part l && valid l && is_prefix (line_words l) ws
-
-unfoldable pub keep_if : (PolicyLine → Bool) → Option PolicyLine → Option PolicyLine
-keep_if p none = none
-keep_if p (some l) = cond (p l) (some l) none
+use Rattle.layout.specs.Layout.{line_words}
+unfoldable pub use Rattle.decode.specs.Stands.{in_part}
+unfoldable pub use Rattle.decode.specs.Steps.Decoding.{add_literal, add_member, add_comparison, decode_word, decode, is_prefix, stands_at, keep_if}
 
 -- the whole line of the part that the words begin with, if there is one
 unfoldable pub line_at : Part → List ℕ → Option PolicyLine
 line_at part ws = keep_if (stands_at part ws) (decode ws)
-
--- the same as facts: `line_at` finds exactly such a line, as is proved (`line_in_is`, `line_out` and `line_none` in proofs/DecodeLaws.antt)
-pub record Stands (part : Part) (ws : List ℕ) (l : PolicyLine) : Type 0 where
-  pub kind : in_part part l ≡ true
-  pub sound : valid l ≡ true
-  pub words : ws ≡ line_words l ++ drop (length (line_words l)) ws
 
 -- how many words it has; 0 where there is none
 unfoldable pub line_length : Option PolicyLine → ℕ

@@ -13,7 +13,7 @@ use Rattle.report.specs.Report.{image_refusal_line, not_word_line}
 use Rattle.decompile.specs.Decompile.{output_of, decompiled}
 use Rattle.decompile.specs.declared.Decompiled.{Decompiled}
 use Rattle.dump.specs.Dump.{next}
-use Rattle.dump.specs.Calls.{Held, answer_within, image_within, finished}
+use Rattle.dump.specs.Steps.Calls.{Held, answer_within, image_within, finished}
 use Rattle.dump.specs.declared.state.State.{State}
 
 -- ---- an image, by the loader's answer

@@ -12,7 +12,7 @@ use Rattle.lexer.specs.Number.{hex_number}
 use Rattle.word.specs.Steps.Write.{fits, put_words}
 use Rattle.word.proofs.WriteLaws.{fits_in, fits_out, put_none, put_out, put_append, put_length}
 use Rattle.dump.specs.Dump.{word_in, Dump, words, not_word, next, behind_words, read_line, read_dump}
-use Rattle.dump.specs.Calls.{Held, held, start_state, broken, with_digit, with_word, line_ended, digit_taken, stepped, fed, closed}
+use Rattle.dump.specs.Steps.Calls.{Held, held, start_state, broken, with_digit, with_word, line_ended, digit_taken, stepped, fed, closed}
 use Rattle.dump.specs.declared.state.State.{State}
 use Rattle.dump.proofs.LineLaws.{glue, glue_line, glue_more, glue_last, glue_begun, rest_of, others, word_some, word_none, word_broken, word_over, number_more, behind_both}
 use Rattle.dump.proofs.StepLaws.{digit_none, digit_ninth, digit_more, ended_none, ended_word, stepped_over, stepped_end, stepped_digit, closed_over, closed_none, closed_open}

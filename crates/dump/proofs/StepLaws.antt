@@ -3,7 +3,7 @@ use Rattle.std.proofs.Common.{◌≡◌, ℕ, ◌+◌, ◌/◌, ◌<◌, ◌≤�
 use Rattle.lexer.specs.Byte.{hex_value}
 use Rattle.word.specs.Steps.Write.{fits, put_words}
 use Rattle.dump.specs.Dump.{next}
-use Rattle.dump.specs.Calls.{Held, held, broken, with_digit, with_word, line_ended, digit_taken, stepped, fed, closed}
+use Rattle.dump.specs.Steps.Calls.{Held, held, broken, with_digit, with_word, line_ended, digit_taken, stepped, fed, closed}
 use Rattle.dump.specs.declared.state.State.{State}
 
 -- ---- a digit

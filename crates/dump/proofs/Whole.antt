@@ -28,7 +28,7 @@ use Rattle.output.proofs.AppendLaws.{append_start}
 use Rattle.output.proofs.RoomLaws.{put_take}
 use Rattle.report.specs.Report.{image_refusal_line, not_word_line}
 use Rattle.dump.specs.Dump.{word_in, Dump, words, not_word, next, behind_words, read_line, read_dump, answer_to, image_answer, dump_answer, restored}
-use Rattle.dump.specs.Calls.{Held, held, start_state, stepped, fed, closed, image_held, answer_within, image_within, finished}
+use Rattle.dump.specs.Steps.Calls.{Held, held, start_state, stepped, fed, closed, image_held, answer_within, image_within, finished}
 use Rattle.dump.specs.declared.state.State.{State}
 use Rattle.dump.proofs.ReadLaws.{kept, Stored, Ends, reads_all}
 

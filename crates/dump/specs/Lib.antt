@@ -1,5 +1,5 @@
--- What a reader must believe of this layer: `Dump`. `Calls` is what the functions do with the bytes of the input.
+-- What a reader must believe of this layer: `Dump`, what the decompiler prints for all of its input (`restored`), with `Examples`, rows of
+-- it. What a run leaves is said in the words of the crate stream. `Steps` need not be read.
 pub mod Dump
-pub mod Calls
-pub mod Decompiler
 pub mod Examples
+pub mod Steps

@@ -1,7 +1,7 @@
 //! The decompiler's whole run.
 ghost use Rattle.std.specs.Prelude.{◌≡◌, OnOk, IfErr};
-ghost use Rattle.stream.specs.Machine.{AnswersAll, EndsBy, nothing};
-ghost use Rattle.dump.specs.Calls.{start_state};
+ghost use Rattle.stream.specs.Machine.{AnswersAll, ListingEndsBy, nothing};
+ghost use Rattle.dump.specs.Steps.Calls.{start_state};
 ghost use Rattle.dump.specs.Dump.{restored};
 
 use crate::DUMP_SIZE;
@@ -33,7 +33,7 @@ impl Decompiler {
 }
 
 impl Summary for Decompiler {
-    ghost use Rattle.dump.specs.Decompiler.{restored_of};
+    ghost use Rattle.dump.specs.Steps.Decompiler.{restored_of};
 
     ghost printed = { restored_of };
 
@@ -50,7 +50,7 @@ impl Summary for Decompiler {
 /// Restores the text of the image whose words are the input: all of it is read before anything is written.
 pub fn restore_input<E: Ends>(ends: &mut E) -> Result<(), Failure>
     ensures ok { OnOk result (AnswersAll restored nothing (E.known ends.old) (E.known ends.new)) }
-    ensures err { IfErr result (λ e. EndsBy e nothing restored (E.known ends.old) (E.known ends.new)) }
+    ensures err { IfErr result (λ e. ListingEndsBy e restored (E.known ends.old) (E.known ends.new)) }
 {
     let mut decompiler = Decompiler::new();
     let mut chunk = [0u8; CHUNK_SIZE];

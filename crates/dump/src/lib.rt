@@ -8,20 +8,18 @@ mod state;
 ghost use Rattle.std.specs.Prelude.{◌≡◌, length};
 ghost use Rattle.output.specs.Buffer.{appended, behind};
 ghost use Rattle.io.specs.Counts.{IsPrefixLen};
-ghost use Rattle.dump.specs.Calls.{start_state, held, fed, closed, image_within, finished};
+ghost use Rattle.dump.specs.Steps.Calls.{start_state, held, fed, closed, image_within, finished};
 
-pub use decompile::TEXT_SIZE;
 use decompile::{Decompiled, decompile};
 pub use decompiler::restore_input;
 use output::Page;
-pub use state::State;
-use state::{close, step};
+use state::{State, close, step};
 
 /// Bytes for the words: one word over the largest image, which tells that there are too many.
-pub const DUMP_SIZE: usize = 13068;
+pub(crate) const DUMP_SIZE: usize = 13068;
 
 /// The state before any input.
-pub fn begin() -> State
+pub(crate) fn begin() -> State
     ensures { result ≡ start_state }
 {
     State {
@@ -34,7 +32,7 @@ pub fn begin() -> State
 }
 
 /// Takes the bytes of a chunk. The words go into `image`, four bytes each, as many as it has room for; `DUMP_SIZE` bytes are enough.
-pub fn feed(start: State, chunk: &[u8], image: &mut [u8]) -> State
+pub(crate) fn feed(start: State, chunk: &[u8], image: &mut [u8]) -> State
     ensures answer { result ≡ (fed (held start image.old) chunk.now).state }
     ensures image { image.new ≡ (fed (held start image.old) chunk.now).image }
 {
@@ -64,7 +62,7 @@ fn put_image(image: &[u8], out: &mut [u8]) -> usize
 /// The input has ended: puts what is printed for it at the start of `out`, and answers how many bytes it has. A text has room in
 /// `TEXT_SIZE` bytes.
 #[tactic(auto, using(output::proofs::SinkLaws::stored_all))]
-pub fn finish(state: State, image: &mut [u8], out: &mut [u8]) -> usize
+pub(crate) fn finish(state: State, image: &mut [u8], out: &mut [u8]) -> usize
     ensures prefix_len { IsPrefixLen result out.new }
     ensures answer { result ≡ behind out.old 0 (finished (length out.old) (closed (held state image.old))) }
     ensures image { image.new ≡ (closed (held state image.old)).image }

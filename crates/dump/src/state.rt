@@ -1,6 +1,6 @@
 //! What was read of the input, and what a byte more does to it.
 ghost use Rattle.std.specs.Prelude.{◌≡◌};
-ghost use Rattle.dump.specs.Calls.{held, broken, line_ended, digit_taken, stepped, closed};
+ghost use Rattle.dump.specs.Steps.Calls.{held, broken, line_ended, digit_taken, stepped, closed};
 
 use lexer::hex_value;
 use word::put_word;
@@ -8,7 +8,7 @@ use word::put_word;
 /// What was read: `lines` whole lines, all words, of which the first `words` are held, and of the open line `digits` digits, whose
 /// value is `value`. Where it is `broken`, the line behind `lines` lines is no word, and the rest does not matter.
 #[derive(Clone, Copy)]
-pub struct State {
+pub(crate) struct State {
     pub lines: u64,
     pub words: usize,
     pub digits: u8,

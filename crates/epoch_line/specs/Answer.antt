@@ -12,7 +12,7 @@ use Rattle.epoch_line.specs.Epoch.{EpochAnswer, read_epoch}
 use Rattle.epoch_line.specs.declared.EpochRead.{EpochRead}
 use Rattle.epoch_line.specs.declared.EpochStatus.{EpochStatus}
 
--- "Sets and returned parts are empty"
+-- the sets are empty, and no reading is given
 abbrev pub refused_read : Fault → EpochRead
 refused_read f = record { status = EpochStatus.Refused f; events = no_events; given = no_readings; values = replicate reading_limit (pos 0) }
 

@@ -77,7 +77,7 @@ judge_epoch (some is) =
 abbrev pub epoch_limit : ℕ
 epoch_limit = 1024
 
--- "a byte 10 inside the line is ground 12"
+-- a byte 10 inside the line is a wrong shape (12)
 unfoldable pub read_epoch : List ℕ → EpochAnswer
 read_epoch line =
     cond (ltb epoch_limit (length line)) (refused Fault.TooLong)

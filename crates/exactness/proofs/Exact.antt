@@ -1,6 +1,6 @@
 -- The loader takes exactly the images of policies that an accepted text may have, refuses others at the right location, and
 -- refuses every image in which one word was changed.
-use Rattle.std.proofs.Common.{ℕ, zero, suc, ◌+◌, ◌*◌, ◌%◌, ◌≤◌, ◌<◌, Bool, true, false, ◌&&◌, List, [], ◌∷◌, ◌++◌, map, ◌↔◌, ◌≡◌, refl, sym, ap, ap₂, ◌∙◌, arith, le-leb, eq-eqb, eqb-true, length, length-set, length-append}
+use Rattle.std.proofs.Common.{ℕ, zero, suc, ◌+◌, ◌*◌, ◌%◌, ◌≤◌, ◌<◌, Bool, true, false, ◌&&◌, List, [], ◌∷◌, ◌++◌, map, ◌↔◌, ◌≡◌, refl, sym, ap, ap₂, ◌∙◌, subst, arith, le-leb, eq-eqb, eqb-true, length, length-set, length-append}
 use Rattle.std.proofs.Math.Option.{some}
 use Rattle.std.proofs.Math.Dec.{leb, eqb}
 use Rattle.std.proofs.Math.ListN.{get_or, set, length-map}
@@ -14,7 +14,8 @@ use Rattle.policy.specs.declared.fault.Refusal.{Refusal}
 use Rattle.policy.specs.declared.fault.Source.{Source}
 use Rattle.exactness.proofs.ImageLaws.{below_append, below_cons, below_none, lines_below, rules_between, constraints_between, rules_size, constraints_size, parts_of}
 use Rattle.image.proofs.HeldLaws.{counts_add, HeldParts, held_parts, taken_parts}
-use Rattle.exactness.proofs.PartLines.{lines_limit, lines_found, lines_fault, no_line_fault, rules_kind, constraints_kind, rules_back, constraints_back}
+use Rattle.exactness.proofs.PartLines.{lines_limit, lines_found, part_whole_exactly, part_fault_exactly, rules_kind, constraints_kind, rules_back, constraints_back}
+use Rattle.decode.specs.Stands.{AreLines}
 use Rattle.layout.proofs.SumLaws.{check_word_is, check_sum, check_below, sum_append, sum_set}
 use Rattle.word.proofs.WordLaws.{words_length, words_below, words_of_bytes, bytes_of_words, bytes_length}
 use Rattle.layout.proofs.HeaderLaws.{header_below, form_header, rules_header, constraints_header, header_fields}
@@ -25,7 +26,8 @@ use Rattle.image.specs.Held.{lines_in, policy_in}
 use Rattle.layout.specs.Layout.{lines_words, known_form, check_count, sum, check_word, check_words, header_word, rule_part_words, constraint_part_words, content_words, image_words, image_of}
 use Rattle.image.specs.Lines.{Lines, whole, fault, lines_from, part_lines, rule_lines, constraint_lines}
 use Rattle.image.specs.Load.{body_answer, load_words, load, refusal_in}
-use Rattle.exactness.specs.Exact.{IsImage, contents_of, changed, Checked, RefusedEarly, RefusalOf, of_checks, of_body, NoLineAt, FirstFault, in_rules, in_constraints}
+use Rattle.exactness.specs.Exact.{IsImage, contents_of, changed, Checked, RefusedEarly, RefusalOf, of_checks, of_body}
+use Rattle.exactness.specs.ImageFault.{rule_part, constraint_part, NoLineAt, ImageFault, wrong_size, unknown_form, wrong_count, wrong_sum, no_rule, no_constraint}
 use Rattle.policy.specs.declared.line.Part.{Part}
 use Rattle.image.specs.declared.load.Loaded.{Loaded}
 use Rattle.image.specs.declared.load.Contents.{Contents}
@@ -205,12 +207,6 @@ took bytes contents e =
 
 -- ---- whatever is taken is the image of the policy that it holds
 
-abbrev rule_part : List ℕ → List ℕ
-rule_part ws = between 1 (1 + rule_count ws) ws
-
-abbrev constraint_part : List ℕ → List ℕ
-constraint_part ws = between (1 + rule_count ws) (1 + rule_count ws + constraint_count ws) ws
-
 module _ (bytes : List ℕ) (bounded : Bytes bytes) (contents : Contents) (taken : load bytes ≡ Loaded.Image contents) where
   t : Took bytes contents
   t = took bytes contents taken
@@ -336,64 +332,75 @@ exactly_images bytes bounded = (
   λ x. (contents_of x.form x.policy, ap load (sym x.same) ∙ image_taken x.form x.known x.policy x.acceptable),
 )
 
--- ---- the location of fault 11
+-- ---- why and where bytes are refused
 
-rules_none : (ws : List ℕ) (location : ℕ) → rule_lines ws ≡ fault location → NoLineAt Part.Rules 128 1 (rule_part ws) location
-unfolding part_lines
-rules_none ws location e = lines_fault Part.Rules 128 1 location (rule_part ws) e
+module _ (ws : List ℕ) where
+  rules_whole : (rs : List PolicyLine) → (rule_lines ws ≡ whole rs) ↔ AreLines Part.Rules 128 (rule_part ws) rs
+  unfolding part_lines
+  rules_whole rs = part_whole_exactly Part.Rules 128 1 (rule_part ws) rs
 
-constraints_none : (ws : List ℕ) (location : ℕ) → constraint_lines ws ≡ fault location → NoLineAt Part.Constraints 64 (1 + rule_count ws) (constraint_part ws) location
-unfolding part_lines
-constraints_none ws location e = lines_fault Part.Constraints 64 (1 + rule_count ws) location (constraint_part ws) e
+  rules_refused : (location : ℕ) → (rule_lines ws ≡ fault location) ↔ NoLineAt Part.Rules 128 1 (rule_part ws) location
+  unfolding part_lines
+  rules_refused location = part_fault_exactly Part.Rules 128 1 (rule_part ws) location
 
-rules_at : (ws : List ℕ) (location : ℕ) → NoLineAt Part.Rules 128 1 (rule_part ws) location → rule_lines ws ≡ fault location
-unfolding part_lines
-rules_at ws location h = no_line_fault Part.Rules 128 1 location (rule_part ws) h
+  constraints_refused : (location : ℕ) → (constraint_lines ws ≡ fault location) ↔ NoLineAt Part.Constraints 64 (1 + rule_count ws) (constraint_part ws) location
+  unfolding part_lines
+  constraints_refused location = part_fault_exactly Part.Constraints 64 (1 + rule_count ws) (constraint_part ws) location
 
-constraints_at : (ws : List ℕ) (location : ℕ) → NoLineAt Part.Constraints 64 (1 + rule_count ws) (constraint_part ws) location → constraint_lines ws ≡ fault location
-unfolding part_lines
-constraints_at ws location h = no_line_fault Part.Constraints 64 (1 + rule_count ws) location (constraint_part ws) h
+module _ (bytes : List ℕ) where
+  -- each fault is told
+  fault_given : (r : Refusal) → ImageFault bytes r → load bytes ≡ Loaded.Refused r
+  unfolding load load_words body_answer
+  fault_given r (wrong_size s) = rw s
+  fault_given r (unknown_form s f) = rw (s, f)
+  fault_given r (wrong_count s f c) = rw (s, f, c)
+  fault_given r (wrong_sum s f c q) = rw (s, f, c, q)
+  fault_given r (no_rule c n h) = rw (c.size, c.form, c.count, c.check, (rules_refused (words_of bytes) n).1 h)
+  fault_given r (no_constraint c rs w n h) = rw (c.size, c.form, c.count, c.check, (rules_whole (words_of bytes) rs).1 w, (constraints_refused (words_of bytes) n).1 h)
 
--- there is no other such location
-pub first_fault_only : (ws : List ℕ) (p q : ℕ) → FirstFault ws p → FirstFault ws q → p ≡ q
-first_fault_only ws p q (in_rules a) (in_rules b) = let e : fault p ≡ fault q = sym (rules_at ws p a) ∙ rules_at ws q b in cc
-first_fault_only ws p q (in_rules a) (in_constraints rs w b) =
-    let e : fault p ≡ whole rs = sym (rules_at ws p a) ∙ w in
-    let z : ◌≡◌ {A = ℕ} 0 1 = cc in
-    absurd (omega arith)
-first_fault_only ws p q (in_constraints rs w a) (in_rules b) =
-    let e : fault q ≡ whole rs = sym (rules_at ws q b) ∙ w in
-    let z : ◌≡◌ {A = ℕ} 0 1 = cc in
-    absurd (omega arith)
-first_fault_only ws p q (in_constraints rs w a) (in_constraints rs' w' b) = let e : fault p ≡ fault q = sym (constraints_at ws p a) ∙ constraints_at ws q b in cc
+  -- and there is one wherever the loader refuses
+  module _ (r : Refusal) (refused : load bytes ≡ Loaded.Refused r) where
+    abbrev held : List ℕ
+    held = words_of bytes
 
--- where the loader refuses under 11, every line before the location is whole and valid, and at the location none fits
-pub fault_location : (bytes : List ℕ) (location : ℕ) → load bytes ≡ Loaded.Refused (refusal Fault.ImageBody location) → FirstFault (words_of bytes) location
-unfolding body_answer
-fault_location bytes location e = go (answered bytes)
-  where
-    ws' : List ℕ
-    ws' = words_of bytes
+    told : (s : Refusal) → ImageFault bytes s → ImageFault bytes r
+    told s f =
+        let e : Loaded.Refused s ≡ Loaded.Refused r = sym (fault_given s f) ∙ refused in
+        let same : s ≡ r = cc in
+        subst (ImageFault bytes) same f
 
-    same : (n : ℕ) → Loaded.Refused (refusal Fault.ImageBody n) ≡ Loaded.Refused (refusal Fault.ImageBody location) → n ≡ location
-    same n r = ap (λ (x : Loaded). location_of (refusal_in x)) r
+    in_lines : Checked bytes → (x y : Lines) → rule_lines held ≡ x → constraint_lines held ≡ y → ImageFault bytes r
+    unfolding load load_words body_answer
+    in_lines c (fault n) y p q = told _ (no_rule c n ((rules_refused held n).0 p))
+    in_lines c (whole rs) (fault n) p q = told _ (no_constraint c rs ((rules_whole held rs).0 p) n ((constraints_refused held n).0 q))
+    in_lines c (whole rs) (whole cs) p q =
+        let taken : load bytes ≡ body_answer (form_byte held) (rule_count held) (constraint_count held) (whole rs) (whole cs) = rw (c.size, c.form, c.count, c.check, p, q) in
+        let e : body_answer (form_byte held) (rule_count held) (constraint_count held) (whole rs) (whole cs) ≡ Loaded.Refused r = sym taken ∙ refused in
+        let z : ◌≡◌ {A = ℕ} 0 1 = cc in
+        absurd (omega arith)
 
-    body : (x y : Lines) → rule_lines ws' ≡ x → constraint_lines ws' ≡ y → body_answer (form_byte ws') (rule_count ws') (constraint_count ws') x y ≡ Loaded.Refused (refusal Fault.ImageBody location) → FirstFault ws' location
-    body (fault n) y p q r = in_rules (rules_none ws' location (p ∙ ap fault (same n r)))
-    body (whole rs) (fault n) p q r = in_constraints rs p (constraints_none ws' location (q ∙ ap fault (same n r)))
-    body (whole rs) (whole cs) p q r = let z : ◌≡◌ {A = ℕ} 0 1 = cc in absurd (omega arith)
+    in_sum : well_sized (length bytes) ≡ true → known_form (form_byte held) ≡ true → counts_fit held ≡ true → (b : Bool) → sums_to_zero held ≡ b → ImageFault bytes r
+    in_sum s f c true q = in_lines (record { size = s; form = f; count = c; check = q }) (rule_lines held) (constraint_lines held) refl refl
+    in_sum s f c false q = told _ (wrong_sum s f c q)
 
-    go : Answered bytes → FirstFault ws' location
-    go (early r) =
-        let a : some (refusal Fault.ImageBody location) ≡ some (refusal r.fault 0) = sym (ap refusal_in e) ∙ r.refused in
-        absurd (omega (arith, ap number_of a, r.upto))
-    go (late c q) = body (rule_lines ws') (constraint_lines ws') refl refl (sym q ∙ e)
+    in_count : well_sized (length bytes) ≡ true → known_form (form_byte held) ≡ true → (b : Bool) → counts_fit held ≡ b → ImageFault bytes r
+    in_count s f true q = in_sum s f q (sums_to_zero held) refl
+    in_count s f false q = told _ (wrong_count s f q)
 
--- and the other way: where the checks 7 to 10 pass and there is such a location, it refuses under 11 there
-pub fault_given : (bytes : List ℕ) (location : ℕ) → Checked bytes → FirstFault (words_of bytes) location → load bytes ≡ Loaded.Refused (refusal Fault.ImageBody location)
-unfolding load load_words body_answer
-fault_given bytes location c (in_rules a) = rw (c.size, c.form, c.count, c.check, rules_at (words_of bytes) location a)
-fault_given bytes location c (in_constraints rs w a) = rw (c.size, c.form, c.count, c.check, w, constraints_at (words_of bytes) location a)
+    in_form : well_sized (length bytes) ≡ true → (b : Bool) → known_form (form_byte held) ≡ b → ImageFault bytes r
+    in_form s true q = in_count s q (counts_fit held) refl
+    in_form s false q = told _ (unknown_form s q)
+
+    fault_found : (b : Bool) → well_sized (length bytes) ≡ b → ImageFault bytes r
+    fault_found true q = in_form q (known_form (form_byte held)) refl
+    fault_found false q = told _ (wrong_size q)
+
+  pub image_refused_exactly : (r : Refusal) → (load bytes ≡ Loaded.Refused r) ↔ ImageFault bytes r
+  image_refused_exactly r = (λ e. fault_found r e (well_sized (length bytes)) refl, fault_given r)
+
+  -- and no other fault
+  pub one_image_fault : (r s : Refusal) → ImageFault bytes r → ImageFault bytes s → r ≡ s
+  one_image_fault r s a b = let e : Loaded.Refused r ≡ Loaded.Refused s = sym (fault_given r a) ∙ fault_given s b in cc
 
 -- ---- which refusals there are
 
@@ -406,7 +413,7 @@ refusals bytes r e = go (answered bytes)
 
     -- a location in words that begin at the index `from` lies among them
     among : (part : Part) (room from location : ℕ) (ws : List ℕ) → NoLineAt part room from ws location → (from ≤ location) × (location < from + length ws)
-    among part room from location ws h = (omega (arith, h.located), omega (arith, h.located, h.more, ap length h.words, length-append (lines_words h.before) h.rest))
+    among part room from location ws h = (omega (arith, h.located), omega (arith, h.located, h.more, ap length h.words, length-append h.front h.rest))
 
     source_of : (n : ℕ) → some (refusal Fault.ImageBody n) ≡ some r → r.source ≡ Source.Neither
     source_of n q = let k : refusal Fault.ImageBody n ≡ r = cc in ap (λ (x : Refusal). x.source) (sym k)
@@ -417,11 +424,11 @@ refusals bytes r e = go (answered bytes)
     body : Checked bytes → (x y : Lines) → rule_lines ws' ≡ x → constraint_lines ws' ≡ y → refusal_in (body_answer (form_byte ws') (rule_count ws') (constraint_count ws') x y) ≡ some r → RefusalOf (length ws') r
     body c (fault n) y p q s =
         let k = counts_add ws' c.count in
-        let a = among Part.Rules 128 1 n (rule_part ws') (rules_none ws' n p) in
+        let a = among Part.Rules 128 1 n (rule_part ws') ((rules_refused ws' n).0 p) in
         given n s a.0 (omega (arith, a.1, rules_size ws' (rule_count ws') (constraint_count ws') k))
     body c (whole rs) (fault n) p q s =
         let k = counts_add ws' c.count in
-        let a = among Part.Constraints 64 (1 + rule_count ws') n (constraint_part ws') (constraints_none ws' n q) in
+        let a = among Part.Constraints 64 (1 + rule_count ws') n (constraint_part ws') ((constraints_refused ws' n).0 q) in
         given n s (omega (arith, a.0)) (omega (arith, a.1, constraints_size ws' (rule_count ws') (constraint_count ws') k))
     body c (whole rs) (whole cs) p q s = let z : ◌≡◌ {A = ℕ} 0 1 = cc in absurd (omega arith)
 

@@ -1,20 +1,22 @@
 -- The lines of a part: all that are written are found, and what is found was written.
-use Rattle.std.proofs.Common.{ℕ, zero, suc, ◌+◌, ◌*◌, ◌≤◌, ◌<◌, true, List, [], ◌∷◌, ◌++◌, map, append_assoc, ◌⊎◌, inl, inr, ◌≡◌, refl, sym, ap, ◌∙◌, add_assoc, add-zero, arith, length, drop, length-append, drop_at}
+use Rattle.std.proofs.Common.{ℕ, zero, suc, ◌+◌, ◌*◌, ◌≤◌, ◌<◌, true, List, [], ◌∷◌, ◌++◌, map, append_assoc, ◌⊎◌, inl, inr, ◌↔◌, ◌≡◌, refl, sym, ap, ◌∙◌, add_assoc, add-zero, arith, length, drop, length-append, drop_at}
 use Rattle.std.proofs.Math.Option.{Option, none, some}
 use Rattle.policy.proofs.ListLaws.{and_in, and_out}
 use Rattle.policy.specs.Limits.{valid}
 use Rattle.policy.specs.Line.{PolicyLine, rule, constraint, heads_of, comparisons_of, ending_of}
 use Rattle.policy.specs.List.{all}
 use Rattle.policy.specs.Policy.{Rule, Constraint}
-use Rattle.decode.proofs.DecodeLaws.{line_in_is, line_out, line_none}
+use Rattle.decode.proofs.DecodeLaws.{line_in_is, line_out, line_found_exactly}
 use Rattle.layout.proofs.LayoutLaws.{part_length, condition_size_limit}
 use Rattle.decode.proofs.FoundLaws.{line_some}
 use Rattle.policy.proofs.ValidLaws.{valid_out}
 use Rattle.image.specs.Held.{rules_in, constraints_in}
 use Rattle.layout.specs.Layout.{line_words, lines_words}
-use Rattle.decode.specs.Decode.{Stands, in_part, line_at}
+use Rattle.decode.specs.Decode.{line_at}
+use Rattle.decode.specs.Stands.{in_part, Stands, AreLines}
 use Rattle.image.specs.Lines.{Lines, whole, fault, add_line, after_line, lines_from}
-use Rattle.exactness.specs.Exact.{NoLineAt}
+use Rattle.image.proofs.HeldLaws.{lines_written}
+use Rattle.exactness.specs.ImageFault.{NoLineAt}
 use Rattle.policy.specs.declared.line.Part.{Part}
 
 -- ---- how long lines are
@@ -66,23 +68,37 @@ lines_found part (l ∷ ls) (suc room) at k v h =
 -- ---- where none fits
 
 module _ (part : Part) where
-  fault_here : (room at location : ℕ) (ws : List ℕ) → fault at ≡ fault location → 0 < length ws → (0 ≡ room) ⊎ ((l : PolicyLine) (tail : List ℕ) → in_part part l ≡ true → valid l ≡ true → ¬ (ws ≡ line_words l ++ tail)) → NoLineAt part room at ws location
+  fault_here : (room at location : ℕ) (ws : List ℕ) → fault at ≡ fault location → 0 < length ws → (0 ≡ room) ⊎ ((l : PolicyLine) → ¬ Stands part ws l) → NoLineAt part room at ws location
   unfolding all lines_words
   fault_here room at location ws e h n =
       let p : location ≡ at = cc in
-      record { before = []; kind = refl; sound = refl; few = omega arith; rest = ws; words = refl; located = p ∙ sym (add-zero at); more = h; none_fits = n }
+      record {
+        front = [];
+        before = [];
+        lines = record { kind = refl; sound = refl; few = omega arith; words = refl };
+        rest = ws;
+        words = refl;
+        located = p ∙ sym (add-zero at);
+        more = h;
+        none_fits = n;
+      }
 
   fault_later : (room at location : ℕ) (ws : List ℕ) (l : PolicyLine) → Stands part ws l → NoLineAt part room (at + length (line_words l)) (drop (length (line_words l)) ws) location → NoLineAt part (suc room) at ws location
   unfolding all lines_words
   fault_later room at location ws l s h =
       record {
+        front = line_words l ++ h.front;
         before = l ∷ h.before;
-        kind = and_in s.kind h.kind;
-        sound = and_in s.sound h.sound;
-        few = omega (arith, h.few);
+        lines =
+            record {
+              kind = and_in s.kind h.lines.kind;
+              sound = and_in s.sound h.lines.sound;
+              few = omega (arith, h.lines.few);
+              words = ap (λ (x : List ℕ). line_words l ++ x) h.lines.words;
+            };
         rest = h.rest;
-        words = s.words ∙ ap (λ (x : List ℕ). line_words l ++ x) h.words ∙ sym (append_assoc (line_words l) (lines_words h.before) h.rest);
-        located = h.located ∙ add_assoc at (length (line_words l)) (length (lines_words h.before)) ∙ ap (λ (n : ℕ). at + n) (sym (length-append (line_words l) (lines_words h.before)));
+        words = s.words ∙ ap (λ (x : List ℕ). line_words l ++ x) h.words ∙ sym (append_assoc (line_words l) h.front h.rest);
+        located = h.located ∙ add_assoc at (length (line_words l)) (length h.front) ∙ ap (λ (n : ℕ). at + n) (sym (length-append (line_words l) h.front));
         more = h.more;
         none_fits = one_more h.none_fits;
       }
@@ -91,11 +107,17 @@ module _ (part : Part) where
       one_more (inl q) = inl (ap suc q)
       one_more (inr q) = inr q
 
+  none_stands : (ws : List ℕ) (l : PolicyLine) → line_at part ws ≡ none → ¬ Stands part ws l
+  none_stands ws l q s =
+      let e : none ≡ some l = sym q ∙ (line_found_exactly part ws l).1 s in
+      let z : ◌≡◌ {A = ℕ} 0 1 = cc in
+      omega arith
+
   line_fault : (room at location : ℕ) (ws : List ℕ) → 0 < length ws
       → ((l : PolicyLine) → lines_from part room (at + length (line_words l)) (drop (length (line_words l)) ws) ≡ fault location → NoLineAt part room (at + length (line_words l)) (drop (length (line_words l)) ws) location)
       → (o : Option PolicyLine) → line_at part ws ≡ o → after_line at o (λ (l : PolicyLine). lines_from part room (at + length (line_words l)) (drop (length (line_words l)) ws)) ≡ fault location → NoLineAt part (suc room) at ws location
   unfolding after_line add_line
-  line_fault room at location ws h later none q e = fault_here (suc room) at location ws e h (inr (λ l tail i v w. line_none part ws q l tail i v w))
+  line_fault room at location ws h later none q e = fault_here (suc room) at location ws e h (inr (λ l s. none_stands ws l q s))
   line_fault room at location ws h later (some l) q e = fault_later room at location ws l (line_out part ws l q) (later l (passed (lines_from part room (at + length (line_words l)) (drop (length (line_words l)) ws)) e))
     where
       passed : (x : Lines) → add_line l x ≡ fault location → x ≡ fault location
@@ -121,14 +143,14 @@ lines_more part room at (w ∷ ws) h = refl
 
 module _ (part : Part) (rest : List ℕ) (more : 0 < length rest) where
   abbrev Unfit : Type 0
-  Unfit = (l : PolicyLine) (tail : List ℕ) → in_part part l ≡ true → valid l ≡ true → ¬ (rest ≡ line_words l ++ tail)
+  Unfit = (l : PolicyLine) → ¬ Stands part rest l
 
   none_here : Unfit → line_at part rest ≡ none
   none_here n = go (line_at part rest) refl
     where
       go : (o : Option PolicyLine) → line_at part rest ≡ o → line_at part rest ≡ none
       go none q = q
-      go (some l) q = let h = line_out part rest l q in absurd (n l (drop (length (line_words l)) rest) h.kind h.sound h.words)
+      go (some l) q = absurd (n l (line_out part rest l q))
 
   no_room : (at : ℕ) → lines_from part zero at rest ≡ fault at
   unfolding lines_from
@@ -168,7 +190,17 @@ module _ (part : Part) (rest : List ℕ) (more : 0 < length rest) where
 
 pub no_line_fault : (part : Part) (room at location : ℕ) (ws : List ℕ) → NoLineAt part room at ws location → lines_from part room at ws ≡ fault location
 no_line_fault part room at location ws h =
-    ap (lines_from part room at) h.words ∙ behind_lines part h.rest h.more h.before room at h.kind h.sound h.few h.none_fits ∙ ap fault (sym h.located)
+    ap (lines_from part room at) (h.words ∙ ap (λ (ws : List ℕ). ws ++ h.rest) h.lines.words)
+    ∙ behind_lines part h.rest h.more h.before room at h.lines.kind h.lines.sound h.lines.few h.none_fits
+    ∙ ap fault (sym (h.located ∙ ap (λ (ws : List ℕ). at + length ws) h.lines.words))
+
+-- both answers, exactly
+pub part_whole_exactly : (part : Part) (room at : ℕ) (ws : List ℕ) (ls : List PolicyLine) → (lines_from part room at ws ≡ whole ls) ↔ AreLines part room ws ls
+part_whole_exactly part room at ws ls =
+    (lines_written part room at ws ls, λ h. ap (lines_from part room at) h.words ∙ lines_found part ls room at h.kind h.sound h.few)
+
+pub part_fault_exactly : (part : Part) (room at : ℕ) (ws : List ℕ) (location : ℕ) → (lines_from part room at ws ≡ fault location) ↔ NoLineAt part room at ws location
+part_fault_exactly part room at ws location = (lines_fault part room at location ws, no_line_fault part room at location ws)
 
 -- ---- rules and constraints as lines, both ways
 

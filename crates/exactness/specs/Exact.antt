@@ -1,21 +1,16 @@
 -- The notions of the statements about images: what is an image, what the loader says of it, and how it refuses.
-use Rattle.std.specs.Prelude.{ℕ, ◌+◌, ◌≤◌, ◌<◌, true, List, ◌++◌, ◌⊎◌, ◌≡◌, length, set}
+use Rattle.std.specs.Prelude.{ℕ, ◌≤◌, ◌<◌, true, List, ◌≡◌, length, set}
 use Rattle.std.proofs.Math.Option.{some}
 use Rattle.policy.specs.Fault.{fault_number, refusal}
-use Rattle.policy.specs.Limits.{valid, rule_limit, constraint_limit, Acceptable}
-use Rattle.policy.specs.Line.{PolicyLine}
-use Rattle.policy.specs.List.{all}
+use Rattle.policy.specs.Limits.{Acceptable}
 use Rattle.policy.specs.Policy.{Policy}
 use Rattle.policy.specs.declared.fault.Fault.{Fault}
 use Rattle.policy.specs.declared.fault.Refusal.{Refusal}
 use Rattle.policy.specs.declared.fault.Source.{Source}
-use Rattle.word.specs.Word.{words_of, bytes_of, between}
-use Rattle.image.specs.Check.{form_byte, rule_count, constraint_count, well_sized, counts_fit, sums_to_zero}
-use Rattle.layout.specs.Layout.{line_words, lines_words, known_form, rule_part_words, constraint_part_words, image_of}
-use Rattle.decode.specs.Decode.{in_part}
-use Rattle.image.specs.Lines.{whole, rule_lines}
+use Rattle.word.specs.Word.{words_of, bytes_of}
+use Rattle.image.specs.Check.{form_byte, well_sized, counts_fit, sums_to_zero}
+use Rattle.layout.specs.Layout.{known_form, rule_part_words, constraint_part_words, image_of}
 use Rattle.image.specs.Load.{refusal_in}
-use Rattle.policy.specs.declared.line.Part.{Part}
 use Rattle.image.specs.declared.load.Contents.{Contents}
 use Rattle.image.specs.declared.load.Loaded.{Loaded}
 
@@ -57,24 +52,3 @@ pub record RefusedEarly (answer : Loaded) : Type 0 where
 pub data RefusalOf (words : ℕ) (r : Refusal) : Type 0 where
   of_checks : r.source ≡ Source.Neither → 7 ≤ fault_number r.fault → fault_number r.fault ≤ 10 → r.location ≡ 0 → RefusalOf words r
   of_body : r.source ≡ Source.Neither → fault_number r.fault ≡ 11 → 1 ≤ r.location → r.location < words → RefusalOf words r
-
--- a location in a part at which no line fits, with the whole lines before it: `ws` are the words of the part, of which the
--- first has the index `from`, and there is room for so many lines
-pub record NoLineAt (part : Part) (room from : ℕ) (ws : List ℕ) (location : ℕ) : Type 0 where
-  pub before : List PolicyLine
-  pub kind : all (in_part part) before ≡ true
-  pub sound : all valid before ≡ true
-  pub few : length before ≤ room
-  pub rest : List ℕ
-  pub words : ws ≡ lines_words before ++ rest
-  pub located : location ≡ from + length (lines_words before)
-  -- the part goes on
-  pub more : 0 < length rest
-  pub none_fits : (length before ≡ room) ⊎ ((l : PolicyLine) (tail : List ℕ) → in_part part l ≡ true → valid l ≡ true → ¬ (rest ≡ line_words l ++ tail))
-
--- the location of fault 11: the first line start at which no line fits, in the rule part or, where all of that is lines, in the
--- constraint part
-pub data FirstFault (ws : List ℕ) (location : ℕ) : Type 0 where
-  in_rules : NoLineAt Part.Rules rule_limit 1 (between 1 (1 + rule_count ws) ws) location → FirstFault ws location
-  in_constraints : (rules : List PolicyLine) → rule_lines ws ≡ whole rules
-      → NoLineAt Part.Constraints constraint_limit (1 + rule_count ws) (between (1 + rule_count ws) (1 + rule_count ws + constraint_count ws) ws) location → FirstFault ws location

@@ -1,3 +1,5 @@
--- What a reader must believe of the statements about images: `Exact`, their own notions, and the table of `Examples`.
+-- What a reader must believe of the statements about images, in this order: `Exact`, their own notions; `ImageFault`, why and where bytes
+-- are refused; and the table of `Examples`.
 pub mod Exact
+pub mod ImageFault
 pub mod Examples

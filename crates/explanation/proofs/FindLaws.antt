@@ -17,7 +17,7 @@ use Rattle.exactness.proofs.PartLines.{line_limit_is}
 use Rattle.acceptance.proofs.Accepted.{accepted_valid}
 use Rattle.lexer.proofs.LeadingLaws.{leading_length}
 use Rattle.lexer.specs.Byte.{is_space}
-use Rattle.lexer.specs.Lines.{pieces, lines_of, take_leading, in_line, first_line, behind_line, without_end}
+use Rattle.lexer.specs.Lines.{pieces, lines_of, take_leading, drop_leading, in_line, first_line, behind_line, without_end}
 use Rattle.lexer.specs.Steps.Scan.{without_spaces}
 use Rattle.syntax.proofs.AnswerLaws.{lines_here, next_shorter, read_refused, read_skipped, read_accepted}
 use Rattle.syntax.specs.Answer.{next_line, line_read}
@@ -45,9 +45,9 @@ line_behind_spaces : (s : List ℕ) → first_line (without_spaces s) ≡ trim_s
 unfolding trim_start
 line_behind_spaces [] = refl
 line_behind_spaces (b ∷ s) =
-    elim (is_space b) as (λ x. is_space b ≡ x → first_line (cond x (without_spaces s) (b ∷ s)) ≡ drop (length (take_leading is_space (first_line (b ∷ s)))) (first_line (b ∷ s))) [
+    elim (is_space b) as (λ x. is_space b ≡ x → first_line (cond x (without_spaces s) (b ∷ s)) ≡ drop_leading is_space (first_line (b ∷ s))) [
       | true ↦ λ e. rw (eqb-true b 32 e) (line_behind_spaces s)
-      | false ↦ λ e. elim (in_line b) as (λ y. cond y (b ∷ first_line s) [] ≡ drop (length (take_leading is_space (cond y (b ∷ first_line s) []))) (cond y (b ∷ first_line s) [])) [ true ↦ rw e | false ↦ refl ]
+      | false ↦ λ e. elim (in_line b) as (λ y. cond y (b ∷ first_line s) [] ≡ drop_leading is_space (cond y (b ∷ first_line s) [])) [ true ↦ rw e | false ↦ refl ]
     ] refl
 
 pub behind_shorter : (text first : List ℕ) → first ≡ without_spaces text → length first ≤ length text

@@ -5,7 +5,7 @@ use Rattle.std.proofs.Math.Option.{Option, none, some}
 use Rattle.policy.specs.Line.{PolicyLine}
 use Rattle.policy.specs.declared.fault.Source.{Source}
 use Rattle.lexer.specs.Byte.{is_space}
-use Rattle.lexer.specs.Lines.{lines_of, take_leading}
+use Rattle.lexer.specs.Lines.{lines_of, take_leading, drop_leading}
 use Rattle.syntax.specs.Judge.{LineAnswer, skipped, refused, accepted, line_answer}
 use Rattle.explanation.specs.declared.part.Shown.{Shown}
 
@@ -13,7 +13,7 @@ use Rattle.explanation.specs.declared.part.Shown.{Shown}
 
 -- at the start
 unfoldable pub trim_start : List ℕ → List ℕ
-trim_start s = drop (length (take_leading is_space s)) s
+trim_start s = drop_leading is_space s
 
 -- a byte before what is left: a space counts only where something is
 unfoldable pub keep_byte : ℕ → List ℕ → List ℕ

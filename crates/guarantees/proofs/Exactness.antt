@@ -1,5 +1,5 @@
 -- The loader takes exactly the images that some accepted text compiles to, and when it refuses under 11.
-use Rattle.std.proofs.Common.{ℕ, true, List, [], ◌∷◌, ◌↔◌, ◌≡◌, sym, ap, ◌∙◌, subst, arith, ltb-true, eqb-true, length}
+use Rattle.std.proofs.Common.{ℕ, true, List, [], ◌∷◌, ◌↔◌, ◌≡◌, refl, sym, ap, ◌∙◌, subst, arith, ltb-true, eqb-true, length}
 use Rattle.std.proofs.Math.Option.{some}
 use Rattle.policy.proofs.ListLaws.{and_out}
 use Rattle.policy.specs.Fault.{fault_number, refusal}
@@ -8,8 +8,9 @@ use Rattle.policy.specs.List.{all}
 use Rattle.policy.specs.Policy.{Policy}
 use Rattle.policy.specs.declared.fault.Fault.{Fault}
 use Rattle.policy.specs.declared.fault.Refusal.{Refusal}
-use Rattle.exactness.proofs.Exact.{exactly_images, image_taken, held_acceptable, held_image, held_form, Answered, early, late, answered}
+use Rattle.exactness.proofs.Exact.{exactly_images, image_refused_exactly, image_taken, held_acceptable, held_image, held_form, Answered, early, late, answered}
 use Rattle.exactness.specs.Exact.{contents_of, Checked}
+use Rattle.exactness.specs.ImageFault.{ImageFault}
 use Rattle.layout.specs.Layout.{known_form, image_of}
 use Rattle.image.specs.Check.{form_byte, rule_count, constraint_count}
 use Rattle.image.specs.Held.{policy_in}
@@ -96,3 +97,18 @@ body_exactly bytes bounded = (there, back)
 
     back : Checked bytes × ¬ SomeText bytes → (location : ℕ) × (load bytes ≡ Loaded.Refused (refusal Fault.ImageBody location))
     back x = body (rule_lines (words_of bytes)) (constraint_lines (words_of bytes)) (rw (x.0.size, x.0.form, x.0.count, x.0.check)) x.1
+
+-- what has no fault is taken, and so some text compiles to it
+pub faulty_exactly : (bytes : List ℕ) → Bytes bytes → ((r : Refusal) × ImageFault bytes r) ↔ (¬ SomeText bytes)
+faulty_exactly bytes bounded = (there, λ n. back n (load bytes) refl)
+  where
+    there : (r : Refusal) × ImageFault bytes r → ¬ SomeText bytes
+    there x s =
+        let t = (taken_exactly bytes bounded).1 s in
+        let e : Loaded.Refused x.0 ≡ Loaded.Image t.0 = sym ((image_refused_exactly bytes x.0).1 x.1) ∙ t.1 in
+        let z : ◌≡◌ {A = ℕ} 0 1 = cc in
+        omega arith
+
+    back : ¬ SomeText bytes → (l : Loaded) → load bytes ≡ l → (r : Refusal) × ImageFault bytes r
+    back n (Loaded.Refused r) e = (r, (image_refused_exactly bytes r).0 e)
+    back n (Loaded.Image c) e = absurd (n ((taken_exactly bytes bounded).0 (c, e)))

@@ -8,30 +8,12 @@ use mathlib.Core.List.{Memᴰ}
 use Rattle.policy.proofs.ListLaws.{all_out}
 use Rattle.policy.specs.Line.{PolicyLine}
 use Rattle.policy.specs.declared.fault.Source.{Source}
-use Rattle.lexer.proofs.LeadingLaws.{leading_pass}
+use Rattle.lexer.proofs.LeadingLaws.{leading_joined, leading_pass, leading_ends}
 use Rattle.lexer.specs.Byte.{is_space}
 use Rattle.lexer.specs.Lines.{prepend, pieces, lines_of, non_empty, tokens_of, take_leading}
 use Rattle.syntax.specs.Judge.{skipped, accepted, tokens_answer, line_answer}
 use Rattle.explanation.specs.Part.{trim_start, keep_byte, trim_end, trim, part_at}
 use Rattle.guarantees.specs.Explanations.{ended_length, Spaces, Trimmed, Straight}
-
--- ---- what passes at the start
-
-pub while_split : (p : ℕ → Bool) (s : List ℕ) → s ≡ take_leading p s ++ drop (length (take_leading p s)) s
-while_split p [] = refl
-while_split p (b ∷ s) = go (p b) (while_split p s)
-  where
-    go : (x : Bool) → s ≡ take_leading p s ++ drop (length (take_leading p s)) s → b ∷ s ≡ cond x (b ∷ take_leading p s) [] ++ drop (length (cond x (b ∷ take_leading p s) [])) (b ∷ s)
-    go true h = ap (λ (t : List ℕ). b ∷ t) h
-    go false h = refl
-
-pub while_stops : (p : ℕ → Bool) (s : List ℕ) (b : ℕ) (rest : List ℕ) → drop (length (take_leading p s)) s ≡ b ∷ rest → p b ≡ false
-while_stops p [] b rest e = let w : ◌≡◌ {A = ℕ} 0 1 = cc in absurd (omega arith)
-while_stops p (c ∷ s) b rest e = go (p c) refl (while_stops p s b rest) e
-  where
-    go : (x : Bool) → p c ≡ x → (drop (length (take_leading p s)) s ≡ b ∷ rest → p b ≡ false) → drop (length (cond x (c ∷ take_leading p s) [])) (c ∷ s) ≡ b ∷ rest → p b ≡ false
-    go true k later h = later h
-    go false k later h = let w : c ≡ b = cc in ap p (sym w) ∙ k
 
 -- ---- trimming
 
@@ -78,6 +60,13 @@ unfolding trim_end
 ended [] = record { behind = []; whole = refl; spaces = λ b m. absurd (Memᴰ.not-nil m); last = λ rest b e. absurd (no_last rest b e) }
 ended (c ∷ s) = kept c s (trim_end s) (ended s)
 
+-- a byte of which nothing is taken in front is no space
+pub stops : (b : ℕ) (s : List ℕ) → [] ≡ take_leading is_space (b ∷ s) → is_space b ≡ false
+stops b s = elim (is_space b) as (λ x. [] ≡ cond x (b ∷ take_leading is_space s) [] → x ≡ false) [
+  | true ↦ λ e. let w : ◌≡◌ {A = ℕ} 0 1 = cc in absurd (omega arith)
+  | false ↦ λ e. refl
+]
+
 unfoldable pub trimming : (line : List ℕ) → Trimmed line (trim line)
 unfolding trim trim_start
 trimming line =
@@ -85,12 +74,12 @@ trimming line =
     record {
       ahead = take_leading is_space line;
       behind = r.behind;
-      whole = while_split is_space line ∙ ap (λ (t : List ℕ). take_leading is_space line ++ t) r.whole;
+      whole = sym (leading_joined is_space line) ∙ ap (λ (t : List ℕ). take_leading is_space line ++ t) r.whole;
       spaces_ahead = λ b m. eqb-true b 32 (all_out is_space (take_leading is_space line) (leading_pass is_space line) b m);
       spaces_behind = r.spaces;
       unspaced =
           record {
-            first = λ b rest e. eqb-false b 32 (while_stops is_space line b (rest ++ r.behind) (r.whole ∙ ap (λ (t : List ℕ). t ++ r.behind) e));
+            first = λ b rest e. eqb-false b 32 (stops b (rest ++ r.behind) (sym (leading_ends is_space line) ∙ ap (take_leading is_space) (r.whole ∙ ap (λ (t : List ℕ). t ++ r.behind) e)));
             last = r.last;
           };
     }

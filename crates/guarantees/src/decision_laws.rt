@@ -1,6 +1,6 @@
 //! Laws of decisions. A law is a function with no parameters and an empty body, whose contract is the statement.
 
-ghost use Rattle.std.specs.Prelude.{List, ℕ, ◌≡◌, ◌<◌, length, ◌↔◌, true, ◌*◌, ◌+◌, ◌≤◌};
+ghost use Rattle.std.specs.Prelude.{List, ℕ, ◌≡◌, ◌<◌, length, set, ◌↔◌, true, ◌*◌, ◌+◌, ◌≤◌};
 ghost use Rattle.guarantees.specs.Claims.{CompilesTo, answers, TextsCompileTo};
 ghost use Rattle.guarantees.specs.Machine.{ToldLine, machine, machine_of_texts};
 ghost use Rattle.std.proofs.Math.Option.{some};
@@ -47,6 +47,16 @@ pub fn change_refused()
 /// The same for the image of two texts.
 pub fn texts_change_refused()
     ensures { (maker site image : List ℕ) → TextsCompileTo maker site image → (i v : ℕ) → i < length (words_of image) → v < word_limit → ¬ (v ≡ word_at image i) → (mode : Mode) (line : List ℕ) → CheckFailed (answer_of (decision_in mode (changed image i v) line)) }
+{}
+
+/// What is changed there is one word: the bytes are as many, and the other words are those of the image.
+pub fn change_only()
+    ensures { (text image : List ℕ) → CompilesTo text image → (i v : ℕ) → v < word_limit → (length (changed image i v) ≡ length image) × (words_of (changed image i v) ≡ set (words_of image) i v) }
+{}
+
+/// The same of the image of two texts.
+pub fn texts_change_only()
+    ensures { (maker site image : List ℕ) → TextsCompileTo maker site image → (i v : ℕ) → v < word_limit → (length (changed image i v) ≡ length image) × (words_of (changed image i v) ≡ set (words_of image) i v) }
 {}
 
 /// A decision is refused exactly for a fault of the image, then of the line, and then, by events, where no reduction of the epoch is free of conflict.
@@ -113,6 +123,16 @@ pub fn words_bounded()
 /// A decision by events fetches at most 65 x (P + N) words.
 pub fn events_words_bounded()
     ensures { (image : List ℕ) → Bytes image → (contents : Contents) → load image ≡ Loaded.Image contents → (line : List ℕ) → visited_in (decision_in Mode.Events image line) ≤ 65 * (contents.rule_words + contents.constraint_words) }
+{}
+
+/// Whatever the bytes and the line, a decision by actions fetches at most 71,808 words.
+pub fn words_limit()
+    ensures { (image line : List ℕ) → Bytes image → visited_in (decision image line) ≤ 71808 }
+{}
+
+/// And one by events at most 212,160.
+pub fn events_words_limit()
+    ensures { (image line : List ℕ) → Bytes image → visited_in (decision_in Mode.Events image line) ≤ 212160 }
 {}
 
 /// A refused decision reports 0 words.

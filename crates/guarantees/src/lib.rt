@@ -7,9 +7,11 @@
 pub mod decision_laws;
 pub mod explanation_laws;
 pub mod image_laws;
+pub mod load_laws;
 pub mod policy_laws;
 pub mod program_laws;
 pub mod reading_laws;
+pub mod writing_laws;
 
 ghost use Rattle.std.specs.Prelude.{◌≡◌, IfOk, IfErr};
 ghost use Rattle.rule_text.specs.Text.{read_texts, stopped};

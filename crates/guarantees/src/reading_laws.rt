@@ -1,6 +1,6 @@
 //! Laws of reading texts and epoch lines.
 
-ghost use Rattle.std.specs.Prelude.{List, ◌∷◌, ◌++◌, length, ℕ, ◌<◌, ℤ, ◌≡◌, ◌↔◌, true, false, eqb, Some};
+ghost use Rattle.std.specs.Prelude.{List, [], ◌∷◌, ◌++◌, length, ℕ, ◌<◌, ◌≤◌, ℤ, ◌≡◌, ◌⊎◌, ◌↔◌, true, false, eqb, Some};
 ghost use mathlib.Core.List.{Memᴰ};
 ghost use Rattle.std.proofs.Math.Option.{some};
 ghost use Rattle.policy.specs.declared.fault.Fault.{Fault};
@@ -11,29 +11,76 @@ ghost use Rattle.policy.specs.Policy.{Policy};
 ghost use Rattle.policy.specs.Set.{has_event, has_reading};
 ghost use Rattle.policy.specs.Line.{PolicyLine, comparisons_of};
 ghost use Rattle.policy.specs.declared.comparison.Comparison.{Comparison};
-ghost use Rattle.lexer.specs.Lines.{tokens_of};
+ghost use Rattle.lexer.specs.Lines.{lines_of, tokens_of, first_line, behind_line, without_end};
 ghost use Rattle.lexer.specs.Token.{Token, comparison_of};
 ghost use Rattle.lexer.specs.Byte.{is_hex_digit};
-ghost use Rattle.lexer.specs.Number.{pattern_digits};
+ghost use Rattle.lexer.specs.Number.{decimal_of, hex_number, pattern_digits, constant_of};
 ghost use Rattle.syntax.specs.Grammar.{line_from};
 ghost use Rattle.syntax.specs.Judge as Judge;
 ghost use Rattle.syntax.specs.Judge.{line_answer};
-ghost use Rattle.rule_text.specs.Text.{stopped, read_texts, policy_of_texts};
-ghost use Rattle.epoch_line.specs.Epoch.{Item, value, items_of, given_by, refused, accepted, read_epoch};
-ghost use Rattle.acceptance.specs.FirstFault.{TextsFault, EpochFault};
+ghost use Rattle.rule_text.specs.Answer.{text_read, texts_read};
+ghost use Rattle.rule_text.specs.Text.{stopped, read_texts, policy_of, policy_of_texts};
+ghost use Rattle.epoch_line.specs.Epoch.{Item, value, at_equals, items_of, given_by, epoch_limit, refused, accepted, read_epoch};
+ghost use Rattle.acceptance.specs.FirstFault.{TextAccepted, TextsFault, EpochFault};
 ghost use Rattle.acceptance.specs.Named.{named_by};
+ghost use Rattle.acceptance.specs.OneLine.{no_line, LineSkipped, LineAccepted, LineRefused};
 ghost use Rattle.acceptance.specs.Texts.{Joint};
 ghost use Rattle.acceptance.specs.Written.{IsLine, IsWritten};
-ghost use Rattle.acceptance.specs.Patterns.{prefixed};
+ghost use Rattle.acceptance.specs.Patterns.{prefixed, IsPattern, HasWord, Hexadecimal};
 
 /// What is read of a line's tokens is in the grammar, and nothing in the grammar is refused: tokens are read as a line exactly if they are written as one.
 pub fn grammar_exact()
     ensures { (ts : List Token) (l : PolicyLine) → (line_from ts ≡ some l) ↔ IsLine ts l }
 {}
 
+/// A line is refused exactly for the first of these: its shape, a number out of range, too many parts, an event or an action twice.
+pub fn line_refused_exactly()
+    ensures { (line : List ℕ) (f : Fault) → (line_answer line ≡ Judge.refused f) ↔ LineRefused line f }
+{}
+
+/// A line is accepted as a rule or a constraint exactly if it is written as that one, in range, within the counts and with no repeat.
+pub fn line_accepted_exactly()
+    ensures { (line : List ℕ) (l : PolicyLine) → (line_answer line ≡ Judge.accepted l) ↔ LineAccepted line l }
+{}
+
+/// A line is skipped exactly if it has no token, or its first token begins with `#`.
+pub fn line_skipped_exactly()
+    ensures { (line : List ℕ) → (line_answer line ≡ Judge.skipped) ↔ LineSkipped line }
+{}
+
 /// A line that has a constant of more than eight hexadecimal digits is refused for a number out of range, whatever else it has.
 pub fn wide_constant_refused()
     ensures { (line : List ℕ) (l : PolicyLine) → IsWritten line l → (ds : List ℕ) → all is_hex_digit ds ≡ true → pattern_digits < length ds → (r q : Token) (c : Comparison) → comparison_of r q (prefixed ds) ≡ some c → (before after : List Comparison) → comparisons_of l ≡ before ++ c ∷ after → line_answer line ≡ Judge.refused Fault.OutOfRange }
+{}
+
+/// The same by the token alone: a line that is written right and has, at any place, a token of `0x` and more than eight digits.
+pub fn wide_token_refused()
+    ensures { (ds line : List ℕ) → Memᴰ (prefixed ds) (tokens_of line) → all is_hex_digit ds ≡ true → pattern_digits < length ds → (l : PolicyLine) → IsWritten line l → line_answer line ≡ Judge.refused Fault.OutOfRange }
+{}
+
+/// A line that has, at any place, the token `0x`, or one of `0x` and bytes of which some one is no hexadecimal digit, has a wrong shape, unless it is skipped.
+pub fn bare_prefix_refused()
+    ensures { (ds line : List ℕ) → Memᴰ (prefixed ds) (tokens_of line) → (ds ≡ []) ⊎ (all is_hex_digit ds ≡ false) → no_line (tokens_of line) ≡ false → line_answer line ≡ Judge.refused Fault.Syntax }
+{}
+
+/// One to eight hexadecimal digits behind `0x` are the constant whose word of 32 bits in two's complement they are.
+pub fn pattern_read()
+    ensures { (ds : List ℕ) → IsPattern ds → (k : ℤ) × (constant_of (prefixed ds) ≡ some k) × HasWord k (hex_number ds) }
+{}
+
+/// Every constant is a decimal one, with that value, or `0x` and one or more hexadecimal digits.
+pub fn constant_forms()
+    ensures { (t : Token) (k : ℤ) → constant_of t ≡ some k → (decimal_of t ≡ some k) ⊎ Hexadecimal t }
+{}
+
+/// The lines of a text are its first line, up to the first line end, and the lines of what stands behind that end.
+pub fn lines_go_on()
+    ensures { (text : List ℕ) → 0 < length text → lines_of text ≡ first_line text ∷ lines_of (without_end (behind_line text)) }
+{}
+
+/// A text has a policy exactly if it is short enough and each of its lines is skipped, or accepted while there is room for one more of its kind.
+pub fn text_accepted_exactly()
+    ensures { (text : List ℕ) (p : Policy) → (policy_of text ≡ some p) ↔ TextAccepted text p }
 {}
 
 /// Two texts are refused exactly for their first fault: the maker's text before the site's, each for its length before its lines, and the first line that
@@ -45,6 +92,22 @@ pub fn texts_refused_exactly()
 /// An epoch line is refused exactly for the first test that it fails: its length, its shape, its ranges, a reading that is given twice.
 pub fn epoch_refused_exactly()
     ensures { (line : List ℕ) (f : Fault) → (read_epoch line ≡ refused f) ↔ EpochFault line f }
+{}
+
+/// An epoch line has a wrong shape where a value in it, behind the first `=` of a token, is `0x` alone, or `0x` and bytes of which some one is no
+/// hexadecimal digit, whatever else the line has.
+pub fn epoch_bare_prefix_refused()
+    ensures { (t : Token) (left ds : List ℕ) → at_equals t ≡ some (record { left = left; right = prefixed ds }) → (line : List ℕ) → length line ≤ epoch_limit → Memᴰ t (tokens_of line) → (ds ≡ []) ⊎ (all is_hex_digit ds ≡ false) → read_epoch line ≡ refused Fault.EpochSyntax }
+{}
+
+/// An epoch line of items, in which a value is `0x` and more than eight hexadecimal digits, is out of range, whatever else it has.
+pub fn epoch_wide_constant_refused()
+    ensures { (t : Token) (left ds : List ℕ) → at_equals t ≡ some (record { left = left; right = prefixed ds }) → (line : List ℕ) → length line ≤ epoch_limit → Memᴰ t (tokens_of line) → all is_hex_digit ds ≡ true → pattern_digits < length ds → any (eqb 10) line ≡ false → (is : List Item) → items_of (tokens_of line) ≡ some is → read_epoch line ≡ refused Fault.EpochRange }
+{}
+
+/// With an empty site's text two texts have the answer of the maker's alone.
+pub fn read_alone()
+    ensures { (text : List ℕ) → texts_read text [] ≡ text_read text }
 {}
 
 /// Two texts have a policy exactly if each has one alone and both together are within the limits: the maker's lines, then the site's.

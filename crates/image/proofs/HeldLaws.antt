@@ -13,23 +13,18 @@ use Rattle.line_value.specs.Value.{line_value}
 use Rattle.word.specs.Word.{words_of, between}
 use Rattle.layout.specs.Layout.{line_words, lines_words, known_form, check_count}
 use Rattle.decode.proofs.DecodeLaws.{line_out}
-use Rattle.decode.specs.Decode.{Stands, in_part, line_at}
+use Rattle.decode.specs.Decode.{line_at}
+use Rattle.decode.specs.Stands.{in_part, Stands, AreLines}
 use Rattle.image.proofs.ValueLaws.{lines_given}
 use Rattle.image.specs.Check.{form_byte, rule_count, constraint_count, well_sized, counts_fit, sums_to_zero}
 use Rattle.image.specs.Held.{rules_in, constraints_in, lines_in, policy_in, lines_held}
 use Rattle.image.specs.Lines.{Lines, whole, fault, add_line, after_line, lines_from, part_lines, rule_lines, constraint_lines}
 use Rattle.image.specs.Load.{body_answer, require, load_words, load}
-use Rattle.image.specs.Steps.Values.{values_behind}
+use Rattle.image.specs.Walk.{values_behind}
 use Rattle.image.specs.declared.load.Contents.{Contents}
 use Rattle.image.specs.declared.load.Loaded.{Loaded}
 
 -- ---- what is found was written
-
-pub record AreLines (part : Part) (room : ℕ) (ws : List ℕ) (ls : List PolicyLine) : Type 0 where
-  pub kind : all (in_part part) ls ≡ true
-  pub sound : all valid ls ≡ true
-  pub few : length ls ≤ room
-  pub words : ws ≡ lines_words ls
 
 pub same_lines : (part : Part) (room : ℕ) {a b : List ℕ} {xs ys : List PolicyLine} → a ≡ b → xs ≡ ys → AreLines part room a xs → AreLines part room b ys
 same_lines part room {a} {b} {xs} {ys} p q h = subst (λ (z : List ℕ). AreLines part room z ys) p (subst (λ (z : List PolicyLine). AreLines part room a z) q h)

@@ -13,7 +13,7 @@ use Rattle.layout.specs.Layout.{line_words, lines_words}
 use Rattle.decode.proofs.FoundLaws.{line_some}
 use Rattle.decode.proofs.ReadLaws.{line_from_is, first_skip}
 use Rattle.decode.specs.Steps.Scan.{line_from}
-use Rattle.image.specs.Steps.Values.{values_behind, lines_left, told_length}
+use Rattle.image.specs.Walk.{values_behind, lines_left, told_length}
 
 take_some : (k : ℕ) (xs : List ℕ) → take (min k (length xs)) xs ≡ take k xs
 take_some zero xs = let z : min 0 (length xs) ≡ 0 = omega arith in ap (λ (n : ℕ). take n xs) z

@@ -1,4 +1,5 @@
--- The lines of a part of an image, and where no line fits, which is the location of fault 11.
+-- The lines of a part of an image, and where no line fits, which is the location of fault 11. Both answers are tied to the lines whose
+-- words stand there by laws (`part_whole_exactly` and `part_fault_exactly` in guarantees).
 use Rattle.std.specs.Prelude.{ℕ, zero, suc, ◌+◌, List, [], ◌∷◌, length, drop}
 use Rattle.std.proofs.Math.Option.{Option, none, some}
 use Rattle.policy.specs.Limits.{rule_limit, constraint_limit}

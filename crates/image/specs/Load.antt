@@ -1,4 +1,5 @@
--- The loader's answer: the faults 7 to 11 in their order, each with its location, or what stands in the image.
+-- The loader's answer: the faults 7 to 11 in their order, each with its location, or what stands in the image. Which bytes have which
+-- fault is told by `ImageFault` in exactness, and that both agree is a law (`image_refused_exactly` in guarantees).
 use Rattle.std.specs.Prelude.{ℕ, Bool, cond, List, length}
 use Rattle.std.proofs.Math.Option.{Option, none, some}
 use Rattle.policy.specs.Fault.{refusal}
@@ -8,7 +9,6 @@ use Rattle.word.specs.Word.{words_of}
 use Rattle.image.specs.Check.{form_byte, rule_count, constraint_count, well_sized, counts_fit, sums_to_zero}
 use Rattle.layout.specs.Layout.{known_form}
 use Rattle.image.specs.Lines.{Lines, whole, fault, rule_lines, constraint_lines}
-use Rattle.image.specs.declared.load.Contents.{Contents}
 use Rattle.image.specs.declared.load.Loaded.{Loaded}
 
 -- the answer for the lines of both parts, with the form and the counts of words
@@ -32,12 +32,7 @@ load_words ws =
 unfoldable pub load : List ℕ → Loaded
 load bytes = require (well_sized (length bytes)) Fault.ImageSize (load_words (words_of bytes))
 
--- ---- what an answer says: `number_of` and `location_of` of the refusal, and counts that are 0 where there is one
-
+-- the refusal that an answer is, if it is one
 abbrev pub refusal_in : Loaded → Option Refusal
 refusal_in (Loaded.Refused r) = some r
 refusal_in (Loaded.Image c) = none
-
-abbrev pub contents_in : Loaded → Contents
-contents_in (Loaded.Refused r) = record { form = 0; rule_words = 0; constraint_words = 0; rules = 0; constraints = 0 }
-contents_in (Loaded.Image c) = c

@@ -1,4 +1,3 @@
 -- Mechanism of the code: a reader need not believe it.
 pub mod Part
 pub mod Past
-pub mod Values

@@ -1,5 +1,5 @@
 //! The loader: which bytes are an image, and where its parts stand.
-ghost use Rattle.std.specs.Prelude.{◌≡◌, ◌+◌, ◌^◌, ◌<◌, ◌≤◌, MatchResult, map, length};
+ghost use Rattle.std.specs.Prelude.{◌≡◌, ◌+◌, ◌^◌, ◌<◌, ◌≤◌, MatchResult, IfOk, map, length};
 ghost use Rattle.std.proofs.Math.Option.{none, some};
 ghost use Rattle.line_value.specs.Value.{line_value};
 ghost use Rattle.word.specs.Chunk.{words_in};
@@ -8,7 +8,7 @@ ghost use Rattle.image.specs.Lines.{lines_from, part_lines};
 ghost use Rattle.image.specs.Load.{body_answer, load, refusal_in};
 ghost use Rattle.image.specs.Held.{lines_held};
 ghost use Rattle.image.specs.Steps.Part.{part_answer, loaded_of};
-ghost use Rattle.image.specs.Steps.Values.{lines_left};
+ghost use Rattle.image.specs.Walk.{IsAtFirstLine, lines_ahead};
 
 use crate::walker::Walker;
 use layout::{constraint_words_of, form_of, rule_words_of, sum_words};
@@ -141,7 +141,8 @@ pub fn load_image(image: &[u8]) -> Loaded
 
 /// The values of the lines of an image that the loader takes, its rules and then its constraints; or why and where it is refused.
 pub fn lines(image: &[u8]) -> Result<Walker<'_>, Refusal>
-    ensures { MatchResult result (λ walker. (refusal_in (load image.now) ≡ none) × (lines_left (words_in walker.words.now) walker.at ≡ map line_value (lines_held image.now))) (λ refusal. refusal_in (load image.now) ≡ some refusal) }
+    ensures answer { MatchResult result (λ walker. (refusal_in (load image.now) ≡ none) × IsAtFirstLine image.now walker) (λ refusal. refusal_in (load image.now) ≡ some refusal) }
+    ensures lines { IfOk result (λ walker. lines_ahead walker ≡ map line_value (lines_held image.now)) }
 {
     match load_image(image) {
         Loaded::Refused(refusal) => Err(refusal),

@@ -1,10 +1,10 @@
 //! A walker over words of an image: it refers to the lent words and stands at one of them, or behind the last.
 ghost use Rattle.std.specs.Prelude.{◌≡◌, ◌+◌, ◌<◌, ◌≤◌, ◌↔◌, IsTrue, MatchOption, drop, length};
-ghost use Rattle.std.specs.Iterator.{YieldsFirst, item_count};
+ghost use Rattle.std.specs.Iterator.{item_count};
 ghost use Rattle.word.specs.Chunk.{words_in};
 ghost use Rattle.decode.specs.Decode.{line_at, line_length};
 ghost use Rattle.decode.specs.Steps.Scan.{line_from};
-ghost use Rattle.image.specs.Steps.Values.{lines_left, told_length};
+ghost use Rattle.image.specs.Walk.{GivesLine, lines_ahead, told_length};
 ghost use Rattle.image.specs.Steps.Past.{IsPast};
 
 use decode::{line_length, read_line};
@@ -15,8 +15,8 @@ use word::nth_word;
 
 #[derive(Clone, Copy)]
 pub struct Walker<'a> {
-    pub words: &'a [[u8; 4]],
-    pub at: usize,
+    pub(crate) words: &'a [[u8; 4]],
+    pub(crate) at: usize,
 }
 
 impl<'a> Walker<'a> {
@@ -26,7 +26,7 @@ impl<'a> Walker<'a> {
         Walker { words, at }
     }
 
-    pub fn is_at_end(self) -> bool
+    pub(crate) fn is_at_end(self) -> bool
         ensures { IsTrue result ↔ (length self.entry.words.now ≤ self.entry.at) }
     {
         self.words.len() <= self.at
@@ -44,7 +44,7 @@ impl<'a> Walker<'a> {
     }
 
     /// The walker behind the line of the part that starts here; none where no line that an accepted text may have does.
-    pub fn past_line(self, part: Part) -> Option<Walker<'a>>
+    pub(crate) fn past_line(self, part: Part) -> Option<Walker<'a>>
         ensures { MatchOption result (line_length (line_at part (drop self.entry.at (words_in self.entry.words.now))) ≡ 0) (λ behind. IsPast (line_length (line_at part (drop self.entry.at (words_in self.entry.words.now)))) self.entry behind) }
     {
         let size = line_length(self.rest(), part);
@@ -70,9 +70,9 @@ fn told_length(words: &[[u8; 4]]) -> usize
 impl<'a> Iterator for Walker<'a> {
     type Item = Line;
 
-    ghost next_gives = { YieldsFirst (λ walker. lines_left (words_in walker.words.now) walker.at) };
+    ghost next_gives = { GivesLine };
 
-    ghost remaining = { item_count (λ walker. lines_left (words_in walker.words.now) walker.at) };
+    ghost remaining = { item_count lines_ahead };
 
     fn next(&mut self) -> Option<Line> {
         let rest = self.rest();

@@ -12,7 +12,7 @@ unfoldable pub pieces : ℕ → List ℕ → List (List ℕ)
 pieces end [] = []
 pieces end (b ∷ s) = cond (eqb b end) ([] ∷ pieces end s) (prepend b (pieces end s))
 
--- "Lines end at byte 10; the last may lack it."
+-- lines end at byte 10; the last may lack it
 unfoldable pub lines_of : List ℕ → List (List ℕ)
 lines_of text = pieces 10 text
 
@@ -21,7 +21,7 @@ non_empty [] = []
 non_empty ([] ∷ ps) = non_empty ps
 non_empty ((b ∷ p) ∷ ps) = (b ∷ p) ∷ non_empty ps
 
--- "Tokens are separated by one or more spaces; spaces may stand before the first and after the last."
+-- one or more spaces stand between tokens; spaces may stand before the first and after the last
 unfoldable pub tokens_of : List ℕ → List (List ℕ)
 tokens_of line = non_empty (pieces (code " ") line)
 

@@ -16,7 +16,7 @@ abbrev pub is_empty : List ℕ → Bool
 is_empty [] = true
 is_empty (b ∷ bs) = false
 
--- "A number is `0`, or digits not starting with 0."
+-- a number is `0`, or digits that do not start with 0
 unfoldable pub number_of : List ℕ → Option ℕ
 number_of [] = none
 number_of (d ∷ ds) = cond (all is_digit (d ∷ ds) && (is_empty ds || not (eqb d (code "0")))) (some (decimal_from 0 (d ∷ ds))) none
@@ -30,7 +30,7 @@ negative none = none
 negative (some zero) = none
 negative (some (suc n)) = some (negsuc n)
 
--- "A constant may have a minus before a number other than 0."
+-- a decimal constant may have a minus before a number other than 0
 unfoldable pub decimal_of : List ℕ → Option ℤ
 decimal_of [] = none
 decimal_of (b ∷ bs) = cond (eqb b (code "-")) (negative (number_of bs)) (positive (number_of (b ∷ bs)))

@@ -61,6 +61,13 @@ module _ {A B C : Type 0} where
 abbrev pub compare : Reading → Relation → Operand → Comparison
 compare reading relation operand = record { reading = reading; relation = relation; operand = operand }
 
+-- where all three are there
+abbrev pub comparison_by : Option Reading → Option Relation → Option Operand → Option Comparison
+comparison_by none relation operand = none
+comparison_by (some reading) none operand = none
+comparison_by (some reading) (some relation) none = none
+comparison_by (some reading) (some relation) (some operand) = some (compare reading relation operand)
+
 -- a reading, a relation and an operand
 unfoldable pub comparison_of : Token → Token → Token → Option Comparison
-comparison_of r relation o = both (λ (f : Operand → Comparison) (x : Operand). f x) (both compare (reading_of r) (relation_of relation)) (operand_of o)
+comparison_of r relation o = comparison_by (reading_of r) (relation_of relation) (operand_of o)

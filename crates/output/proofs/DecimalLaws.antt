@@ -102,6 +102,5 @@ decimal_same = decimal_by_steps (λ n ds. ds ≡ decimal n) (λ n h. sym (decima
     longer n ds h e = ap (λ (xs : List ℕ). xs ++ (48 + n % 10) ∷ []) e ∙ sym (decimal_more n h)
 
 pub integer_same : (k : ℤ) → FitsSigned w32 k → Fmt.signed_decimal k ≡ integer k
-unfolding integer
 integer_same (pos n) h = let f = h.sfits in decimal_same n (omega arith)
 integer_same (negsuc n) h = let f = h.sfits in ap (λ (ds : List ℕ). 45 ∷ ds) (decimal_same (suc n) (omega arith))

@@ -7,7 +7,8 @@ use Rattle.std.specs.Prelude.{ℕ, zero, suc, ◌+◌, ◌*◌, ◌-◌, ◌/◌
 abbrev pub digit : ℕ → ℕ
 digit d = code "0" + d
 
--- the digits of n, the most significant first, if they are at most k + 1; `only` tells whether n has just one
+-- the digits of n, the most significant first, if they are at most k + 1; `only` tells whether n has just one. Those of std's `decimal` are at most
+-- 64: these are of every number, and the same under 2 ^ 64
 unfoldable pub digits : ℕ → Bool → ℕ → List ℕ
 digits zero only n = digit n ∷ []
 digits (suc k) true n = digit n ∷ []
@@ -17,7 +18,7 @@ unfoldable pub decimal : ℕ → List ℕ
 decimal n = digits n (ltb n 10) n
 
 -- with a minus where it is below zero
-unfoldable pub integer : ℤ → List ℕ
+abbrev pub integer : ℤ → List ℕ
 integer (pos n) = decimal n
 integer (negsuc n) = code "-" ∷ decimal (suc n)
 

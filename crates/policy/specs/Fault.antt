@@ -1,5 +1,5 @@
 -- Faults: the number of each, and of an answer the number and the location, which also says in which text it is.
-use Rattle.std.specs.Prelude.{ℕ, Bool, true, false}
+use Rattle.std.specs.Prelude.{ℕ}
 use Rattle.std.proofs.Math.Option.{Option, none, some}
 use Rattle.policy.specs.declared.fault.Fault.{Fault}
 use Rattle.policy.specs.declared.fault.Fault.TheVariants.{TooLong, Syntax, OutOfRange, TooManyParts, TooManyLines, Duplicate, ImageSize, ImageForm, ImageCount, ImageSum, ImageBody, EpochSyntax, EpochRange, DuplicateReading, BufferTooSmall, Unavoidable}
@@ -39,10 +39,6 @@ abbrev pub within : Source → Refusal → Refusal
 within s r = record { fault = r.fault; source = s; location = r.location }
 
 -- ---- of an answer, which may be a refusal
-
-abbrev pub is_refusal : Option Refusal → Bool
-is_refusal none = false
-is_refusal (some r) = true
 
 -- the number of its fault; 0 where nothing is refused
 abbrev pub number_of : Option Refusal → ℕ

@@ -1,4 +1,3 @@
-pub mod ConstantLaws
 pub mod DecimalLaws
 pub mod Examples
 pub mod LengthLaws

@@ -1,7 +1,7 @@
 -- The rule text written from a policy (docs/REFERENCE.md, "The rule text"), in one form of its own. The rules come first, then the
 -- constraints, one space stands between tokens, and every line is ended.
 use Prim.Native.Char.{code}
-use Rattle.std.specs.Prelude.{ℕ, suc, cond, List, [], ◌∷◌, ◌++◌, map, ℤ, pos, negsuc}
+use Rattle.std.specs.Prelude.{ℕ, cond, List, [], ◌∷◌, ◌++◌, map, ℤ}
 use Rattle.policy.specs.Line.{PolicyLine, rule, constraint}
 use Rattle.policy.specs.Policy.{Policy}
 use Rattle.policy.specs.declared.comparison.Comparison.{Comparison}
@@ -12,13 +12,12 @@ use Rattle.policy.specs.declared.number.Action.{Action}
 use Rattle.policy.specs.declared.number.Reading.{Reading}
 use Rattle.lexer.specs.Byte.{bytes}
 use Rattle.lexer.specs.Token.{Token}
-use Rattle.output.specs.Number.{decimal}
+use Rattle.output.specs.Number.{decimal, integer}
 
 -- ---- the parts of a line
 
 unfoldable pub constant_token : ℤ → Token
-constant_token (pos n) = decimal n
-constant_token (negsuc n) = code "-" ∷ decimal (suc n)
+constant_token k = integer k
 
 unfoldable pub literal_token : Literal → Token
 literal_token l = cond l.negated (bytes "!") [] ++ code "E" ∷ decimal l.event.0

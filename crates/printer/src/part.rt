@@ -50,7 +50,7 @@ fn put_relation<S: Sink>(sink: &mut S, relation: Relation)
     }
 }
 
-#[tactic(auto, using(crate::proofs::ConstantLaws::constant_same), unfolding(crate::specs::Printed::operand_token, crate::specs::Printed::reading_token))]
+#[tactic(auto, unfolding(crate::specs::Printed::constant_token, crate::specs::Printed::operand_token, crate::specs::Printed::reading_token))]
 fn put_operand<S: Sink>(sink: &mut S, operand: Operand)
     ensures { sink.new ≡ fed S.taken sink.old (operand_token operand) }
 {

@@ -8,8 +8,8 @@ use Rattle.codegen.specs.Compile.{newest_form, compiled_texts}
 use Rattle.codegen.specs.declared.Compiled.{Compiled}
 use Rattle.codegen.proofs.RoomLaws.{Read, texts_read_is, texts_stopped}
 use Rattle.questions.specs.Answered.{next, answered}
-use Rattle.questions.specs.Asked.{answer_held, last_answer}
-use Rattle.questions.specs.Explainer.{open_line, printed_of, given_of, IsAnswered, Starts}
+use Rattle.questions.specs.Steps.Asked.{answer_held, last_answer}
+use Rattle.questions.specs.Steps.Explainer.{open_line, printed_of, given_of, IsAnswered, Starts}
 use Rattle.questions.specs.Run.{due}
 use Rattle.questions.specs.Steps.Held.{start_question, is_open, Held, held_by, bytes_taken, line_taken}
 use Rattle.questions.specs.Steps.Left.{answers_from, answers_to_end, answers_so_far}

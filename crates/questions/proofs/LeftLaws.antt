@@ -11,7 +11,7 @@ use Rattle.layout.specs.Layout.{image_of}
 use Rattle.codegen.specs.Compile.{newest_form}
 use Rattle.stream.specs.Lines.{keep_byte, whole_part}
 use Rattle.questions.specs.Answered.{next, answer_lines, answers_on, answered}
-use Rattle.questions.specs.Asked.{answer_held, last_answer}
+use Rattle.questions.specs.Steps.Asked.{answer_held, last_answer}
 use Rattle.questions.specs.Run.{due}
 use Rattle.questions.specs.Steps.Held.{start_question, Held, held_by, pushed, bytes_taken, line_taken}
 use Rattle.questions.specs.Steps.Left.{answers_from, answers_to_end, answers_so_far}

@@ -24,7 +24,7 @@ use Rattle.explanation.specs.Steps.On.{explained_on}
 use Rattle.explanation.specs.Why.{on_epoch, on_both_texts, explained}
 use Rattle.questions.specs.Answered.{in_word, word_of, epoch_of, no_action, explained_line, answer_for, answer_to, next, answer_lines, answers_on, answered}
 use Rattle.questions.proofs.LineLaws.{push_length}
-use Rattle.questions.specs.Asked.{answer_held, Asked, begun, took, answers, last_answer}
+use Rattle.questions.specs.Steps.Asked.{answer_held, Asked, begun, took, answers, last_answer}
 use Rattle.questions.specs.Steps.Answer.{answer_on, question_line}
 use Rattle.questions.specs.Steps.Held.{first_digit, more_digits, next_digit, scan_byte, start_question, has_byte, is_open, Held, held_by, kept, pushed, bytes_taken, line_taken}
 use Rattle.questions.specs.declared.line.Question.{Question}

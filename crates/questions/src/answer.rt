@@ -13,7 +13,7 @@ use policy::Fault;
 use report::{put_not_explained, put_not_proposed, put_shown};
 
 /// Bytes of the longest answer: a number of 20 digits, ` cancelled `, the text, a space, a part of a text's length, and the line end.
-pub const ANSWER_SIZE: usize = 32802;
+pub(crate) const ANSWER_SIZE: usize = 32802;
 
 /// Bytes of the longest epoch line.
 const EPOCH_LIMIT: usize = 1024;
@@ -81,7 +81,7 @@ fn put_question<'t, S: Sink>(
 /// Puts the answer to the question of that number, whose epoch line is held, on the image of both texts, at the start of `out`, and
 /// answers how many bytes it has; `ANSWER_SIZE` are enough.
 #[tactic(auto, using(output::proofs::SinkLaws::stored_all), unfolding(output::specs::Buffer::behind))]
-pub fn put_answer<'t>(
+pub(crate) fn put_answer<'t>(
     number: u64,
     question: Question,
     held: &[u8],

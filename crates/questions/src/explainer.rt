@@ -40,7 +40,7 @@ struct Explainer<'t> {
 }
 
 impl<'t> Explainer<'t> {
-    ghost use Rattle.questions.specs.Explainer.{IsAnswered, Starts};
+    ghost use Rattle.questions.specs.Steps.Explainer.{IsAnswered, Starts};
 
     fn new(maker: &'t [u8], site: &'t [u8], image: &'t [u8]) -> Explainer<'t>
         requires maker_short { length maker.now ≤ 32768 }
@@ -78,7 +78,7 @@ impl<'t> Explainer<'t> {
 }
 
 impl<'t> Machine for Explainer<'t> {
-    ghost use Rattle.questions.specs.Explainer.{given_of, printed_of};
+    ghost use Rattle.questions.specs.Steps.Explainer.{given_of, printed_of};
 
     ghost given = { given_of };
 

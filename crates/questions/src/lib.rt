@@ -7,7 +7,5 @@ mod explainer;
 mod line;
 mod texts;
 
-pub use answer::{ANSWER_SIZE, put_answer};
 pub use explainer::answer_questions;
-pub use line::{EPOCH_HELD, Question, Taken, Token, begun, is_open, take_line};
 pub use texts::{ExplainFailure, explain_texts};

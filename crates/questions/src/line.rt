@@ -5,11 +5,11 @@ ghost use Rattle.questions.specs.Steps.Held.{first_digit, next_digit, scan_byte,
 use lexer::is_digit;
 
 /// Bytes of an epoch line that are held: one over its limit, which tells that it is too long.
-pub const EPOCH_HELD: usize = 1025;
+pub(crate) const EPOCH_HELD: usize = 1025;
 
 /// What the bytes before the first space are so far: `A` and a number, or something else. Of a number over 63 only that is kept.
 #[derive(Clone, Copy)]
-pub enum Token {
+pub(crate) enum Token {
     Empty,
     Letter,
     Zero,
@@ -64,14 +64,14 @@ fn next_digit(n: u32, byte: u8) -> Token
 
 /// The open line: its word, whether the first space was met, and how many bytes of the epoch line are held.
 #[derive(Clone, Copy)]
-pub struct Question {
+pub(crate) struct Question {
     pub token: Token,
     pub spaced: bool,
     pub count: usize,
 }
 
 /// The question before any byte of its line.
-pub fn begun() -> Question
+pub(crate) fn begun() -> Question
     ensures { result ≡ start_question }
 {
     Question {
@@ -82,7 +82,7 @@ pub fn begun() -> Question
 }
 
 /// Whether the line has a byte.
-pub fn is_open(question: Question) -> bool
+pub(crate) fn is_open(question: Question) -> bool
     ensures { result ≡ is_open question }
 {
     if question.spaced {
@@ -131,7 +131,7 @@ fn push(question: Question, byte: u8, held: &mut [u8]) -> Question
 
 /// What was taken of a chunk: so many bytes, and whether the last of them ended the line.
 #[derive(Clone, Copy)]
-pub struct Taken {
+pub(crate) struct Taken {
     pub question: Question,
     pub taken: usize,
     pub ended: bool,
@@ -139,7 +139,7 @@ pub struct Taken {
 
 /// Takes the bytes of a chunk to the end of the line, its line end too, or all of them. The bytes of the epoch line go into `held`, as
 /// many as it has room for; `EPOCH_HELD` are enough.
-pub fn take_line(start: Question, chunk: &[u8], held: &mut [u8]) -> Taken
+pub(crate) fn take_line(start: Question, chunk: &[u8], held: &mut [u8]) -> Taken
     ensures answer { result ≡ line_taken start held.old chunk.now }
     ensures buffer { held.new ≡ (bytes_taken start held.old chunk.now).held }
 {

@@ -19,8 +19,8 @@ use Rattle.policy.specs.declared.line.Ending.{Ending}
 use Rattle.line_value.specs.declared.Line.{Line}
 use Rattle.syntax.proofs.AnswerLaws.{lines_here, next_shorter, Accepted, read_refused, read_skipped, read_accepted}
 use Rattle.syntax.proofs.JudgeLaws.{padded_whole, accepted_uncrowded}
-use Rattle.rule_text.specs.Answer.{total, counts_in, counts_of, text_read_of, text_read, texts_read, no_lines, no_counts}
-use Rattle.rule_text.specs.Steps.Counting.{Counting, going, halted, counted_step, plus, stepped, count_line, counted_before, count_from, count_behind, count_read, sourced_in}
+use Rattle.rule_text.specs.Answer.{total, counts_in, counts_of, text_read_of, text_read, texts_read}
+use Rattle.rule_text.specs.Steps.Counting.{no_lines, no_counts, Counting, going, halted, counted_step, plus, stepped, count_line, counted_before, count_from, count_behind, count_read, sourced_in}
 use Rattle.syntax.specs.Answer.{next_line, line_read}
 use Rattle.rule_text.specs.Steps.Tally.{Within, Small, Counted, with_line, tally_as, tallied_by}
 use Rattle.lexer.specs.Lines.{pieces, lines_of, first_line}

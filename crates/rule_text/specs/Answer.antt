@@ -1,5 +1,4 @@
--- What `read_text` and `read_texts` answer for every text, by `Text`, and what the answer says: the fault with its location,
--- if it is a refusal, and the counts of what was read, which are 0 in a refusal.
+-- What `read_text` and `read_texts` answer for every text, by `Text`: the refusal with its location, or the counts of what was read.
 use Rattle.std.specs.Prelude.{Result, Ok, Err}
 use Rattle.std.specs.Prelude.{ℕ, ◌+◌, List, [], ◌∷◌, map, length}
 use Rattle.std.proofs.Math.Option.{Option, none, some}
@@ -40,13 +39,3 @@ texts_read maker site = text_read_of (read_texts maker site)
 abbrev pub refusal_in_text : Result TextCounts Refusal → Option Refusal
 refusal_in_text (Err r) = some r
 refusal_in_text (Ok c) = none
-
-abbrev pub no_lines : LineCounts
-no_lines = record { lines = 0; heads = 0; comparisons = 0; constants = 0 }
-
-abbrev pub no_counts : TextCounts
-no_counts = record { rules = no_lines; constraints = no_lines }
-
-abbrev pub counts_in_text : Result TextCounts Refusal → TextCounts
-counts_in_text (Err r) = no_counts
-counts_in_text (Ok c) = c

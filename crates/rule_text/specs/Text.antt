@@ -55,7 +55,7 @@ read_text text = in_text Source.Maker (read_text_behind empty_policy text)
 
 -- ---- two texts as one: the maker's lines before the site's in each part, line limits counted together, lengths apart
 
--- "maker's text before the site's"
+-- the maker's text before the site's
 unfoldable pub read_site : Progress → List ℕ → Progress
 read_site (reading n p) site = in_text Source.Site (read_text_behind p site)
 read_site (stopped r) site = stopped r

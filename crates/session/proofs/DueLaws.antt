@@ -6,7 +6,7 @@ use Rattle.policy.specs.declared.mode.Mode.{Mode}
 use Rattle.lexer.specs.Lines.{pieces, lines_of}
 use Rattle.stream.specs.Lines.{keep_byte, whole_part, due_for, due_by_lines}
 use Rattle.session.specs.Printed.{Session, text_only, with_epochs, to_text, split_at_run, mode_of, printed, has_epochs, runs, due}
-use Rattle.session.specs.Owed.{Seen, see_byte, see, picked}
+use Rattle.session.specs.Steps.Owed.{Seen, see_byte, see, picked}
 use Rattle.session.proofs.GivesLaws.{ran_stays_all}
 use Rattle.session.proofs.HeldLaws.{snoc}
 use Rattle.session.proofs.LineLaws.{OneLine, empty_line, line_more, lines_ended}

@@ -12,7 +12,7 @@ use Rattle.monitor.specs.declared.decision.Decision.{Decision}
 use Rattle.report.specs.Report.{refusal_line}
 use Rattle.output.proofs.AppendLaws.{Put, put_length}
 use Rattle.session.specs.Printed.{Session, with_epochs, next, decision_line, epoch_lines, answers_to, printed_for}
-use Rattle.session.specs.Owed.{current, left_in, owed, Fitting, Room, TracksIn}
+use Rattle.session.specs.Steps.Owed.{current, left_in, owed, Fitting, Room, TracksIn}
 use Rattle.session.specs.Steps.Ended.{TextEnded, LineEnded}
 use Rattle.session.specs.declared.state.Phase.{Phase}
 use Rattle.session.specs.declared.state.State.{State}

@@ -1,13 +1,13 @@
 -- Laws of an engine: a state with its buffers, which tells of what was seen as much as counts.
-use Rattle.std.proofs.Common.{◌≡◌, ℕ, ◌-◌, ◌<◌, ◌≤◌, Bool, true, false, cond, eqb, ltb, List, [], ◌∷◌, ◌++◌, length, take, sym, refl, ap, ◌∙◌, ap₂, append-nil, arith, length-append, length-take-le, take_all, ltb-false, ltb-true}
+use Rattle.std.proofs.Common.{◌≡◌, ℕ, ◌-◌, ◌<◌, ◌≤◌, Bool, true, false, cond, eqb, ltb, List, [], ◌∷◌, ◌++◌, length, take, sym, refl, ap, ◌∙◌, ap₂, subst, append-nil, arith, length-append, length-take-le, take_all, ltb-false, ltb-true}
 use Rattle.std.specs.Io.{StartsWith}
 use Rattle.std.proofs.Math.Option.{none, some, or_else}
 use Rattle.stream.specs.Lines.{due_for, whole_part}
 use Rattle.stream.proofs.LineLaws.{due_emptied}
 use Rattle.stream.proofs.MachineLaws.{starts_append}
 use Rattle.session.specs.Printed.{mode_of, printed, due}
-use Rattle.session.specs.Owed.{printed_behind, current, left_in, owed, Good, Seen, see_byte, see, nothing_seen, picked, given_for, seen_in, seen_by, Room, TracksIn, Tracks, Took, start_state, emptied}
-use Rattle.session.specs.Kept.{Starting}
+use Rattle.session.specs.Steps.Owed.{printed_behind, current, left_in, owed, Good, Seen, see_byte, see, nothing_seen, picked, given_for, seen_in, seen_by, Room, TracksIn, Tracks, Took, start_state, emptied}
+use Rattle.session.specs.Steps.Kept.{Starting}
 use Rattle.session.specs.declared.state.Phase.{Phase}
 use Rattle.session.specs.declared.state.State.{State}
 use Rattle.session.proofs.DueLaws.{due_seen}
@@ -130,6 +130,11 @@ module _ (s : State) (held image out : List ℕ) where
   pub owed_first : (rest : List ℕ) → StartsWith (owed s held image out rest) (take s.used out)
   unfolding owed
   owed_first rest = starts_append (take s.used out) (left_in s.phase s held image rest)
+
+  pub given_first : (rest : List ℕ) → StartsWith (given_for (seen_by s held) s held image out rest) (take s.used out)
+  given_first rest =
+      subst (λ (l : List ℕ). StartsWith l (take s.used out)) (sym (given_emptied (seen_by s held) rest))
+      (starts_append (take s.used out) (given_for (seen_by s held) (emptied s) held image out rest))
 
   pub empty_room : Good s held image out → given_for (seen_by s held) s held image out [] ≡ [] → Room s
   empty_room g e =

@@ -5,7 +5,7 @@ use Rattle.policy.specs.declared.mode.Mode.{Mode}
 use Rattle.lexer.specs.Lines.{lines_of}
 use Rattle.monitor.specs.Decision.{decision_in}
 use Rattle.session.specs.Printed.{next, decision_line, epoch_lines}
-use Rattle.session.specs.Owed.{current, Good, Seen, see_byte, TracksIn, Took}
+use Rattle.session.specs.Steps.Owed.{current, Good, Seen, see_byte, TracksIn, Took}
 use Rattle.session.specs.Steps.Held.{one_more_held, Pushed, room, full}
 use Rattle.session.specs.Steps.Ended.{decided_by, LineEnded}
 use Rattle.session.specs.declared.state.Phase.{Phase}

@@ -5,7 +5,7 @@ use Rattle.policy.specs.declared.mode.Mode.{Mode}
 use Rattle.lexer.specs.Lines.{pieces, lines_of}
 use Rattle.monitor.specs.Decision.{decision_in}
 use Rattle.session.specs.Printed.{text_only, with_epochs, mode_of, next, decision_line, epoch_lines, printed_for}
-use Rattle.session.specs.Owed.{printed_behind, current, owed, Good, Seen, seen_by, TracksIn, Tracks, Finished}
+use Rattle.session.specs.Steps.Owed.{printed_behind, current, owed, Good, Seen, seen_by, TracksIn, Tracks, Finished}
 use Rattle.session.specs.Steps.Ended.{TextEnded, decided_by, LineEnded}
 use Rattle.session.specs.declared.state.Phase.{Phase}
 use Rattle.session.specs.declared.state.State.{State}

@@ -6,7 +6,7 @@ use Rattle.policy.specs.declared.mode.Mode.{Mode}
 use Rattle.lexer.specs.Lines.{pieces, lines_of}
 use Rattle.stream.proofs.LineLaws.{due_byte}
 use Rattle.session.specs.Printed.{epoch_lines}
-use Rattle.session.specs.Owed.{left_in, owed, Good, Seen, see_byte, see, picked, given_for, seen_in, seen_by, TracksIn, Tracks, Took}
+use Rattle.session.specs.Steps.Owed.{left_in, owed, Good, Seen, see_byte, see, picked, given_for, seen_in, seen_by, TracksIn, Tracks, Took}
 use Rattle.session.specs.declared.state.Phase.{Phase}
 use Rattle.session.specs.declared.state.State.{State}
 use Rattle.session.proofs.SeenLaws.{see_end, ran_stays}

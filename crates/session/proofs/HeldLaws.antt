@@ -3,7 +3,7 @@ use Rattle.std.proofs.Common.{◌≡◌, ℕ, ◌+◌, ◌<◌, ◌≤◌, List,
 use Rattle.std.proofs.Math.Seq.{take-set-le, drop-append-le}
 use Rattle.lexer.specs.Lines.{lines_of}
 use Rattle.session.specs.Printed.{epoch_lines}
-use Rattle.session.specs.Owed.{printed_behind, current, left_in, owed, Fitting, Good, see_byte, TracksIn, Took}
+use Rattle.session.specs.Steps.Owed.{printed_behind, current, left_in, owed, Fitting, Good, see_byte, TracksIn, Took}
 use Rattle.session.specs.Steps.Held.{Pushed}
 use Rattle.session.specs.declared.state.Phase.{Phase}
 use Rattle.session.specs.declared.state.State.{State}

@@ -6,7 +6,7 @@ use Prim.Native.String.{String}
 use Rattle.policy.specs.declared.mode.Mode.{Mode}
 use Rattle.lexer.specs.Byte.{bytes, is}
 use Rattle.session.specs.Printed.{mode_of}
-use Rattle.session.specs.Owed.{emptied, Seen, see_byte, TracksIn, Tracks}
+use Rattle.session.specs.Steps.Owed.{emptied, Seen, see_byte, TracksIn, Tracks}
 use Rattle.session.specs.declared.state.Phase.{Phase}
 use Rattle.session.specs.declared.state.State.{State}
 use Rattle.session.proofs.RunLaws.{word_long}

@@ -9,7 +9,7 @@ use Rattle.lexer.specs.Lines.{pieces, lines_of}
 use Rattle.rule_text.specs.Text.{Progress, reading, stopped, read_text_behind, in_text, read_text}
 use Rattle.report.specs.Report.{refusal_line}
 use Rattle.session.specs.Printed.{Session, text_only, with_epochs, mode_of, to_text, split_at_run, ended, text_part, epoch_lines, answers_to, printed_for}
-use Rattle.session.specs.Owed.{printed_behind}
+use Rattle.session.specs.Steps.Owed.{printed_behind}
 use Rattle.session.proofs.LineLaws.{OneLine, first, others, lines_begun, lines_ended, lines_last}
 use Rattle.session.proofs.RunLaws.{long_none}
 

@@ -7,7 +7,7 @@ use Rattle.policy.specs.declared.fault.Fault.{Fault}
 use Rattle.policy.specs.declared.mode.Mode.{Mode}
 use Rattle.report.specs.Report.{refusal_line}
 use Rattle.session.specs.Printed.{mode_of}
-use Rattle.session.specs.Owed.{printed_behind, current, Good, Seen, see_byte, TracksIn, Tracks, Took}
+use Rattle.session.specs.Steps.Owed.{printed_behind, current, Good, Seen, see_byte, TracksIn, Tracks, Took}
 use Rattle.session.specs.Steps.Held.{starting_at, line_behind, one_more_held, Pushed, room, full}
 use Rattle.session.specs.Steps.Ended.{TextEnded}
 use Rattle.session.specs.declared.state.Phase.{Phase}

@@ -2,7 +2,7 @@
 use Rattle.std.proofs.Common.{◌≡◌, ℕ, zero, suc, ◌+◌, ◌<◌, ◌≤◌, List, [], ◌∷◌, ◌++◌, length, get_or, take, sym, refl, ap, ◌∙◌, append_assoc, append-nil, add-one, arith, take-suc}
 use Rattle.std.proofs.lemmas.List.Sums.{fold-append}
 use Rattle.session.specs.Printed.{printed}
-use Rattle.session.specs.Owed.{printed_behind, left_in, owed, Fitting, Good, Seen, see_byte, see, nothing_seen, given_for, TracksIn, Tracks, Took, start_state, emptied}
+use Rattle.session.specs.Steps.Owed.{printed_behind, left_in, owed, Fitting, Good, Seen, see_byte, see, nothing_seen, given_for, TracksIn, Tracks, Took, Moved, start_state, emptied}
 use Rattle.session.specs.declared.state.Phase.{Phase}
 use Rattle.session.specs.declared.state.State.{State}
 use Rattle.session.proofs.LineLaws.{empty_line}
@@ -30,6 +30,10 @@ module _ (s : State) (held image out : List ℕ) where
       → Took s held image out (take (i + 1) chunk) r2 held2 image2 out2
   took_next chunk i r held' image' out' r2 held2 image2 out2 h p q =
       rw (add-one, take-suc chunk i 0) (took_more (take i chunk) r held' image' out' (get_or chunk i 0 ∷ []) r2 held2 image2 out2 p q)
+
+pub moved : (s : State) (held image out bytes : List ℕ) (r : State) (held' image' out' : List ℕ) → Took s held image out bytes r held' image' out'
+    → Moved s held image out bytes r held' image' out'
+moved s held image out bytes r held' image' out' p = record { owes = p.owes; tracks = p.tracks; good = p.good }
 
 pub has_moved : (i used before : ℕ) → (i ≡ 0 → used ≡ before) → before ≤ 65024 → 65024 < used → 0 < i
 has_moved zero used before f h k = let e : used ≡ before = f refl in absurd (omega arith)
@@ -64,7 +68,7 @@ emptied_good s held image out g =
 
 module _ (consumed handed : List ℕ) (s : State) (held image out : List ℕ) (w : Represents consumed handed s held image out) where
   -- more of the input
-  pub represents_took : (bytes : List ℕ) (r : State) (held' image' out' : List ℕ) → Took s held image out bytes r held' image' out'
+  pub represents_took : (bytes : List ℕ) (r : State) (held' image' out' : List ℕ) → Moved s held image out bytes r held' image' out'
       → Represents (consumed ++ bytes) handed r held' image' out'
   represents_took bytes r held' image' out' p =
       record {

@@ -1,20 +1,18 @@
 -- However the input is cut into chunks and whenever the output is handed out, what all calls of a session hand out together is
 -- what the definition prints for the input. And what the compiler lists is what its definition says.
 use Rattle.std.proofs.Common.{◌≡◌, ℕ, ◌≤◌, List, [], ◌++◌, length, take, sym, ap, ◌∙◌, append_assoc, append-nil, arith}
-use Rattle.std.proofs.lemmas.List.Sums.{fold-append}
 use Rattle.std.proofs.Math.Option.{some}
 use Rattle.policy.specs.declared.mode.Mode.{Mode}
 use Rattle.acceptance.proofs.Cut.{text_cut, texts_cut}
 use Rattle.output.specs.Buffer.{appended, behind}
 use Rattle.report.specs.Report.{refusal_line, texts_refusal_line}
 use Rattle.session.specs.Listed.{listing_of, listed, listed_texts}
-use Rattle.session.specs.Printed.{printed, due}
-use Rattle.session.specs.Owed.{owed, Good, Seen, see_byte, see, nothing_seen, given_for, Fed, Finished, Called, begun, fed, handed_out, Reached, start_state, emptied}
+use Rattle.session.specs.Printed.{printed}
+use Rattle.session.specs.Steps.Owed.{owed, Good, see, nothing_seen, Called, begun, fed, handed_out, Reached}
 use Rattle.session.specs.declared.state.State.{State}
 use Rattle.output.proofs.RoomLaws.{put_take}
 use Rattle.stream.proofs.FrontLaws.{cut_before}
 use Rattle.session.proofs.ListingLaws.{listed_short, texts_listed_short}
-use Rattle.session.proofs.EngineLaws.{given_emptied, given_none, start_due}
 use Rattle.session.proofs.GivesLaws.{none_left}
 use Rattle.session.proofs.TookLaws.{Represents, represents_start, represents_took, represents_emptied, represents_all}
 
@@ -22,31 +20,13 @@ use Rattle.session.proofs.TookLaws.{Represents, represents_start, represents_too
 
 represented : {consumed handed held image out : List ℕ} {s : State} → Called consumed handed s held image out → Represents consumed handed s held image out
 represented (begun h i o) = represents_start _ _ _ h i o
-represented (fed chunk taken c f) = represents_took _ _ _ _ _ _ (represented c) (take taken chunk) _ _ _ _ f.took
+represented (fed bytes c p) = represents_took _ _ _ _ _ _ (represented c) bytes _ _ _ _ p
 represented (handed_out c) = represents_emptied _ _ _ _ _ _ (represented c)
 
--- after the calls, and with what `finish` leaves to be handed out
+-- after the calls, and with what is still to be handed out at the end of the input
 pub all_printed : {consumed handed held image out : List ℕ} {s : State} → Called consumed handed s held image out
-    → (r : State) (image' out' : List ℕ) → Finished s held image out r image' out' → handed ++ take r.used out' ≡ printed consumed
-all_printed c r image' out' f = represents_all _ _ _ _ _ _ (represented c) (take r.used out') f.all
-
--- whatever of the input has come, what was handed out and what waits are all that is due
-due_along : {consumed handed held image out : List ℕ} {s : State} → Called consumed handed s held image out → (rest : List ℕ)
-    → due (consumed ++ rest) ≡ handed ++ given_for (see nothing_seen consumed) s held image out rest
-due_along (begun h i o) rest = sym (start_due _ _ _ rest)
-due_along (fed {consumed} {handed} {held} {image} {out} {held'} {image'} {out'} {s} {r} chunk taken c f) rest =
-    let bytes = take taken chunk in
-    ap due (append_assoc consumed bytes rest) ∙ due_along c (bytes ++ rest)
-    ∙ ap (λ (l : List ℕ). handed ++ l)
-    (sym (f.took.gives (see nothing_seen consumed) (represented c).tracks rest)
-    ∙ ap (λ (x : Seen). given_for x r held' image' out' rest) (sym (fold-append see_byte nothing_seen consumed bytes)))
-due_along (handed_out {consumed} {handed} {held} {image} {out} {s} c) rest =
-    due_along c rest ∙ ap (λ (l : List ℕ). handed ++ l) (given_emptied s held image out (see nothing_seen consumed) rest)
-    ∙ sym (append_assoc handed (take s.used out) (given_for (see nothing_seen consumed) (emptied s) held image out rest))
-
-pub all_due : {consumed handed held image out : List ℕ} {s : State} → Called consumed handed s held image out → handed ++ take s.used out ≡ due consumed
-all_due {consumed} {handed} {held} {image} {out} {s} c =
-    ap (λ (l : List ℕ). handed ++ l) (sym (given_none s held image out (see nothing_seen consumed))) ∙ sym (due_along c []) ∙ ap due (append-nil consumed)
+    → (last : List ℕ) → last ≡ owed s held image out [] → handed ++ last ≡ printed consumed
+all_printed c last all = represents_all _ _ _ _ _ _ (represented c) last all
 
 -- the answers are there as soon as they can be: once the line that picks the mode has ended and no line has begun behind the last
 -- line end, all that is printed for the input so far was handed out or waits
@@ -62,20 +42,6 @@ answers_wait {consumed} {handed} {held} {image} {out} {s} c r e =
 -- `feed` and `finish` may be called
 pub callable : (s : State) (held image out : List ℕ) → Reached s held image out → Good s held image out
 callable s held image out c = (represented c.calls).good
-
--- ---- the calls of a loop that feeds chunks and hands out what waits
-
-pub reached_start : (held image out : List ℕ) → length held ≡ 32780 → length image ≡ 13064 → length out ≡ 65536 → Reached start_state held image out
-reached_start held image out h i o = record { consumed = []; handed = []; calls = begun h i o }
-
-pub reached_fed : (s : State) (held image out chunk : List ℕ) (taken : ℕ) (r : State) (held' image' out' : List ℕ)
-    → Reached s held image out → Fed s held image out chunk taken r held' image' out' → Reached (emptied r) held' image' out'
-reached_fed s held image out chunk taken r held' image' out' c f =
-    record { consumed = c.consumed ++ take taken chunk; handed = c.handed ++ take r.used out'; calls = handed_out (fed chunk taken c.calls f) }
-
-pub fed_room : (s : State) (held image out chunk : List ℕ) (taken : ℕ) (r : State) (held' image' out' : List ℕ)
-    → Fed s held image out chunk taken r held' image' out' → r.used ≤ length out'
-fed_room s held image out chunk taken r held' image' out' f = let g = f.took.good in rw g.out_long g.used
 
 -- ---- the compiler
 

@@ -1,4 +1,10 @@
--- Notions of the functions of a session: what each does with a byte, a line or the text. No statement speaks of them.
+-- Mechanism of the code, which no contract of a public function cites: a reader need not believe it. `Owed` is what the calls of a
+-- session say and how they follow one another; `Kept`, `Engine` and `Compiler` are what the machines hold and hand out; the others what
+-- a function does with a byte, a line or the text.
+pub mod Owed
+pub mod Kept
+pub mod Engine
+pub mod Compiler
 pub mod Picked
 pub mod Held
 pub mod Ended

@@ -1,6 +1,6 @@
 //! The compiler's whole runs.
 ghost use Rattle.std.specs.Prelude.{◌≤◌, length, OnOk, IfErr};
-ghost use Rattle.stream.specs.Machine.{AnswersAll, EndsBy, nothing};
+ghost use Rattle.stream.specs.Machine.{AnswersAll, ListingEndsBy, nothing};
 ghost use Rattle.session.specs.Listed.{listed};
 ghost use Rattle.session.specs.Texts.{ListsTexts, TextsEndBy};
 
@@ -22,7 +22,7 @@ struct Compiler {
 }
 
 impl Summary for Compiler {
-    ghost use Rattle.session.specs.Compiler.{listed_of};
+    ghost use Rattle.session.specs.Steps.Compiler.{listed_of};
 
     ghost printed = { listed_of };
 
@@ -39,7 +39,7 @@ impl Summary for Compiler {
 /// Lists the text that is the input. It is read to its end, so that whoever writes it is not cut off; the listing is written then.
 pub fn list_input<E: Ends>(ends: &mut E) -> Result<(), Failure>
     ensures ok { OnOk result (AnswersAll listed nothing (E.known ends.old) (E.known ends.new)) }
-    ensures err { IfErr result (λ e. EndsBy e nothing listed (E.known ends.old) (E.known ends.new)) }
+    ensures err { IfErr result (λ e. ListingEndsBy e listed (E.known ends.old) (E.known ends.new)) }
 {
     let mut compiler = Compiler {
         text: [0; TEXT_HELD],

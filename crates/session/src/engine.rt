@@ -2,8 +2,8 @@
 ghost use Rattle.std.specs.Prelude.{◌≡◌, OnOk, IfErr};
 ghost use Rattle.stream.specs.Machine.{AnswersAll, EndsBy};
 ghost use Rattle.session.specs.Printed.{printed, due};
-ghost use Rattle.session.specs.Owed.{start_state, Good};
-ghost use Rattle.session.specs.Kept.{Starting, Starting_prop, Good_prop};
+ghost use Rattle.session.specs.Steps.Owed.{start_state, Good};
+ghost use Rattle.session.specs.Steps.Kept.{Starting, Starting_prop, Good_prop};
 
 use crate::state::{HELD_SIZE, OUT_SIZE, State};
 use image::IMAGE_SIZE;
@@ -14,7 +14,7 @@ const CHUNK_SIZE: usize = 65536;
 
 /// A state with its buffers.
 #[derive(Drop)]
-pub struct Engine {
+struct Engine {
     state: State,
     held: [u8; HELD_SIZE],
     image: [u8; IMAGE_SIZE],
@@ -37,7 +37,7 @@ impl Engine {
 }
 
 impl Machine for Engine {
-    ghost use Rattle.session.specs.Engine.{given_of, printed_of};
+    ghost use Rattle.session.specs.Steps.Engine.{given_of, printed_of};
 
     ghost given = { given_of };
 

@@ -1,7 +1,7 @@
 //! The epoch lines of a session.
 ghost use Rattle.std.specs.Prelude.{◌≡◌, ◌≤◌, [], ◌∷◌, length};
 ghost use Rattle.output.specs.Sink.{fed};
-ghost use Rattle.session.specs.Owed.{Good, Room, Took};
+ghost use Rattle.session.specs.Steps.Owed.{Good, Room, Took};
 ghost use Rattle.session.specs.Printed.{decision_line};
 ghost use Rattle.session.specs.Steps.Ended.{LineEnded};
 ghost use Rattle.session.specs.declared.state.Phase.{Phase};

@@ -1,6 +1,5 @@
-//! What the compiler and the engine print: from all bytes of the input to all bytes of the output. The engine's session takes its
-//! input in chunks of any size and its caller hands the output out whenever it likes. Start with specs/Printed.antt; the compiler's
-//! is specs/Listed.antt.
+//! What the compiler and the engine print: from all bytes of the input to all bytes of the output, and their whole runs. Start with
+//! specs/Printed.antt; the compiler's is specs/Listed.antt.
 #![tactic(auto)]
 
 mod compiler;
@@ -12,21 +11,19 @@ mod state;
 mod text;
 
 ghost use Rattle.std.specs.Prelude.{◌≡◌, [], ◌∷◌};
-ghost use Rattle.session.specs.Owed.{start_state, emptied, Good, Room, Took, Fed, Finished};
+ghost use Rattle.session.specs.Steps.Owed.{start_state, emptied, Good, Room, Took, Fed, Finished};
 
 pub use compiler::{TextsFailure, list_input, list_texts};
-pub use engine::{Engine, answer_epochs};
+pub use engine::answer_epochs;
 use epoch::{end_line, line_byte};
-pub use image::IMAGE_SIZE;
-pub use listing::{LISTING_SIZE, put_listing, put_texts_listing};
+use image::IMAGE_SIZE;
 use mode::Picked;
 use policy::Mode;
-use state::ROOM_LIMIT;
-pub use state::{HELD_SIZE, OUT_SIZE, Phase, State, TEXT_HELD};
+use state::{HELD_SIZE, OUT_SIZE, Phase, ROOM_LIMIT, State};
 use text::{at_run, end_text, text_byte};
 
 /// The state before any input.
-pub fn begin() -> State
+pub(crate) fn begin() -> State
     ensures { result ≡ start_state }
 {
     State {
@@ -41,7 +38,7 @@ pub fn begin() -> State
 }
 
 /// The caller has handed out the output that waited.
-pub fn flushed(state: State) -> State
+pub(crate) fn flushed(state: State) -> State
     ensures { result ≡ emptied state }
 {
     let mut next = state;
@@ -69,14 +66,14 @@ fn step(
 
 /// How many bytes of a chunk were taken, and the state behind them.
 #[derive(Clone, Copy)]
-pub struct Taken {
+pub(crate) struct Taken {
     pub state: State,
     pub taken: usize,
 }
 
 /// Takes the bytes of a chunk, as long as there is room in `out` for what they print. Where fewer than all are taken, the caller hands
 /// out what waits, which is the first `used` bytes of `out`, and feeds the rest.
-pub fn feed(
+pub(crate) fn feed(
     start: State,
     chunk: &[u8],
     held: &mut [u8; HELD_SIZE],
@@ -99,7 +96,7 @@ pub fn feed(
 }
 
 /// The input has ended: what is printed then stands in `out` behind what waited.
-pub fn finish(
+pub(crate) fn finish(
     state: State,
     held: &[u8],
     image: &mut [u8; IMAGE_SIZE],

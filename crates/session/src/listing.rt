@@ -43,11 +43,11 @@ fn put_texts_listed<S: Sink>(sink: &mut S, maker: &[u8], site: &[u8])
 }
 
 /// Bytes of the longest listing: the largest image has 3,266 words, a line of nine bytes each.
-pub const LISTING_SIZE: usize = 29394;
+pub(crate) const LISTING_SIZE: usize = 29394;
 
 /// Puts what the compiler prints for a text at the start of `out`, and answers how many bytes it has; `LISTING_SIZE` are enough.
 #[tactic(auto, using(output::proofs::SinkLaws::stored_all), unfolding(output::specs::Buffer::behind))]
-pub fn put_listing(text: &[u8], out: &mut [u8]) -> usize
+pub(crate) fn put_listing(text: &[u8], out: &mut [u8]) -> usize
     ensures prefix_len { IsPrefixLen result out.new }
     ensures answer { result ≡ behind out.old 0 (listed text.now) }
     ensures buffer { out.new ≡ appended out.old 0 (listed text.now) }
@@ -59,7 +59,7 @@ pub fn put_listing(text: &[u8], out: &mut [u8]) -> usize
 
 /// The same for the maker's and the site's text as one.
 #[tactic(auto, using(output::proofs::SinkLaws::stored_all), unfolding(output::specs::Buffer::behind))]
-pub fn put_texts_listing(maker: &[u8], site: &[u8], out: &mut [u8]) -> usize
+pub(crate) fn put_texts_listing(maker: &[u8], site: &[u8], out: &mut [u8]) -> usize
     ensures prefix_len { IsPrefixLen result out.new }
     ensures answer { result ≡ behind out.old 0 (listed_texts maker.now site.now) }
     ensures buffer { out.new ≡ appended out.old 0 (listed_texts maker.now site.now) }

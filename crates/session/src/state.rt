@@ -5,23 +5,23 @@ ghost use Rattle.session.specs.Steps.Held.{Pushed};
 use policy::Mode;
 
 /// Bytes of a text that are held: one over its limit, which tells that it is too long.
-pub const TEXT_HELD: usize = 32769;
+pub(crate) const TEXT_HELD: usize = 32769;
 
 /// The same and, behind it, eleven bytes of a line, which tell whether it is `run` or `run events`.
-pub const HELD_SIZE: usize = 32780;
+pub(crate) const HELD_SIZE: usize = 32780;
 
 /// Bytes of an epoch line that are held: one over its limit, which tells that it is too long.
 pub(crate) const LINE_HELD: usize = 1025;
 
 /// Bytes of output that may wait.
-pub const OUT_SIZE: usize = 65536;
+pub(crate) const OUT_SIZE: usize = 65536;
 
 /// Up to so many bytes of output there is room for any line behind them.
 pub(crate) const ROOM_LIMIT: usize = 65024;
 
 /// What is being read: the text, epoch lines, or, once the text is refused, nothing that counts.
 #[derive(Clone, Copy)]
-pub enum Phase {
+pub(crate) enum Phase {
     Text,
     Epochs,
     Over,
@@ -30,7 +30,7 @@ pub enum Phase {
 /// `count` bytes are held, of the text or of the epoch line; the current line starts at `start`. `epochs` were decided in `mode`,
 /// which does not matter before the text has ended, on an image of `size` bytes. `used` bytes of output wait.
 #[derive(Clone, Copy)]
-pub struct State {
+pub(crate) struct State {
     pub phase: Phase,
     pub mode: Mode,
     pub start: usize,

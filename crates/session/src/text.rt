@@ -1,7 +1,7 @@
 //! The rule text of a session, up to the line that picks a mode.
 ghost use Rattle.std.specs.Prelude.{◌≡◌, ◌≤◌, [], ◌∷◌, length, take};
 ghost use Rattle.session.specs.Printed.{mode_of};
-ghost use Rattle.session.specs.Owed.{current, Good, Room, Took};
+ghost use Rattle.session.specs.Steps.Owed.{current, Good, Room, Took};
 ghost use Rattle.session.specs.Steps.Held.{line_behind};
 ghost use Rattle.session.specs.Steps.Picked.{mode_in};
 ghost use Rattle.session.specs.Steps.Ended.{TextEnded};

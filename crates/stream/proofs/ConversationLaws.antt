@@ -1,13 +1,13 @@
 -- How a conversation goes on and ends.
-use Rattle.std.proofs.Common.{◌≡◌, ◌+◌, ◌<◌, ℕ, List, [], ◌++◌, length, take, refl, sym, ap, ◌∙◌, subst, append-nil}
+use Rattle.std.proofs.Common.{◌≡◌, ◌+◌, ◌<◌, inr, ℕ, List, [], ◌++◌, length, take, refl, sym, ap, ◌∙◌, subst, append-nil, IfSome}
 use Rattle.std.specs.Io.{StartsWith}
 use Rattle.std.specs.Io.KnownBytes.{IsAtEnd}
 use Rattle.std.specs.declared.io.Error.{Error}
 use Rattle.std.proofs.KnownBytes.{Consumes-whole}
 use Rattle.stream.specs.declared.failure.Failure.{Failure}
-use Rattle.stream.specs.declared.failure.Failure.TheVariants.{Read}
+use Rattle.stream.specs.declared.failure.Failure.TheVariants.{Read, Write}
 use Rattle.stream.specs.Event.{came, GoOn, StopsAt, Fails, EndsBehind}
-use Rattle.stream.specs.Machine.{Goes, Known, Reads, Sends, Talks, AnswersAll, AnswersDue, AnswersInPart}
+use Rattle.stream.specs.Machine.{Goes, Known, Reads, Sends, Talks, AnswersAll, ReadFails, LastWriteFails, EndsBy, nothing, ListingEndsBy, IsWriteFailure}
 use Rattle.stream.proofs.EventLaws.{go_on_append, go_on_came, stops_behind, fails_behind, ends_behind, prompt_came, prompt_failed}
 use Rattle.stream.proofs.KnownLaws.{talks_read, talks_send}
 use Rattle.stream.proofs.MachineLaws.{goes_due, goes_front, starts_refl, starts_cut}
@@ -35,34 +35,62 @@ module _ {S : Type 0} (given printed : S → List ℕ → List ℕ) (a b : S) (o
       talks end (prompt_came (given a) bytes text [] end.events end.reads end.came due_gone end.ended))
 
   -- a read failed
-  pub answered_due : (new : Known) (e : Error) → Reads (Fails (Read e)) k new [] → AnswersDue (Fails (Read e)) (given a) old new
-  answered_due new e read = (
-    bytes,
-    subst (λ l. Talks (given a) (Fails (Read e)) old new l (given a bytes)) (append-nil bytes)
+  pub read_fails : (new : Known) (e : Error) → Reads (Fails (Read e)) k new [] → ReadFails e (given a) old new
+  read_fails new e read = record {
+    bytes = bytes;
+    talk = subst (λ l. Talks (given a) (Fails (Read e)) old new l (given a bytes)) (append-nil bytes)
         (subst (Talks (given a) (Fails (Read e)) old new (bytes ++ [])) due_gone
         (talks_read (given a) (GoOn turns) (Fails (Read e)) (Fails (Read e)) old k new bytes text []
         (λ es fs p q. fails_behind (Read e) es fs p.0 q)
-        talks read (prompt_failed (given a) bytes text read.events e read.reads read.came due_gone read.ended))),
-  )
+        talks read (prompt_failed (given a) bytes text read.events e read.reads read.came due_gone read.ended)));
+  }
 
-  -- the end was read, and all that the machine prints there was sent
-  pub answered_all : (mid new : Known) → Reads (StopsAt (came [])) k mid [] → IsAtEnd mid.unread → Sends (GoOn 0) mid new (printed b []) → AnswersAll (printed a) (given a) old new
-  answered_all mid new read end sent =
-      let talked = talks_end mid read in
-      let whole : text ++ printed b [] ≡ printed a bytes = sym (goes.in_all []) ∙ ap (printed a) (append-nil bytes) in (
-        bytes,
-        subst (Talks (given a) (EndsBehind (GoOn 0)) old new bytes) whole
-            (talks_send (given a) (StopsAt (came [])) (GoOn 0) (EndsBehind (GoOn 0)) old mid new bytes text _ (ends_behind (GoOn 0)) talked sent),
-        Consumes-whole old.unread mid.unread bytes (λ xs. xs ≡ bytes) talked.unread end refl,
-      )
+  module _ (mid new : Known) (read : Reads (StopsAt (came [])) k mid []) (end : IsAtEnd mid.unread) where
+    talked : Talks (given a) (StopsAt (came [])) old mid bytes text
+    talked = talks_end mid read
 
-  -- or a front of it
-  pub answered_part : (mid new : Known) (n : ℕ) (e : Failure) → Reads (StopsAt (came [])) k mid []
-      → Sends (Fails e) mid new (take n (printed b [])) → AnswersInPart (EndsBehind (Fails e)) (printed a) (given a) old new
-  answered_part mid new n e read sent = (
-    bytes,
-    text ++ take n (printed b []),
-    talks_send (given a) (StopsAt (came [])) (Fails e) (EndsBehind (Fails e)) old mid new bytes text _ (ends_behind (Fails e)) (talks_end mid read) sent,
-    subst (λ l. StartsWith (printed a l) (text ++ take n (printed b []))) (append-nil bytes)
-        (goes_front given printed a b bytes text _ [] goes (starts_cut (printed b []) (printed b []) n (starts_refl (printed b [])))),
-  )
+    whole : IfSome old.unread (λ xs. xs ≡ bytes)
+    whole = Consumes-whole old.unread mid.unread bytes (λ xs. xs ≡ bytes) talked.unread end refl
+
+    -- the end was read, and all that the machine prints there was sent
+    pub answers_all : Sends (GoOn 0) mid new (printed b []) → AnswersAll (printed a) (given a) old new
+    answers_all sent =
+        let answer : text ++ printed b [] ≡ printed a bytes = sym (goes.in_all []) ∙ ap (printed a) (append-nil bytes) in
+        let talk = subst (Talks (given a) (EndsBehind (GoOn 0)) old new bytes) answer
+        (talks_send (given a) (StopsAt (came [])) (GoOn 0) (EndsBehind (GoOn 0)) old mid new bytes text _ (ends_behind (GoOn 0)) talked sent) in
+        record {
+          bytes = bytes;
+          whole = whole;
+          read = talk.unread;
+          written = talk.held;
+          events = talk.events;
+          logged = talk.logged;
+          came = talk.came;
+          went = talk.went;
+          prompt = talk.prompt;
+          ended = talk.ended;
+        }
+
+    -- or a front of it
+    pub last_write_fails : (n : ℕ) (e : Error) → Sends (Fails (Write e)) mid new (take n (printed b [])) → LastWriteFails e (printed a) (given a) old new
+    last_write_fails n e sent = record {
+      bytes = bytes;
+      text = text ++ take n (printed b []);
+      whole = whole;
+      talk = talks_send (given a) (StopsAt (came [])) (Fails (Write e)) (EndsBehind (Fails (Write e))) old mid new bytes text _ (ends_behind (Fails (Write e))) talked sent;
+      front = subst (λ l. StartsWith (printed a l) (text ++ take n (printed b []))) (append-nil bytes)
+          (goes_front given printed a b bytes text _ [] goes (starts_cut (printed b []) (printed b []) n (starts_refl (printed b []))));
+    }
+
+    pub last_fails : (e : Failure) → IsWriteFailure e × ((n : ℕ) × Sends (Fails e) mid new (take n (printed b []))) → EndsBy e (given a) (printed a) old new
+    last_fails (Read e) w = absurd w.0
+    last_fails (Write e) (w, (n, sent)) = inr (last_write_fails n e sent)
+
+-- the same where nothing is due before the end
+pub listing_fails : {S : Type 0} (printed : S → List ℕ → List ℕ) (a b : S) (old k : Known) (turns : ℕ) (bytes : List ℕ)
+    → Goes (λ s. nothing) printed a b bytes [] → Talks nothing (GoOn turns) old k bytes []
+    → (mid new : Known) → Reads (StopsAt (came [])) k mid [] → IsAtEnd mid.unread
+    → (e : Failure) → IsWriteFailure e × ((n : ℕ) × Sends (Fails e) mid new (take n (printed b []))) → ListingEndsBy e (printed a) old new
+listing_fails printed a b old k turns bytes goes talks mid new read end (Read e) w = absurd w.0
+listing_fails printed a b old k turns bytes goes talks mid new read end (Write e) (w, (n, sent)) =
+    last_write_fails (λ s. nothing) printed a b old k turns bytes [] goes refl talks mid new read end n e sent

@@ -6,7 +6,7 @@ use Rattle.std.proofs.Math.Seq.{take-append_seam}
 use Rattle.std.specs.declared.io.Error.{Error}
 use Rattle.stream.specs.declared.failure.Failure.{Failure}
 use Rattle.stream.specs.declared.failure.Failure.TheVariants.{Read}
-use Rattle.stream.specs.Event.{Event, came, went, read_failed, write_failed, Logs, came_in, went_out, IsRead, IsWrite, IsPromptAfter, GoesOn, GoOn, StopsAt, IsToldAs, Fails, EndsBehind}
+use Rattle.stream.specs.Event.{Event, came, went, read_failed, write_failed, Logs, came_in, went_out, IsRead, IsWrite, IsPrompt, GoesOn, GoOn, StopsAt, IsToldAs, Fails, EndsBehind}
 
 pub logs_nil : (a : Option (List Event)) → Logs a a []
 logs_nil None = tt
@@ -45,6 +45,61 @@ writes_in (came xs ∷ es) h = absurd (All-head IsWrite _ es h)
 writes_in (went xs ∷ es) h = writes_in es (All-tail IsWrite _ es h)
 writes_in (read_failed e ∷ es) h = absurd (All-head IsWrite _ es h)
 writes_in (write_failed e ∷ es) h = writes_in es (All-tail IsWrite _ es h)
+
+-- ---- at each read all that is due had gone
+
+-- behind what came and went before
+abbrev pub IsPromptAfter : (due : List ℕ → List ℕ) (bytes text : List ℕ) → List Event → Type 0
+IsPromptAfter due bytes text [] = Unit {0}
+IsPromptAfter due bytes text (came more ∷ events) = (text ≡ due bytes) × IsPromptAfter due (bytes ++ more) text events
+IsPromptAfter due bytes text (went more ∷ events) = IsPromptAfter due bytes (text ++ more) events
+IsPromptAfter due bytes text (read_failed e ∷ events) = (text ≡ due bytes) × IsPromptAfter due bytes text events
+IsPromptAfter due bytes text (write_failed e ∷ events) = IsPromptAfter due bytes text events
+
+module _ (due : List ℕ → List ℕ) where
+  -- call by call
+  abbrev Owes : (bytes text : List ℕ) → List Event → Type 0
+  Owes bytes text es = (before : List Event) (call : Event) (after : List Event) → es ≡ before ++ call ∷ after → IsRead call
+      → text ++ went_out before ≡ due (bytes ++ came_in before)
+
+  at_first : (bytes text : List ℕ) → text ++ [] ≡ due (bytes ++ []) → text ≡ due bytes
+  at_first bytes text h = sym (append-nil text) ∙ h ∙ ap due (append-nil bytes)
+
+  after_calls : (bytes text : List ℕ) (es : List Event) → Owes bytes text es → IsPromptAfter due bytes text es
+  after_calls bytes text [] h = tt
+  after_calls bytes text (came more ∷ es) h = (
+    at_first bytes text (h [] _ es refl tt),
+    after_calls (bytes ++ more) text es
+        (λ before call after e r. h (came more ∷ before) call after (ap (λ l. came more ∷ l) e) r ∙ ap due (sym (append_assoc bytes more (came_in before)))),
+  )
+  after_calls bytes text (went more ∷ es) h =
+      after_calls bytes (text ++ more) es
+      (λ before call after e r. append_assoc text more (went_out before) ∙ h (went more ∷ before) call after (ap (λ l. went more ∷ l) e) r)
+  after_calls bytes text (read_failed e ∷ es) h = (
+    at_first bytes text (h [] _ es refl tt),
+    after_calls bytes text es (λ before call after p r. h (read_failed e ∷ before) call after (ap (λ l. read_failed e ∷ l) p) r),
+  )
+  after_calls bytes text (write_failed e ∷ es) h =
+      after_calls bytes text es (λ before call after p r. h (write_failed e ∷ before) call after (ap (λ l. write_failed e ∷ l) p) r)
+
+  pub prompt_after : (es : List Event) → IsPrompt due es → IsPromptAfter due [] [] es
+  prompt_after es h = after_calls [] [] es h
+
+  at_call : (bytes text : List ℕ) (before : List Event) (call : Event) (after : List Event) → IsRead call
+      → IsPromptAfter due bytes text (before ++ call ∷ after) → text ++ went_out before ≡ due (bytes ++ came_in before)
+  at_call bytes text [] (came more) after r p = append-nil text ∙ p.0 ∙ ap due (sym (append-nil bytes))
+  at_call bytes text [] (went more) after r p = absurd r
+  at_call bytes text [] (read_failed e) after r p = append-nil text ∙ p.0 ∙ ap due (sym (append-nil bytes))
+  at_call bytes text [] (write_failed e) after r p = absurd r
+  at_call bytes text (came more ∷ before) call after r p =
+      at_call (bytes ++ more) text before call after r p.1 ∙ ap due (append_assoc bytes more (came_in before))
+  at_call bytes text (went more ∷ before) call after r p =
+      sym (append_assoc text more (went_out before)) ∙ at_call bytes (text ++ more) before call after r p
+  at_call bytes text (read_failed e ∷ before) call after r p = at_call bytes text before call after r p.1
+  at_call bytes text (write_failed e ∷ before) call after r p = at_call bytes text before call after r p
+
+  pub after_prompt : (es : List Event) → IsPromptAfter due [] [] es → IsPrompt due es
+  after_prompt es p before call after e r = at_call [] [] before call after r (subst (IsPromptAfter due [] []) e p)
 
 -- events that are prompt, and behind them more that are
 pub prompt_append : (due : List ℕ → List ℕ) (bytes text : List ℕ) (es fs : List Event) → IsPromptAfter due bytes text es
@@ -134,7 +189,8 @@ fails_behind failure es fs g (inl (last, told, stops)) = inl (last, told, stops_
 fails_behind failure es fs g (inr (goes, late)) = inr (go_on_append 0 _ es fs (g, omega arith) goes, late)
 
 pub ends_behind : (ends : List Event → Type 0) (es fs : List Event) → StopsAt (came []) es → All IsWrite fs → ends fs → EndsBehind ends (es ++ fs)
-ends_behind ends es fs (before, is, goes) w e = (before, fs, ap (λ l. l ++ fs) is ∙ append_assoc before (came [] ∷ []) fs, goes, w, e)
+ends_behind ends es fs (before, is, goes) w e =
+    record { before = before; writes = fs; all = ap (λ l. l ++ fs) is ∙ append_assoc before (came [] ∷ []) fs; goes = goes; only = w; ended = e }
 
 -- ---- one call more
 

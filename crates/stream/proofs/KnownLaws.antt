@@ -4,9 +4,9 @@ use Rattle.std.specs.Io.KnownBytes.{Appends, Consumes, Keeps}
 use Rattle.std.specs.declared.io.Error.{Error}
 use Rattle.std.proofs.KnownBytes.{Appends-nil, Appends-trans, Appends-kept, Consumes-nil, Consumes-trans, Consumes-kept, Keeps-refl, Keeps-trans}
 use Rattle.std.proofs.lemmas.List.Elements.{All-nil, All-cons, All-append}
-use Rattle.stream.specs.Event.{Event, came, went, read_failed, write_failed, Logs, came_in, went_out, IsRead, IsWrite, IsPromptAfter, GoOn, StopsAt}
+use Rattle.stream.specs.Event.{Event, came, went, read_failed, write_failed, Logs, came_in, went_out, IsRead, IsWrite, GoOn, StopsAt}
 use Rattle.stream.specs.Machine.{Known, Reads, Sends, Talks}
-use Rattle.stream.proofs.EventLaws.{logs_nil, logs_trans, came_in_append, went_out_append, reads_out, writes_in, prompt_append, prompt_writes, go_on_nil, IsJust}
+use Rattle.stream.proofs.EventLaws.{logs_nil, logs_trans, came_in_append, went_out_append, reads_out, writes_in, IsPromptAfter, prompt_after, after_prompt, prompt_append, prompt_writes, go_on_nil, IsJust}
 
 -- calls that end so, and behind them calls that end so, end so
 abbrev pub Joins : (first then both : List Event → Type 0) → Type 0
@@ -110,20 +110,6 @@ sends_trans first then both a b c text more join p q = record {
   ended = join p.events q.events p.ended q.ended;
 }
 
--- and so they end in a weaker sense
-pub talks_weaker : (due : List ℕ → List ℕ) (ends weaker : List Event → Type 0) (a b : Known) (bytes text : List ℕ)
-    → ((es : List Event) → ends es → weaker es) → Talks due ends a b bytes text → Talks due weaker a b bytes text
-talks_weaker due ends weaker a b bytes text weaken p = record {
-  events = p.events;
-  unread = p.unread;
-  held = p.held;
-  logged = p.logged;
-  came = p.came;
-  went = p.went;
-  prompt = p.prompt;
-  ended = weaken p.events p.ended;
-}
-
 pub talks_nil : (due : List ℕ → List ℕ) (a : Known) → Talks due (GoOn 0) a a [] []
 talks_nil due a = record {
   events = [];
@@ -132,7 +118,7 @@ talks_nil due a = record {
   logged = logs_nil a.history;
   came = refl;
   went = refl;
-  prompt = tt;
+  prompt = after_prompt due [] tt;
   ended = go_on_nil;
 }
 
@@ -146,8 +132,8 @@ talks_read due first then both a b c bytes text more join p q prompt = record {
   logged = logs_trans a.history b.history c.history p.events q.events p.logged q.logged;
   came = came_in_append p.events q.events ∙ ap (λ l. l ++ came_in q.events) p.came ∙ ap (λ l. bytes ++ l) q.came;
   went = went_out_append p.events q.events ∙ ap (λ l. went_out p.events ++ l) (reads_out q.events q.reads) ∙ append-nil (went_out p.events) ∙ p.went;
-  prompt = prompt_append due [] [] p.events q.events p.prompt
-      (subst (λ l. IsPromptAfter due l (went_out p.events) q.events) (sym p.came) (subst (λ l. IsPromptAfter due bytes l q.events) (sym p.went) prompt));
+  prompt = after_prompt due (p.events ++ q.events) (prompt_append due [] [] p.events q.events (prompt_after due p.events p.prompt)
+      (subst (λ l. IsPromptAfter due l (went_out p.events) q.events) (sym p.came) (subst (λ l. IsPromptAfter due bytes l q.events) (sym p.went) prompt)));
   ended = join p.events q.events p.ended q.ended;
 }
 
@@ -161,6 +147,7 @@ talks_send due first then both a b c bytes text more join p q = record {
   logged = logs_trans a.history b.history c.history p.events q.events p.logged q.logged;
   came = came_in_append p.events q.events ∙ ap (λ l. came_in p.events ++ l) (writes_in q.events q.writes) ∙ append-nil (came_in p.events) ∙ p.came;
   went = went_out_append p.events q.events ∙ ap (λ l. l ++ went_out q.events) p.went ∙ ap (λ l. text ++ l) q.went;
-  prompt = prompt_append due [] [] p.events q.events p.prompt (prompt_writes due _ _ q.events q.writes);
+  prompt = after_prompt due (p.events ++ q.events)
+      (prompt_append due [] [] p.events q.events (prompt_after due p.events p.prompt) (prompt_writes due _ _ q.events q.writes));
   ended = join p.events q.events p.ended q.writes q.ended;
 }

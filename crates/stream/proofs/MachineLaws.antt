@@ -1,13 +1,9 @@
 -- Laws of `Goes`, and of what begins with what.
-use Rattle.std.proofs.Common.{◌≡◌, ℕ, ◌+◌, ◌-◌, List, [], ◌++◌, length, take, drop, refl, sym, ap, ◌∙◌, subst, append_assoc, append-nil, take-append-drop, take-add, inr, Result, Ok, Err, IfErr, IsErrAnd, OnOk, take_all, arith}
+use Rattle.std.proofs.Common.{◌≡◌, ℕ, ◌+◌, ◌-◌, List, [], ◌++◌, length, take, drop, refl, sym, ap, ◌∙◌, subst, append_assoc, append-nil, take-append-drop, take-add, Result, Ok, Err, IfErr, IsErrAnd, OnOk, take_all, arith}
 use Rattle.std.proofs.lemmas.List.{append_cancel_left, take_rest}
 use Rattle.std.proofs.Math.Seq.{take-append_seam}
 use Rattle.std.specs.Io.{StartsWith}
-use Rattle.stream.specs.declared.failure.Failure.{Failure}
-use Rattle.stream.specs.declared.failure.Failure.TheVariants.{Read, Write}
-use Rattle.stream.specs.Event.{Fails, EndsBehind}
-use Rattle.stream.proofs.KnownLaws.{talks_weaker}
-use Rattle.stream.specs.Machine.{Goes, Known, AnswersInPart, EndsBy, IsWriteFailure}
+use Rattle.stream.specs.Machine.{Goes}
 
 -- ---- what begins with what
 
@@ -31,6 +27,10 @@ starts_behind ts xs front h =
     let whole : ts ++ xs ≡ (ts ++ front) ++ drop (length front) xs =
     ap (λ l. ts ++ l) (starts_rest xs front h) ∙ sym (append_assoc ts front _) in
     subst (λ l. StartsWith l (ts ++ front)) (sym whole) (starts_append (ts ++ front) _)
+
+-- both say the same, one of what is due and one of all
+pub goes_turned : {S : Type 0} (given printed : S → List ℕ → List ℕ) (a b : S) (xs ts : List ℕ) → Goes given printed a b xs ts → Goes printed given a b xs ts
+goes_turned given printed a b xs ts p = record { at_once = p.in_all; in_all = p.at_once }
 
 module _ {S : Type 0} (given printed : S → List ℕ → List ℕ) where
   abbrev pub From : S → S → List ℕ → List ℕ → Type 0
@@ -86,9 +86,3 @@ if_err (Err y) P e is p = subst P (sym is) p
 pub on_ok_weaker : {A E : Type 0} (r : Result A E) (P Q : Type 0) → (P → Q) → OnOk r P → OnOk r Q
 on_ok_weaker (Ok a) P Q f p = f p
 on_ok_weaker (Err e) P Q f p = tt
-
--- a failed write ends a conversation in part
-pub ends_in_part : (e : Failure) (given printed : List ℕ → List ℕ) (old new : Known) → IsWriteFailure e
-    → AnswersInPart (EndsBehind (Fails e)) printed given old new → EndsBy e given printed old new
-ends_in_part (Read e) given printed old new w p = absurd w
-ends_in_part (Write e) given printed old new w (bytes, text, talks, front) = (bytes, text, talks_weaker given _ _ old new bytes text (λ es. inr) talks, front)

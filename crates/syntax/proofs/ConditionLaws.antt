@@ -4,13 +4,15 @@ use Rattle.std.proofs.Common.{ℕ, ◌<◌, Bool, true, false, cond, List, [], �
 use Rattle.std.proofs.Math.Option.{Option, none, some, or_else}
 use Rattle.policy.specs.Limits.{comparison_in_range}
 use Rattle.policy.specs.declared.comparison.Comparison.{Comparison}
+use Rattle.policy.specs.declared.comparison.Relation.{Relation}
+use Rattle.policy.specs.declared.number.Reading.{Reading}
 use Rattle.policy.specs.declared.comparison.Operand.{Operand}
 use Rattle.lexer.proofs.KeywordLaws.{keyword_none}
 use Rattle.lexer.specs.Byte.{bytes, bytes_equal, is}
 use Rattle.lexer.specs.Lines.{behind_line}
 use Rattle.lexer.specs.Number.{is_empty, decimal_of, hexadecimal_of, constant_of}
 use Rattle.lexer.specs.Steps.Scan.{without_spaces, keyword_in, tokens_in}
-use Rattle.lexer.specs.Token.{Token, both, compare, named, reading_of, relation_of, operand_of, comparison_of}
+use Rattle.lexer.specs.Token.{Token, both, comparison_by, named, reading_of, relation_of, operand_of, comparison_of}
 use Rattle.token.specs.Steps.PartIn.{kept, comparison_in}
 use Rattle.syntax.proofs.FrontLaws.{behind_first, first_token, Ended, ended, Started, started, by_first, worded, Parted, part_some, part_none}
 use Rattle.syntax.specs.Grammar.{comparisons_from, condition_from}
@@ -50,25 +52,29 @@ comparison_more d behind x none = refl
 comparison_more d behind x (some cs) = refl
 
 -- each token of a comparison has a byte
-both_none : {A B C : Type 0} (f : A → B → C) (x : Option A) → both f x none ≡ none
-unfolding both
-both_none f none = refl
-both_none f (some x) = refl
+no_relation : (r : Option Reading) (o : Option Operand) → comparison_by r none o ≡ none
+no_relation none o = refl
+no_relation (some r) o = refl
+
+no_operand : (r : Option Reading) (q : Option Relation) → comparison_by r q none ≡ none
+no_operand none q = refl
+no_operand (some r) none = refl
+no_operand (some r) (some q) = refl
 
 module _ (q : Token) (x : Comparison) where
   solid_reading : (r o : Token) → comparison_of r q o ≡ some x → is_empty r ≡ false
-  unfolding comparison_of reading_of named both
+  unfolding comparison_of reading_of named
   solid_reading [] o e = let w : ◌≡◌ {A = ℕ} 0 1 = cc in absurd (omega arith)
   solid_reading (b ∷ r) o e = refl
 
 solid_relation : (r q o : Token) (x : Comparison) → comparison_of r q o ≡ some x → is_empty q ≡ false
-unfolding comparison_of relation_of is bytes bytes_equal both
-solid_relation r [] o x e = let w : ◌≡◌ {A = ℕ} 0 1 = cc (sym e ∙ ap (λ (f : Option (Operand → Comparison)). both (λ (g : Operand → Comparison) (y : Operand). g y) f (operand_of o)) (both_none compare (reading_of r))) in absurd (omega arith)
+unfolding comparison_of relation_of is bytes bytes_equal
+solid_relation r [] o x e = let w : ◌≡◌ {A = ℕ} 0 1 = cc (sym e ∙ no_relation (reading_of r) (operand_of o)) in absurd (omega arith)
 solid_relation r (b ∷ q) o x e = refl
 
 solid_operand : (r q o : Token) (x : Comparison) → comparison_of r q o ≡ some x → is_empty o ≡ false
 unfolding comparison_of operand_of reading_of named or_else decimal_of hexadecimal_of constant_of
-solid_operand r q [] x e = let w : ◌≡◌ {A = ℕ} 0 1 = cc (sym e ∙ both_none (λ (f : Operand → Comparison) (y : Operand). f y) (both compare (reading_of r) (relation_of q))) in absurd (omega arith)
+solid_operand r q [] x e = let w : ◌≡◌ {A = ℕ} 0 1 = cc (sym e ∙ no_operand (reading_of r) (relation_of q)) in absurd (omega arith)
 solid_operand r q (b ∷ o) x e = refl
 
 -- ---- a turn of reading

@@ -9,7 +9,7 @@ use Rattle.policy.specs.declared.comparison.Comparison.{Comparison}
 use Rattle.policy.specs.declared.comparison.Operand.{Operand}
 use Rattle.policy.specs.declared.comparison.Relation.{Relation}
 use Rattle.policy.specs.declared.number.Reading.{Reading}
-use Rattle.lexer.specs.Token.{compare, named, reading_of, relation_of, operand_of, both, comparison_of}
+use Rattle.lexer.specs.Token.{compare, comparison_by, named, reading_of, relation_of, operand_of, comparison_of}
 use Rattle.lexer.specs.Number.{constant_of}
 use Rattle.lexer.specs.Steps.Scan.{token_in, behind_token, without_spaces, clip, clip_limit, number_before, name_in, reading_in}
 use Rattle.token.specs.Steps.PartIn.{kept, part_before, constant_in, relation_before, relation_in, operand_in, compared_with, compared, next_token, comparison_in}
@@ -59,11 +59,6 @@ part_some {A} ok rest (some x) m k q =
     let e : (kept ok x, rest) ≡ (m, k) = cc in
     record { part = x; is = refl; made = sym (ap (λ (p : Maybe A × List ℕ). p.0) e); behind = sym (ap (λ (p : Maybe A × List ℕ). p.1) e) }
 
-pub both_none : {A B C : Type 0} (f : A → B → C) (x : Option A) → both f x none ≡ none
-unfolding both
-both_none f none = refl
-both_none f (some x) = refl
-
 -- ---- mapped answers
 
 pub map_map : {A B C : Type 0} (f : A → B) (g : B → C) (o : Option A) → map g (map f o) ≡ map (λ (x : A). g (f x)) o
@@ -106,19 +101,19 @@ from_clipped n r x = ap (λ (m : Maybe Reading). compared_with r m (kept operand
 pub comparison_by_parts : (text : List ℕ) →
     comparison_in text
     ≡ option_and_then (λ (n : ℕ × List ℕ). option_and_then (λ (r : Relation × List ℕ). option_map (λ (o : Maybe Operand × List ℕ). (compared n.0 r.0 o.0, o.1)) (operand_in (without_spaces r.1))) (relation_in (without_spaces n.1))) (reading_in text)
-unfolding comparison_in comparison_of both reading_of relation_in relation_before operand_in part_before name_in number_before
+unfolding comparison_in comparison_of reading_of relation_in relation_before operand_in part_before name_in number_before
 comparison_by_parts text = first (named 82 (token_in text))
   where
-    last : (n : ℕ) (r : Relation) (c : Option Operand) → part_before comparison_in_range (behind_token (next_token (next_token text))) (both (λ (f : Operand → Comparison) (x : Operand). f x) (some (compare (record { 0 = n }) r)) c) ≡ option_map (λ (o : Maybe Operand × List ℕ). (compared (clip n) r o.0, o.1)) (part_before operand_in_range (behind_token (next_token (next_token text))) c)
+    last : (n : ℕ) (r : Relation) (c : Option Operand) → part_before comparison_in_range (behind_token (next_token (next_token text))) (comparison_by (some (record { 0 = n })) (some r) c) ≡ option_map (λ (o : Maybe Operand × List ℕ). (compared (clip n) r o.0, o.1)) (part_before operand_in_range (behind_token (next_token (next_token text))) c)
     last n r none = refl
     last n r (some x) = ap (λ (m : Maybe Comparison). Some (m, behind_token (next_token (next_token text)))) (sym (from_clipped n r x))
 
-    related : (n : ℕ) (b : Option Relation) → part_before comparison_in_range (behind_token (next_token (next_token text))) (both (λ (f : Operand → Comparison) (x : Operand). f x) (both compare (some (record { 0 = n })) b) (operand_of (token_in (next_token (next_token text))))) ≡ option_and_then (λ (r : Relation × List ℕ). option_map (λ (o : Maybe Operand × List ℕ). (compared (clip n) r.0 o.0, o.1)) (operand_in (without_spaces r.1))) (relation_before (behind_token (next_token text)) b)
+    related : (n : ℕ) (b : Option Relation) → part_before comparison_in_range (behind_token (next_token (next_token text))) (comparison_by (some (record { 0 = n })) b (operand_of (token_in (next_token (next_token text))))) ≡ option_and_then (λ (r : Relation × List ℕ). option_map (λ (o : Maybe Operand × List ℕ). (compared (clip n) r.0 o.0, o.1)) (operand_in (without_spaces r.1))) (relation_before (behind_token (next_token text)) b)
     related n none = refl
     related n (some r) = last n r (operand_of (token_in (next_token (next_token text))))
 
     first : (a : Option ℕ) →
-        part_before comparison_in_range (behind_token (next_token (next_token text))) (both (λ (f : Operand → Comparison) (x : Operand). f x) (both compare (map (λ (n : ℕ). record { 0 = n }) a) (relation_of (token_in (next_token text)))) (operand_of (token_in (next_token (next_token text)))))
+        part_before comparison_in_range (behind_token (next_token (next_token text))) (comparison_by (map (λ (n : ℕ). record { 0 = n }) a) (relation_of (token_in (next_token text))) (operand_of (token_in (next_token (next_token text)))))
         ≡ option_and_then (λ (n : ℕ × List ℕ). option_and_then (λ (r : Relation × List ℕ). option_map (λ (o : Maybe Operand × List ℕ). (compared n.0 r.0 o.0, o.1)) (operand_in (without_spaces r.1))) (relation_in (without_spaces n.1))) (number_before (behind_token text) a)
     first none = refl
     first (some n) = related n (relation_of (token_in (next_token text)))

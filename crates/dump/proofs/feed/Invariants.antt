@@ -1,5 +1,5 @@
 use Rattle.std.proofs.Common.{◌≡◌, length, drop}
-use Rattle.dump.specs.Calls.{held, fed}
+use Rattle.dump.specs.Steps.Calls.{held, fed}
 use Rattle.dump.proofs.feed.Given as goal
 
 abbrev pub invariant-loop-byte : goal.invariant-loop-byte

@@ -2,7 +2,7 @@ use Rattle.std.proofs.Common.{ℕ, zero, suc, ◌≤◌, List, [], ◌∷◌, in
 use Rattle.word.proofs.ChunkLaws.{words_in_length}
 use Rattle.word.specs.Chunk.{words_in}
 use Rattle.operation.specs.Fields.{skip_of}
-use Rattle.image.specs.Steps.Values.{values_behind, lines_left}
+use Rattle.image.specs.Walk.{values_behind, lines_left}
 use Rattle.image.specs.declared.walker.Walker.{Walker}
 use Rattle.image_cases.proofs.count_lines.Goals as goal
 

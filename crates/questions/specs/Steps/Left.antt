@@ -1,7 +1,7 @@
 -- What is answered along the rest of the input, where of the open line this is held and n questions were answered.
 use Rattle.std.specs.Prelude.{ℕ, cond, eqb, List, [], ◌∷◌, ◌++◌}
 use Rattle.questions.specs.Answered.{next}
-use Rattle.questions.specs.Asked.{answer_held, last_answer}
+use Rattle.questions.specs.Steps.Asked.{answer_held, last_answer}
 use Rattle.questions.specs.Steps.Held.{start_question, Held, held_by, pushed}
 
 module _ (maker site image : List ℕ) where

@@ -13,6 +13,13 @@ use Rattle.rule_text.specs.Steps.Tally.{one_more, tally_as}
 use Rattle.rule_text.specs.declared.LineCounts.{LineCounts}
 use Rattle.rule_text.specs.declared.TextCounts.{TextCounts}
 
+abbrev pub no_lines : LineCounts
+no_lines = record { lines = 0; heads = 0; comparisons = 0; constants = 0 }
+
+-- before the first line
+abbrev pub no_counts : TextCounts
+no_counts = record { rules = no_lines; constraints = no_lines }
+
 pub data Counting : Type 0 where
   -- the number of the next line, and the counts so far
   going : ℕ → TextCounts → Counting

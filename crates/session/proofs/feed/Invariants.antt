@@ -1,5 +1,5 @@
 use Rattle.std.proofs.Common.{◌≡◌, ◌-◌, ◌≤◌, length, take}
-use Rattle.session.specs.Owed.{Took}
+use Rattle.session.specs.Steps.Owed.{Took}
 use Rattle.session.proofs.feed.Given as goal
 
 abbrev pub invariant-loop-i : goal.invariant-loop-i

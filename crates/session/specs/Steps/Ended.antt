@@ -5,7 +5,7 @@ use Rattle.policy.specs.declared.mode.Mode.{Mode}
 use Rattle.lexer.specs.Lines.{lines_of}
 use Rattle.monitor.specs.Decision.{decision_in}
 use Rattle.session.specs.Printed.{with_epochs, printed_for, next, decision_line}
-use Rattle.session.specs.Owed.{current, left_in, owed, Good, Seen, Tracks}
+use Rattle.session.specs.Steps.Owed.{current, left_in, owed, Good, Seen, Tracks}
 use Rattle.session.specs.declared.state.State.{State}
 
 -- the text is complete, and epochs are decided in the mode; nothing is held

@@ -1,5 +1,5 @@
 use Rattle.std.proofs.Common.{◌≤◌, length, OnOk, IfErr, subst, arith}
-use Rattle.stream.specs.Machine.{AnswersAll, EndsBy, nothing}
+use Rattle.stream.specs.Machine.{AnswersAll, ListingEndsBy, nothing}
 use Rattle.dump.proofs.Whole.{starts_restored}
 use Rattle.dump.proofs.decompiler.restore_input.Goals as goal
 
@@ -17,4 +17,4 @@ returns-clause-err g c =
     let old = g.E.Ends.known c.args.ends.now in
     let new = g.E.Ends.known c.summarize.new.ends in
     let room : 13068 ≤ length d.image = omega arith in
-    subst (λ p. IfErr c.summarize.result (λ e. EndsBy e nothing p old new)) (starts_restored d.state d.image c.new-decompiler.ensures room) c.summarize.ensures.err
+    subst (λ p. IfErr c.summarize.result (λ e. ListingEndsBy e p old new)) (starts_restored d.state d.image c.new-decompiler.ensures room) c.summarize.ensures.err

@@ -1,4 +1,4 @@
-use Rattle.dump.specs.Calls.{digit_taken}
+use Rattle.dump.specs.Steps.Calls.{digit_taken}
 use Rattle.std.proofs.Common.{sym, ap, ◌∙◌}
 use Rattle.dump.proofs.StepLaws.{stepped_over, stepped_end, stepped_digit, state_same, image_same}
 use Rattle.dump.proofs.state.step.Goals as goal

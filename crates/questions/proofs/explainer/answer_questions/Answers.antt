@@ -1,7 +1,7 @@
 use Rattle.std.proofs.Common.{refl, sym, subst, OnOk, IfErr, arith, length-take-le}
 use Rattle.stream.specs.Machine.{AnswersAll, EndsBy}
 use Rattle.questions.specs.Answered.{answered}
-use Rattle.questions.specs.Explainer.{given_of}
+use Rattle.questions.specs.Steps.Explainer.{given_of}
 use Rattle.questions.specs.Run.{AnswersTexts, QuestionsEndBy}
 use Rattle.questions.proofs.Room.{accepted-short}
 use Rattle.questions.proofs.ExplainerLaws.{start_answered, start_due, start_empty, image_read, texts_refused}

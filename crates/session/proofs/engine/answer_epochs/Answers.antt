@@ -1,7 +1,7 @@
 use Rattle.std.proofs.Common.{take, ◌∙◌, subst, ap, OnOk, IfErr}
 use Rattle.stream.specs.Machine.{AnswersAll, EndsBy}
 use Rattle.session.specs.Printed.{printed}
-use Rattle.session.specs.Engine.{given_of}
+use Rattle.session.specs.Steps.Engine.{given_of}
 use Rattle.session.specs.declared.state.State.{State}
 use Rattle.session.proofs.EngineLaws.{given_none, starts_printed, starts_due}
 use Rattle.session.proofs.engine.answer_epochs.Goals as goal

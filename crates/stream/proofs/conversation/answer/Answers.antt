@@ -4,7 +4,7 @@ use Rattle.stream.specs.declared.failure.Failure.TheVariants.{Write}
 use Rattle.stream.specs.Event.{GoOn, Fails}
 use Rattle.stream.proofs.EventLaws.{go_on_append, fails_behind}
 use Rattle.stream.proofs.KnownLaws.{sends_nil, sends_trans}
-use Rattle.stream.proofs.MachineLaws.{goes_refl, goes_step, goes_front_fed, goes_emptied, starts_cut, if_err}
+use Rattle.stream.proofs.MachineLaws.{goes_turned, goes_refl, goes_step, goes_front_fed, goes_emptied, starts_cut, if_err}
 use Rattle.stream.proofs.conversation.answer.Goals as goal
 
 pub loop-at-init : goal.loop-at-init
@@ -36,12 +36,16 @@ loop-at-preserved g c =
 
 pub returns-in_err-hand_out-clause-err : goal.returns-in_err-hand_out-clause-err
 returns-in_err-hand_out-clause-err g c =
+    let given = g.M.Machine.given in
+    let printed = g.M.Machine.printed in
     let (text, goes, written) = c.loop-at.invariant.moved in
-    let (n, cut, first) = c.in_err-hand_out.ensures.err in
+    let (n, cut, due, first) = c.in_err-hand_out.ensures.err in
     let e = c.in_err-hand_out.field-0.0 in
     if_err c.from_residual.result _ e c.from_residual.ensures.1 (
-      text ++ take n (g.M.Machine.given c.feed-at.new.self []),
+      text ++ take n (given c.feed-at.new.self []),
       sends_trans (GoOn 0) (Fails (Write e)) (Fails (Write e)) _ _ _ _ _ (λ es fs p q. fails_behind (Write e) es fs p.0 q) written cut,
-      goes_front_fed g.M.Machine.given g.M.Machine.printed _ _ _ c.args.chunk.now text _ c.loop-at.at c.feed-at.result goes c.feed-at.ensures.goes
+      goes_front_fed printed given _ _ _ c.args.chunk.now text _ c.loop-at.at c.feed-at.result (goes_turned given printed _ _ _ _ goes)
+          (goes_turned given printed _ _ _ _ c.feed-at.ensures.goes) (λ rest. starts_cut _ _ n (due rest)),
+      goes_front_fed given printed _ _ _ c.args.chunk.now text _ c.loop-at.at c.feed-at.result goes c.feed-at.ensures.goes
           (λ rest. starts_cut _ _ n (first rest)),
     )

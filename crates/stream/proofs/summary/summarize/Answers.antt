@@ -2,8 +2,8 @@ use Rattle.std.proofs.Common.{◌≡◌, ◌<◌, [], ◌++◌, length, take, re
 use Rattle.std.proofs.lemmas.Result.{IfErr-weaker}
 use Rattle.stream.specs.Machine.{Goes, nothing}
 use Rattle.stream.proofs.KnownLaws.{reads_end, talks_nil}
-use Rattle.stream.proofs.MachineLaws.{goes_refl, goes_trans, ends_in_part, on_ok_weaker}
-use Rattle.stream.proofs.ConversationLaws.{talks_chunk, answered_due, answered_all, answered_part}
+use Rattle.stream.proofs.MachineLaws.{goes_refl, goes_trans, on_ok_weaker}
+use Rattle.stream.proofs.ConversationLaws.{talks_chunk, read_fails, answers_all, listing_fails}
 use Rattle.stream.proofs.summary.summarize.Goals as goal
 
 pub loop-turn-init : goal.loop-turn-init
@@ -27,7 +27,7 @@ loop-turn-preserved g c =
 pub returns-in-Err-clause-err : goal.returns-in-Err-clause-err
 returns-in-Err-clause-err g c =
     let (bytes, goes, talks) = c.loop-turn.invariant.moved in
-    answered_due (λ s. nothing) g.S.Summary.printed _ _ _ _ c.loop-turn._turn bytes [] goes refl talks _ c.in-Err.e c.in-Err.ensures.err
+    read_fails (λ s. nothing) g.S.Summary.printed _ _ _ _ c.loop-turn._turn bytes [] goes refl talks _ c.in-Err.e c.in-Err.ensures.err
 
 pub returns-then-size-eq0-clause-ok : goal.returns-then-size-eq0-clause-ok
 returns-then-size-eq0-clause-ok g c =
@@ -35,7 +35,7 @@ returns-then-size-eq0-clause-ok g c =
     let end = reads_end _ _ c.in-Ok.size c.read_some.new.buffer c.if-size-eq0.true c.in-Ok.ensures.ok in
     let room : 0 < length c.loop-turn.buffer = omega arith in
     on_ok_weaker c.print.result _ _
-    (answered_all (λ s. nothing) g.S.Summary.printed _ _ _ _ c.loop-turn._turn bytes [] goes refl talks _ _ end
+    (answers_all (λ s. nothing) g.S.Summary.printed _ _ _ _ c.loop-turn._turn bytes [] goes refl talks _ _ end
     (c.in-Ok.ensures.end c.if-size-eq0.true room))
     c.print.ensures.ok
 
@@ -43,7 +43,8 @@ pub returns-then-size-eq0-clause-err : goal.returns-then-size-eq0-clause-err
 returns-then-size-eq0-clause-err g c =
     let (bytes, goes, talks) = c.loop-turn.invariant.moved in
     let end = reads_end _ _ c.in-Ok.size c.read_some.new.buffer c.if-size-eq0.true c.in-Ok.ensures.ok in
+    let room : 0 < length c.loop-turn.buffer = omega arith in
     IfErr-weaker c.print.result _ _
-    (λ e w. ends_in_part e nothing (g.S.Summary.printed c.args.summary.now) _ _ w.0
-    (answered_part (λ s. nothing) g.S.Summary.printed _ _ _ _ c.loop-turn._turn bytes [] goes refl talks _ _ w.1.0 e end w.1.1))
+    (listing_fails g.S.Summary.printed _ _ _ _ c.loop-turn._turn bytes goes talks _ _ end
+    (c.in-Ok.ensures.end c.if-size-eq0.true room))
     c.print.ensures.err

@@ -20,7 +20,7 @@ sent_no_more : (first then both : List Event → Type 0) (a b c : Known) (text :
 sent_no_more first then both a b c text join p q = subst (Sends both a c) (append-nil text) (sends_trans first then both a b c text [] join p q)
 
 pub loop-turn-init : goal.loop-turn-init
-loop-turn-init g c = record { within = omega arith; sent = sends_nil _ }
+loop-turn-init g c = record { some = λ h. absurd (omega (arith, h)); within = omega arith; sent = sends_nil _ }
 
 pub loop-turn-preserved : goal.loop-turn-preserved
 loop-turn-preserved g c =
@@ -35,15 +35,17 @@ loop-turn-preserved g c =
           let event = went (take w.in-Ok.n rest) in
           let long : w.in-Ok.n ≤ length rest = w.in-Ok.ensures.bound in
           let some : 0 < length (take w.in-Ok.n rest) = omega (arith, length-take-le w.in-Ok.n rest long, w.in-Ok.n-test.1) in
-          let more = sends_went _ _ _ w.in-Ok.ensures.bytes w.in-Ok.ensures.unread w.in-Ok.ensures.history in
+          let more : Sends (IsJust event) _ _ (take w.in-Ok.n rest) = sends_went _ _ _ w.in-Ok.ensures.bytes w.in-Ok.ensures.unread w.in-Ok.ensures.history in
           rw w.done-is (record {
+            some = λ h. omega (arith, c.loop-turn.invariant.within);
             within = omega (arith, ap length (take_rest xs done), length-drop done xs);
             sent = sent_more (GoOn turns) (IsJust event) (GoOn (turns + 1)) _ _ _ done w.in-Ok.n xs (go_on_push event turns some) sent more;
           })
       | in-Err+else-ne w ↦
           let event = write_failed w.in-Err.e in
-          let failed = sends_failed _ _ w.in-Err.e w.in-Err.ensures.bytes w.in-Err.ensures.unread w.in-Err.ensures.history in
+          let failed : Sends (IsJust event) _ _ [] = sends_failed _ _ w.in-Err.e w.in-Err.ensures.bytes w.in-Err.ensures.unread w.in-Err.ensures.history in
           rw w.done-is (record {
+            some = λ h. omega (arith, within);
             within = within;
             sent = sent_no_more (GoOn turns) (IsJust event) (GoOn (turns + 1)) _ _ _ _ (go_on_push event turns (grind arith)) sent failed;
           })

@@ -1,5 +1,5 @@
 use Rattle.std.proofs.Common.{◌≡◌, length, rules}
-use Rattle.dump.specs.Calls.{held, closed}
+use Rattle.dump.specs.Steps.Calls.{held, closed}
 use Rattle.dump.proofs.Whole.{finished_whole}
 use Rattle.dump.proofs.decompiler.DecompilerSummary.finish.Goals as goal
 

@@ -1,5 +1,5 @@
 use Rattle.std.proofs.Common.{[], sym, ◌∙◌}
-use Rattle.questions.specs.Asked.{last_answer}
+use Rattle.questions.specs.Steps.Asked.{last_answer}
 use Rattle.questions.proofs.LineLaws.{taken_within, taken_some}
 use Rattle.questions.proofs.ExplainerLaws.{none_waits, goes_open, goes_ended, answered_left}
 use Rattle.questions.proofs.explainer.ExplainerMachine.feed.Goals as goal

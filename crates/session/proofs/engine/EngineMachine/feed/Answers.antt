@@ -1,5 +1,5 @@
 use Rattle.std.proofs.Common.{sym}
-use Rattle.session.specs.Owed.{seen_by}
+use Rattle.session.specs.Steps.Owed.{seen_by}
 use Rattle.session.proofs.EngineLaws.{tracks_starting, starting_tracks, empty_room, given_took}
 use Rattle.session.proofs.engine.EngineMachine.feed.Goals as goal
 

@@ -1,5 +1,5 @@
 use Rattle.std.proofs.Common.{◌∙◌}
-use Rattle.session.specs.Owed.{seen_by}
+use Rattle.session.specs.Steps.Owed.{seen_by}
 use Rattle.session.proofs.EngineLaws.{tracks_starting, starting_tracks, empty_room, given_none}
 use Rattle.session.proofs.engine.EngineMachine.finish.Goals as goal
 

@@ -1,0 +1,147 @@
+-- What a line is answered is what it is by what is written there.
+use Rattle.std.proofs.Common.{ℕ, Bool, true, false, not, ◌&&◌, cond, List, [], ◌∷◌, ◌≡◌, refl, sym, ap, ◌∙◌, arith, subst, length, le-ltb, ◌↔◌}
+use Rattle.std.proofs.Math.Dec.{ltb}
+use Rattle.std.proofs.Math.Option.{Option, none, some}
+use Rattle.policy.proofs.ListLaws.{true_false}
+use Rattle.policy.specs.Limits.{in_range, crowded, repeated, valid}
+use Rattle.policy.specs.Line.{PolicyLine, heads_of}
+use Rattle.policy.specs.declared.fault.Fault.{Fault}
+use Rattle.lexer.specs.Lines.{tokens_of}
+use Rattle.lexer.specs.Token.{Token}
+use Rattle.syntax.specs.Grammar.{line_from}
+use Rattle.syntax.specs.Judge.{LineAnswer, skipped, refused, accepted, judge_line, tokens_answer, line_answer}
+use Rattle.acceptance.proofs.Accepted.{accepted_valid}
+use Rattle.acceptance.proofs.Written.{line_in, line_read}
+use Rattle.acceptance.specs.OneLine.{no_line, LineSkipped, LineAccepted, LineRefused}
+use Rattle.acceptance.specs.Written.{IsWritten}
+
+-- a number for each kind of answer, so that no two are one
+abbrev kind : LineAnswer → ℕ
+kind skipped = 0
+kind (refused f) = 1
+kind (accepted l) = 2
+
+abbrev fault_or : Fault → LineAnswer → Fault
+fault_or g skipped = g
+fault_or g (refused f) = f
+fault_or g (accepted l) = g
+
+abbrev line_or : PolicyLine → LineAnswer → PolicyLine
+line_or m skipped = m
+line_or m (refused f) = m
+line_or m (accepted l) = l
+
+module _ (line : List ℕ) where
+  -- what is written is what is read
+  pub written_answer : (l : PolicyLine) → IsWritten line l → line_answer line ≡ judge_line (some l)
+  unfolding line_answer tokens_answer
+  written_answer l w = ap tokens_answer w.tokens ∙ rw w.no_comment (ap judge_line (line_read (w.first ∷ w.others) l w.written))
+
+  -- ---- back: from what is written to the answer
+
+  pub skipped_answer : LineSkipped line → line_answer line ≡ skipped
+  unfolding line_answer tokens_answer no_line
+  skipped_answer h = go (tokens_of line) h
+    where
+      go : (ts : List Token) → no_line ts ≡ true → tokens_answer ts ≡ skipped
+      go [] k = refl
+      go (t ∷ ts) k = rw k refl
+
+  pub accepted_answer : (l : PolicyLine) → LineAccepted line l → line_answer line ≡ accepted l
+  unfolding judge_line valid
+  accepted_answer l a = written_answer l a.written ∙ go (ltb 0 (length (heads_of l))) (in_range l) (crowded l) (repeated l) a.valid
+    where
+      go : (x r c d : Bool) → x && r && not c && not d ≡ true
+          → cond (not r) (refused Fault.OutOfRange) (cond c (refused Fault.TooManyParts) (cond d (refused Fault.Duplicate) (accepted l))) ≡ accepted l
+      go true true false false h = refl
+      go true true false true h = absurd (true_false h refl)
+      go true true true d h = absurd (true_false h refl)
+      go true false c d h = absurd (true_false h refl)
+      go false r c d h = absurd (true_false h refl)
+
+  -- what stands there, where the line is not skipped
+  record Read (o : Option PolicyLine) : Type 0 where
+    answer : line_answer line ≡ judge_line o
+    written : (l : PolicyLine) → o ≡ some l → IsWritten line l
+    only : (l : PolicyLine) → IsWritten line l → o ≡ some l
+
+  read : no_line (tokens_of line) ≡ false → (o : Option PolicyLine) × Read o
+  unfolding line_answer tokens_answer no_line
+  read h = go (tokens_of line) refl h
+    where
+      go : (ts : List Token) → tokens_of line ≡ ts → no_line ts ≡ false → (o : Option PolicyLine) × Read o
+      go [] e k = absurd (true_false refl k)
+      go (t ∷ ts) e k = (
+        line_from (t ∷ ts),
+        record {
+          answer = ap tokens_answer e ∙ rw k refl;
+          written = λ l f. record { first = t; others = ts; tokens = e; no_comment = k; written = line_in (t ∷ ts) l f };
+          only = λ l w. ap line_from (sym e ∙ w.tokens) ∙ line_read (w.first ∷ w.others) l w.written;
+        },
+      )
+
+  pub refused_answer : (f : Fault) → LineRefused line f → line_answer line ≡ refused f
+  unfolding judge_line
+  refused_answer f (LineRefused.wrong_shape h missing) = go (read h)
+    where
+      go : (o : Option PolicyLine) × Read o → line_answer line ≡ refused Fault.Syntax
+      go (none, r) = r.answer
+      go (some l, r) = absurd (missing l (r.written l refl))
+  refused_answer f (LineRefused.out_of_range l w r) = written_answer l w ∙ rw r refl
+  refused_answer f (LineRefused.too_many l w r c) = written_answer l w ∙ rw (r, c) refl
+  refused_answer f (LineRefused.twice l w r c d) = written_answer l w ∙ rw (r, c, d) refl
+
+  -- ---- there: each line is one of the three
+
+  pub data Kinds : Type 0 where
+    is_skipped : LineSkipped line → Kinds
+    is_accepted : (l : PolicyLine) → LineAccepted line l → Kinds
+    is_refused : (f : Fault) → LineRefused line f → Kinds
+
+  pub kinds : Kinds
+  unfolding judge_line
+  kinds = go (no_line (tokens_of line)) refl
+    where
+      of_line : (l : PolicyLine) → IsWritten line l → (r c d : Bool) → in_range l ≡ r → crowded l ≡ c → repeated l ≡ d → Kinds
+      of_line l w false c d p q s = is_refused Fault.OutOfRange (LineRefused.out_of_range l w p)
+      of_line l w true true d p q s = is_refused Fault.TooManyParts (LineRefused.too_many l w p q)
+      of_line l w true false true p q s = is_refused Fault.Duplicate (LineRefused.twice l w p q s)
+      of_line l w true false false p q s =
+          is_accepted l (record { written = w; valid = accepted_valid line l (written_answer l w ∙ rw (p, q, s) refl) })
+
+      shaped : no_line (tokens_of line) ≡ false → (o : Option PolicyLine) × Read o → Kinds
+      shaped h (none, r) = is_refused Fault.Syntax (LineRefused.wrong_shape h (λ l w. let n : ◌≡◌ {A = Option PolicyLine} none (some l) = r.only l w in let z : ◌≡◌ {A = ℕ} 0 1 = cc in omega arith))
+      shaped h (some l, r) = of_line l (r.written l refl) (in_range l) (crowded l) (repeated l) refl refl refl
+
+      go : (b : Bool) → no_line (tokens_of line) ≡ b → Kinds
+      go true h = is_skipped h
+      go false h = shaped h (read h)
+
+  -- ---- exactly
+
+  differ : {A : Type 0} (a b : LineAnswer) → line_answer line ≡ a → line_answer line ≡ b → ltb (kind a) (kind b) ≡ true → A
+  differ a b e h k = absurd (true_false k (rw (sym e ∙ h) (le-ltb (kind b) (kind b) (omega arith))))
+
+  pub line_refused_exactly : (f : Fault) → (line_answer line ≡ refused f) ↔ LineRefused line f
+  line_refused_exactly f = (λ h. go kinds h, refused_answer f)
+    where
+      go : Kinds → line_answer line ≡ refused f → LineRefused line f
+      go (is_skipped s) h = differ skipped (refused f) (skipped_answer s) h refl
+      go (is_accepted l a) h = differ (refused f) (accepted l) h (accepted_answer l a) refl
+      go (is_refused g r) h = subst (LineRefused line) (ap (fault_or f) (sym (refused_answer g r) ∙ h)) r
+
+  pub line_accepted_exactly : (l : PolicyLine) → (line_answer line ≡ accepted l) ↔ LineAccepted line l
+  line_accepted_exactly l = (λ h. go kinds h, accepted_answer l)
+    where
+      go : Kinds → line_answer line ≡ accepted l → LineAccepted line l
+      go (is_skipped s) h = differ skipped (accepted l) (skipped_answer s) h refl
+      go (is_accepted m a) h = subst (LineAccepted line) (ap (line_or l) (sym (accepted_answer m a) ∙ h)) a
+      go (is_refused f r) h = differ (refused f) (accepted l) (refused_answer f r) h refl
+
+  pub line_skipped_exactly : (line_answer line ≡ skipped) ↔ LineSkipped line
+  line_skipped_exactly = (λ h. go kinds h, skipped_answer)
+    where
+      go : Kinds → line_answer line ≡ skipped → LineSkipped line
+      go (is_skipped s) h = s
+      go (is_accepted l a) h = differ skipped (accepted l) h (accepted_answer l a) refl
+      go (is_refused f r) h = differ skipped (refused f) h (refused_answer f r) refl

@@ -1,0 +1,32 @@
+-- What one line of a text is, by what is written there: skipped, accepted, or refused, and for which fault.
+use Rattle.std.specs.Prelude.{ℕ, Bool, true, false, List, [], ◌∷◌, ◌≡◌}
+use Rattle.policy.specs.Limits.{in_range, crowded, repeated, valid}
+use Rattle.policy.specs.Line.{PolicyLine}
+use Rattle.policy.specs.declared.fault.Fault.{Fault}
+use Rattle.lexer.specs.Lines.{tokens_of}
+use Rattle.lexer.specs.Token.{Token}
+use Rattle.syntax.specs.Judge.{is_comment}
+use Rattle.acceptance.specs.Written.{IsWritten}
+
+-- no token, or the first begins with `#`
+unfoldable pub no_line : List Token → Bool
+no_line [] = true
+no_line (t ∷ ts) = is_comment t
+
+abbrev pub LineSkipped : List ℕ → Type 0
+LineSkipped line = no_line (tokens_of line) ≡ true
+
+-- written as that line, its numbers in range, not too many parts, and none twice
+pub record LineAccepted (line : List ℕ) (l : PolicyLine) : Type 0 where
+  pub written : IsWritten line l
+  pub valid : valid l ≡ true
+
+-- the faults in their order: each stands behind those before it
+pub data LineRefused (line : List ℕ) : Fault → Type 0 where
+  wrong_shape : no_line (tokens_of line) ≡ false → ((l : PolicyLine) → ¬ IsWritten line l) → LineRefused line Fault.Syntax
+  -- an event or an action past 63, a reading past 15, a constant that is no value of 32 bits or has more than eight hexadecimal digits
+  out_of_range : (l : PolicyLine) → IsWritten line l → in_range l ≡ false → LineRefused line Fault.OutOfRange
+  -- more than eight literals or actions, or more than four comparisons
+  too_many : (l : PolicyLine) → IsWritten line l → in_range l ≡ true → crowded l ≡ true → LineRefused line Fault.TooManyParts
+  -- an event twice, or an action of a constraint
+  twice : (l : PolicyLine) → IsWritten line l → in_range l ≡ true → crowded l ≡ false → repeated l ≡ true → LineRefused line Fault.Duplicate

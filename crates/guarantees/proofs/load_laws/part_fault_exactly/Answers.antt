@@ -1,0 +1,5 @@
+use Rattle.exactness.proofs.PartLines as laws
+use Rattle.guarantees.proofs.load_laws.part_fault_exactly.Goals as goal
+
+pub returns : goal.returns
+returns c = laws.part_fault_exactly

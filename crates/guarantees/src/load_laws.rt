@@ -1,0 +1,50 @@
+//! Laws of what the loader takes and refuses, by the lines whose words stand in the bytes.
+
+ghost use Rattle.std.specs.Prelude.{List, ℕ, ◌↔◌, ◌≡◌};
+ghost use Rattle.std.proofs.Math.Option.{some};
+ghost use Rattle.word.specs.Word.{Bytes};
+ghost use Rattle.policy.specs.Line.{PolicyLine};
+ghost use Rattle.policy.specs.declared.fault.Refusal.{Refusal};
+ghost use Rattle.policy.specs.declared.line.Part.{Part};
+ghost use Rattle.decode.specs.Stands.{Stands, AreLines};
+ghost use Rattle.decode.specs.Decode.{line_at};
+ghost use Rattle.image.specs.Lines.{whole, fault, lines_from};
+ghost use Rattle.image.specs.Load.{load};
+ghost use Rattle.image.specs.declared.load.Loaded.{Loaded};
+ghost use Rattle.exactness.specs.ImageFault.{ImageFault, NoLineAt};
+ghost use Rattle.guarantees.specs.Claims.{SomeText};
+
+/// Bytes are refused as an image exactly for the first of the faults 7 to 11 that they have, at its location.
+pub fn image_refused_exactly()
+    ensures { (bytes : List ℕ) (refusal : Refusal) → (load bytes ≡ Loaded.Refused refusal) ↔ ImageFault bytes refusal }
+{}
+
+/// No bytes have two such faults, or one at two locations.
+pub fn one_image_fault()
+    ensures { (bytes : List ℕ) (one other : Refusal) → ImageFault bytes one → ImageFault bytes other → one ≡ other }
+{}
+
+/// Bytes have a fault as an image exactly if no accepted text compiles to them.
+pub fn faulty_exactly()
+    ensures { (bytes : List ℕ) → Bytes bytes → ((refusal : Refusal) × ImageFault bytes refusal) ↔ (¬ SomeText bytes) }
+{}
+
+/// A line is found at the start of words exactly if it stands there.
+pub fn line_found_exactly()
+    ensures { (part : Part) (words : List ℕ) (line : PolicyLine) → (line_at part words ≡ some line) ↔ Stands part words line }
+{}
+
+/// At most one line of a part stands at the start of words.
+pub fn one_line_stands()
+    ensures { (part : Part) (words : List ℕ) (one other : PolicyLine) → Stands part words one → Stands part words other → one ≡ other }
+{}
+
+/// The lines of a part are found exactly if its words are theirs, from end to end, and there is room for so many.
+pub fn part_whole_exactly()
+    ensures { (part : Part) (room from : ℕ) (words : List ℕ) (lines : List PolicyLine) → (lines_from part room from words ≡ whole lines) ↔ AreLines part room words lines }
+{}
+
+/// A location in a part is told exactly if there are whole lines up to it and none fits there.
+pub fn part_fault_exactly()
+    ensures { (part : Part) (room from : ℕ) (words : List ℕ) (location : ℕ) → (lines_from part room from words ≡ fault location) ↔ NoLineAt part room from words location }
+{}

@@ -1,0 +1,53 @@
+//! Laws of the text that is written from a policy and from an image.
+
+ghost use Rattle.std.specs.Prelude.{List, ℕ, map, length, ◌+◌, ◌≤◌, ◌≡◌, ◌↔◌};
+ghost use Rattle.std.proofs.Math.Option.{some};
+ghost use Rattle.policy.specs.Limits.{Acceptable};
+ghost use Rattle.policy.specs.Line.{PolicyLine};
+ghost use Rattle.policy.specs.Policy.{Policy};
+ghost use Rattle.lexer.specs.Lines.{lines_of, tokens_of};
+ghost use Rattle.rule_text.specs.Text.{reading, read_text, policy_of};
+ghost use Rattle.printer.specs.Printed.{joined_by, line_bytes, lines_text, longest_text, text_of};
+ghost use Rattle.word.specs.Word.{Bytes};
+ghost use Rattle.image.specs.Held.{policy_in};
+ghost use Rattle.image.specs.Load.{load};
+ghost use Rattle.image.specs.declared.load.Contents.{Contents};
+ghost use Rattle.image.specs.declared.load.Loaded.{Loaded};
+ghost use Rattle.decompile.specs.Decompile.{decompiled};
+ghost use Rattle.decompile.specs.declared.Decompiled.{Decompiled};
+ghost use Rattle.guarantees.specs.Claims.{CompilesTo, DecompilesTo};
+
+/// A written line is its tokens with one space between each two, and no space else.
+pub fn one_space()
+    ensures { (l : PolicyLine) → line_bytes l ≡ joined_by 32 (tokens_of (line_bytes l)) }
+{}
+
+/// The lines of a written text are its written lines, one behind another.
+pub fn text_lines()
+    ensures { (ls : List PolicyLine) → lines_of (lines_text ls) ≡ map line_bytes ls }
+{}
+
+/// What is written from a policy within the limits is accepted and has that policy.
+pub fn text_policy()
+    ensures { (p : Policy) → Acceptable p → policy_of (text_of p) ≡ some p }
+{}
+
+/// No two policies within the limits are written as the same text.
+pub fn text_injective()
+    ensures { (p q : Policy) → Acceptable p → Acceptable q → text_of p ≡ text_of q → p ≡ q }
+{}
+
+/// The policies within the limits are exactly those of accepted texts.
+pub fn acceptable_texts()
+    ensures { (p : Policy) → Acceptable p ↔ ((text : List ℕ) × (n : ℕ) × (read_text text ≡ reading n p)) }
+{}
+
+/// An image that the loader takes is never refused a buffer of 27,968 bytes or more.
+pub fn never_short()
+    ensures { (image buffer : List ℕ) → Bytes image → (contents : Contents) → load image ≡ Loaded.Image contents → longest_text ≤ length buffer → (decompiled image buffer).answer ≡ Decompiled.Text (length (text_of (policy_in image))) }
+{}
+
+/// Some accepted text compiles to an image whose written text has 27,968 bytes: no smaller buffer is enough for all.
+pub fn bound_reached()
+    ensures { (text : List ℕ) × ((image : List ℕ) × ((written : List ℕ) × (CompilesTo text image × (DecompilesTo image written × (length written ≡ longest_text))))) }
+{}

@@ -1,0 +1,2 @@
+pub mod KeepLaws
+pub mod EchoLaws
