@@ -23,7 +23,7 @@ use Rattle.syntax.specs.Grammar.{Joined, last, before, joined, condition_from, c
 use Rattle.lexer.specs.Byte.{is}
 use Rattle.lexer.specs.Lines.{lines_of, tokens_of}
 use Rattle.syntax.specs.Judge.{LineAnswer, skipped, refused, accepted, judge_line, is_comment, tokens_answer, line_answer}
-use Rattle.rule_text.specs.Text.{Progress, reading, stopped, with_rule, with_constraint, advance, read_line, empty_policy, text_limit, read_text_behind, in_text, read_text, read_site, read_texts}
+use Rattle.rule_text.specs.Text.{Progress, reading, stopped, with_rule, with_constraint, advance, read_next_line, empty_policy, text_limit, read_text_behind, in_text, read_text, read_site, read_texts}
 
 -- ---- a line of either shape has a literal or an action
 
@@ -168,20 +168,20 @@ keeps n p (accepted (constraint c)) v w = go (ltb (length p.constraints) constra
         }
     go false e = tt
 
-keeps_line : (s : Progress) (line : List ℕ) → still s → still (read_line s line)
-unfolding read_line still
+keeps_line : (s : Progress) (line : List ℕ) → still s → still (read_next_line s line)
+unfolding read_next_line still
 keeps_line (reading n p) line w = keeps n p (line_answer line) (accepted_valid line) w
 keeps_line (stopped r) line w = tt
 
-keeps_lines : (ls : List (List ℕ)) (s : Progress) → still s → still (fold read_line s ls)
+keeps_lines : (ls : List (List ℕ)) (s : Progress) → still s → still (fold read_next_line s ls)
 keeps_lines [] s w = w
-keeps_lines (l ∷ ls) s w = keeps_lines ls (read_line s l) (keeps_line s l w)
+keeps_lines (l ∷ ls) s w = keeps_lines ls (read_next_line s l) (keeps_line s l w)
 
 keeps_behind : (p : Policy) (text : List ℕ) → Acceptable p → still (read_text_behind p text)
 unfolding read_text_behind still
 keeps_behind p text w = go (ltb text_limit (length text))
   where
-    go : (b : Bool) → still (cond b (stopped (refusal Fault.TooLong 0)) (fold read_line (reading 1 p) (lines_of text)))
+    go : (b : Bool) → still (cond b (stopped (refusal Fault.TooLong 0)) (fold read_next_line (reading 1 p) (lines_of text)))
     go true = tt
     go false = keeps_lines (lines_of text) (reading 1 p) w
 
@@ -217,4 +217,4 @@ texts_acceptable maker site n p e = still_acceptable (read_site (read_text maker
 -- two texts within the length with the same lines have the same answer
 pub lines_decide : (s t : List ℕ) → length s ≤ text_limit → length t ≤ text_limit → lines_of s ≡ lines_of t → read_text s ≡ read_text t
 unfolding read_text read_text_behind
-lines_decide s t h k e = rw (le-ltb text_limit (length s) h, le-ltb text_limit (length t) k) (ap (λ (ls : List (List ℕ)). in_text Source.Maker (fold read_line (reading 1 empty_policy) ls)) e)
+lines_decide s t h k e = rw (le-ltb text_limit (length s) h, le-ltb text_limit (length t) k) (ap (λ (ls : List (List ℕ)). in_text Source.Maker (fold read_next_line (reading 1 empty_policy) ls)) e)

@@ -7,22 +7,22 @@ use Rattle.policy.specs.List.{all, any}
 use Rattle.policy.specs.Set.{has, insert}
 use Rattle.lexer.specs.Byte.{bytes, bytes_equal, is, hex_value}
 use Rattle.epoch_line.specs.Epoch.{to_left, at_equals, assignment_of, item_of, items_of, item_in_range, given_by, add_item, judge_epoch, read_epoch}
-use Rattle.acceptance.specs.Examples.{TextExample, PairExample, LineExample, texts, pairs, epoch_lines, text_answer, pair_answer, epoch_answer}
+use Rattle.acceptance.specs.Examples.{TextExample, PairExample, LineExample, text_rows, pair_rows, epoch_line_rows, text_answer, pair_answer, epoch_answer}
 use Rattle.lexer.specs.Token.{named, literal_of, action_of, reading_of, relation_of, operand_of, both, comparison_of}
 use Rattle.syntax.specs.Grammar.{comparisons_from, condition_from, joined, rule_after, constraint_after, after, line_from}
 use Rattle.lexer.specs.Lines.{prepend, pieces, lines_of, non_empty, tokens_of}
 use Rattle.lexer.specs.Number.{decimal_from, number_of, positive, negative, decimal_of, pattern_of, hexadecimal_of, constant_of}
 use Rattle.syntax.specs.Judge.{judge_line, is_comment, tokens_answer, line_answer}
-use Rattle.rule_text.specs.Text.{advance, read_line, read_text_behind, in_text, read_text, read_site, read_texts}
+use Rattle.rule_text.specs.Text.{advance, read_next_line, read_text_behind, in_text, read_text, read_site, read_texts}
 
-pub texts_read_is : map text_answer texts ≡ map (λ (x : TextExample). x.answer) texts
-unfolding texts text_answer bytes bytes_equal is named literal_of action_of reading_of relation_of or_else operand_of both comparison_of comparisons_from condition_from joined rule_after constraint_after after line_from prepend pieces lines_of non_empty tokens_of decimal_from number_of positive negative hex_value decimal_of pattern_of hexadecimal_of constant_of judge_line is_comment tokens_answer line_answer advance read_line read_text_behind in_text read_text is_reading_value test_number operand_in_range comparison_in_range ending_in_range in_range crowded repeats repeated heads_of comparisons_of ending_of all any
+pub texts_read_is : map text_answer text_rows ≡ map (λ (x : TextExample). x.answer) text_rows
+unfolding text_rows text_answer bytes bytes_equal is named literal_of action_of reading_of relation_of or_else operand_of both comparison_of comparisons_from condition_from joined rule_after constraint_after after line_from prepend pieces lines_of non_empty tokens_of decimal_from number_of positive negative hex_value decimal_of pattern_of hexadecimal_of constant_of judge_line is_comment tokens_answer line_answer advance read_next_line read_text_behind in_text read_text is_reading_value test_number operand_in_range comparison_in_range ending_in_range in_range crowded repeats repeated heads_of comparisons_of ending_of all any
 texts_read_is = refl
 
-pub pairs_read : map pair_answer pairs ≡ map (λ (x : PairExample). x.answer) pairs
-unfolding pairs pair_answer bytes bytes_equal is named literal_of action_of reading_of relation_of or_else operand_of both comparison_of comparisons_from condition_from joined rule_after constraint_after after line_from prepend pieces lines_of non_empty tokens_of decimal_from number_of positive negative hex_value decimal_of pattern_of hexadecimal_of constant_of judge_line is_comment tokens_answer line_answer advance read_line read_text_behind in_text read_text read_site read_texts is_reading_value test_number operand_in_range comparison_in_range ending_in_range in_range crowded repeats repeated heads_of comparisons_of ending_of all any
+pub pairs_read : map pair_answer pair_rows ≡ map (λ (x : PairExample). x.answer) pair_rows
+unfolding pair_rows pair_answer bytes bytes_equal is named literal_of action_of reading_of relation_of or_else operand_of both comparison_of comparisons_from condition_from joined rule_after constraint_after after line_from prepend pieces lines_of non_empty tokens_of decimal_from number_of positive negative hex_value decimal_of pattern_of hexadecimal_of constant_of judge_line is_comment tokens_answer line_answer advance read_next_line read_text_behind in_text read_text read_site read_texts is_reading_value test_number operand_in_range comparison_in_range ending_in_range in_range crowded repeats repeated heads_of comparisons_of ending_of all any
 pairs_read = refl
 
-pub epochs_read : map epoch_answer epoch_lines ≡ map (λ (x : LineExample). x.answer) epoch_lines
-unfolding epoch_lines epoch_answer bytes bytes_equal is named or_else both prepend pieces non_empty tokens_of decimal_from number_of positive negative hex_value decimal_of pattern_of hexadecimal_of constant_of to_left at_equals assignment_of item_of items_of item_in_range given_by add_item judge_epoch read_epoch is_reading_value repeats all any has insert
+pub epochs_read : map epoch_answer epoch_line_rows ≡ map (λ (x : LineExample). x.answer) epoch_line_rows
+unfolding epoch_line_rows epoch_answer bytes bytes_equal is named or_else both prepend pieces non_empty tokens_of decimal_from number_of positive negative hex_value decimal_of pattern_of hexadecimal_of constant_of to_left at_equals assignment_of item_of items_of item_in_range given_by add_item judge_epoch read_epoch is_reading_value repeats all any has insert
 epochs_read = refl

@@ -13,7 +13,7 @@ use Rattle.policy.specs.declared.fault.Fault.{Fault}
 use Rattle.policy.specs.declared.fault.Refusal.{Refusal}
 use Rattle.policy.specs.declared.fault.Source.{Source}
 use Rattle.lexer.specs.Lines.{lines_of, tokens_of}
-use Rattle.rule_text.specs.Text.{Progress, reading, stopped, advance, read_line, with_rule, with_constraint, empty_policy, text_limit, read_text_behind, in_text, read_text, read_site, read_texts, policy_read, policy_of}
+use Rattle.rule_text.specs.Text.{Progress, reading, stopped, advance, read_next_line, with_rule, with_constraint, empty_policy, text_limit, read_text_behind, in_text, read_text, read_site, read_texts, policy_read, policy_of}
 use Rattle.epoch_line.specs.Epoch as Epoch
 use Rattle.epoch_line.specs.Epoch.{Item, EpochAnswer, items_of, item_in_range, given_by, epoch_limit, judge_epoch, read_epoch}
 use Rattle.acceptance.proofs.OneLine.{Kinds, kinds, skipped_answer, accepted_answer, refused_answer}
@@ -31,22 +31,22 @@ goes_on : {A : Type 0} (n : ℕ) (p : Policy) (r : Refusal) → reading n p ≡ 
 goes_on n p r h = absurd (true_false refl (sym (ap is_stopped h)))
 
 -- what has stopped stays so
-stays : (r : Refusal) (ls : List (List ℕ)) → fold read_line (stopped r) ls ≡ stopped r
-unfolding read_line
+stays : (r : Refusal) (ls : List (List ℕ)) → fold read_next_line (stopped r) ls ≡ stopped r
+unfolding read_next_line
 stays r [] = refl
 stays r (l ∷ ls) = stays r ls
 
 -- ---- one line
 
 module _ (n : ℕ) (p : Policy) (l : List ℕ) where
-  here_taken : (q : Policy) → Takes p l q → read_line (reading n p) l ≡ reading (suc n) q
-  unfolding read_line advance
-  here_taken q (Takes.nothing s) = ap (advance n p) (skipped_answer l s)
+  here_taken : (q : Policy) → Takes p l q → read_next_line (reading n p) l ≡ reading (suc n) q
+  unfolding read_next_line advance
+  here_taken q (Takes.skips s) = ap (advance n p) (skipped_answer l s)
   here_taken q (Takes.one_rule r a k) = ap (advance n p) (accepted_answer l (rule r) a) ∙ rw (lt-ltb _ _ k) refl
   here_taken q (Takes.one_constraint c a k) = ap (advance n p) (accepted_answer l (constraint c) a) ∙ rw (lt-ltb _ _ k) refl
 
-  here_refused : (f : Fault) → LineFault p l f → read_line (reading n p) l ≡ stopped (refusal f n)
-  unfolding read_line advance
+  here_refused : (f : Fault) → LineFault p l f → read_next_line (reading n p) l ≡ stopped (refusal f n)
+  unfolding read_next_line advance
   here_refused f (LineFault.own g r) = ap (advance n p) (refused_answer l g r)
   here_refused f (LineFault.one_rule_more r a k) = ap (advance n p) (accepted_answer l (rule r) a) ∙ rw (le-ltb _ _ k) refl
   here_refused f (LineFault.one_constraint_more c a k) = ap (advance n p) (accepted_answer l (constraint c) a) ∙ rw (le-ltb _ _ k) refl
@@ -56,7 +56,7 @@ here : (p : Policy) (l : List ℕ) → ((q : Policy) × Takes p l q) ⊎ ((f : F
 here p l = go (kinds l)
   where
     go : Kinds l → ((q : Policy) × Takes p l q) ⊎ ((f : Fault) × LineFault p l f)
-    go (Kinds.is_skipped s) = inl (p, Takes.nothing s)
+    go (Kinds.is_skipped s) = inl (p, Takes.skips s)
     go (Kinds.is_refused f r) = inr (f, LineFault.own f r)
     go (Kinds.is_accepted (rule r) a) = room (ltb (length p.rules) rule_limit) refl
       where
@@ -71,11 +71,11 @@ here p l = go (kinds l)
 
 -- ---- the lines of a text behind a policy
 
-all_taken : (ls : List (List ℕ)) (n : ℕ) (p q : Policy) → TakesAll p ls q → fold read_line (reading n p) ls ≡ reading (n + length ls) q
+all_taken : (ls : List (List ℕ)) (n : ℕ) (p q : Policy) → TakesAll p ls q → fold read_next_line (reading n p) ls ≡ reading (n + length ls) q
 unfolding TakesAll
 all_taken [] n p q e = ap₂ reading (omega arith) e
 all_taken (l ∷ ls) n p q t =
-    ap (λ (s : Progress). fold read_line s ls) (here_taken n p l t.0 t.1) ∙ all_taken ls (suc n) t.0 q t.2
+    ap (λ (s : Progress). fold read_next_line s ls) (here_taken n p l t.0 t.1) ∙ all_taken ls (suc n) t.0 q t.2
     ∙ ap (λ (k : ℕ). reading k q) (omega arith)
 
 record First (p : Policy) (ls : List (List ℕ)) : Type 0 where
@@ -124,9 +124,9 @@ module _ (p : Policy) (text : List ℕ) (short : length text ≤ text_limit) whe
   unfolding read_text_behind
   first_behind f n t =
       rw (le-ltb _ _ short)
-      (ap (fold read_line (reading 1 p)) t.lines ∙ fold-append read_line (reading 1 p) t.before (t.line ∷ t.after)
-      ∙ ap (λ (s : Progress). fold read_line s (t.line ∷ t.after)) (all_taken t.before 1 p t.policy t.taken ∙ ap (λ (k : ℕ). reading k t.policy) (omega (arith, t.number)))
-      ∙ ap (λ (s : Progress). fold read_line s t.after) (here_refused n t.policy t.line f t.fault)
+      (ap (fold read_next_line (reading 1 p)) t.lines ∙ fold-append read_next_line (reading 1 p) t.before (t.line ∷ t.after)
+      ∙ ap (λ (s : Progress). fold read_next_line s (t.line ∷ t.after)) (all_taken t.before 1 p t.policy t.taken ∙ ap (λ (k : ℕ). reading k t.policy) (omega (arith, t.number)))
+      ∙ ap (λ (s : Progress). fold read_next_line s t.after) (here_refused n t.policy t.line f t.fault)
       ∙ stays (refusal f n) t.after)
 
 -- what reading a text behind a policy comes to, and why

@@ -10,7 +10,7 @@ use Rattle.policy.specs.declared.fault.Refusal.{Refusal}
 use Rattle.policy.specs.declared.fault.Source.{Source}
 use Rattle.lexer.specs.Lines.{prepend, pieces, lines_of}
 use Rattle.syntax.specs.Judge.{LineAnswer, skipped, refused, accepted, line_answer}
-use Rattle.rule_text.specs.Text.{Progress, reading, stopped, with_rule, with_constraint, advance, read_line, empty_policy, text_limit, read_text_behind, in_text, read_text, read_site, read_texts}
+use Rattle.rule_text.specs.Text.{Progress, reading, stopped, with_rule, with_constraint, advance, read_next_line, empty_policy, text_limit, read_text_behind, in_text, read_text, read_site, read_texts}
 
 abbrev reached_line : Progress → ℕ
 reached_line (reading n p) = n
@@ -27,14 +27,14 @@ advance_location n p (refused f) = omega arith
 advance_location n p (accepted (rule r)) = room_location (ltb (length p.rules) rule_limit) n (with_rule p r)
 advance_location n p (accepted (constraint c)) = room_location (ltb (length p.constraints) constraint_limit) n (with_constraint p c)
 
-line_location : (s : Progress) (line : List ℕ) → reached_line (read_line s line) ≤ suc (reached_line s)
-unfolding read_line
+line_location : (s : Progress) (line : List ℕ) → reached_line (read_next_line s line) ≤ suc (reached_line s)
+unfolding read_next_line
 line_location (reading n p) line = advance_location n p (line_answer line)
 line_location (stopped x) line = omega arith
 
-lines_location : (s : Progress) (lines : List (List ℕ)) → reached_line (fold read_line s lines) ≤ reached_line s + length lines
+lines_location : (s : Progress) (lines : List (List ℕ)) → reached_line (fold read_next_line s lines) ≤ reached_line s + length lines
 lines_location s [] = omega arith
-lines_location s (line ∷ lines) = omega (arith, lines_location (read_line s line) lines, line_location s line)
+lines_location s (line ∷ lines) = omega (arith, lines_location (read_next_line s line) lines, line_location s line)
 
 prepend_count : (b : ℕ) (ps : List (List ℕ)) → length (prepend b ps) ≤ suc (length ps)
 unfolding prepend
@@ -58,11 +58,11 @@ behind_location source p text = go (ltb text_limit (length text)) refl
     same (reading n q) = refl
     same (stopped x) = refl
 
-    go : (b : Bool) → ltb text_limit (length text) ≡ b → reached_line (in_text source (cond b (stopped (refusal Fault.TooLong 0)) (fold read_line (reading 1 p) (pieces 10 text)))) ≤ 32769
+    go : (b : Bool) → ltb text_limit (length text) ≡ b → reached_line (in_text source (cond b (stopped (refusal Fault.TooLong 0)) (fold read_next_line (reading 1 p) (pieces 10 text)))) ≤ 32769
     go true h = omega arith
     go false h =
         let k : length text ≤ 32768 = ltb-false 32768 (length text) h in
-        omega (arith, same (fold read_line (reading 1 p) (pieces 10 text)), lines_location (reading 1 p) (pieces 10 text), pieces_count 10 text)
+        omega (arith, same (fold read_next_line (reading 1 p) (pieces 10 text)), lines_location (reading 1 p) (pieces 10 text), pieces_count 10 text)
 
 text_location : (text : List ℕ) → reached_line (read_text text) ≤ 32769
 unfolding read_text

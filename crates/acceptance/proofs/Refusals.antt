@@ -17,7 +17,7 @@ use Rattle.epoch_line.specs.Epoch as Epoch
 use Rattle.epoch_line.specs.Epoch.{Item, EpochAnswer, items_of, item_in_range, given_by, judge_epoch, epoch_limit, read_epoch}
 use Rattle.syntax.specs.Grammar.{line_from}
 use Rattle.syntax.specs.Judge.{LineAnswer, skipped, refused, accepted, judge_line, is_comment, tokens_answer, line_answer}
-use Rattle.rule_text.specs.Text.{Progress, reading, stopped, with_rule, with_constraint, advance, read_line, empty_policy, text_limit, read_text_behind, in_text, read_text, read_site, read_texts, policy_read, policy_of}
+use Rattle.rule_text.specs.Text.{Progress, reading, stopped, with_rule, with_constraint, advance, read_next_line, empty_policy, text_limit, read_text_behind, in_text, read_text, read_site, read_texts, policy_read, policy_of}
 use Rattle.acceptance.specs.Refusals.{OfText, too_long, in_line_is, OfTexts, of_maker, of_site, OfEpoch}
 
 -- ---- the faults of a line
@@ -60,12 +60,12 @@ record Among (n count : ℕ) (r : Refusal) : Type 0 where
   from : n ≤ r.location
   below : r.location < n + count
 
-stays : (r : Refusal) (ls : List (List ℕ)) → fold read_line (stopped r) ls ≡ stopped r
-unfolding read_line
+stays : (r : Refusal) (ls : List (List ℕ)) → fold read_next_line (stopped r) ls ≡ stopped r
+unfolding read_next_line
 stays r [] = refl
 stays r (l ∷ ls) = stays r ls
 
-stopped_here : (f : Fault) (n : ℕ) (ls : List (List ℕ)) (r : Refusal) → OfLine f → fold read_line (stopped (refusal f n)) ls ≡ stopped r → Among n (suc (length ls)) r
+stopped_here : (f : Fault) (n : ℕ) (ls : List (List ℕ)) (r : Refusal) → OfLine f → fold read_next_line (stopped (refusal f n)) ls ≡ stopped r → Among n (suc (length ls)) r
 stopped_here f n ls r o e =
     let k : stopped (refusal f n) ≡ stopped r = sym (stays (refusal f n) ls) ∙ e in
     let s : refusal f n ≡ r = cc in
@@ -74,25 +74,25 @@ stopped_here f n ls r o e =
 one_more : (n count : ℕ) (r : Refusal) → Among (suc n) count r → Among n (suc count) r
 one_more n count r a = record { fault = a.fault; from = omega (arith, a.from); below = omega (arith, a.below) }
 
-lines_stopped : (ls : List (List ℕ)) (n : ℕ) (p : Policy) (r : Refusal) → fold read_line (reading n p) ls ≡ stopped r → Among n (length ls) r
-unfolding read_line advance
+lines_stopped : (ls : List (List ℕ)) (n : ℕ) (p : Policy) (r : Refusal) → fold read_next_line (reading n p) ls ≡ stopped r → Among n (length ls) r
+unfolding read_next_line advance
 lines_stopped [] n p r e = let w : ◌≡◌ {A = ℕ} 0 1 = cc in absurd (omega arith)
 lines_stopped (l ∷ ls) n p r e = go (line_answer l) (line_fault l) (lines_stopped ls) e
   where
     full : OfLine Fault.TooManyLines
     full = record { low = omega arith; high = omega arith }
 
-    go : (a : LineAnswer) → ((f : Fault) → a ≡ refused f → OfLine f) → ((m : ℕ) (q : Policy) (s : Refusal) → fold read_line (reading m q) ls ≡ stopped s → Among m (length ls) s) → fold read_line (advance n p a) ls ≡ stopped r → Among n (suc (length ls)) r
+    go : (a : LineAnswer) → ((f : Fault) → a ≡ refused f → OfLine f) → ((m : ℕ) (q : Policy) (s : Refusal) → fold read_next_line (reading m q) ls ≡ stopped s → Among m (length ls) s) → fold read_next_line (advance n p a) ls ≡ stopped r → Among n (suc (length ls)) r
     go skipped o later k = one_more n (length ls) r (later (suc n) p r k)
     go (refused f) o later k = stopped_here f n ls r (o f refl) k
     go (accepted (rule x)) o later k = room (ltb (length p.rules) rule_limit) k
       where
-        room : (b : Bool) → fold read_line (cond b (reading (suc n) (with_rule p x)) (stopped (refusal Fault.TooManyLines n))) ls ≡ stopped r → Among n (suc (length ls)) r
+        room : (b : Bool) → fold read_next_line (cond b (reading (suc n) (with_rule p x)) (stopped (refusal Fault.TooManyLines n))) ls ≡ stopped r → Among n (suc (length ls)) r
         room true h = one_more n (length ls) r (later (suc n) (with_rule p x) r h)
         room false h = stopped_here Fault.TooManyLines n ls r full h
     go (accepted (constraint x)) o later k = room (ltb (length p.constraints) constraint_limit) k
       where
-        room : (b : Bool) → fold read_line (cond b (reading (suc n) (with_constraint p x)) (stopped (refusal Fault.TooManyLines n))) ls ≡ stopped r → Among n (suc (length ls)) r
+        room : (b : Bool) → fold read_next_line (cond b (reading (suc n) (with_constraint p x)) (stopped (refusal Fault.TooManyLines n))) ls ≡ stopped r → Among n (suc (length ls)) r
         room true h = one_more n (length ls) r (later (suc n) (with_constraint p x) r h)
         room false h = stopped_here Fault.TooManyLines n ls r full h
 
@@ -106,15 +106,15 @@ module _ (source : Source) (p : Policy) (text : List ℕ) (r : Refusal) where
   unfolding read_text_behind in_text
   behind_faults e = go (ltb text_limit (length text)) e
     where
-      lines : (s : Progress) → fold read_line (reading 1 p) (lines_of text) ≡ s → in_text source s ≡ stopped r → OfText source text r
+      lines : (s : Progress) → fold read_next_line (reading 1 p) (lines_of text) ≡ s → in_text source s ≡ stopped r → OfText source text r
       lines (reading n q) k h = let w : ◌≡◌ {A = ℕ} 0 1 = cc in absurd (omega arith)
       lines (stopped x) k h =
           let a = lines_stopped (lines_of text) 1 p x k in
           rw (← same_refusal x h) (in_line_is x.fault x.location a.fault.low a.fault.high a.from (omega (arith, a.below)))
 
-      go : (b : Bool) → in_text source (cond b (stopped (refusal Fault.TooLong 0)) (fold read_line (reading 1 p) (lines_of text))) ≡ stopped r → OfText source text r
+      go : (b : Bool) → in_text source (cond b (stopped (refusal Fault.TooLong 0)) (fold read_next_line (reading 1 p) (lines_of text))) ≡ stopped r → OfText source text r
       go true k = rw (← same_refusal (refusal Fault.TooLong 0) k) too_long
-      go false k = lines (fold read_line (reading 1 p) (lines_of text)) refl k
+      go false k = lines (fold read_next_line (reading 1 p) (lines_of text)) refl k
 
 of_progress : (s : Progress) (r : Refusal) → refusal_in_text (text_read_of s) ≡ some r → s ≡ stopped r
 unfolding text_read_of

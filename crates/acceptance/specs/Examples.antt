@@ -60,8 +60,8 @@ row text answer = record { text = text; answer = answer }
 abbrev refused_at : Source → Fault → ℕ → Progress
 refused_at source f n = stopped (within source (refusal f n))
 
-unfoldable pub texts : List TextExample
-texts =
+unfoldable pub text_rows : List TextExample
+text_rows =
     row "E1 & !E2 causes A3 if R0 > 40\nE3 causes A4\nnever A3 & A4\n" (reading 4 worked)
     ∷ row "  never A3 & A4 \n\n# comment\nE1  &  !E2 causes A3 if R0 > 40\n#\nE3 causes A4" (reading 7 worked)
     ∷ row "" (reading 1 empty_policy)
@@ -123,8 +123,8 @@ pub record PairExample : Type 0 where
 abbrev pair : String → String → Progress → PairExample
 pair maker site answer = record { maker = maker; site = site; answer = answer }
 
-unfoldable pub pairs : List PairExample
-pairs =
+unfoldable pub pair_rows : List PairExample
+pair_rows =
     -- the maker's last line lacks its line end; in each part the maker's lines come first
     pair "never A3 & A4\nE1 & !E2 causes A3 if R0 > 40" "E3 causes A4" (reading 2 worked)
     ∷ pair "E1 & !E2 causes A3 if R0 > 40\nE3 causes A4\n" "# site\nnever A3 & A4\n" (reading 3 worked)
@@ -148,8 +148,8 @@ pub record LineExample : Type 0 where
 abbrev entry : String → EpochAnswer → LineExample
 entry line answer = record { line = line; answer = answer }
 
-unfoldable pub epoch_lines : List LineExample
-epoch_lines =
+unfoldable pub epoch_line_rows : List LineExample
+epoch_line_rows =
     entry "" (Epoch.accepted empty_epoch)
     ∷ entry " E1 E3 E1  R0=41 " (Epoch.accepted (record { events = set_of 10; readings = record { given = set_of 1; values = pos 41 ∷ replicate 15 (pos 0) } }))
     ∷ entry "R15=-2147483648 E63" (Epoch.accepted (record { events = set_of 9223372036854775808; readings = record { given = set_of 32768; values = set (replicate 16 (pos 0)) 15 (negsuc 2147483647) } }))

@@ -21,15 +21,15 @@ use Rattle.acceptance.proofs.Accepted.{texts_acceptable}
 use Rattle.rule_text.specs.Answer.{total, counts_in, counts_of, text_read_of, texts_read}
 use Rattle.lexer.specs.Lines.{lines_of}
 use Rattle.syntax.specs.Judge.{LineAnswer, skipped, refused, accepted, line_answer}
-use Rattle.rule_text.specs.Text.{Progress, reading, stopped, with_rule, with_constraint, advance, read_line, empty_policy, text_limit, read_text_behind, in_text, read_text, read_site, read_texts}
+use Rattle.rule_text.specs.Text.{Progress, reading, stopped, with_rule, with_constraint, advance, read_next_line, empty_policy, text_limit, read_text_behind, in_text, read_text, read_site, read_texts}
 use Rattle.rule_text.specs.declared.TextCounts.{TextCounts}
 use Rattle.codegen.specs.Compile.{newest_form}
 use Rattle.codegen.specs.Steps.Put.{word_count, accepted_line, accepted_lines, lines_of_both}
 
 -- ---- the lines that were accepted are those of the policy
 
-stays : (r : Refusal) (ls : List (List ℕ)) → fold read_line (stopped r) ls ≡ stopped r
-unfolding read_line
+stays : (r : Refusal) (ls : List (List ℕ)) → fold read_next_line (stopped r) ls ≡ stopped r
+unfolding read_next_line
 stays r [] = refl
 stays r (l ∷ ls) = stays r ls
 
@@ -42,24 +42,24 @@ record Extends (p : Policy) (ls : List PolicyLine) (q : Policy) : Type 0 where
   constraints : q.constraints ≡ p.constraints ++ constraints_in ls
 
 abbrev Extending : List (List ℕ) → Type 0
-Extending ls = (n m : ℕ) (p q : Policy) → fold read_line (reading n p) ls ≡ reading m q → Extends p (accepted_lines ls) q
+Extending ls = (n m : ℕ) (p q : Policy) → fold read_next_line (reading n p) ls ≡ reading m q → Extends p (accepted_lines ls) q
 
 extends : (ls : List (List ℕ)) → Extending ls
-unfolding accepted_lines accepted_line rules_in constraints_in read_line advance
+unfolding accepted_lines accepted_line rules_in constraints_in read_next_line advance
 extends [] n m p q e = let s : p ≡ q = cc in record { rules = ap (λ (x : Policy). x.rules) (sym s) ∙ sym (append-nil p.rules); constraints = ap (λ (x : Policy). x.constraints) (sym s) ∙ sym (append-nil p.constraints) }
 extends (l ∷ ls) n m p q e = go (line_answer l) (extends ls) e
   where
-    go : (a : LineAnswer) → Extending ls → fold read_line (advance n p a) ls ≡ reading m q → Extends p (accepted_line a (accepted_lines ls)) q
+    go : (a : LineAnswer) → Extending ls → fold read_next_line (advance n p a) ls ≡ reading m q → Extends p (accepted_line a (accepted_lines ls)) q
     go skipped later k = later (suc n) m p q k
     go (refused f) later k = absurd (no_reading (refusal f n) m q (sym (stays (refusal f n) ls) ∙ k))
     go (accepted (rule r)) later k = room (ltb (length p.rules) rule_limit) k
       where
-        room : (b : Bool) → fold read_line (cond b (reading (suc n) (with_rule p r)) (stopped (refusal Fault.TooManyLines n))) ls ≡ reading m q → Extends p (rule r ∷ accepted_lines ls) q
+        room : (b : Bool) → fold read_next_line (cond b (reading (suc n) (with_rule p r)) (stopped (refusal Fault.TooManyLines n))) ls ≡ reading m q → Extends p (rule r ∷ accepted_lines ls) q
         room true h = let x = later (suc n) m (with_rule p r) q h in record { rules = x.rules ∙ append_assoc p.rules (r ∷ []) (rules_in (accepted_lines ls)); constraints = x.constraints }
         room false h = absurd (no_reading (refusal Fault.TooManyLines n) m q (sym (stays (refusal Fault.TooManyLines n) ls) ∙ h))
     go (accepted (constraint c)) later k = room (ltb (length p.constraints) constraint_limit) k
       where
-        room : (b : Bool) → fold read_line (cond b (reading (suc n) (with_constraint p c)) (stopped (refusal Fault.TooManyLines n))) ls ≡ reading m q → Extends p (constraint c ∷ accepted_lines ls) q
+        room : (b : Bool) → fold read_next_line (cond b (reading (suc n) (with_constraint p c)) (stopped (refusal Fault.TooManyLines n))) ls ≡ reading m q → Extends p (constraint c ∷ accepted_lines ls) q
         room true h = let x = later (suc n) m (with_constraint p c) q h in record { rules = x.rules; constraints = x.constraints ∙ append_assoc p.constraints (c ∷ []) (constraints_in (accepted_lines ls)) }
         room false h = absurd (no_reading (refusal Fault.TooManyLines n) m q (sym (stays (refusal Fault.TooManyLines n) ls) ∙ h))
 
@@ -118,13 +118,13 @@ lined : (source : Source) (p : Policy) (text : List ℕ) (n : ℕ) (q : Policy) 
 unfolding read_text_behind in_text
 lined source p text n q e = go (ltb text_limit (length text)) refl e
   where
-    read : ltb text_limit (length text) ≡ false → (s : Progress) → fold read_line (reading 1 p) (lines_of text) ≡ s → in_text source s ≡ reading n q → Lined p text q
+    read : ltb text_limit (length text) ≡ false → (s : Progress) → fold read_next_line (reading 1 p) (lines_of text) ≡ s → in_text source s ≡ reading n q → Lined p text q
     read h (reading m x) k v = let i : x ≡ q = cc in record { short = ltb-false text_limit (length text) h; lines = extends (lines_of text) 1 m p q (k ∙ ap (reading m) i) }
     read h (stopped r) k v = absurd (no_reading (within source r) n q v)
 
-    go : (b : Bool) → ltb text_limit (length text) ≡ b → in_text source (cond b (stopped (refusal Fault.TooLong 0)) (fold read_line (reading 1 p) (lines_of text))) ≡ reading n q → Lined p text q
+    go : (b : Bool) → ltb text_limit (length text) ≡ b → in_text source (cond b (stopped (refusal Fault.TooLong 0)) (fold read_next_line (reading 1 p) (lines_of text))) ≡ reading n q → Lined p text q
     go true h k = absurd (no_reading (within source (refusal Fault.TooLong 0)) n q k)
-    go false h k = read h (fold read_line (reading 1 p) (lines_of text)) refl k
+    go false h k = read h (fold read_next_line (reading 1 p) (lines_of text)) refl k
 
 pub record AcceptedTexts (maker site : List ℕ) (counts : TextCounts) : Type 0 where
   pub number : ℕ

@@ -20,7 +20,7 @@ use Rattle.acceptance.proofs.Accepted.{accepted_acceptable, texts_acceptable}
 use Rattle.rule_text.specs.Text.{Progress, reading, stopped, read_text, read_texts, policy_read, policy_of, policy_of_texts}
 use Rattle.codegen.proofs.AcceptedLaws.{newest_known}
 use Rattle.codegen.specs.Compile.{newest_form, output_of, compiled, compiled_texts, refusal_in, size_of}
-use Rattle.codegen.specs.Written.{written_by, WrittenBy, written_in, Written, WrittenTexts}
+use Rattle.codegen.specs.Written.{written_by, WrittenBy, written_in, ImageWritten, TextsImageWritten}
 use Rattle.codegen.specs.declared.Compiled.{Compiled}
 
 -- ---- of what was read, be it a text or two
@@ -80,7 +80,7 @@ module _ (s : Progress) (buffer : List ℕ) where
 
 module _ (text buffer : List ℕ) where
   -- where the compiler answers a size, it has written an image of that size
-  pub image_written : (size : ℕ) → (compiled text buffer).answer ≡ Compiled.Image size → Written text buffer size
+  pub image_written : (size : ℕ) → (compiled text buffer).answer ≡ Compiled.Image size → ImageWritten text buffer size
   unfolding compiled policy_of
   image_written size e = output_written (read_text text) (accepted_acceptable text) buffer size e
 
@@ -112,7 +112,7 @@ module _ (text buffer : List ℕ) where
 -- ---- two texts as one
 
 module _ (maker site buffer : List ℕ) where
-  pub texts_written : (size : ℕ) → (compiled_texts maker site buffer).answer ≡ Compiled.Image size → WrittenTexts maker site buffer size
+  pub texts_written : (size : ℕ) → (compiled_texts maker site buffer).answer ≡ Compiled.Image size → TextsImageWritten maker site buffer size
   unfolding compiled_texts policy_of_texts
   texts_written size e = output_written (read_texts maker site) (texts_acceptable maker site) buffer size e
 

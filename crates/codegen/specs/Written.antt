@@ -37,9 +37,9 @@ pub record WrittenBy (known : Option Policy) (made : Filled Compiled) (buffer : 
 abbrev pub written_in : ℕ → List ℕ → List ℕ → List ℕ
 written_in size text buffer = written_by size (compiled text buffer)
 
-abbrev pub Written : List ℕ → List ℕ → ℕ → Type 0
-Written text buffer size = WrittenBy (policy_of text) (compiled text buffer) buffer size
+abbrev pub ImageWritten : List ℕ → List ℕ → ℕ → Type 0
+ImageWritten text buffer size = WrittenBy (policy_of text) (compiled text buffer) buffer size
 
 -- of two texts as one
-abbrev pub WrittenTexts : List ℕ → List ℕ → List ℕ → ℕ → Type 0
-WrittenTexts maker site buffer size = WrittenBy (policy_of_texts maker site) (compiled_texts maker site buffer) buffer size
+abbrev pub TextsImageWritten : List ℕ → List ℕ → List ℕ → ℕ → Type 0
+TextsImageWritten maker site buffer size = WrittenBy (policy_of_texts maker site) (compiled_texts maker site buffer) buffer size

@@ -7,7 +7,7 @@ use Rattle.line_value.proofs.LineLaws.{room_counted, item_more, count_more}
 use Rattle.policy.proofs.ListLaws.{and_out}
 use Rattle.policy.specs.Limits.{valid, test_number, comparison_in_range, ending_in_range}
 use Rattle.policy.specs.Line.{PolicyLine, rule, constraint, heads_of, comparisons_of, ending_of, operand_constants}
-use Rattle.line_value.specs.Value.{counted, head, no_head, no_comparison, line_of, line_value}
+use Rattle.line_value.specs.Value.{count_up_to, head, no_head, no_comparison, line_of, line_value}
 use Rattle.policy.specs.List.{all}
 use Rattle.policy.specs.declared.comparison.Comparison.{Comparison}
 use Rattle.policy.specs.declared.comparison.Literal.{Literal}
@@ -21,24 +21,24 @@ use Rattle.policy.proofs.ValidLaws.{ValidParts, valid_out, test_in_range}
 use Rattle.operation.specs.Parts.{test_word, comparison_words, ending_word, event_from, constant_comparison, reading_comparison}
 use Rattle.operation.specs.Fields.{operation_of, skip_of}
 use Rattle.layout.specs.Layout.{condition_words, part_words, line_words}
-use Rattle.decode.specs.Steps.Scan.{part_of, part_at, constants_of, with_part, with_words, line_from}
+use Rattle.decode.specs.Steps.Scan.{part_of, line_part_at, constants_of, with_part, with_words, value_from}
 use Rattle.decode.specs.declared.LinePart.{LinePart}
 use Rattle.operation.specs.declared.operation.Operation.{Operation}
 use Rattle.decode.proofs.LengthLaws.{word_here}
 
 -- ---- what the words of a part stand for
 
-part_by : (w : ℕ) (ws : List ℕ) (o : Operation) → operation_of w ≡ o → part_at (w ∷ ws) 0 ≡ part_of o w (get_or ws 0 0)
-unfolding part_at
+part_by : (w : ℕ) (ws : List ℕ) (o : Operation) → operation_of w ≡ o → line_part_at (w ∷ ws) 0 ≡ part_of o w (get_or ws 0 0)
+unfolding line_part_at
 part_by w ws o e = ap (λ (x : Operation). part_of x w (get_or ws 0 0)) e
 
 -- by the operation that was read
-pub part_for : (ws : List ℕ) (at w : ℕ) (o op : Operation) → w ≡ get_or ws at 0 → o ≡ operation_of w → o ≡ op → part_of op w (get_or ws (at + 1) 0) ≡ part_at ws at
-unfolding part_at
+pub part_for : (ws : List ℕ) (at w : ℕ) (o op : Operation) → w ≡ get_or ws at 0 → o ≡ operation_of w → o ≡ op → part_of op w (get_or ws (at + 1) 0) ≡ line_part_at ws at
+unfolding line_part_at
 part_for ws at w o op here operates e =
     ap (λ (x : Operation). part_of x w (get_or ws (at + 1) 0)) (sym e ∙ operates) ∙ ap (λ (x : ℕ). part_of (operation_of x) x (get_or ws (at + 1) 0)) here
 
-literal_read : (x : Literal) (k : ℕ) (ws : List ℕ) → test_number (Test.Occurs x) < 64 → k < 32 → part_at (test_word (Test.Occurs x) k ∷ ws) 0 ≡ LinePart.Head (Test.Occurs x)
+literal_read : (x : Literal) (k : ℕ) (ws : List ℕ) → test_number (Test.Occurs x) < 64 → k < 32 → line_part_at (test_word (Test.Occurs x) k ∷ ws) 0 ≡ LinePart.Head (Test.Occurs x)
 unfolding part_of
 literal_read x k ws h b = part_by w ws (literal_operation x.negated) (literal_operation_is x k h b) ∙ go x.negated refl
   where
@@ -52,15 +52,15 @@ literal_read x k ws h b = part_by w ws (literal_operation x.negated) (literal_op
     go true q = ap (λ (y : Literal). LinePart.Head (Test.Occurs y)) (made true q)
     go false q = ap (λ (y : Literal). LinePart.Head (Test.Occurs y)) (made false q)
 
-member_read : (a : Action) (k : ℕ) (ws : List ℕ) → test_number (Test.Member a) < 64 → k < 32 → part_at (test_word (Test.Member a) k ∷ ws) 0 ≡ LinePart.Head (Test.Member a)
+member_read : (a : Action) (k : ℕ) (ws : List ℕ) → test_number (Test.Member a) < 64 → k < 32 → line_part_at (test_word (Test.Member a) k ∷ ws) 0 ≡ LinePart.Head (Test.Member a)
 unfolding part_of
 member_read a k ws h b = part_by (test_word (Test.Member a) k) ws Operation.Member (member_operation a k h b) ∙ ap (λ (y : Action). LinePart.Head (Test.Member y)) (member_action a k h b)
 
-causes_read : (a : Action) → a.0 < 64 → (ws : List ℕ) → part_at (ending_word (Ending.Causes a) ∷ ws) 0 ≡ LinePart.Ending (Ending.Causes a)
+causes_read : (a : Action) → a.0 < 64 → (ws : List ℕ) → line_part_at (ending_word (Ending.Causes a) ∷ ws) 0 ≡ LinePart.Ending (Ending.Causes a)
 unfolding part_of
 causes_read a h ws = part_by (ending_word (Ending.Causes a)) ws Operation.Proposes (causes_operation a h) ∙ ap (λ (y : Action). LinePart.Ending (Ending.Causes y)) (causes_action a h)
 
-never_read : (ws : List ℕ) → part_at (ending_word Ending.Never ∷ ws) 0 ≡ LinePart.Ending Ending.Never
+never_read : (ws : List ℕ) → line_part_at (ending_word Ending.Never ∷ ws) 0 ≡ LinePart.Ending Ending.Never
 unfolding part_of
 never_read ws = part_by (ending_word Ending.Never) ws Operation.Never never_operation
 
@@ -70,11 +70,11 @@ with_head : (hs : List Test) (cs : List Comparison) (e : Ending) (t : Test) → 
 unfolding with_part line_of
 with_head hs cs e t h =
     let room : length (map head hs) < 8 = omega (arith, length-map hs head) in
-    rw (lt-ltb (counted 8 (map head hs)) 8 (room_counted 8 no_head (map head hs) (head t) room), item_more 8 no_head (map head hs) (head t) room, count_more 8 no_head (map head hs) (head t) room, map-append head hs (t ∷ []))
+    rw (lt-ltb (count_up_to 8 (map head hs)) 8 (room_counted 8 no_head (map head hs) (head t) room), item_more 8 no_head (map head hs) (head t) room, count_more 8 no_head (map head hs) (head t) room, map-append head hs (t ∷ []))
 
 with_comparison : (hs : List Test) (cs : List Comparison) (e : Ending) (c : Comparison) → length cs < 4 → with_part (LinePart.Comparison c) (line_of hs cs e) ≡ line_of hs (cs ++ c ∷ []) e
 unfolding with_part line_of
-with_comparison hs cs e c h = rw (lt-ltb (counted 4 cs) 4 (room_counted 4 no_comparison cs c h), item_more 4 no_comparison cs c h, count_more 4 no_comparison cs c h)
+with_comparison hs cs e c h = rw (lt-ltb (count_up_to 4 cs) 4 (room_counted 4 no_comparison cs c h), item_more 4 no_comparison cs c h, count_more 4 no_comparison cs c h)
 
 with_ending : (hs : List Test) (cs : List Comparison) (e e' : Ending) → with_part (LinePart.Ending e') (line_of hs cs e) ≡ line_of hs cs e'
 unfolding with_part line_of
@@ -82,7 +82,7 @@ with_ending hs cs e e' = refl
 
 -- ---- the words of a line
 
-read_by : (l : Line) (w : ℕ) (ws : List ℕ) (p : LinePart) → part_at (w ∷ ws) 0 ≡ p → with_words l 0 (w ∷ ws) ≡ with_words (with_part p l) (constants_of p) ws
+read_by : (l : Line) (w : ℕ) (ws : List ℕ) (p : LinePart) → line_part_at (w ∷ ws) 0 ≡ p → with_words l 0 (w ∷ ws) ≡ with_words (with_part p l) (constants_of p) ws
 unfolding with_words
 read_by l w ws p e = ap (λ (x : LinePart). with_words (with_part x l) (constants_of x) ws) e
 
@@ -97,7 +97,7 @@ read_comparison c k l rest (with_reading w q o s b h z) =
     ∙ read_by l w rest (LinePart.Comparison c) (part_by w rest Operation.AgainstReading o ∙ ap LinePart.Comparison b)
     ∙ ap (λ (n : ℕ). with_words (with_part (LinePart.Comparison c) l) n rest) (sym (ap (λ (x : Comparison). operand_constants x.operand) b))
 
-module _ (e : Ending) (ends : part_at (ending_word e ∷ []) 0 ≡ LinePart.Ending e) where
+module _ (e : Ending) (ends : line_part_at (ending_word e ∷ []) 0 ≡ LinePart.Ending e) where
   read_condition : (cs : List Comparison) (hs : List Test) (cs₀ : List Comparison) → all comparison_in_range cs ≡ true → length cs₀ + length cs ≤ 4
       → with_words (line_of hs cs₀ Ending.Never) 0 (condition_words cs e) ≡ line_of hs (cs₀ ++ cs) e
   unfolding condition_words all with_words
@@ -110,7 +110,7 @@ module _ (e : Ending) (ends : part_at (ending_word e ∷ []) 0 ≡ LinePart.Endi
       ∙ ap (λ (x : Line). with_words x 0 tail) (with_comparison hs cs₀ Ending.Never c (omega arith))
       ∙ read_condition cs hs (cs₀ ++ c ∷ []) p.1 (omega (arith, length-append cs₀ (c ∷ []))) ∙ ap (λ (x : List Comparison). line_of hs x e) (append_snoc cs₀ c cs)
 
-  read_parts : {X : Type 0} (wrap : X → Test) → ((x : X) (k : ℕ) (ws : List ℕ) → test_number (wrap x) < 64 → k < 32 → part_at (test_word (wrap x) k ∷ ws) 0 ≡ LinePart.Head (wrap x))
+  read_parts : {X : Type 0} (wrap : X → Test) → ((x : X) (k : ℕ) (ws : List ℕ) → test_number (wrap x) < 64 → k < 32 → line_part_at (test_word (wrap x) k ∷ ws) 0 ≡ LinePart.Head (wrap x))
       → (cs : List Comparison) → all comparison_in_range cs ≡ true → length cs ≤ 4 → (xs : List X) (hs : List Test) → all test_in_range (map wrap xs) ≡ true → length hs + length xs ≤ 8
       → with_words (line_of hs [] Ending.Never) 0 (part_words (map wrap xs) cs e) ≡ line_of (hs ++ map wrap xs) cs e
   unfolding part_words all constants_of
@@ -124,7 +124,7 @@ module _ (e : Ending) (ends : part_at (ending_word e ∷ []) 0 ≡ LinePart.Endi
       ∙ read_parts wrap head cs r few xs (hs ++ wrap x ∷ []) p.1 (omega (arith, length-append hs (wrap x ∷ []))) ∙ ap (λ (y : List Test). line_of y cs e) (append_snoc hs (wrap x) (map wrap xs))
 
 -- the words of a valid line say its value
-pub line_from_is : (l : PolicyLine) → valid l ≡ true → line_from (line_words l) ≡ line_value l
+pub line_from_is : (l : PolicyLine) → valid l ≡ true → value_from (line_words l) ≡ line_value l
 unfolding line_words line_value heads_of comparisons_of ending_of ending_in_range
 line_from_is (rule r) v =
     let h = valid_out (rule r) v in
@@ -139,7 +139,7 @@ line_from_is (constraint k) v =
 
 -- what is left to read at a word
 pub record Remains (ws : List ℕ) (line : Line) (at : ℕ) : Type 0 where
-  pub same : with_words line 0 (drop at ws) ≡ line_from ws
+  pub same : with_words line 0 (drop at ws) ≡ value_from ws
 
 past_constants : (l : Line) (k : ℕ) (ws : List ℕ) → with_words l k ws ≡ with_words l 0 (drop k ws)
 unfolding with_words
@@ -152,14 +152,14 @@ module _ (ws : List ℕ) where
   remains_none line e = record { same = ap (λ (l : Line). with_words l 0 ws) e }
 
   -- a part and its constants are read
-  pub remains_past : (line : Line) (at : ℕ) → Remains ws line at → at < length ws → (p : LinePart) (line' : Line) (next : ℕ) → p ≡ part_at ws at → line' ≡ with_part p line → next ≡ at + 1 + constants_of p
+  pub remains_past : (line : Line) (at : ℕ) → Remains ws line at → at < length ws → (p : LinePart) (line' : Line) (next : ℕ) → p ≡ line_part_at ws at → line' ≡ with_part p line → next ≡ at + 1 + constants_of p
       → Remains ws line' next
-  unfolding part_at
+  unfolding line_part_at
   remains_past line at h l p line' next e q n =
       let one : suc at ≡ at + 1 = omega arith in
       let here : drop at ws ≡ get_or ws at 0 ∷ drop (at + 1) ws = drop-cons ws at 0 l ∙ ap (λ (k : ℕ). get_or ws at 0 ∷ drop k ws) one in
       let second : get_or (drop (at + 1) ws) 0 0 ≡ get_or ws (at + 1) 0 = word_here ws (at + 1) in
-      let front : part_at (get_or ws at 0 ∷ drop (at + 1) ws) 0 ≡ p =
+      let front : line_part_at (get_or ws at 0 ∷ drop (at + 1) ws) 0 ≡ p =
       ap (part_of (operation_of (get_or ws at 0)) (get_or ws at 0)) second ∙ sym e in
       record {
         same =
@@ -171,7 +171,7 @@ module _ (ws : List ℕ) where
             ∙ h.same;
       }
 
-  pub remains_all : (line : Line) (at : ℕ) → Remains ws line at → length ws ≤ at → line ≡ line_from ws
+  pub remains_all : (line : Line) (at : ℕ) → Remains ws line at → length ws ≤ at → line ≡ value_from ws
   unfolding with_words
   remains_all line at h l = sym (ap (with_words line 0) (drop_of_length-le ws l)) ∙ h.same
 

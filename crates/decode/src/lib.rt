@@ -7,7 +7,7 @@ ghost use Rattle.word.specs.Word.{word_limit, Below};
 ghost use Rattle.word.specs.Chunk.{words_in};
 ghost use Rattle.operation.specs.Fields.{first_of};
 ghost use Rattle.decode.specs.Decode.{line_at, line_length};
-ghost use Rattle.decode.specs.Steps.Scan.{first_head, head_operations, first_ending, ending_numbers, number_lowest, relation_lowest, is_ending, head_sound, count_heads, head_numbers, numbers_of, comparison_length, IsBehind, comparisons_fill, part_at, line_from, constants_of, with_part};
+ghost use Rattle.decode.specs.Steps.Scan.{first_head, head_operations, first_ending, ending_numbers, number_lowest, relation_lowest, is_ending, head_sound, count_heads, head_numbers, numbers_of, comparison_length, IsBehind, comparisons_fill, line_part_at, value_from, constants_of, with_part};
 
 use line_value::Line;
 use operation::{Operation, constant_comparison, first, reading_comparison, skip};
@@ -246,7 +246,7 @@ enum LinePart {
 // What the word `at` stands for. The constant of a comparison is the next word.
 fn part_at(words: &[[u8; 4]], at: usize) -> LinePart
     requires { at < length words.now }
-    ensures { result ≡ part_at (words_in words.now) at }
+    ensures { result ≡ line_part_at (words_in words.now) at }
 {
     let word = nth_word(words, at);
     let number = first(word) as u8;
@@ -307,7 +307,7 @@ fn push_part(line: &mut Line, part: LinePart)
 
 /// The value of the line whose words these are. Nothing is checked, so it is for images that the loader takes.
 pub fn read_line(words: &[[u8; 4]]) -> Line
-    ensures { result ≡ line_from (words_in words.now) }
+    ensures { result ≡ value_from (words_in words.now) }
 {
     let mut line = Line::new();
     let mut at = 0;

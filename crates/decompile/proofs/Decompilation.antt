@@ -15,16 +15,16 @@ use Rattle.exactness.proofs.Exact.{held_acceptable}
 use Rattle.printer.proofs.Printing.{text_length}
 use Rattle.printer.specs.Printed.{longest_text, text_of}
 use Rattle.decompile.specs.Decompile.{output_of, decompiled, refusal_in, size_of}
-use Rattle.decompile.specs.Written.{Written}
+use Rattle.decompile.specs.Written.{TextWritten}
 use Rattle.decompile.specs.declared.Decompiled.{Decompiled}
 
 module _ (image buffer : List ℕ) where
   -- where the decompiler answers a size, it has written a text of that size
-  pub text_written : Bytes image → (size : ℕ) → (decompiled image buffer).answer ≡ Decompiled.Text size → Written image buffer size
+  pub text_written : Bytes image → (size : ℕ) → (decompiled image buffer).answer ≡ Decompiled.Text size → TextWritten image buffer size
   unfolding decompiled output_of
   text_written bounded size e = go (load image) refl e
     where
-      go : (l : Loaded) → load image ≡ l → (output_of l (text_of (policy_in image)) buffer).answer ≡ Decompiled.Text size → Written image buffer size
+      go : (l : Loaded) → load image ≡ l → (output_of l (text_of (policy_in image)) buffer).answer ≡ Decompiled.Text size → TextWritten image buffer size
       go (Loaded.Image c) q k =
           let d = fill_delivered Decompiled.Refused Decompiled.Text refusal_in size_of (λ x. refl) (λ n. refl) (λ n. refl) (text_of (policy_in image)) buffer size k in
           record {

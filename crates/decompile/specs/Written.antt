@@ -8,16 +8,16 @@ use Rattle.printer.specs.Printed.{longest_text, text_of}
 use Rattle.decompile.specs.Decompile.{decompiled}
 
 -- the bytes that a decompilation of so many bytes wrote
-abbrev pub written_in : ℕ → List ℕ → List ℕ → List ℕ
-written_in size image buffer = take size (decompiled image buffer).buffer
+abbrev pub text_written_in : ℕ → List ℕ → List ℕ → List ℕ
+text_written_in size image buffer = take size (decompiled image buffer).buffer
 
 -- a decompilation of so many bytes
-pub record Written (image buffer : List ℕ) (size : ℕ) : Type 0 where
+pub record TextWritten (image buffer : List ℕ) (size : ℕ) : Type 0 where
   -- the loader takes the image, and the bytes are the text of the policy that it holds
   pub contents : Contents
   pub taken : load image ≡ Loaded.Image contents
-  pub text : written_in size image buffer ≡ text_of (policy_in image)
-  pub long : length (written_in size image buffer) ≡ size
+  pub text : text_written_in size image buffer ≡ text_of (policy_in image)
+  pub long : length (text_written_in size image buffer) ≡ size
   -- what lies behind the text is as it was
   pub behind : drop size (decompiled image buffer).buffer ≡ drop size buffer
   pub largest : size ≤ longest_text

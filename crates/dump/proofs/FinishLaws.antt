@@ -9,10 +9,9 @@ use Rattle.image.specs.declared.load.Loaded.{Loaded}
 use Rattle.printer.specs.Printed.{text_of}
 use Rattle.output.specs.Buffer.{behind}
 use Rattle.output.proofs.AppendLaws.{Put, put_same, append_start}
-use Rattle.report.specs.Report.{image_refusal_line, not_word_line}
+use Rattle.report.specs.Report.{image_refusal_line, not_word_line, next_number}
 use Rattle.decompile.specs.Decompile.{output_of, decompiled}
 use Rattle.decompile.specs.declared.Decompiled.{Decompiled}
-use Rattle.dump.specs.Dump.{next}
 use Rattle.dump.specs.Steps.Calls.{Held, answer_within, image_within, finished}
 use Rattle.dump.specs.declared.state.State.{State}
 
@@ -73,11 +72,11 @@ module _ (image out : List ℕ) (answer : Decompiled) (between : List ℕ) (a : 
 -- ---- the state that is left
 
 module _ (h : Held) (s : State) (e : s ≡ h.state) where
-  pub finish_broken : s.broken ≡ true → (room line : ℕ) → line ≡ next s.lines → not_word_line line ≡ finished room h
+  pub finish_broken : s.broken ≡ true → (room line : ℕ) → line ≡ next_number s.lines → not_word_line line ≡ finished room h
   unfolding finished
   finish_broken t room line n =
       let b : h.state.broken ≡ true = rw e at t in
-      rw b (ap not_word_line (n ∙ ap (λ (x : State). next x.lines) e))
+      rw b (ap not_word_line (n ∙ ap (λ (x : State). next_number x.lines) e))
 
   pub finish_words : s.broken ≡ false → (room : ℕ) (image : List ℕ) (count : ℕ) → image ≡ h.image → count ≡ min s.words (length image / 4)
       → image_within room (take (count * 4) image) ≡ finished room h

@@ -12,8 +12,8 @@ use Rattle.word.specs.Word.{word_limit, Below, Bytes, words_of}
 use Rattle.word.proofs.WordLaws.{words_below, bytes_of_words}
 use Rattle.output.specs.Number.{hex_digit, hex_digits, hex_word, hex_digit_value}
 use Rattle.output.proofs.HexLaws.{word_value}
-use Rattle.report.specs.Report.{word_line}
-use Rattle.dump.specs.Dump.{word_in, words, behind_words, read_line, read_dump, next, image_answer, dump_answer, restored}
+use Rattle.report.specs.Report.{word_line, next_number}
+use Rattle.dump.specs.Dump.{word_in, words, behind_words, read_word_line, read_dump, image_answer, dump_answer, restored}
 use Rattle.dump.proofs.LineLaws.{glue, glue_line, word_some}
 
 -- ---- the digits of a word
@@ -74,10 +74,10 @@ line_first w rest =
 
 -- the lines of words are read as these words
 pub dump_read : (n : ℕ) (ws : List ℕ) → Below word_limit ws → read_dump n (lines_of (flatten (map word_line ws))) ≡ words ws
-unfolding flatten read_dump read_line behind_words lines_of pieces
+unfolding flatten read_dump read_word_line behind_words lines_of pieces
 dump_read n [] h = refl
 dump_read n (w ∷ ws) h =
-    rw (line_first w (flatten (map word_line ws)), word_read w (h 0)) (ap (behind_words (w ∷ [])) (dump_read (next n) ws (λ i. h (suc i))))
+    rw (line_first w (flatten (map word_line ws)), word_read w (h 0)) (ap (behind_words (w ∷ [])) (dump_read (next_number n) ws (λ i. h (suc i))))
 
 -- so what is printed for the words of an image is what is printed for the image
 pub restored_image : (image : List ℕ) → Bytes image → length image % 4 ≡ 0 → restored (flatten (map word_line (words_of image))) ≡ image_answer image

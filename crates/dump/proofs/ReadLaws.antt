@@ -11,17 +11,18 @@ use Rattle.lexer.specs.Lines.{prepend, pieces, lines_of}
 use Rattle.lexer.specs.Number.{hex_number}
 use Rattle.word.specs.Steps.Write.{fits, put_words}
 use Rattle.word.proofs.WriteLaws.{fits_in, fits_out, put_none, put_out, put_append, put_length}
-use Rattle.dump.specs.Dump.{word_in, Dump, words, not_word, next, behind_words, read_line, read_dump}
-use Rattle.dump.specs.Steps.Calls.{Held, held, start_state, broken, with_digit, with_word, line_ended, digit_taken, stepped, fed, closed}
+use Rattle.dump.specs.Dump.{word_in, Dump, words, not_word, behind_words, read_word_line, read_dump}
+use Rattle.dump.specs.Steps.Calls.{Held, held, start_state, broken, with_digit, with_word, line_ended, digit_taken, stepped, held_behind, closed}
 use Rattle.dump.specs.declared.state.State.{State}
 use Rattle.dump.proofs.LineLaws.{glue, glue_line, glue_more, glue_last, glue_begun, rest_of, others, word_some, word_none, word_broken, word_over, number_more, behind_both}
 use Rattle.dump.proofs.StepLaws.{digit_none, digit_ninth, digit_more, ended_none, ended_word, stepped_over, stepped_end, stepped_digit, closed_over, closed_none, closed_open}
+use Rattle.report.specs.Report.{next_number}
 
 -- ---- a broken line stays
 
-pub fed_over : (h : Held) (rest : List ℕ) → h.state.broken ≡ true → fed h rest ≡ h
+pub fed_over : (h : Held) (rest : List ℕ) → h.state.broken ≡ true → held_behind h rest ≡ h
 fed_over h [] e = refl
-fed_over h (b ∷ rest) e = ap (λ (x : Held). fed x rest) (stepped_over h b e) ∙ fed_over h rest e
+fed_over h (b ∷ rest) e = ap (λ (x : Held). held_behind x rest) (stepped_over h b e) ∙ fed_over h rest e
 
 -- ---- the words that a buffer has room for
 
@@ -137,15 +138,15 @@ module _ {buffer ws line : List ℕ} {n : ℕ} {h : Held} (r : Reading buffer ws
           }
 
   -- the line is a word
-  reading_word : length line ≡ 8 → Reading buffer (ws ++ hex_number line ∷ []) [] (next n) (line_ended h)
+  reading_word : length line ≡ 8 → Reading buffer (ws ++ hex_number line ∷ []) [] (next_number n) (line_ended h)
   unfolding all
   reading_word l = rw (ended_word h (r.digits ∙ l)) word
     where
-      word : Reading buffer (ws ++ hex_number line ∷ []) [] (next n) (held (with_word h.state (cond (fits h.image h.state.words 1) (h.state.words + 1) h.state.words)) (put_words h.image h.state.words (h.state.value ∷ [])))
+      word : Reading buffer (ws ++ hex_number line ∷ []) [] (next_number n) (held (with_word h.state (cond (fits h.image h.state.words 1) (h.state.words + 1) h.state.words)) (put_words h.image h.state.words (h.state.value ∷ [])))
       word =
           record {
             unbroken = refl;
-            counted = ap next r.counted;
+            counted = ap next_number r.counted;
             stored = rw r.value (store_word buffer ws (hex_number line) h.state.words h.image r.stored);
             digits = refl;
             value = refl;
@@ -156,39 +157,39 @@ module _ {buffer ws line : List ℕ} {n : ℕ} {h : Held} (r : Reading buffer ws
 
 unfoldable pub Ends : List ℕ → Dump → Held → Type 0
 Ends buffer (words ws) h = (h.state.broken ≡ false) × Stored buffer ws h.state.words h.image
-Ends buffer (not_word n) h = (h.state.broken ≡ true) × (next h.state.lines ≡ n)
+Ends buffer (not_word n) h = (h.state.broken ≡ true) × (next_number h.state.lines ≡ n)
 
 -- what the lines behind the n lines, of which the first has begun, come to
 abbrev result : List ℕ → ℕ → List (List ℕ) → Dump
 result ws n ls = behind_words ws (read_dump n ls)
 
-result_none : (ws : List ℕ) (n : ℕ) (l : List ℕ) (ls : List (List ℕ)) → word_in l ≡ none → result ws n (l ∷ ls) ≡ not_word (next n)
-unfolding read_dump read_line behind_words
+result_none : (ws : List ℕ) (n : ℕ) (l : List ℕ) (ls : List (List ℕ)) → word_in l ≡ none → result ws n (l ∷ ls) ≡ not_word (next_number n)
+unfolding read_dump read_word_line behind_words
 result_none ws n l ls e = rw e
 
-result_some : (ws : List ℕ) (n : ℕ) (l : List ℕ) (ls : List (List ℕ)) (w : ℕ) → word_in l ≡ some w → result ws n (l ∷ ls) ≡ result (ws ++ w ∷ []) (next n) ls
-unfolding read_dump read_line
-result_some ws n l ls w e = rw e (behind_both ws w (read_dump (next n) ls))
+result_some : (ws : List ℕ) (n : ℕ) (l : List ℕ) (ls : List (List ℕ)) (w : ℕ) → word_in l ≡ some w → result ws n (l ∷ ls) ≡ result (ws ++ w ∷ []) (next_number n) ls
+unfolding read_dump read_word_line
+result_some ws n l ls w e = rw e (behind_both ws w (read_dump (next_number n) ls))
 
 -- the rest of the input is read as it should be
 abbrev ReadsTo : List ℕ → List ℕ → Type 0
-ReadsTo buffer rest = (ws line : List ℕ) (n : ℕ) (h : Held) → Reading buffer ws line n h → Ends buffer (result ws n (glue line (lines_of rest))) (closed (fed h rest))
+ReadsTo buffer rest = (ws line : List ℕ) (n : ℕ) (h : Held) → Reading buffer ws line n h → Ends buffer (result ws n (glue line (lines_of rest))) (closed (held_behind h rest))
 
 module _ {buffer ws line : List ℕ} {n : ℕ} {h : Held} (r : Reading buffer ws line n h) where
   -- the open line is no word, whatever follows
-  ends_broken : (g : Held) (rest : List ℕ) (d : Dump) → g ≡ held (broken h.state) h.image → d ≡ not_word (next n) → Ends buffer d (closed (fed g rest))
+  ends_broken : (g : Held) (rest : List ℕ) (d : Dump) → g ≡ held (broken h.state) h.image → d ≡ not_word (next_number n) → Ends buffer d (closed (held_behind g rest))
   unfolding Ends
   ends_broken g rest d e q =
       let o : g.state.broken ≡ true = ap (λ (x : Held). x.state.broken) e in
-      rw (q, fed_over g rest o, closed_over g o) (o, ap (λ (x : Held). next x.state.lines) e ∙ ap next r.counted)
+      rw (q, fed_over g rest o, closed_over g o) (o, ap (λ (x : Held). next_number x.state.lines) e ∙ ap next_number r.counted)
 
   -- the open line has ended
   ends_line : (rest : List ℕ) (ls : List (List ℕ))
-      → ((w : ℕ) → Reading buffer (ws ++ w ∷ []) [] (next n) (line_ended h) → Ends buffer (result (ws ++ w ∷ []) (next n) ls) (closed (fed (line_ended h) rest)))
-      → Ends buffer (result ws n (line ∷ ls)) (closed (fed (line_ended h) rest))
+      → ((w : ℕ) → Reading buffer (ws ++ w ∷ []) [] (next_number n) (line_ended h) → Ends buffer (result (ws ++ w ∷ []) (next_number n) ls) (closed (held_behind (line_ended h) rest)))
+      → Ends buffer (result ws n (line ∷ ls)) (closed (held_behind (line_ended h) rest))
   ends_line rest ls f = go (eqb (length line) 8) refl
     where
-      go : (b : Bool) → eqb (length line) 8 ≡ b → Ends buffer (result ws n (line ∷ ls)) (closed (fed (line_ended h) rest))
+      go : (b : Bool) → eqb (length line) 8 ≡ b → Ends buffer (result ws n (line ∷ ls)) (closed (held_behind (line_ended h) rest))
       go true e =
           let l : length line ≡ 8 = eqb-true (length line) 8 e in
           rw (result_some ws n line ls (hex_number line) (word_some line l r.hex)) (f (hex_number line) (reading_word r l))
@@ -221,7 +222,7 @@ reads_end : (buffer rest : List ℕ) → ReadsTo buffer rest → ReadsTo buffer 
 unfolding lines_of pieces
 reads_end buffer rest f ws line n h r =
     rw (glue_line line [] (lines_of rest), append-nil, stepped_end h 10 r.unbroken refl)
-    (ends_line r rest (lines_of rest) (λ w g. f (ws ++ w ∷ []) [] (next n) (line_ended h) g))
+    (ends_line r rest (lines_of rest) (λ w g. f (ws ++ w ∷ []) [] (next_number n) (line_ended h) g))
 
 reads_byte : (buffer : List ℕ) (b : ℕ) (rest : List ℕ) → (b ≡ 10 → ⊥) → ReadsTo buffer rest → ReadsTo buffer (b ∷ rest)
 unfolding lines_of pieces
@@ -231,14 +232,14 @@ reads_byte buffer b rest m f ws line n h r = rw (ne_eqb b 10 m) (go (ltb (hex_va
     ls = lines_of rest
 
     none_here : word_in (line ++ b ∷ rest_of ls) ≡ none → digit_taken h.state (hex_value b) ≡ broken h.state
-        → Ends buffer (result ws n (glue line (prepend b ls))) (closed (fed (stepped h b) rest))
+        → Ends buffer (result ws n (glue line (prepend b ls))) (closed (held_behind (stepped h b) rest))
     none_here e q =
         ends_broken r (stepped h b) rest (result ws n (glue line (prepend b ls)))
         (stepped_digit h b r.unbroken m ∙ ap (λ (s : State). held s h.image) q)
         (ap (result ws n) (glue_begun line b ls) ∙ result_none ws n (line ++ b ∷ rest_of ls) (others ls) e)
 
     go : (t u : Bool) → ltb (hex_value b) 16 ≡ t → ltb (length line) 8 ≡ u
-        → Ends buffer (result ws n (glue line (prepend b ls))) (closed (fed (stepped h b) rest))
+        → Ends buffer (result ws n (glue line (prepend b ls))) (closed (held_behind (stepped h b) rest))
     go false u e q = none_here (word_broken line b (rest_of ls) e) (digit_none h.state (hex_value b) (ltb-false (hex_value b) 16 e))
     go true false e q =
         let l : 8 ≤ length line = ltb-false (length line) 8 q in
@@ -261,5 +262,5 @@ behind_none (words ws) = refl
 behind_none (not_word n) = refl
 
 -- all of the input
-pub reads_all : (buffer input : List ℕ) → Ends buffer (read_dump 0 (lines_of input)) (closed (fed (held start_state buffer) input))
+pub reads_all : (buffer input : List ℕ) → Ends buffer (read_dump 0 (lines_of input)) (closed (held_behind (held start_state buffer) input))
 reads_all buffer input = rw behind_none at (reads buffer input [] [] 0 (held start_state buffer) (reading_start buffer))

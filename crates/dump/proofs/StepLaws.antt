@@ -2,8 +2,8 @@
 use Rattle.std.proofs.Common.{◌≡◌, ℕ, ◌+◌, ◌/◌, ◌<◌, ◌≤◌, Bool, true, false, cond, List, [], ◌∷◌, length, get_or, drop, sym, ap, ◌∙◌, ap₂, add-one, drop_of_length-le, drop-cons, le-ltb, lt-ltb, eq-eqb, ne_eqb, leb-true}
 use Rattle.lexer.specs.Byte.{hex_value}
 use Rattle.word.specs.Steps.Write.{fits, put_words}
-use Rattle.dump.specs.Dump.{next}
-use Rattle.dump.specs.Steps.Calls.{Held, held, broken, with_digit, with_word, line_ended, digit_taken, stepped, fed, closed}
+use Rattle.report.specs.Report.{next_number}
+use Rattle.dump.specs.Steps.Calls.{Held, held, broken, with_digit, with_word, line_ended, digit_taken, stepped, held_behind, closed}
 use Rattle.dump.specs.declared.state.State.{State}
 
 -- ---- a digit
@@ -38,7 +38,7 @@ module _ (h : Held) where
   ended_word e = rw (eq-eqb h.state.digits 8 e)
 
   -- as the code counts the words
-  pub ended_counted : h.state.digits ≡ 8 → (lines count : ℕ) (ok : Bool) (image : List ℕ) → lines ≡ next h.state.lines
+  pub ended_counted : h.state.digits ≡ 8 → (lines count : ℕ) (ok : Bool) (image : List ℕ) → lines ≡ next_number h.state.lines
       → ok ≡ fits h.image h.state.words 1 → count ≡ cond ok (h.state.words + 1) h.state.words
       → image ≡ put_words h.image h.state.words (h.state.value ∷ [])
       → held (record { lines = lines; words = count; digits = 0; value = 0; broken = false }) image ≡ line_ended h
@@ -86,11 +86,11 @@ held_same h s image p q = ap₂ held p q
 
 -- ---- the loop: the bytes that are left do the same as all
 
-pub feed_turn : (g h : Held) (chunk : List ℕ) (i : ℕ) (s : State) (image : List ℕ) → i < length chunk → fed h (drop i chunk) ≡ g
-    → s ≡ (stepped h (get_or chunk i 0)).state → image ≡ (stepped h (get_or chunk i 0)).image → fed (held s image) (drop (i + 1) chunk) ≡ g
+pub feed_turn : (g h : Held) (chunk : List ℕ) (i : ℕ) (s : State) (image : List ℕ) → i < length chunk → held_behind h (drop i chunk) ≡ g
+    → s ≡ (stepped h (get_or chunk i 0)).state → image ≡ (stepped h (get_or chunk i 0)).image → held_behind (held s image) (drop (i + 1) chunk) ≡ g
 feed_turn g h chunk i s image l e p q =
     let d : drop i chunk ≡ get_or chunk i 0 ∷ drop (i + 1) chunk = rw add-one (drop-cons chunk i 0 l) in
-    ap (λ (x : Held). fed x (drop (i + 1) chunk)) (held_same (stepped h (get_or chunk i 0)) s image p q) ∙ sym (ap (fed h) d) ∙ e
+    ap (λ (x : Held). held_behind x (drop (i + 1) chunk)) (held_same (stepped h (get_or chunk i 0)) s image p q) ∙ sym (ap (held_behind h) d) ∙ e
 
-pub feed_end : (g h : Held) (chunk : List ℕ) (i : ℕ) → length chunk ≤ i → fed h (drop i chunk) ≡ g → h ≡ g
-feed_end g h chunk i l e = sym (ap (fed h) (drop_of_length-le chunk l)) ∙ e
+pub feed_end : (g h : Held) (chunk : List ℕ) (i : ℕ) → length chunk ≤ i → held_behind h (drop i chunk) ≡ g → h ≡ g
+feed_end g h chunk i l e = sym (ap (held_behind h) (drop_of_length-le chunk l)) ∙ e

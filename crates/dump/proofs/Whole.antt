@@ -26,9 +26,9 @@ use Rattle.output.specs.Buffer.{appended, behind}
 use Rattle.output.proofs.DecimalLaws.{decimal_short}
 use Rattle.output.proofs.AppendLaws.{append_start}
 use Rattle.output.proofs.RoomLaws.{put_take}
-use Rattle.report.specs.Report.{image_refusal_line, not_word_line}
-use Rattle.dump.specs.Dump.{word_in, Dump, words, not_word, next, behind_words, read_line, read_dump, answer_to, image_answer, dump_answer, restored}
-use Rattle.dump.specs.Steps.Calls.{Held, held, start_state, stepped, fed, closed, image_held, answer_within, image_within, finished}
+use Rattle.report.specs.Report.{image_refusal_line, not_word_line, next_number}
+use Rattle.dump.specs.Dump.{word_in, Dump, words, not_word, behind_words, read_word_line, read_dump, loaded_answer, image_answer, dump_answer, restored}
+use Rattle.dump.specs.Steps.Calls.{Held, held, start_state, stepped, held_behind, closed, image_held, answer_within, image_within, finished}
 use Rattle.dump.specs.declared.state.State.{State}
 use Rattle.dump.proofs.ReadLaws.{kept, Stored, Ends, reads_all}
 
@@ -46,7 +46,7 @@ stored_bytes buffer ws count image s =
     rw (size, here) (take_at (bytes_of x) (drop (0 + length (bytes_of x)) buffer) (length (bytes_of x)) refl)
 
 too_large : (image : List ℕ) → 13064 < length image → image_answer image ≡ image_refusal_line (refusal Fault.ImageSize 0)
-unfolding image_answer answer_to
+unfolding image_answer loaded_answer
 too_large image h = rw (sym (load_size image (sym (size_large (length image) (omega arith) h))))
 
 kept_answer : (buffer ws : List ℕ) → 13068 ≤ length buffer → image_answer (bytes_of (kept buffer ws)) ≡ image_answer (bytes_of ws)
@@ -62,8 +62,8 @@ kept_answer buffer ws room = go (leb (length ws) (length buffer / 4)) refl
 -- ---- a text always has room
 
 text_short : (ws : List ℕ) → (l : Loaded) → load (bytes_of ws) ≡ l → (room : ℕ) → 27968 ≤ room
-    → answer_within room l (text_of (policy_in (bytes_of ws))) ≡ answer_to l (text_of (policy_in (bytes_of ws)))
-unfolding answer_within answer_to
+    → answer_within room l (text_of (policy_in (bytes_of ws))) ≡ loaded_answer l (text_of (policy_in (bytes_of ws)))
+unfolding answer_within loaded_answer
 text_short ws (Loaded.Refused r) e room h = refl
 text_short ws (Loaded.Image contents) e room h =
     let image : List ℕ = bytes_of ws in
@@ -83,10 +83,10 @@ ends_answer buffer (words ws) h room long large (b, s) =
     rw b (ap (image_within room) (stored_bytes buffer ws h.state.words h.image s) ∙ image_whole (kept buffer ws) room large ∙ kept_answer buffer ws long)
 ends_answer buffer (not_word n) h room long large (b, e) = rw b (ap not_word_line e)
 
-fed_joined : (h : Held) (chunks : List (List ℕ)) → fold fed h chunks ≡ fed h (flatten chunks)
+fed_joined : (h : Held) (chunks : List (List ℕ)) → fold held_behind h chunks ≡ held_behind h (flatten chunks)
 unfolding flatten
 fed_joined h [] = refl
-fed_joined h (chunk ∷ chunks) = fed_joined (fed h chunk) chunks ∙ sym (fold-append stepped h chunk (flatten chunks))
+fed_joined h (chunk ∷ chunks) = fed_joined (held_behind h chunk) chunks ∙ sym (fold-append stepped h chunk (flatten chunks))
 
 -- ---- all of it has room
 
@@ -114,20 +114,20 @@ unfolding image_refusal_line bytes
 refusal_short r f l = simp length-append (omega (arith, decimal_short (fault_number r.fault) f, decimal_short r.location l))
 
 image_short : (ws : List ℕ) → length (image_answer (bytes_of ws)) ≤ 27968
-unfolding image_answer answer_to
+unfolding image_answer loaded_answer
 image_short ws = go (load (bytes_of ws)) refl
   where
-    go : (l : Loaded) → load (bytes_of ws) ≡ l → length (answer_to l (text_of (policy_in (bytes_of ws)))) ≤ 27968
+    go : (l : Loaded) → load (bytes_of ws) ≡ l → length (loaded_answer l (text_of (policy_in (bytes_of ws)))) ≤ 27968
     go (Loaded.Refused r) e = let s = refusal_small (bytes_of ws) r e in refusal_short r s.0 s.1
     go (Loaded.Image contents) e = text_length (policy_in (bytes_of ws)) (held_acceptable (bytes_of ws) (bytes_below ws) contents e)
 
 number_small : (n : ℕ) (lines : List (List ℕ)) (m : ℕ) → read_dump n lines ≡ not_word m → m < 2 ^ 64
-unfolding read_dump read_line behind_words
+unfolding read_dump read_word_line behind_words
 number_small n [] m e = let z : ◌≡◌ {A = ℕ} 0 1 = cc in absurd (omega arith)
-number_small n (line ∷ lines) m e = go (word_in line) (read_dump (next n) lines) (number_small (next n) lines m) e
+number_small n (line ∷ lines) m e = go (word_in line) (read_dump (next_number n) lines) (number_small (next_number n) lines m) e
   where
-    go : (o : Option ℕ) (d : Dump) → (d ≡ not_word m → m < 2 ^ 64) → read_line n o d ≡ not_word m → m < 2 ^ 64
-    go none d f q = let p : next n ≡ m = cc in omega arith
+    go : (o : Option ℕ) (d : Dump) → (d ≡ not_word m → m < 2 ^ 64) → read_word_line n o d ≡ not_word m → m < 2 ^ 64
+    go none d f q = let p : next_number n ≡ m = cc in omega arith
     go (some w) (words vs) f q = let z : ◌≡◌ {A = ℕ} 0 1 = cc in absurd (omega arith)
     go (some w) (not_word k) f q = f q
 
@@ -147,15 +147,15 @@ restored_short input = go (read_dump 0 (lines_of input)) refl
 -- `begin`, `feed` on each chunk, and `finish`, as their contracts have it: the output holds just what is to be printed, from its start up
 -- to the position that is answered
 pub all_restored : (chunks : List (List ℕ)) (image out after : List ℕ) (end : ℕ) → 13068 ≤ length image → 27968 ≤ length out
-    → end ≡ behind out 0 (finished (length out) (closed (fold fed (held start_state image) chunks)))
-    → after ≡ appended out 0 (finished (length out) (closed (fold fed (held start_state image) chunks)))
+    → end ≡ behind out 0 (finished (length out) (closed (fold held_behind (held start_state image) chunks)))
+    → after ≡ appended out 0 (finished (length out) (closed (fold held_behind (held start_state image) chunks)))
     → take end after ≡ restored (flatten chunks)
 unfolding restored behind
 all_restored chunks image out after end long large p q =
     let input : List ℕ = flatten chunks in
-    let e : finished (length out) (closed (fold fed (held start_state image) chunks)) ≡ restored input =
+    let e : finished (length out) (closed (fold held_behind (held start_state image) chunks)) ≡ restored input =
     ap (λ (h : Held). finished (length out) (closed h)) (fed_joined (held start_state image) chunks)
-    ∙ ends_answer image (read_dump 0 (lines_of input)) (closed (fed (held start_state image) input)) (length out) long large (reads_all image input) in
+    ∙ ends_answer image (read_dump 0 (lines_of input)) (closed (held_behind (held start_state image) input)) (length out) long large (reads_all image input) in
     let short = restored_short input in
     let n : end ≡ length (restored input) = (rw e at p) ∙ omega arith in
     let here : after ≡ restored input ++ drop (length (restored input)) out = (rw e at q) ∙ append_start out (restored input) (omega arith) in
@@ -182,8 +182,8 @@ finished_short : (h : Held) → length (finished 27968 h) ≤ 27968
 unfolding finished
 finished_short h = go h.state.broken
   where
-    go : (b : Bool) → length (cond b (not_word_line (next h.state.lines)) (image_within 27968 (image_held h))) ≤ 27968
-    go true = line_short (next h.state.lines) (omega arith)
+    go : (b : Bool) → length (cond b (not_word_line (next_number h.state.lines)) (image_within 27968 (image_held h))) ≤ 27968
+    go true = line_short (next_number h.state.lines) (omega arith)
     go false = within_short (image_held h)
 
 pub finished_whole : (h : Held) (out after : List ℕ) (end : ℕ) → length out ≡ 27968
@@ -191,11 +191,11 @@ pub finished_whole : (h : Held) (out after : List ℕ) (end : ℕ) → length ou
 finished_whole h out after end long p = put_take out 0 (finished 27968 h) after end (omega (arith, long, finished_short h)) (rw long at p)
 
 -- from the start of the input, what is printed is what the definition says for all of it
-start_restored : (image : List ℕ) → 13068 ≤ length image → (input : List ℕ) → finished 27968 (closed (fed (held start_state image) input)) ≡ restored input
+start_restored : (image : List ℕ) → 13068 ≤ length image → (input : List ℕ) → finished 27968 (closed (held_behind (held start_state image) input)) ≡ restored input
 unfolding restored
 start_restored image long input =
-    ends_answer image (read_dump 0 (lines_of input)) (closed (fed (held start_state image) input)) 27968 long (omega arith) (reads_all image input)
+    ends_answer image (read_dump 0 (lines_of input)) (closed (held_behind (held start_state image) input)) 27968 long (omega arith) (reads_all image input)
 
 pub starts_restored : (s : State) (image : List ℕ) → s ≡ start_state → 13068 ≤ length image
-    → (λ (input : List ℕ). finished 27968 (closed (fed (held s image) input))) ≡ restored
+    → (λ (input : List ℕ). finished 27968 (closed (held_behind (held s image) input))) ≡ restored
 starts_restored s image e long = rw e (λ i. λ input. start_restored image long input i)

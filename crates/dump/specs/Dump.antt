@@ -11,7 +11,7 @@ use Rattle.image.specs.Held.{policy_in}
 use Rattle.image.specs.Load.{load}
 use Rattle.image.specs.declared.load.Loaded.{Loaded}
 use Rattle.printer.specs.Printed.{text_of}
-use Rattle.report.specs.Report.{image_refusal_line, not_word_line}
+use Rattle.report.specs.Report.{image_refusal_line, not_word_line, next_number}
 
 -- ---- the words
 
@@ -25,34 +25,30 @@ pub data Dump : Type 0 where
   -- the first line that is none, counted from 1
   not_word : ℕ → Dump
 
--- numbers of lines are of 64 bits
-abbrev pub next : ℕ → ℕ
-next n = (n + 1) % 2 ^ 64
-
 -- words before a dump
 unfoldable pub behind_words : List ℕ → Dump → Dump
 behind_words ws (words vs) = words (ws ++ vs)
 behind_words ws (not_word n) = not_word n
 
 -- the line behind n lines, and what the lines behind it are
-unfoldable pub read_line : ℕ → Option ℕ → Dump → Dump
-read_line n none rest = not_word (next n)
-read_line n (some w) rest = behind_words (w ∷ []) rest
+unfoldable pub read_word_line : ℕ → Option ℕ → Dump → Dump
+read_word_line n none rest = not_word (next_number n)
+read_word_line n (some w) rest = behind_words (w ∷ []) rest
 
 -- the lines behind n lines
 unfoldable pub read_dump : ℕ → List (List ℕ) → Dump
 read_dump n [] = words []
-read_dump n (line ∷ lines) = read_line n (word_in line) (read_dump (next n) lines)
+read_dump n (line ∷ lines) = read_word_line n (word_in line) (read_dump (next_number n) lines)
 
 -- ---- what is printed
 
 -- the loader's answer, and the text of what the image holds where it takes it
-unfoldable pub answer_to : Loaded → List ℕ → List ℕ
-answer_to (Loaded.Refused r) text = image_refusal_line r
-answer_to (Loaded.Image contents) text = text
+unfoldable pub loaded_answer : Loaded → List ℕ → List ℕ
+loaded_answer (Loaded.Refused r) text = image_refusal_line r
+loaded_answer (Loaded.Image contents) text = text
 
 unfoldable pub image_answer : List ℕ → List ℕ
-image_answer image = answer_to (load image) (text_of (policy_in image))
+image_answer image = loaded_answer (load image) (text_of (policy_in image))
 
 unfoldable pub dump_answer : Dump → List ℕ
 dump_answer (words ws) = image_answer (bytes_of ws)

@@ -1,6 +1,6 @@
 //! The decompiler's whole run.
 ghost use Rattle.std.specs.Prelude.{◌≡◌, OnOk, IfErr};
-ghost use Rattle.stream.specs.Machine.{AnswersAll, ListingEndsBy, nothing};
+ghost use Rattle.stream.specs.Machine.{AnswersAll, ListingEndsBy, nothing_due};
 ghost use Rattle.dump.specs.Steps.Calls.{start_state};
 ghost use Rattle.dump.specs.Dump.{restored};
 
@@ -49,7 +49,7 @@ impl Summary for Decompiler {
 
 /// Restores the text of the image whose words are the input: all of it is read before anything is written.
 pub fn restore_input<E: Ends>(ends: &mut E) -> Result<(), Failure>
-    ensures ok { OnOk result (AnswersAll restored nothing (E.known ends.old) (E.known ends.new)) }
+    ensures ok { OnOk result (AnswersAll restored nothing_due (E.known ends.old) (E.known ends.new)) }
     ensures err { IfErr result (λ e. ListingEndsBy e restored (E.known ends.old) (E.known ends.new)) }
 {
     let mut decompiler = Decompiler::new();

@@ -8,7 +8,7 @@ mod state;
 ghost use Rattle.std.specs.Prelude.{◌≡◌, length};
 ghost use Rattle.output.specs.Buffer.{appended, behind};
 ghost use Rattle.io.specs.Counts.{IsPrefixLen};
-ghost use Rattle.dump.specs.Steps.Calls.{start_state, held, fed, closed, image_within, finished};
+ghost use Rattle.dump.specs.Steps.Calls.{start_state, held, held_behind, closed, image_within, finished};
 
 use decompile::{Decompiled, decompile};
 pub use decompiler::restore_input;
@@ -33,8 +33,8 @@ pub(crate) fn begin() -> State
 
 /// Takes the bytes of a chunk. The words go into `image`, four bytes each, as many as it has room for; `DUMP_SIZE` bytes are enough.
 pub(crate) fn feed(start: State, chunk: &[u8], image: &mut [u8]) -> State
-    ensures answer { result ≡ (fed (held start image.old) chunk.now).state }
-    ensures image { image.new ≡ (fed (held start image.old) chunk.now).image }
+    ensures answer { result ≡ (held_behind (held start image.old) chunk.now).state }
+    ensures image { image.new ≡ (held_behind (held start image.old) chunk.now).image }
 {
     let mut state = start;
     for byte in chunk {

@@ -5,7 +5,7 @@ use Rattle.std.proofs.Math.Option.{some}
 use Rattle.std.proofs.Math.Dec.{leb, eqb}
 use Rattle.std.proofs.Math.ListN.{get_or, set, length-map}
 use Rattle.policy.proofs.ListLaws.{and_in, and_out}
-use Rattle.policy.specs.Fault.{refusal, number_of, location_of}
+use Rattle.policy.specs.Fault.{refusal, refusal_number, refusal_location}
 use Rattle.policy.specs.Limits.{Acceptable}
 use Rattle.policy.specs.Line.{PolicyLine, rule, constraint}
 use Rattle.policy.specs.Policy.{Policy}
@@ -419,7 +419,7 @@ refusals bytes r e = go (answered bytes)
     source_of n q = let k : refusal Fault.ImageBody n ≡ r = cc in ap (λ (x : Refusal). x.source) (sym k)
 
     given : (n : ℕ) → some (refusal Fault.ImageBody n) ≡ some r → 1 ≤ n → n < length ws' → RefusalOf (length ws') r
-    given n q a b = of_body (source_of n q) (sym (ap number_of q)) (omega (arith, ap location_of q)) (omega (arith, ap location_of q))
+    given n q a b = of_body (source_of n q) (sym (ap refusal_number q)) (omega (arith, ap refusal_location q)) (omega (arith, ap refusal_location q))
 
     body : Checked bytes → (x y : Lines) → rule_lines ws' ≡ x → constraint_lines ws' ≡ y → refusal_in (body_answer (form_byte ws') (rule_count ws') (constraint_count ws') x y) ≡ some r → RefusalOf (length ws') r
     body c (fault n) y p q s =
@@ -436,7 +436,7 @@ refusals bytes r e = go (answered bytes)
     go (early x) =
         let a : some r ≡ some (refusal x.fault 0) = sym e ∙ x.refused in
         let k : r ≡ refusal x.fault 0 = cc in
-        of_checks (ap (λ (y : Refusal). y.source) k) (omega (arith, ap number_of a, x.from)) (omega (arith, ap number_of a, x.upto)) (ap location_of a)
+        of_checks (ap (λ (y : Refusal). y.source) k) (omega (arith, ap refusal_number a, x.from)) (omega (arith, ap refusal_number a, x.upto)) (ap refusal_location a)
     go (late c q) = body c (rule_lines ws') (constraint_lines ws') refl refl (sym (ap refusal_in q) ∙ e)
 
 -- ---- one word changed

@@ -28,8 +28,8 @@ worked =
       constraints = record { actions = record { 0 = 3 } ∷ record { 0 = 4 } ∷ []; comparisons = [] } ∷ [];
     }
 
-unfoldable pub nothing : Policy
-nothing = record { rules = []; constraints = [] }
+unfoldable pub empty_policy : Policy
+empty_policy = record { rules = []; constraints = [] }
 
 pub record Image : Type 0 where
   pub words : List ℕ
@@ -37,7 +37,7 @@ pub record Image : Type 0 where
   pub holds : Policy
 
 unfoldable pub policies : List Policy
-policies = worked ∷ nothing ∷ []
+policies = worked ∷ empty_policy ∷ []
 
 -- the words in hexadecimal: 01007003, 10400004, 20800003, 30008001, 00000028, 50C00000, 10C00001, 51000000,
 -- 60C00002, 61000001, 70000000, B9FF0FC9; and 01000000, FF000000
@@ -53,7 +53,7 @@ images =
     ∷ record {
       words = 16777216 ∷ 4278190080 ∷ [];
       answer = Loaded.Image (record { form = 1; rule_words = 0; constraint_words = 0; rules = 0; constraints = 0 });
-      holds = nothing;
+      holds = empty_policy;
     }
     ∷ []
 

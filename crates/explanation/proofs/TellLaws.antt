@@ -25,8 +25,8 @@ use Rattle.layout.specs.Layout.{line_words, lines_words, rule_part_words, constr
 use Rattle.exactness.proofs.ImageLaws.{lines_below}
 use Rattle.run.specs.Run.{run_rules, run_constraints}
 use Rattle.meaning.proofs.Meaning.{rules_run, constraints_run}
-use Rattle.explanation.specs.Why.{proposed_by, cancelled_by}
-use Rattle.explanation.specs.Steps.Sought.{readings_of, tells, sought_by, Writable}
+use Rattle.explanation.specs.Why.{is_proposing_rule, is_cancelling_constraint}
+use Rattle.explanation.specs.Steps.Sought.{readings_sought, tells, sought_by, Writable}
 use Rattle.explanation.specs.declared.find.Sought.{Sought}
 
 -- ---- the small buffer
@@ -44,14 +44,14 @@ words_back ws buffer after count w long c e =
 
 module _ (q : Sought) (values : List ℤ) (ws : List ℕ) (part : Part) (ending : Ending) where
   pub told_rule : (a : Action) (words : List ℕ) (events : Events) (set : ActionSet) (b : Bool) → part ≡ Part.Rules → ending ≡ Ending.Causes a → words ≡ ws
-      → events ≡ all_events q.events → set ≡ run_rules events (readings_of q values) words → b ≡ has_action set q.action → b ≡ tells part ending q values ws
+      → events ≡ all_events q.events → set ≡ run_rules events (readings_sought q values) words → b ≡ has_action set q.action → b ≡ tells part ending q values ws
   unfolding tells
-  told_rule a words events set b p e w v r h = rw (p, e) (h ∙ ap (λ (s : ActionSet). has_action s q.action) (r ∙ ap₂ (λ (x : Events) (y : List ℕ). run_rules x (readings_of q values) y) v w))
+  told_rule a words events set b p e w v r h = rw (p, e) (h ∙ ap (λ (s : ActionSet). has_action s q.action) (r ∙ ap₂ (λ (x : Events) (y : List ℕ). run_rules x (readings_sought q values) y) v w))
 
   pub told_constraint : (words : List ℕ) (b : Bool) → part ≡ Part.Constraints → ending ≡ Ending.Never → words ≡ ws
-      → b ≡ run_constraints (readings_of q values) q.set words → b ≡ tells part ending q values ws
+      → b ≡ run_constraints (readings_sought q values) q.set words → b ≡ tells part ending q values ws
   unfolding tells
-  told_constraint words b p e w r = rw (p, e) (r ∙ ap (run_constraints (readings_of q values) q.set) w)
+  told_constraint words b p e w r = rw (p, e) (r ∙ ap (run_constraints (readings_sought q values) q.set) w)
 
   pub told_other_rule : (a : Action) → part ≡ Part.Constraints → ending ≡ Ending.Causes a → false ≡ tells part ending q values ws
   unfolding tells
@@ -95,8 +95,8 @@ constraint_alone c v rs s =
 
 -- the rules that propose an action
 pub rules_sought : (e : Epoch) (a : Action) (set : ActionSet) (l : PolicyLine) → valid l ≡ true
-    → sought_by (record { part = Part.Rules; action = a; set = set; events = e.events; given = e.readings.given }) e.readings.values l ≡ proposed_by e a l
-unfolding sought_by tells proposed_by ending_of propose ending_in_range
+    → sought_by (record { part = Part.Rules; action = a; set = set; events = e.events; given = e.readings.given }) e.readings.values l ≡ is_proposing_rule e a l
+unfolding sought_by tells is_proposing_rule ending_of propose ending_in_range
 rules_sought e a set (constraint c) v = refl
 rules_sought e a set (rule r) v =
     ap (λ (s : ActionSet). has_action s a) (rule_alone r v (all_events e.events) e.readings) ∙ proposes (rule_holds (all_events e.events) e.readings r)
@@ -115,7 +115,7 @@ rules_sought e a set (rule r) v =
 -- the constraints that hold on a set
 pub constraints_sought : (e : Epoch) (accepts : ActionSet) (a : Action) (l : PolicyLine) → valid l ≡ true
     → sought_by (record { part = Part.Constraints; action = a; set = insert_action (actions_below accepts a) a; events = e.events; given = e.readings.given }) e.readings.values l
-    ≡ cancelled_by e.readings accepts a l
-unfolding sought_by tells cancelled_by ending_of
+    ≡ is_cancelling_constraint e.readings accepts a l
+unfolding sought_by tells is_cancelling_constraint ending_of
 constraints_sought e accepts a (rule r) v = refl
 constraints_sought e accepts a (constraint c) v = constraint_alone c v e.readings (insert_action (actions_below accepts a) a)

@@ -4,7 +4,7 @@ use Rattle.std.proofs.lemmas.List.{take_rest}
 use Rattle.std.proofs.Math.ListN.{get_or}
 use Rattle.lexer.specs.Byte.{is_space}
 use Rattle.lexer.specs.Lines.{first_line}
-use Rattle.explanation.specs.Part.{keep_byte, trim_end, part_at}
+use Rattle.explanation.specs.Part.{add_to_trimmed, trim_end, part_at}
 
 -- how long a line is without the spaces at its end, told by what is left of it behind so many bytes: as long as it was so far, if that is
 -- nothing, and otherwise by all of that
@@ -12,8 +12,8 @@ abbrev pub length_with : ℕ → ℕ → List ℕ → ℕ
 length_with so_far passed [] = so_far
 length_with so_far passed (b ∷ s) = passed + suc (length s)
 
-length_kept : (so_far passed b : ℕ) (s : List ℕ) → length_with so_far passed (keep_byte b s) ≡ length_with (cond (is_space b) so_far (passed + 1)) (passed + 1) s
-unfolding keep_byte
+length_kept : (so_far passed b : ℕ) (s : List ℕ) → length_with so_far passed (add_to_trimmed b s) ≡ length_with (cond (is_space b) so_far (passed + 1)) (passed + 1) s
+unfolding add_to_trimmed
 length_kept so_far passed b [] = elim (is_space b) as (λ x. length_with so_far passed (cond x [] (b ∷ [])) ≡ cond x so_far (passed + 1)) [ true ↦ refl | false ↦ refl ]
 length_kept so_far passed b (c ∷ s) = omega arith
 

@@ -33,9 +33,9 @@ use Rattle.monitor.specs.declared.decision.Actions.{Actions}
 use Rattle.monitor.specs.declared.decision.Decision.{Decision}
 use Rattle.rule_text.specs.Text.{Progress, reading, stopped, read_texts}
 use Rattle.explanation.proofs.TellLaws.{rules_sought, constraints_sought}
-use Rattle.explanation.specs.Part.{shown_at, nothing, or_later, first_from, or_site, first_shown, part_in, shown_part}
-use Rattle.explanation.specs.Why.{proposed_by, cancelled_by, because, reason_for, on_action, on_epoch, on_both_texts, explained, part_shown}
-use Rattle.explanation.specs.Steps.On.{epoch_of, on_decision, explained_on}
+use Rattle.explanation.specs.Part.{shown_at, empty_part, or_later, first_from, or_site, first_shown, part_in, shown_part}
+use Rattle.explanation.specs.Why.{is_proposing_rule, is_cancelling_constraint, because, reason_for, on_action, on_epoch, on_both_texts, explained, part_shown}
+use Rattle.explanation.specs.Steps.On.{epoch_on, on_decision, explained_on}
 use Rattle.explanation.specs.Steps.Sought.{sought_by, search_of}
 use Rattle.explanation.specs.declared.find.Search.{Search}
 use Rattle.explanation.specs.declared.part.Shown.{Shown}
@@ -65,7 +65,7 @@ module _ (test : PolicyLine → Bool) (maker site : List ℕ) (first : Search) (
     unfolding first_shown or_site
     shown_second x h = rw (found_none _ (sym e ∙ f), found_some _ x (sym h ∙ g))
 
-    pub shown_none : (x : Shown) → second ≡ Search.Absent → x ≡ nothing → x ≡ first_shown test maker site
+    pub shown_none : (x : Shown) → second ≡ Search.Absent → x ≡ empty_part → x ≡ first_shown test maker site
     unfolding first_shown or_site
     shown_none x h k = rw (found_none _ (sym e ∙ f), found_none _ (sym h ∙ g)) k
 
@@ -89,22 +89,22 @@ module _ (s t : PolicyLine → Bool) (agree : (l : PolicyLine) → valid l ≡ t
 -- ---- the reason
 
 module _ (maker site : List ℕ) (accepts cancels : ActionSet) (line : List ℕ) (a : Action) (read : EpochRead) (r : read ≡ epoch_read line) where
-  epoch_is : epoch_in read ≡ epoch_of line
+  epoch_is : epoch_in read ≡ epoch_on line
   epoch_is = ap epoch_in r
 
   pub accepted_reason : (b : Bool) → b ≡ has_action accepts a → b ≡ true → (set : ActionSet) (x : Shown)
       → x ≡ first_shown (sought_by (record { part = Part.Rules; action = a; set = set; events = read.events; given = read.given }) read.values) maker site
-      → because Outcome.Accepted x ≡ reason_for maker site accepts cancels (epoch_of line) a
+      → because Outcome.Accepted x ≡ reason_for maker site accepts cancels (epoch_on line) a
   unfolding reason_for
   accepted_reason b h t set x e =
       rw (sym h ∙ t)
       (ap (because Outcome.Accepted)
-      (e ∙ shown_same _ (proposed_by (epoch_in read) a) (rules_sought (epoch_in read) a set) maker site ∙ ap (λ (y : Epoch). first_shown (proposed_by y a) maker site) epoch_is))
+      (e ∙ shown_same _ (is_proposing_rule (epoch_in read) a) (rules_sought (epoch_in read) a set) maker site ∙ ap (λ (y : Epoch). first_shown (is_proposing_rule y a) maker site) epoch_is))
 
   module _ (b : Bool) (h : b ≡ has_action accepts a) (t : b ≡ false) where
     pub cancelled_reason : (c : Bool) → c ≡ has_action cancels a → c ≡ true → (below set : ActionSet) → below ≡ actions_below accepts a → set ≡ insert_action below a → (x : Shown)
         → x ≡ first_shown (sought_by (record { part = Part.Constraints; action = a; set = set; events = read.events; given = read.given }) read.values) maker site
-        → because Outcome.Cancelled x ≡ reason_for maker site accepts cancels (epoch_of line) a
+        → because Outcome.Cancelled x ≡ reason_for maker site accepts cancels (epoch_on line) a
     unfolding reason_for
     cancelled_reason c k u below set l m x e =
         let same : set ≡ insert_action (actions_below accepts a) a = m ∙ ap (λ (y : ActionSet). insert_action y a) l in
@@ -112,10 +112,10 @@ module _ (maker site : List ℕ) (accepts cancels : ActionSet) (line : List ℕ)
         (ap (because Outcome.Cancelled)
         (e
         ∙ ap (λ (y : ActionSet). first_shown (sought_by (record { part = Part.Constraints; action = a; set = y; events = read.events; given = read.given }) read.values) maker site) same
-        ∙ shown_same _ (cancelled_by (epoch_in read).readings accepts a) (constraints_sought (epoch_in read) accepts a) maker site
-        ∙ ap (λ (y : Epoch). first_shown (cancelled_by y.readings accepts a) maker site) epoch_is))
+        ∙ shown_same _ (is_cancelling_constraint (epoch_in read).readings accepts a) (constraints_sought (epoch_in read) accepts a) maker site
+        ∙ ap (λ (y : Epoch). first_shown (is_cancelling_constraint y.readings accepts a) maker site) epoch_is))
 
-    pub other_reason : (c : Bool) → c ≡ has_action cancels a → c ≡ false → (x : Shown) → x ≡ nothing → because Outcome.NotProposed x ≡ reason_for maker site accepts cancels (epoch_of line) a
+    pub other_reason : (c : Bool) → c ≡ has_action cancels a → c ≡ false → (x : Shown) → x ≡ empty_part → because Outcome.NotProposed x ≡ reason_for maker site accepts cancels (epoch_on line) a
     unfolding reason_for
     other_reason c k u x e = rw (sym h ∙ t, sym k ∙ u) (ap (because Outcome.NotProposed) e)
 
@@ -131,14 +131,14 @@ module _ (maker site line : List ℕ) (n : ℕ) (image : List ℕ) (d : Decision
     unfolding explained_on on_decision on_action
     on_over k r h = rw (sym made ∙ e, sym c ∙ k) (ap Explained.Refused h)
 
-    pub on_action_is : (a : Action) → check ≡ Some a → (why : Reason) → why ≡ reason_for maker site actions.accepted actions.cancelled (epoch_of line) a
+    pub on_action_is : (a : Action) → check ≡ Some a → (why : Reason) → why ≡ reason_for maker site actions.accepted actions.cancelled (epoch_on line) a
         → Explained.Because why ≡ explained_on maker site line n image
     unfolding explained_on on_decision on_action
     on_action_is a k why h = rw (sym made ∙ e, sym c ∙ k) (ap Explained.Because h)
 
 -- ---- on the image of the texts
 
-epoch_accepted : (line : List ℕ) (e : Epoch) → read_epoch line ≡ Epoch.accepted e → epoch_of line ≡ e
+epoch_accepted : (line : List ℕ) (e : Epoch) → read_epoch line ≡ Epoch.accepted e → epoch_on line ≡ e
 unfolding epoch_read answer_read
 epoch_accepted line e q = ap (λ (a : EpochAnswer). epoch_in (answer_read a)) q
 

@@ -16,14 +16,14 @@ unfoldable pub trim_start : List ℕ → List ℕ
 trim_start s = drop_leading is_space s
 
 -- a byte before what is left: a space counts only where something is
-unfoldable pub keep_byte : ℕ → List ℕ → List ℕ
-keep_byte b [] = cond (is_space b) [] (b ∷ [])
-keep_byte b (c ∷ s) = b ∷ c ∷ s
+unfoldable pub add_to_trimmed : ℕ → List ℕ → List ℕ
+add_to_trimmed b [] = cond (is_space b) [] (b ∷ [])
+add_to_trimmed b (c ∷ s) = b ∷ c ∷ s
 
 -- at the end
 unfoldable pub trim_end : List ℕ → List ℕ
 trim_end [] = []
-trim_end (b ∷ s) = keep_byte b (trim_end s)
+trim_end (b ∷ s) = add_to_trimmed b (trim_end s)
 
 -- at both
 unfoldable pub trim : List ℕ → List ℕ
@@ -36,8 +36,8 @@ unfoldable pub shown_at : Source → ℕ → List ℕ → Shown
 shown_at source at line = record { source = source; start = at + length (take_leading is_space line); length = length (trim line) }
 
 -- nothing is shown
-abbrev pub nothing : Shown
-nothing = record { source = Source.Neither; start = 0; length = 0 }
+abbrev pub empty_part : Shown
+empty_part = record { source = Source.Neither; start = 0; length = 0 }
 
 -- ---- the first line that passes
 
@@ -57,7 +57,7 @@ module _ (test : PolicyLine → Bool) (source : Source) where
 unfoldable pub or_site : Option Shown → Option Shown → Shown
 or_site (some shown) site = shown
 or_site none (some shown) = shown
-or_site none none = nothing
+or_site none none = empty_part
 
 unfoldable pub first_shown : (PolicyLine → Bool) → List ℕ → List ℕ → Shown
 first_shown test maker site = or_site (first_from test Source.Maker 0 (lines_of maker)) (first_from test Source.Site 0 (lines_of site))

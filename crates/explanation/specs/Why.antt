@@ -15,7 +15,7 @@ use Rattle.pdl.specs.Yield as Yield
 use Rattle.pdl.specs.Yield.{rule_holds, constraint_holds}
 use Rattle.epoch_line.specs.Epoch.{EpochAnswer, refused, accepted, read_epoch}
 use Rattle.rule_text.specs.Text.{Progress, reading, stopped, read_texts}
-use Rattle.explanation.specs.Part.{nothing, first_shown, shown_part}
+use Rattle.explanation.specs.Part.{empty_part, first_shown, shown_part}
 use Rattle.explanation.specs.declared.why.Explained.{Explained}
 use Rattle.explanation.specs.declared.why.Outcome.{Outcome}
 use Rattle.explanation.specs.declared.why.Reason.{Reason}
@@ -24,14 +24,14 @@ use Rattle.explanation.specs.declared.part.Shown.{Shown}
 -- ---- which lines are shown
 
 -- for an accepted action the rules that proposed it
-unfoldable pub proposed_by : Epoch → Action → PolicyLine → Bool
-proposed_by e a (rule r) = rule_holds (all_events e.events) e.readings r && eqb r.action.0 a.0
-proposed_by e a (constraint c) = false
+unfoldable pub is_proposing_rule : Epoch → Action → PolicyLine → Bool
+is_proposing_rule e a (rule r) = rule_holds (all_events e.events) e.readings r && eqb r.action.0 a.0
+is_proposing_rule e a (constraint c) = false
 
 -- for a cancelled one the constraints that hold on the lower-numbered accepted actions together with it
-unfoldable pub cancelled_by : Readings → ActionSet → Action → PolicyLine → Bool
-cancelled_by rs accepts a (rule r) = false
-cancelled_by rs accepts a (constraint c) = constraint_holds rs (insert_action (actions_below accepts a) a) c
+unfoldable pub is_cancelling_constraint : Readings → ActionSet → Action → PolicyLine → Bool
+is_cancelling_constraint rs accepts a (rule r) = false
+is_cancelling_constraint rs accepts a (constraint c) = constraint_holds rs (insert_action (actions_below accepts a) a) c
 
 -- ---- what became of an action that a decision accepted, cancelled, or neither
 
@@ -41,9 +41,9 @@ because outcome shown = record { outcome = outcome; shown = shown }
 module _ (maker site : List ℕ) where
   unfoldable pub reason_for : ActionSet → ActionSet → Epoch → Action → Reason
   reason_for accepts cancels e a =
-      cond (has_action accepts a) (because Outcome.Accepted (first_shown (proposed_by e a) maker site))
-      (cond (has_action cancels a) (because Outcome.Cancelled (first_shown (cancelled_by e.readings accepts a) maker site))
-      (because Outcome.NotProposed nothing))
+      cond (has_action accepts a) (because Outcome.Accepted (first_shown (is_proposing_rule e a) maker site))
+      (cond (has_action cancels a) (because Outcome.Cancelled (first_shown (is_cancelling_constraint e.readings accepts a) maker site))
+      (because Outcome.NotProposed empty_part))
 
   -- ---- an action over 63 is refused under 13, after all other checks
 
@@ -71,7 +71,7 @@ refusal_in (Explained.Refused r) = some r
 refusal_in (Explained.Because why) = none
 
 abbrev pub shown_in : Explained → Shown
-shown_in (Explained.Refused r) = nothing
+shown_in (Explained.Refused r) = empty_part
 shown_in (Explained.Because why) = why.shown
 
 -- the bytes that are shown

@@ -1,8 +1,8 @@
 //! What became of an action, and the line that says why.
 ghost use Rattle.std.specs.Prelude.{◌≡◌, length};
-ghost use Rattle.explanation.specs.Part.{nothing, first_shown};
+ghost use Rattle.explanation.specs.Part.{empty_part, first_shown};
 ghost use Rattle.explanation.specs.Why.{reason_for, explained, part_shown};
-ghost use Rattle.explanation.specs.Steps.On.{epoch_of, explained_on};
+ghost use Rattle.explanation.specs.Steps.On.{epoch_on, explained_on};
 ghost use Rattle.explanation.specs.Steps.Sought.{sought_by};
 
 use crate::find::{Search, Sought, find};
@@ -39,7 +39,7 @@ pub enum Explained {
 }
 
 fn no_part() -> Shown
-    ensures { result ≡ nothing }
+    ensures { result ≡ empty_part }
 {
     Shown {
         source: Source::Neither,
@@ -72,7 +72,7 @@ fn reason_for(
     line: &[u8],
     action: Action,
 ) -> Reason
-    ensures { result ≡ reason_for maker.now site.now accepted cancelled (epoch_of line.now) action }
+    ensures { result ≡ reason_for maker.now site.now accepted cancelled (epoch_on line.now) action }
 {
     let epoch = read_epoch(line);
     let events = epoch.events;

@@ -31,8 +31,8 @@ use Rattle.codegen.proofs.AcceptedLaws.{newest_known}
 use Rattle.codegen.specs.Compile.{newest_form}
 use Rattle.codegen.specs.Steps.Put.{lines_of_both}
 use Rattle.monitor.specs.Decision.{decision, answer_of}
-use Rattle.explanation.specs.Part.{nothing, first_shown, part_in, shown_part}
-use Rattle.explanation.specs.Why.{proposed_by, cancelled_by, because, reason_for, on_action, on_epoch, on_both_texts, explained, part_shown}
+use Rattle.explanation.specs.Part.{empty_part, first_shown, part_in, shown_part}
+use Rattle.explanation.specs.Why.{is_proposing_rule, is_cancelling_constraint, because, reason_for, on_action, on_epoch, on_both_texts, explained, part_shown}
 use Rattle.explanation.specs.declared.part.Shown.{Shown}
 use Rattle.explanation.specs.declared.why.Explained.{Explained}
 use Rattle.explanation.specs.declared.why.Outcome.{Outcome}
@@ -42,7 +42,7 @@ use Rattle.guarantees.proofs.Agreement.{image_of_texts, alone_writes}
 use Rattle.guarantees.proofs.FirstLaws.{Both, both, rule_line, constraint_line, first_line}
 use Rattle.guarantees.specs.Claims.{CompilesTo, TextsCompileTo}
 use Rattle.guarantees.specs.Decisions.{yield_of}
-use Rattle.guarantees.specs.Explanations.{action, Asked, Unexplained, the_texts, the_line, the_action, Told, Proposes, Cancels, text_of_source, Straight, FirstLine}
+use Rattle.guarantees.specs.Explanations.{action, IsExplainable, Unexplained, the_texts, the_line, the_action, TellsOutcome, Proposes, Cancels, text_of_source, Straight, FirstLine}
 
 -- ---- the reason that is given
 
@@ -56,12 +56,12 @@ module _ (maker site : List ℕ) (p : Policy) (e : Epoch) (a : Action) where
   abbrev reason : Reason
   reason = reason_for maker site accepts cancels e a
 
-  told : Told (yield_of p e) a reason.outcome
+  told : TellsOutcome (yield_of p e) a reason.outcome
   unfolding reason_for
   told = go (has_action accepts a) (has_action cancels a) refl refl
     where
       go : (x y : Bool) → has_action accepts a ≡ x → has_action cancels a ≡ y
-          → Told (yield_of p e) a (cond x (because Outcome.Accepted (first_shown (proposed_by e a) maker site)) (cond y (because Outcome.Cancelled (first_shown (cancelled_by e.readings accepts a) maker site)) (because Outcome.NotProposed nothing))).outcome
+          → TellsOutcome (yield_of p e) a (cond x (because Outcome.Accepted (first_shown (is_proposing_rule e a) maker site)) (cond y (because Outcome.Cancelled (first_shown (is_cancelling_constraint e.readings accepts a) maker site)) (because Outcome.NotProposed empty_part))).outcome
       go true y h k =
           record {
             accepted = (λ q. h, λ q. refl);
@@ -81,15 +81,15 @@ module _ (maker site : List ℕ) (p : Policy) (e : Epoch) (a : Action) where
             neither = (λ q. (h, k), λ q. refl);
           }
 
-  accepted_part : has_action accepts a ≡ true → reason.shown ≡ first_shown (proposed_by e a) maker site
+  accepted_part : has_action accepts a ≡ true → reason.shown ≡ first_shown (is_proposing_rule e a) maker site
   unfolding reason_for
   accepted_part h = rw h
 
-  cancelled_part : has_action cancels a ≡ true → reason.shown ≡ first_shown (cancelled_by e.readings accepts a) maker site
+  cancelled_part : has_action cancels a ≡ true → reason.shown ≡ first_shown (is_cancelling_constraint e.readings accepts a) maker site
   unfolding reason_for
   cancelled_part h = rw (cancelled_apart p e a h, h)
 
-  no_part : (has_action accepts a ≡ false) × (has_action cancels a ≡ false) → reason.shown ≡ nothing
+  no_part : (has_action accepts a ≡ false) × (has_action cancels a ≡ false) → reason.shown ≡ empty_part
   unfolding reason_for
   no_part h = rw (h.0, h.1)
 
@@ -118,7 +118,7 @@ module _ (maker site line : List ℕ) (n : ℕ) where
   unfolding on_epoch
   on_line p q e r = on_texts p q ∙ ap (on_epoch maker site p n) r
 
-  reason_is : (q : Asked maker site line n) → explained maker site line n ≡ Explained.Because (reason maker site q.policy q.epoch (action n))
+  reason_is : (q : IsExplainable maker site line n) → explained maker site line n ≡ Explained.Because (reason maker site q.policy q.epoch (action n))
   unfolding on_action
   reason_is q = on_line q.policy q.both q.epoch q.read ∙ rw (lt-ltb n 64 q.number)
 
@@ -130,7 +130,7 @@ module _ (maker site line : List ℕ) (n : ℕ) where
 
   data Explaining : Type 0 where
     refuses : (r : Refusal) → Unexplained maker site line n r → Explaining
-    explains : Asked maker site line n → Explaining
+    explains : IsExplainable maker site line n → Explaining
 
   explaining : Explaining
   explaining = texts (read_texts maker site) refl
@@ -156,18 +156,18 @@ module _ (maker site line : List ℕ) (n : ℕ) where
       go (explains q) e = let w : ◌≡◌ {A = ℕ} 0 1 = cc (reason_is q) in absurd (omega arith)
 
   -- and there is one exactly where the texts, the line and the number pass
-  pub explained_exactly : ((why : Reason) × (explained maker site line n ≡ Explained.Because why)) ↔ Asked maker site line n
+  pub explained_exactly : ((why : Reason) × (explained maker site line n ≡ Explained.Because why)) ↔ IsExplainable maker site line n
   explained_exactly = (λ e. go explaining e.0 e.1, λ q. (_, reason_is q))
     where
-      go : Explaining → (why : Reason) → explained maker site line n ≡ Explained.Because why → Asked maker site line n
+      go : Explaining → (why : Reason) → explained maker site line n ≡ Explained.Because why → IsExplainable maker site line n
       go (refuses x u) why e = let w : ◌≡◌ {A = ℕ} 0 1 = cc (unexplained x u) in absurd (omega arith)
       go (explains q) why e = q
 
 -- ---- which lines say so
 
 -- a line passes a test of the definitions exactly where it says so in the terms of specs/Pdl of `pdl`
-proposed_means : (e : Epoch) (a : Action) → a.0 < 64 → (l : PolicyLine) → (proposed_by e a l ≡ true) ↔ Proposes e a l
-unfolding proposed_by proposals propose
+proposed_means : (e : Epoch) (a : Action) → a.0 < 64 → (l : PolicyLine) → (is_proposing_rule e a l ≡ true) ↔ Proposes e a l
+unfolding is_proposing_rule proposals propose
 proposed_means e a small (constraint c) = (λ h. true_false h refl, λ h. absurd h)
 proposed_means e a small (rule r) = (there, back)
   where
@@ -185,14 +185,14 @@ proposed_means e a small (rule r) = (there, back)
         and_in (ap (rule_holds ev e.readings) w ∙ rule_holds_is ev e.readings d.rule d.event d.condition)
         (eq-eqb r.action.0 a.0 (ap (λ (x : Rule). x.action.0) w ∙ ap (λ (x : Action). x.0) d.causes))
 
-cancelled_means : (e : Epoch) (accepts : ActionSet) (a : Action) (l : PolicyLine) → (cancelled_by e.readings accepts a l ≡ true) ↔ Cancels e accepts a l
-unfolding cancelled_by
+cancelled_means : (e : Epoch) (accepts : ActionSet) (a : Action) (l : PolicyLine) → (is_cancelling_constraint e.readings accepts a l ≡ true) ↔ Cancels e accepts a l
+unfolding is_cancelling_constraint
 cancelled_means e accepts a (rule r) = (λ h. true_false h refl, λ h. absurd h)
 cancelled_means e accepts a (constraint c) = (holds_out e.readings (insert_action (actions_below accepts a) a) c, holds_in e.readings (insert_action (actions_below accepts a) a) c)
 
 -- ---- what is told, and what is shown
 
-module _ (maker site line : List ℕ) (n : ℕ) (q : Asked maker site line n) where
+module _ (maker site line : List ℕ) (n : ℕ) (q : IsExplainable maker site line n) where
   abbrev P : Policy
   P = q.policy
 
@@ -221,7 +221,7 @@ module _ (maker site line : List ℕ) (n : ℕ) (q : Asked maker site line n) wh
     shown_is : (shown : Shown) → (reason maker site P E A).shown ≡ shown → why.shown ≡ shown
     shown_is shown e = ap (λ (x : Reason). x.shown) because_is ∙ e
 
-    asked_told : Told (yield_of P E) A why.outcome
+    asked_told : TellsOutcome (yield_of P E) A why.outcome
     asked_told = rw because_is (told maker site P E A)
 
     -- for an accepted action the first rule that proposed it
@@ -232,8 +232,8 @@ module _ (maker site line : List ℕ) (n : ℕ) (q : Asked maker site line n) wh
         let m : Memᴰ (rule d.rule) (lines_of_both maker site) = rule_line (lines_of_both maker site) d.rule (rw lines.rules d.listed) in
         let alone : Derives (d.rule ∷ []) (all_events E.events) E.readings A = record { rule = d.rule; listed = mathlib.Core.List.Memᴰ.head refl; causes = d.causes; event = d.event; condition = d.condition } in
         let means = proposed_means E A q.number in
-        subst⁻¹ (FirstLine (Proposes E A) P maker site) (shown_is (first_shown (proposed_by E A) maker site) (accepted_part maker site P E A k))
-        (first_line (proposed_by E A) (Proposes E A) means maker site P lines (rule d.rule) m ((means (rule d.rule)).1 alone))
+        subst⁻¹ (FirstLine (Proposes E A) P maker site) (shown_is (first_shown (is_proposing_rule E A) maker site) (accepted_part maker site P E A k))
+        (first_line (is_proposing_rule E A) (Proposes E A) means maker site P lines (rule d.rule) m ((means (rule d.rule)).1 alone))
 
     -- for a cancelled one the first constraint that held on the lower-numbered accepted actions together with it
     pub cancelled_shown : why.outcome ≡ Outcome.Cancelled → FirstLine (Cancels q.epoch (Yield.accepted q.policy q.epoch) (action n)) q.policy maker site why.shown
@@ -241,16 +241,16 @@ module _ (maker site line : List ℕ) (n : ℕ) (q : Asked maker site line n) wh
         let k : has_action (Yield.cancelled P E) A ≡ true = asked_told.cancelled.0 o in
         let v = cancelled_trial P E A k in
         let m : Memᴰ (constraint v.constraint) (lines_of_both maker site) = constraint_line (lines_of_both maker site) v.constraint (rw lines.constraints v.listed) in
-        let test : PolicyLine → Bool = cancelled_by E.readings (Yield.accepted P E) A in
+        let test : PolicyLine → Bool = is_cancelling_constraint E.readings (Yield.accepted P E) A in
         let means = cancelled_means E (Yield.accepted P E) A in
         subst⁻¹ (FirstLine (Cancels E (Yield.accepted P E) A) P maker site) (shown_is (first_shown test maker site) (cancelled_part maker site P E A k))
         (first_line test (Cancels E (Yield.accepted P E) A) means maker site P lines (constraint v.constraint) m ((means (constraint v.constraint)).1 v.holds))
 
     -- for one not proposed nothing
-    pub nothing_shown : why.outcome ≡ Outcome.NotProposed → (why.shown ≡ nothing) × (part_shown maker site (explained maker site line n) ≡ [])
+    pub nothing_shown : why.outcome ≡ Outcome.NotProposed → (why.shown ≡ empty_part) × (part_shown maker site (explained maker site line n) ≡ [])
     unfolding part_in
     nothing_shown o =
-        let e : why.shown ≡ nothing = shown_is nothing (no_part maker site P E A (asked_told.neither.0 o)) in
+        let e : why.shown ≡ empty_part = shown_is empty_part (no_part maker site P E A (asked_told.neither.0 o)) in
         (e, ap (part_shown maker site) h ∙ ap (shown_part maker site) e)
 
     -- what is shown stands in the text that it is from, with no space at either end and no line end
@@ -280,7 +280,7 @@ module _ (maker site line : List ℕ) (n : ℕ) (q : Asked maker site line n) wh
 
 -- what is told is membership in the accepted and the cancelled set of the decision on the image of both texts
 pub outcome_told : (maker site line : List ℕ) (n : ℕ) (why : Reason) → explained maker site line n ≡ Explained.Because why
-    → (image : List ℕ) → TextsCompileTo maker site image → Told (answer_of (decision image line)) (action n) why.outcome
+    → (image : List ℕ) → TextsCompileTo maker site image → TellsOutcome (answer_of (decision image line)) (action n) why.outcome
 outcome_told maker site line n why h image c =
     let q = (explained_exactly maker site line n).0 (why, h) in
     rw (asked_decided maker site line n q image c) (asked_told maker site line n q why h)
@@ -299,14 +299,14 @@ module _ (maker line : List ℕ) (n : ℕ) where
 
   module _ (why : Reason) (h : explained maker [] line n ≡ Explained.Because why) where
     -- what is told is the decision's on the image of the maker's text
-    pub alone_told : (image : List ℕ) → CompilesTo maker image → Told (answer_of (decision image line)) (action n) why.outcome
+    pub alone_told : (image : List ℕ) → CompilesTo maker image → TellsOutcome (answer_of (decision image line)) (action n) why.outcome
     alone_told image c = outcome_told maker [] line n why h image ((alone_writes maker image).0 c)
 
     -- and nothing is shown of the site's
     pub alone_shown : ¬ (why.shown.source ≡ Source.Site)
     alone_shown e = go why.outcome refl
       where
-        q : Asked maker [] line n
+        q : IsExplainable maker [] line n
         q = (explained_exactly maker [] line n).0 (why, h)
 
         go : (o : Outcome) → why.outcome ≡ o → ⊥

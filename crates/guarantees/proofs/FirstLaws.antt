@@ -17,7 +17,7 @@ use Rattle.image.specs.Held.{rules_in, constraints_in}
 use Rattle.lexer.specs.Lines.{lines_of}
 use Rattle.syntax.specs.Judge.{LineAnswer, skipped, refused, accepted, line_answer}
 use Rattle.rule_text.specs.Answer.{counts_of, text_read_of, texts_read}
-use Rattle.rule_text.specs.Text.{Progress, reading, stopped, with_rule, with_constraint, advance, read_line, empty_policy, text_limit, read_text_behind, in_text, read_text, read_site, read_texts}
+use Rattle.rule_text.specs.Text.{Progress, reading, stopped, with_rule, with_constraint, advance, read_next_line, empty_policy, text_limit, read_text_behind, in_text, read_text, read_site, read_texts}
 use Rattle.codegen.proofs.AcceptedLaws.{accepted_texts}
 use Rattle.codegen.specs.Steps.Put.{accepted_line, accepted_lines, lines_of_both}
 use Rattle.explanation.specs.Part.{trim, shown_at, or_later, first_from, or_site, first_shown, part_at, part_in}
@@ -55,8 +55,8 @@ line_listed (constraint k ∷ ls) (constraint c) (Memᴰ.tail m) = Memᴰ.tail (
 
 -- ---- lines that were read
 
-no_reading : (r : Refusal) (ls : List (List ℕ)) (m : ℕ) (p : Policy) → fold read_line (stopped r) ls ≡ reading m p → ⊥
-unfolding read_line
+no_reading : (r : Refusal) (ls : List (List ℕ)) (m : ℕ) (p : Policy) → fold read_next_line (stopped r) ls ≡ reading m p → ⊥
+unfolding read_next_line
 no_reading r [] m p e = let w : ◌≡◌ {A = ℕ} 0 1 = cc in omega arith
 no_reading r (l ∷ ls) m p e = no_reading r ls m p e
 
@@ -64,20 +64,20 @@ no_reading r (l ∷ ls) m p e = no_reading r ls m p e
 record Onward (ls : List (List ℕ)) (m : ℕ) (q : Policy) : Type 0 where
   next : ℕ
   sofar : Policy
-  read : fold read_line (reading next sofar) ls ≡ reading m q
+  read : fold read_next_line (reading next sofar) ls ≡ reading m q
 
-onward : (ls : List (List ℕ)) (n m : ℕ) (p q : Policy) (a : LineAnswer) → fold read_line (advance n p a) ls ≡ reading m q → Onward ls m q
+onward : (ls : List (List ℕ)) (n m : ℕ) (p q : Policy) (a : LineAnswer) → fold read_next_line (advance n p a) ls ≡ reading m q → Onward ls m q
 unfolding advance
 onward ls n m p q skipped e = record { next = suc n; sofar = p; read = e }
 onward ls n m p q (refused f) e = absurd (no_reading (refusal f n) ls m q e)
 onward ls n m p q (accepted (rule r)) e = go (ltb (length p.rules) rule_limit) e
   where
-    go : (b : Bool) → fold read_line (cond b (reading (suc n) (with_rule p r)) (stopped (refusal Fault.TooManyLines n))) ls ≡ reading m q → Onward ls m q
+    go : (b : Bool) → fold read_next_line (cond b (reading (suc n) (with_rule p r)) (stopped (refusal Fault.TooManyLines n))) ls ≡ reading m q → Onward ls m q
     go true h = record { next = suc n; sofar = with_rule p r; read = h }
     go false h = absurd (no_reading (refusal Fault.TooManyLines n) ls m q h)
 onward ls n m p q (accepted (constraint c)) e = go (ltb (length p.constraints) constraint_limit) e
   where
-    go : (b : Bool) → fold read_line (cond b (reading (suc n) (with_constraint p c)) (stopped (refusal Fault.TooManyLines n))) ls ≡ reading m q → Onward ls m q
+    go : (b : Bool) → fold read_next_line (cond b (reading (suc n) (with_constraint p c)) (stopped (refusal Fault.TooManyLines n))) ls ≡ reading m q → Onward ls m q
     go true h = record { next = suc n; sofar = with_constraint p c; read = h }
     go false h = absurd (no_reading (refusal Fault.TooManyLines n) ls m q h)
 
@@ -85,12 +85,12 @@ onward ls n m p q (accepted (constraint c)) e = go (ltb (length p.constraints) c
 abbrev pub Held : List (List ℕ) → Type 0
 Held ls = (line : List ℕ) → Memᴰ line ls → (l : PolicyLine) → line_answer line ≡ accepted l → Memᴰ l (accepted_lines ls)
 
-held : (ls : List (List ℕ)) (n m : ℕ) (p q : Policy) → fold read_line (reading n p) ls ≡ reading m q → Held ls
-unfolding read_line advance accepted_lines accepted_line
+held : (ls : List (List ℕ)) (n m : ℕ) (p q : Policy) → fold read_next_line (reading n p) ls ≡ reading m q → Held ls
+unfolding read_next_line advance accepted_lines accepted_line
 held [] n m p q e line i l k = absurd (Memᴰ.not-nil i)
 held (x ∷ ls) n m p q e line i l k = go (line_answer x) refl e (Memᴰ.cases_cons i) (λ o. held ls o.next m o.sofar q o.read)
   where
-    go : (a : LineAnswer) → line_answer x ≡ a → fold read_line (advance n p a) ls ≡ reading m q → (line ≡ x) ⊎ Memᴰ line ls → (Onward ls m q → Held ls) → Memᴰ l (accepted_line a (accepted_lines ls))
+    go : (a : LineAnswer) → line_answer x ≡ a → fold read_next_line (advance n p a) ls ≡ reading m q → (line ≡ x) ⊎ Memᴰ line ls → (Onward ls m q → Held ls) → Memᴰ l (accepted_line a (accepted_lines ls))
     go skipped j h (inl w) later = let z : skipped ≡ accepted l = sym j ∙ sym (ap line_answer w) ∙ k in let y : ◌≡◌ {A = ℕ} 0 1 = cc in absurd (omega arith)
     go skipped j h (inr i) later = later (onward ls n m p q skipped h) line i l k
     go (refused f) j h c later = absurd (no_reading (refusal f n) ls m q h)
@@ -197,13 +197,13 @@ text_held : (source : Source) (q : Policy) (text : List ℕ) (n : ℕ) (p : Poli
 unfolding in_text read_text_behind
 text_held source q text n p e = go (ltb text_limit (length text)) e
   where
-    lines : (s : Progress) → fold read_line (reading 1 q) (lines_of text) ≡ s → in_text source s ≡ reading n p → Held (lines_of text)
+    lines : (s : Progress) → fold read_next_line (reading 1 q) (lines_of text) ≡ s → in_text source s ≡ reading n p → Held (lines_of text)
     lines (reading m x) k h = held (lines_of text) 1 m q x k
     lines (stopped r) k h = let w : ◌≡◌ {A = ℕ} 0 1 = cc in absurd (omega arith)
 
-    go : (b : Bool) → in_text source (cond b (stopped (refusal Fault.TooLong 0)) (fold read_line (reading 1 q) (lines_of text))) ≡ reading n p → Held (lines_of text)
+    go : (b : Bool) → in_text source (cond b (stopped (refusal Fault.TooLong 0)) (fold read_next_line (reading 1 q) (lines_of text))) ≡ reading n p → Held (lines_of text)
     go true h = let w : ◌≡◌ {A = ℕ} 0 1 = cc in absurd (omega arith)
-    go false h = lines (fold read_line (reading 1 q) (lines_of text)) refl h
+    go false h = lines (fold read_next_line (reading 1 q) (lines_of text)) refl h
 
 pub both : (maker site : List ℕ) (n : ℕ) (p : Policy) → read_texts maker site ≡ reading n p → Both maker site p
 unfolding read_texts read_site read_text texts_read text_read_of

@@ -11,9 +11,9 @@ use Rattle.layout.specs.Layout.{image_of}
 use Rattle.codegen.specs.Compile.{newest_form}
 use Rattle.monitor.specs.Decision.{decision_in, answer_of, visited_in}
 use Rattle.monitor.specs.declared.decision.Decision.{Decision}
-use Rattle.report.specs.Report.{refused_line}
-use Rattle.session.specs.Printed.{Session, text_only, with_epochs, split_at_run, text_part, next, decision_line, epoch_lines, answers_to, printed_for, printed}
-use Rattle.guarantees.specs.Output.{answer_line, answer_lines, machine_lines, machine_prints, fetched}
+use Rattle.report.specs.Report.{refused_line, next_number}
+use Rattle.session.specs.Printed.{Session, text_only, with_epochs, split_at_run, text_part, decision_line, epoch_lines, answers_to, printed_for, printed}
+use Rattle.guarantees.specs.Output.{answer_line, machine_answer_lines, machine_lines, machine_prints, fetched}
 use Rattle.guarantees.proofs.Agreement.{same_answer}
 
 decision_line_is : (n : ℕ) (d : Decision) → decision_line n d ≡ answer_line n (answer_of d) (visited_in d)
@@ -21,13 +21,13 @@ unfolding decision_line answer_line refused_line
 decision_line_is n (Decision.Refused r) = refl
 decision_line_is n (Decision.Issued actions) = refl
 
-epoch_lines_is : (p : Policy) → Acceptable p → (mode : Mode) (n : ℕ) (lines : List (List ℕ)) → epoch_lines mode (image_of newest_form p) n lines ≡ answer_lines fetched mode p n lines
-unfolding epoch_lines answer_lines fetched
+epoch_lines_is : (p : Policy) → Acceptable p → (mode : Mode) (n : ℕ) (lines : List (List ℕ)) → epoch_lines mode (image_of newest_form p) n lines ≡ machine_answer_lines fetched mode p n lines
+unfolding epoch_lines machine_answer_lines fetched
 epoch_lines_is p ok mode n [] = refl
 epoch_lines_is p ok mode n (line ∷ lines) =
     ap₂ (λ (x y : List ℕ). x ++ y)
-    (decision_line_is (next n) (decision_in mode (image_of newest_form p) line) ∙ ap (λ (a : Answer). answer_line (next n) a (fetched mode p line)) (same_answer p ok mode line))
-    (epoch_lines_is p ok mode (next n) lines)
+    (decision_line_is (next_number n) (decision_in mode (image_of newest_form p) line) ∙ ap (λ (a : Answer). answer_line (next_number n) a (fetched mode p line)) (same_answer p ok mode line))
+    (epoch_lines_is p ok mode (next_number n) lines)
 
 text_lines : (text : List ℕ) (s : Session) → printed_for text s ≡ machine_lines fetched (read_text text) s
 unfolding printed_for answers_to machine_lines

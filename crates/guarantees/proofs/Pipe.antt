@@ -19,7 +19,7 @@ use Rattle.printer.specs.Printed.{text_of}
 use Rattle.report.specs.Report.{word_line, refusal_line, texts_refusal_line}
 use Rattle.session.specs.Listed.{word_lines, listing_of, listed, listed_texts}
 use Rattle.dump.proofs.PrintedLaws.{restored_image}
-use Rattle.dump.specs.Dump.{answer_to, image_answer, restored}
+use Rattle.dump.specs.Dump.{loaded_answer, image_answer, restored}
 use Rattle.guarantees.proofs.RoundTrip.{image_bytes}
 
 policy_acceptable : (text : List ℕ) (p : Policy) → policy_of text ≡ some p → Acceptable p
@@ -61,7 +61,7 @@ unfolding listed_texts policy_of_texts
 texts_listed_image maker site p = listing_is texts_refusal_line (read_texts maker site) p
 
 restored_words : (p : Policy) → Acceptable p → restored (word_lines (words_of (image_of newest_form p))) ≡ text_of p
-unfolding image_answer answer_to
+unfolding image_answer loaded_answer
 restored_words p ok =
     let image : List ℕ = image_of newest_form p in
     ap restored (word_lines_is (words_of image)) ∙ restored_image image (image_bytes p) (whole_words p)

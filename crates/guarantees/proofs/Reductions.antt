@@ -25,7 +25,7 @@ use Rattle.layout.specs.Layout.{known_form, image_of}
 use Rattle.exactness.proofs.Exact.{image_taken, image_holds}
 use Rattle.exactness.specs.Exact.{contents_of}
 use Rattle.meaning.proofs.Decided.{reduction_of, events_decided_are, image_bounded}
-use Rattle.monitor.specs.Decision.{actions_of, tried_event_words, rules_in, constraints_in, decided_by, decision_in, answer_of}
+use Rattle.monitor.specs.Decision.{actions_of, tried_event_words, rule_words_in, constraint_words_in, decided_by, decision_in, answer_of}
 use Rattle.monitor.specs.declared.decision.Decision.{Decision}
 use Rattle.guarantees.proofs.Decisions.{refused_for, refused_cases, either_faults, not_refused}
 use Rattle.guarantees.specs.Machine.{yield_in}
@@ -67,7 +67,7 @@ module _ (image : List ℕ) (bounded : Bytes image) (contents : Contents) (taken
 
   module _ (line : List ℕ) (e : Epoch) (read : read_epoch line ≡ accepted e) where
     abbrev words : ℕ
-    words = tried_event_words (rules_in contents (words_of image)) (constraints_in contents (words_of image)) e
+    words = tried_event_words (rule_words_in contents (words_of image)) (constraint_words_in contents (words_of image)) e
 
     decided : decision_in Mode.Events image line ≡ reduction_of P e words
     decided = events_decided_are image bounded contents taken line e read
@@ -122,12 +122,12 @@ refused_exactly mode image line bounded r = (λ h. ⊎_elim as_first (λ x. epoc
         ap (λ (x : Mode). decision_in x image line) m ∙ (conflict_exactly image bounded contents t line e q).1 none ∙ ap Decision.Refused (sym w)
 
 -- and under which faults, at which locations
-pub decision_faults : (mode : Mode) (image line : List ℕ) → Bytes image → (r : Refusal) → decision_in mode image line ≡ Decision.Refused r → OfDecisionIn (length (words_of image)) r
+pub decision_faults : (mode : Mode) (image line : List ℕ) → Bytes image → (r : Refusal) → decision_in mode image line ≡ Decision.Refused r → OfDecisionIn mode (length (words_of image)) r
 decision_faults mode image line bounded r h = go ((refused_exactly mode image line bounded r).0 h)
   where
-    go : RefusedIn mode image line r → OfDecisionIn (length (words_of image)) r
+    go : RefusedIn mode image line r → OfDecisionIn mode (length (words_of image)) r
     go (as_first f) = of_either (either_faults image line r f)
-    go (for_conflict m contents t e q none w) = of_conflict w
+    go (for_conflict m contents t e q none w) = of_conflict m w
 
 -- ---- the image of a policy that an accepted text may have
 

@@ -12,7 +12,7 @@ use Rattle.lexer.proofs.LeadingLaws.{leading_joined, leading_pass, leading_ends}
 use Rattle.lexer.specs.Byte.{is_space}
 use Rattle.lexer.specs.Lines.{prepend, pieces, lines_of, non_empty, tokens_of, take_leading}
 use Rattle.syntax.specs.Judge.{skipped, accepted, tokens_answer, line_answer}
-use Rattle.explanation.specs.Part.{trim_start, keep_byte, trim_end, trim, part_at}
+use Rattle.explanation.specs.Part.{trim_start, add_to_trimmed, trim_end, trim, part_at}
 use Rattle.guarantees.specs.Explanations.{ended_length, Spaces, Trimmed, Straight}
 
 -- ---- trimming
@@ -36,8 +36,8 @@ more_last : (c d : ℕ) (t rest : List ℕ) (b : ℕ) → ((rest : List ℕ) (b 
 more_last c d t [] b h e = let w : ◌≡◌ {A = ℕ} 0 1 = cc in absurd (omega arith)
 more_last c d t (x ∷ rest) b h e = let k : d ∷ t ≡ rest ++ b ∷ [] = cc in h rest b k
 
-kept : (c : ℕ) (s t : List ℕ) → Ended s t → Ended (c ∷ s) (keep_byte c t)
-unfolding keep_byte
+kept : (c : ℕ) (s t : List ℕ) → Ended s t → Ended (c ∷ s) (add_to_trimmed c t)
+unfolding add_to_trimmed
 kept c s [] r = go (is_space c) refl
   where
     spaces : c ≡ 32 → Spaces (c ∷ s)

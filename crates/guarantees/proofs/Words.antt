@@ -21,7 +21,7 @@ use Rattle.exactness.proofs.Exact.{took}
 use Rattle.meaning.proofs.Fetched.{taken_rules_fetch, taken_trial_fetch}
 use Rattle.meaning.proofs.Taken.{taken_rules_run}
 use Rattle.monitor.proofs.DecideLaws.{on_line}
-use Rattle.monitor.specs.Decision.{proposed_by, conflict_by, trial_words, tried_words, proposed_with_by, clash_by, clash_words, tried_event_words, yielded_by, reduced_by, reduction_by, rules_in, constraints_in, issued_by, decided_by, on_epoch_line, on_image, decision_in, decision, answer_of, visited_in}
+use Rattle.monitor.specs.Decision.{proposed_by, conflict_by, trial_words, tried_words, proposed_with_by, clash_by, clash_words, tried_event_words, yielded_by, reduced_by, reduction_by, rule_words_in, constraint_words_in, issued_by, decided_by, on_epoch_line, on_image, decision_in, decision, answer_of, visited_in}
 use Rattle.monitor.specs.declared.decision.Decision.{Decision}
 use Rattle.guarantees.specs.Decisions.{decided_actions}
 use Rattle.guarantees.proofs.Decisions.{holds_policy}
@@ -81,10 +81,10 @@ module _ (image : List ℕ) (bounded : Bytes image) (contents : Contents) (taken
     -- ---- the second mode
 
     abbrev rule_part : List ℕ
-    rule_part = rules_in contents (words_of image)
+    rule_part = rule_words_in contents (words_of image)
 
     abbrev constraint_part : List ℕ
-    constraint_part = constraints_in contents (words_of image)
+    constraint_part = constraint_words_in contents (words_of image)
 
     -- a trial fetches at most the rule words and the constraint words
     trial_words_is : (e : Epoch) (kept : ℕ) → clash_words rule_part constraint_part e kept ≤ P + N

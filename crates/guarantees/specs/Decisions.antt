@@ -43,10 +43,10 @@ pub data OfDecision (words : ℕ) (r : Refusal) : Type 0 where
   of_image : RefusalOf words r → OfDecision words r
   of_line : OfEpoch r → OfDecision words r
 
--- in either mode
-pub data OfDecisionIn (words : ℕ) (r : Refusal) : Type 0 where
-  of_either : OfDecision words r → OfDecisionIn words r
-  of_conflict : r ≡ refusal Fault.Unavoidable 0 → OfDecisionIn words r
+-- in either mode, the second of which has one more
+pub data OfDecisionIn (mode : Mode) (words : ℕ) (r : Refusal) : Type 0 where
+  of_either : OfDecision words r → OfDecisionIn mode words r
+  of_conflict : mode ≡ Mode.Events → r ≡ refusal Fault.Unavoidable 0 → OfDecisionIn mode words r
 
 -- refused under one of 7 to 10, in no text, at location 0 and with empty sets
 pub record CheckFailed (a : Answer) : Type 0 where

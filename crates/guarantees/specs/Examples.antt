@@ -13,21 +13,21 @@ use Rattle.layout.specs.Layout.{image_words}
 use Rattle.codegen.specs.Compile.{newest_form}
 use Rattle.guarantees.specs.Machine.{ToldLine, machine}
 
-pub record Told : Type 0 where
+pub record ModeLine : Type 0 where
   pub mode : Mode
   pub line : String
 
-abbrev by_actions : String → Told
+abbrev by_actions : String → ModeLine
 by_actions line = record { mode = Mode.Actions; line = line }
 
-abbrev by_events : String → Told
+abbrev by_events : String → ModeLine
 by_events line = record { mode = Mode.Events; line = line }
 
 pub data Example : Type 0 where
   answers : String → List String → Option (List Answer) → Example
   words : String → Option (List ℕ) → Example
   -- each line in its own mode
-  told : String → List Told → Option (List Answer) → Example
+  told : String → List ModeLine → Option (List Answer) → Example
 
 abbrev decided : List ℕ → List ℕ → Answer
 decided accepted cancelled = issues (actions_from accepted) (actions_from cancelled)
@@ -98,7 +98,7 @@ examples =
     (some (refused_under 17 ∷ decided (0 ∷ []) (1 ∷ []) ∷ decided [] [] ∷ []))
     ∷ []
 
-abbrev line_of : Told → ToldLine
+abbrev line_of : ModeLine → ToldLine
 line_of x = record { mode = x.mode; line = bytes x.line }
 
 -- what the definitions say of a row

@@ -30,7 +30,7 @@ action n = record { 0 = n }
 -- ---- when there is an explanation
 
 -- the texts, the epoch line and the action's number pass all checks
-pub record Asked (maker site line : List ℕ) (n : ℕ) : Type 0 where
+pub record IsExplainable (maker site line : List ℕ) (n : ℕ) : Type 0 where
   pub policy : Policy
   pub both : policy_of_texts maker site ≡ some policy
   pub epoch : Epoch
@@ -48,7 +48,7 @@ pub data Unexplained (maker site line : List ℕ) (n : ℕ) (r : Refusal) : Type
 -- ---- what became of an action
 
 -- what is told is whether the answer to the epoch has the action in its sets
-pub record Told (answer : Answer) (a : Action) (outcome : Outcome) : Type 0 where
+pub record TellsOutcome (answer : Answer) (a : Action) (outcome : Outcome) : Type 0 where
   pub accepted : (outcome ≡ Outcome.Accepted) ↔ (has_action answer.accepted a ≡ true)
   pub cancelled : (outcome ≡ Outcome.Cancelled) ↔ (has_action answer.cancelled a ≡ true)
   pub neither : (outcome ≡ Outcome.NotProposed) ↔ ((has_action answer.accepted a ≡ false) × (has_action answer.cancelled a ≡ false))

@@ -9,8 +9,8 @@ use Rattle.output.specs.Number.{decimal}
 use Rattle.layout.specs.Layout.{image_of}
 use Rattle.codegen.specs.Compile.{newest_form}
 use Rattle.monitor.specs.Decision.{decision_in, visited_in}
-use Rattle.report.specs.Report.{refusal_line, words_field, accept_line}
-use Rattle.session.specs.Printed.{Session, text_only, with_epochs, split_at_run, text_part, next}
+use Rattle.report.specs.Report.{refusal_line, words_field, accept_line, next_number}
+use Rattle.session.specs.Printed.{Session, text_only, with_epochs, split_at_run, text_part}
 use Rattle.pdl.specs.Answer.{Answer}
 use Rattle.guarantees.specs.Machine.{step}
 
@@ -22,14 +22,14 @@ answer_line n a words =
 -- the machine counts no words: what is printed as their number is told for each mode, policy and line
 module _ (words : Mode → Policy → List ℕ → ℕ) where
   -- after n epochs
-  unfoldable pub answer_lines : Mode → Policy → ℕ → List (List ℕ) → List ℕ
-  answer_lines mode p n [] = []
-  answer_lines mode p n (line ∷ lines) = answer_line (next n) (step mode p line) (words mode p line) ++ answer_lines mode p (next n) lines
+  unfoldable pub machine_answer_lines : Mode → Policy → ℕ → List (List ℕ) → List ℕ
+  machine_answer_lines mode p n [] = []
+  machine_answer_lines mode p n (line ∷ lines) = answer_line (next_number n) (step mode p line) (words mode p line) ++ machine_answer_lines mode p (next_number n) lines
 
   unfoldable pub machine_lines : Progress → Session → List ℕ
   machine_lines (stopped r) s = refusal_line r
   machine_lines (reading n policy) text_only = []
-  machine_lines (reading n policy) (with_epochs text mode epochs) = answer_lines mode policy 0 epochs
+  machine_lines (reading n policy) (with_epochs text mode epochs) = machine_answer_lines mode policy 0 epochs
 
   -- all bytes of the input to all bytes of the output
   unfoldable pub machine_prints : List ℕ → List ℕ

@@ -64,9 +64,10 @@ pub fn refused_exactly()
     ensures { (mode : Mode) (image line : List ℕ) → Bytes image → (r : Refusal) → (decision_in mode image line ≡ Decision.Refused r) ↔ RefusedIn mode image line r }
 {}
 
-/// A decision is refused under 7 to 10 at the place 0, under 11 at the place of a word, or under 1, 12 to 14 or 17 at the place 0, and it names no text.
+/// A decision is refused under 7 to 10 at the place 0, under 11 at the place of a word, under 1 or 12 to 14 at the place 0 or, by events, under 17 at the place 0, and it
+/// names no text.
 pub fn decision_faults()
-    ensures { (mode : Mode) (image line : List ℕ) → Bytes image → (r : Refusal) → decision_in mode image line ≡ Decision.Refused r → OfDecisionIn (length (words_of image)) r }
+    ensures { (mode : Mode) (image line : List ℕ) → Bytes image → (r : Refusal) → decision_in mode image line ≡ Decision.Refused r → OfDecisionIn mode (length (words_of image)) r }
 {}
 
 /// A refused decision has empty sets.

@@ -10,7 +10,7 @@ ghost use Rattle.exactness.specs.Exact.{Checked};
 ghost use Rattle.policy.specs.declared.fault.Fault.{Fault};
 ghost use Rattle.policy.specs.Fault.{refusal};
 ghost use Rattle.codegen.specs.declared.Compiled.{Compiled};
-ghost use Rattle.codegen.specs.Written.{Written, WrittenTexts, written_in, written_by};
+ghost use Rattle.codegen.specs.Written.{ImageWritten, TextsImageWritten, written_in, written_by};
 ghost use Rattle.codegen.specs.Compile.{compiled, compiled_texts};
 ghost use Rattle.rule_text.specs.Text.{policy_of, policy_of_texts};
 ghost use Rattle.image.specs.Held.{policy_in};
@@ -28,7 +28,7 @@ pub fn body_exactly()
 
 /// A compilation that answers a size has written just the image of the text's policy; loading it yields that policy, and compiling that yields the bytes again.
 pub fn image_written()
-    ensures { (text buffer : List ℕ) (size : ℕ) → (compiled text buffer).answer ≡ Compiled.Image size → Written text buffer size }
+    ensures { (text buffer : List ℕ) (size : ℕ) → (compiled text buffer).answer ≡ Compiled.Image size → ImageWritten text buffer size }
 {}
 
 /// Two texts give the same image exactly if they have the same rules in the same order and the same constraints in theirs.
@@ -38,7 +38,7 @@ pub fn same_images()
 
 /// The same of a pair of texts compiled as one: a compilation that answers a size has written just the image of their policy.
 pub fn texts_written()
-    ensures { (maker site buffer : List ℕ) (size : ℕ) → (compiled_texts maker site buffer).answer ≡ Compiled.Image size → WrittenTexts maker site buffer size }
+    ensures { (maker site buffer : List ℕ) (size : ℕ) → (compiled_texts maker site buffer).answer ≡ Compiled.Image size → TextsImageWritten maker site buffer size }
 {}
 
 /// Two pairs of texts give the same image exactly if each pair as one has the same rules in the same order and the same constraints in theirs.

@@ -12,7 +12,7 @@ use Rattle.operation.specs.Fields.{skip_of}
 use Rattle.layout.specs.Layout.{line_words, lines_words}
 use Rattle.decode.proofs.FoundLaws.{line_some}
 use Rattle.decode.proofs.ReadLaws.{line_from_is, first_skip}
-use Rattle.decode.specs.Steps.Scan.{line_from}
+use Rattle.decode.specs.Steps.Scan.{value_from}
 use Rattle.image.specs.Walk.{values_behind, lines_left, told_length}
 
 take_some : (k : ℕ) (xs : List ℕ) → take (min k (length xs)) xs ≡ take k xs
@@ -37,13 +37,13 @@ values_none [] e = refl
 values_none (w ∷ ws) e = absurd (omega arith)
 
 -- the first line, and those behind it
-pub values_next : (ws : List ℕ) → 0 < length ws → values_behind 0 ws ≡ line_from (take (told_length ws) ws) ∷ values_behind 0 (drop (told_length ws) ws)
+pub values_next : (ws : List ℕ) → 0 < length ws → values_behind 0 ws ≡ value_from (take (told_length ws) ws) ∷ values_behind 0 (drop (told_length ws) ws)
 unfolding values_behind
 values_next [] h = absurd (omega arith)
 values_next (w ∷ ws) h =
     let n : min (skip_of w + 1) (suc (length ws)) ≡ suc (min (skip_of w) (length ws)) = omega arith in
-    ap (λ (xs : List Line). line_from (w ∷ take (skip_of w) ws) ∷ xs) (values_skip (skip_of w) ws)
-    ∙ ap₂ (λ (xs ys : List ℕ). line_from (w ∷ xs) ∷ values_behind 0 ys) (sym (take_some (skip_of w) ws)) (sym (drop_some (skip_of w) ws)) ∙ sym (ap (λ (k : ℕ). line_from (take k (w ∷ ws)) ∷ values_behind 0 (drop k (w ∷ ws))) n)
+    ap (λ (xs : List Line). value_from (w ∷ take (skip_of w) ws) ∷ xs) (values_skip (skip_of w) ws)
+    ∙ ap₂ (λ (xs ys : List ℕ). value_from (w ∷ xs) ∷ values_behind 0 ys) (sym (take_some (skip_of w) ws)) (sym (drop_some (skip_of w) ws)) ∙ sym (ap (λ (k : ℕ). value_from (take k (w ∷ ws)) ∷ values_behind 0 (drop k (w ∷ ws))) n)
 
 -- where the words of a valid line stand, the line's value comes first, and then what those behind it give
 pub line_given : (ws : List ℕ) (at : ℕ) (l : PolicyLine) (rest : List ℕ) → drop at ws ≡ line_words l ++ rest → valid l ≡ true → lines_left ws at ≡ line_value l ∷ lines_left ws (at + length (line_words l))
@@ -51,8 +51,8 @@ line_given ws at l rest e v =
     let some = line_some l in
     let told : told_length (line_words l ++ rest) ≡ length (line_words l) = omega (arith, first_skip l rest v, length-append (line_words l) rest) in
     ap (values_behind 0) e ∙ values_next (line_words l ++ rest) (omega (arith, length-append (line_words l) rest))
-    ∙ ap (λ (k : ℕ). line_from (take k (line_words l ++ rest)) ∷ values_behind 0 (drop k (line_words l ++ rest))) told
-    ∙ ap₂ (λ (x : Line) (xs : List Line). x ∷ xs) (ap line_from (take_at (line_words l) rest (length (line_words l)) refl) ∙ line_from_is l v)
+    ∙ ap (λ (k : ℕ). value_from (take k (line_words l ++ rest)) ∷ values_behind 0 (drop k (line_words l ++ rest))) told
+    ∙ ap₂ (λ (x : Line) (xs : List Line). x ∷ xs) (ap value_from (take_at (line_words l) rest (length (line_words l)) refl) ∙ line_from_is l v)
     (ap (λ (xs : List ℕ). values_behind 0 (drop (length (line_words l)) xs)) (sym e) ∙ ap (values_behind 0) (drop-drop (length (line_words l)) at ws))
 
 pub lines_given : (ls : List PolicyLine) → all valid ls ≡ true → values_behind 0 (lines_words ls) ≡ map line_value ls
@@ -73,8 +73,8 @@ words_taken (suc k) (c ∷ cs) = ap (λ (ws : List ℕ). word_from c ∷ ws) (wo
 
 -- the same at a word of the image
 pub values_step : (ws : List ℕ) (at size : ℕ) (rest : List (List ℕ)) → words_in rest ≡ drop at ws → 0 < length rest → size ≡ told_length (words_in rest)
-    → values_behind 0 (drop at ws) ≡ line_from (words_in (take size rest)) ∷ values_behind 0 (drop (at + size) ws)
+    → values_behind 0 (drop at ws) ≡ value_from (words_in (take size rest)) ∷ values_behind 0 (drop (at + size) ws)
 values_step ws at size rest e h t =
     ap (values_behind 0) (sym e) ∙ values_next (words_in rest) (omega (arith, words_in_length rest))
-    ∙ ap (λ (k : ℕ). line_from (take k (words_in rest)) ∷ values_behind 0 (drop k (words_in rest))) (sym t)
-    ∙ ap₂ (λ (x : List ℕ) (y : List ℕ). line_from x ∷ values_behind 0 y) (sym (words_taken size rest)) (ap (drop size) e ∙ drop-drop size at ws)
+    ∙ ap (λ (k : ℕ). value_from (take k (words_in rest)) ∷ values_behind 0 (drop k (words_in rest))) (sym t)
+    ∙ ap₂ (λ (x : List ℕ) (y : List ℕ). value_from x ∷ values_behind 0 y) (sym (words_taken size rest)) (ap (drop size) e ∙ drop-drop size at ws)

@@ -7,14 +7,14 @@ use Rattle.line_value.specs.declared.Line.{Line}
 use Rattle.word.specs.Chunk.{words_in}
 use Rattle.word.specs.Word.{words_of, between}
 use Rattle.operation.specs.Fields.{skip_of}
-use Rattle.decode.specs.Steps.Scan.{line_from}
+use Rattle.decode.specs.Steps.Scan.{value_from}
 use Rattle.image.specs.Check.{rule_count, constraint_count}
 use Rattle.image.specs.declared.walker.Walker.{Walker}
 
 -- the values of the lines, the first k words left out
 unfoldable pub values_behind : ℕ → List ℕ → List Line
 values_behind k [] = []
-values_behind zero (w ∷ ws) = line_from (w ∷ take (skip_of w) ws) ∷ values_behind (skip_of w) ws
+values_behind zero (w ∷ ws) = value_from (w ∷ take (skip_of w) ws) ∷ values_behind (skip_of w) ws
 values_behind (suc k) (w ∷ ws) = values_behind k ws
 
 -- those of the lines from the word `at` on

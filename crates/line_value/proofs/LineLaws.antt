@@ -5,7 +5,7 @@ use Rattle.std.proofs.Math.ListN.{set, get_or}
 use Rattle.std.proofs.lemmas.List.{take_min}
 use Rattle.std.proofs.Math.Seq.{take-append-le, take-append_seam, set_at, append_snoc}
 use Rattle.line_value.specs.Steps.Push.{push_item, push_count}
-use Rattle.line_value.specs.Value.{padded, counted}
+use Rattle.line_value.specs.Value.{padded, count_up_to}
 
 module _ {A : Type 0} (limit : ℕ) (filler : A) (xs : List A) (x : A) where
   length_snoc : length (xs ++ x ∷ []) ≡ length xs + 1
@@ -27,43 +27,43 @@ module _ {A : Type 0} (limit : ℕ) (filler : A) (xs : List A) (x : A) where
       let room : limit - length xs ≡ limit - length (xs ++ x ∷ []) = omega (arith, length_snoc) in
       ap₂ (λ (l : List A) (n : ℕ). l ++ replicate n filler) (sym (take-append-le limit xs (x ∷ []) h)) room
 
-  counted_room : length xs ≤ limit → counted limit xs ≡ length xs
-  unfolding counted
+  counted_room : length xs ≤ limit → count_up_to limit xs ≡ length xs
+  unfolding count_up_to
   counted_room h = omega arith
 
-  counted_past : limit ≤ length xs → limit ≤ counted limit xs
-  unfolding counted
+  counted_past : limit ≤ length xs → limit ≤ count_up_to limit xs
+  unfolding count_up_to
   counted_past h = omega arith
 
   -- with room for one more
-  pub room_counted : length xs < limit → counted limit xs < limit
-  unfolding counted
+  pub room_counted : length xs < limit → count_up_to limit xs < limit
+  unfolding count_up_to
   room_counted h = omega arith
 
-  pub item_more : length xs < limit → set (padded limit filler xs) (counted limit xs) x ≡ padded limit filler (xs ++ x ∷ [])
+  pub item_more : length xs < limit → set (padded limit filler xs) (count_up_to limit xs) x ≡ padded limit filler (xs ++ x ∷ [])
   item_more h = rw (counted_room (omega arith)) (padded_room (limit - suc (length xs)) (omega arith) h)
 
-  pub count_more : length xs < limit → counted limit xs + 1 ≡ counted limit (xs ++ x ∷ [])
-  unfolding counted
+  pub count_more : length xs < limit → count_up_to limit xs + 1 ≡ count_up_to limit (xs ++ x ∷ [])
+  unfolding count_up_to
   count_more h = omega (arith, length_snoc)
 
   -- with room or not
-  pub push_item_is : push_item limit (padded limit filler xs) (counted limit xs) x ≡ padded limit filler (xs ++ x ∷ [])
+  pub push_item_is : push_item limit (padded limit filler xs) (count_up_to limit xs) x ≡ padded limit filler (xs ++ x ∷ [])
   push_item_is = go (ltb (length xs) limit) refl
     where
-      go : (b : Bool) → ltb (length xs) limit ≡ b → push_item limit (padded limit filler xs) (counted limit xs) x ≡ padded limit filler (xs ++ x ∷ [])
+      go : (b : Bool) → ltb (length xs) limit ≡ b → push_item limit (padded limit filler xs) (count_up_to limit xs) x ≡ padded limit filler (xs ++ x ∷ [])
       go true e =
           let h : length xs < limit = ltb-true (length xs) limit e in
-          rw (lt-ltb (counted limit xs) limit (room_counted h)) (item_more h)
+          rw (lt-ltb (count_up_to limit xs) limit (room_counted h)) (item_more h)
       go false e =
           let h : limit ≤ length xs = ltb-false (length xs) limit e in
-          rw (le-ltb (counted limit xs) limit (counted_past h)) (padded_full h)
+          rw (le-ltb (count_up_to limit xs) limit (counted_past h)) (padded_full h)
 
-  pub push_count_is : push_count limit (counted limit xs) ≡ counted limit (xs ++ x ∷ [])
-  unfolding counted
+  pub push_count_is : push_count limit (count_up_to limit xs) ≡ count_up_to limit (xs ++ x ∷ [])
+  unfolding count_up_to
   push_count_is = go (ltb (length xs) (suc limit)) refl
     where
-      go : (b : Bool) → ltb (length xs) (suc limit) ≡ b → push_count limit (counted limit xs) ≡ counted limit (xs ++ x ∷ [])
+      go : (b : Bool) → ltb (length xs) (suc limit) ≡ b → push_count limit (count_up_to limit xs) ≡ count_up_to limit (xs ++ x ∷ [])
       go true e =
           let h : length xs < suc limit = ltb-true (length xs) (suc limit) e in
           let m : min (length xs) (suc limit) ≡ length xs = omega arith in
@@ -76,8 +76,8 @@ module _ {A : Type 0} (limit : ℕ) (filler : A) (xs : List A) (x : A) where
 -- ---- the value of a line that is not crowded holds all of it
 
 module _ {A : Type 0} (limit : ℕ) (filler : A) (xs : List A) (few : length xs ≤ limit) where
-  pub all_held : take (counted limit xs) (padded limit filler xs) ≡ xs
-  unfolding counted padded
+  pub all_held : take (count_up_to limit xs) (padded limit filler xs) ≡ xs
+  unfolding count_up_to padded
   all_held =
       let n : min (length xs) (suc limit) ≡ length xs = omega arith in
       ap₂ (λ (k : ℕ) (l : List A). take k (l ++ replicate (limit - length xs) filler)) n (take_all limit xs few) ∙ take-append_seam xs (replicate (limit - length xs) filler)

@@ -14,8 +14,8 @@ module _ {A : Type 0} where
   unfoldable pub padded : ℕ → A → List A → List A
   padded limit filler xs = take limit xs ++ replicate (limit - length xs) filler
 
-  unfoldable pub counted : ℕ → List A → ℕ
-  counted limit xs = min (length xs) (suc limit)
+  unfoldable pub count_up_to : ℕ → List A → ℕ
+  count_up_to limit xs = min (length xs) (suc limit)
 
 abbrev pub no_head : Head
 no_head = record { 0 = Test.Member (record { 0 = 0 }) }
@@ -30,9 +30,9 @@ unfoldable pub line_of : List Test → List Comparison → Ending → Line
 line_of heads comparisons ending =
     record {
       heads = padded head_limit no_head (map head heads);
-      head_count = counted head_limit (map head heads);
+      head_count = count_up_to head_limit (map head heads);
       comparisons = padded comparison_limit no_comparison comparisons;
-      comparison_count = counted comparison_limit comparisons;
+      comparison_count = count_up_to comparison_limit comparisons;
       ending = ending;
     }
 

@@ -22,7 +22,7 @@ use Rattle.image.specs.declared.load.Loaded.{Loaded}
 use Rattle.exactness.proofs.Exact.{image_taken, image_holds}
 use Rattle.exactness.specs.Exact.{contents_of}
 use Rattle.monitor.proofs.DecideLaws.{line_refused, line_accepted}
-use Rattle.monitor.specs.Decision.{kept_by, actions_of, yielded_by, proposed_with_by, clash_by, kept_events_by, tried_event_words, reduced_by, reduction_by, rules_in, constraints_in, issued_by, decided_by, decision_in, decision}
+use Rattle.monitor.specs.Decision.{kept_by, actions_of, yielded_by, proposed_with_by, clash_by, kept_events_by, tried_event_words, reduced_by, reduction_by, rule_words_in, constraint_words_in, issued_by, decided_by, decision_in, decision}
 use Rattle.monitor.specs.declared.decision.Decision.{Decision}
 use Rattle.meaning.proofs.Taken.{taken_rules_run, taken_constraints_run}
 
@@ -35,7 +35,7 @@ module _ (image : List ℕ) (bounded : Bytes image) (contents : Contents) (taken
   P = policy_in image
 
   abbrev constraint_part : List ℕ
-  constraint_part = constraints_in contents (words_of image)
+  constraint_part = constraint_words_in contents (words_of image)
 
   kept_is : (rs : Readings) (s : ActionSet) → kept_by constraint_part rs s ≡ resolve P.constraints rs s
   unfolding kept_by resolve
@@ -54,7 +54,7 @@ module _ (image : List ℕ) (bounded : Bytes image) (contents : Contents) (taken
   -- ---- the same in the second mode
 
   abbrev rule_part : List ℕ
-  rule_part = rules_in contents (words_of image)
+  rule_part = rule_words_in contents (words_of image)
 
   clash_is : (e : Epoch) (kept : ℕ) → clash_by rule_part constraint_part e kept ≡ clashes P e (set_of kept)
   unfolding clashes
@@ -106,7 +106,7 @@ module _ (form : ℕ) (known : known_form form ≡ true) (p : Policy) (ok : Acce
 
   pub image_reduces : (line : List ℕ) (e : Epoch) → read_epoch line ≡ accepted e
       → decision_in Mode.Events (image_of form p) line
-      ≡ reduction_of p e (tried_event_words (rules_in (contents_of form p) (words_of (image_of form p))) (constraints_in (contents_of form p) (words_of (image_of form p))) e)
+      ≡ reduction_of p e (tried_event_words (rule_words_in (contents_of form p) (words_of (image_of form p))) (constraint_words_in (contents_of form p) (words_of (image_of form p))) e)
   image_reduces line e q =
       events_decided_are (image_of form p) image_bounded (contents_of form p) taken line e q
-      ∙ ap (λ (x : Policy). reduction_of x e (tried_event_words (rules_in (contents_of form p) (words_of (image_of form p))) (constraints_in (contents_of form p) (words_of (image_of form p))) e)) (image_holds form known p ok)
+      ∙ ap (λ (x : Policy). reduction_of x e (tried_event_words (rule_words_in (contents_of form p) (words_of (image_of form p))) (constraint_words_in (contents_of form p) (words_of (image_of form p))) e)) (image_holds form known p ok)

@@ -23,7 +23,7 @@ use Rattle.image.specs.declared.load.Contents.{Contents}
 use Rattle.image.specs.declared.load.Loaded.{Loaded}
 use Rattle.exactness.proofs.Exact.{held_acceptable, taken_rules, taken_constraints}
 use Rattle.run.proofs.FetchLaws.{last_constants, last_behind, rule_fetches_is, trial_fetches_is}
-use Rattle.run.specs.Run.{constant_count, rule_fetches, trial_fetches}
+use Rattle.run.specs.Run.{constants_behind, rule_fetches, trial_fetches}
 
 -- ---- the last word of lines
 
@@ -37,10 +37,10 @@ last_both (w ∷ []) [] p q = p
 last_both (w ∷ []) (v ∷ vs) p q = q
 last_both (w ∷ x ∷ ws) vs p q = last_both (x ∷ ws) vs p q
 
-ending_constants : (e : Ending) → ending_in_range e ≡ true → constant_count (operation_of (ending_word e)) ≡ 0
+ending_constants : (e : Ending) → ending_in_range e ≡ true → constants_behind (operation_of (ending_word e)) ≡ 0
 unfolding ending_in_range
-ending_constants (Ending.Causes a) h = ap constant_count (causes_operation a (ltb-true a.0 64 h))
-ending_constants Ending.Never h = ap constant_count never_operation
+ending_constants (Ending.Causes a) h = ap constants_behind (causes_operation a (ltb-true a.0 64 h))
+ending_constants Ending.Never h = ap constants_behind never_operation
 
 module _ (e : Ending) (h : ending_in_range e ≡ true) where
   condition_last : (cs : List Comparison) → last_constants (condition_words cs e) ≡ 0

@@ -27,7 +27,7 @@ use Rattle.layout.specs.Layout.{condition_words, part_words, line_words, lines_w
 use Rattle.layout.specs.Steps.Size.{comparisons_size, condition_size}
 use Rattle.operation.specs.Parts.{test_word, comparison_words, ending_word, event_from, constant_comparison, reading_comparison}
 use Rattle.operation.specs.declared.operation.Operation.{Operation}
-use Rattle.run.specs.Run.{constant_count, passes, ran, comparison_test, rule_test, constraint_test, proposes_at, proposing, run_rules, is_never, ends_constraint, run_constraints}
+use Rattle.run.specs.Run.{constants_behind, passes, ran, comparison_test, rule_test, constraint_test, proposes_at, proposing, run_rules, is_never, ends_constraint, run_constraints}
 use Rattle.operation.specs.Fields.{skip_of, operation_of}
 
 -- a test that fails passes over `skip` further words
@@ -108,7 +108,7 @@ module _ (test : Operation → ℕ → ℕ → Bool) where
   ran_constant w k ws o = ran_head w (k ∷ ws) Operation.AgainstConstant o ∙ ap (λ (n : ℕ). w ∷ ran test n (k ∷ ws)) (one_more (passed (test Operation.AgainstConstant w k) w))
 
   -- behind any other word
-  ran_other : (w : ℕ) (ws : List ℕ) (op : Operation) → operation_of w ≡ op → constant_count op ≡ 0 → ran test 0 (w ∷ ws) ≡ w ∷ ran test (passed (test op w (get_or ws 0 0)) w) ws
+  ran_other : (w : ℕ) (ws : List ℕ) (op : Operation) → operation_of w ≡ op → constants_behind op ≡ 0 → ran test 0 (w ∷ ws) ≡ w ∷ ran test (passed (test op w (get_or ws 0 0)) w) ws
   ran_other w ws op o z = ran_head w ws op o ∙ ap (λ (n : ℕ). w ∷ ran test n ws) (ap (λ (m : ℕ). m + passed (test op w (get_or ws 0 0)) w) z ∙ none_more (passed (test op w (get_or ws 0 0)) w))
 
 module _ (ev : Events) (rs : Readings) where
@@ -121,7 +121,7 @@ module _ (ev : Events) (rs : Readings) where
   idle s w rest op o e = ap (λ (x : ActionSet). fold proposing x rest) (ap (λ (p : Operation). proposes_at p w s) o ∙ e)
 
   -- a word other than a comparison with a constant, which proposes nothing
-  quiet : (s : ActionSet) (w : ℕ) (ws : List ℕ) (op : Operation) → operation_of w ≡ op → constant_count op ≡ 0 → proposes_at op w s ≡ s
+  quiet : (s : ActionSet) (w : ℕ) (ws : List ℕ) (op : Operation) → operation_of w ≡ op → constants_behind op ≡ 0 → proposes_at op w s ≡ s
       → more s 0 (w ∷ ws) ≡ more s (passed (rule_test ev rs op w (get_or ws 0 0)) w) ws
   quiet s w ws op o z e = ap (fold proposing s) (ran_other (rule_test ev rs) w ws op o z) ∙ idle s w (ran (rule_test ev rs) (passed (rule_test ev rs op w (get_or ws 0 0)) w) ws) op o e
 
@@ -204,7 +204,7 @@ module _ (rs : Readings) (s : ActionSet) where
   inner w rest op o e = ap (λ (b : Bool). b || any ends_constraint rest) (ap is_never o ∙ e)
 
   -- and that is no comparison with a constant
-  silent : (w : ℕ) (ws : List ℕ) (op : Operation) → operation_of w ≡ op → constant_count op ≡ 0 → is_never op ≡ false → holds 0 (w ∷ ws) ≡ holds (passed (constraint_test rs s op w (get_or ws 0 0)) w) ws
+  silent : (w : ℕ) (ws : List ℕ) (op : Operation) → operation_of w ≡ op → constants_behind op ≡ 0 → is_never op ≡ false → holds 0 (w ∷ ws) ≡ holds (passed (constraint_test rs s op w (get_or ws 0 0)) w) ws
   silent w ws op o z e = ap (any ends_constraint) (ran_other (constraint_test rs s) w ws op o z) ∙ inner w (ran (constraint_test rs s) (passed (constraint_test rs s op w (get_or ws 0 0)) w) ws) op o e
 
   constraints_constant : (w k : ℕ) (ws : List ℕ) → operation_of w ≡ Operation.AgainstConstant → holds 0 (w ∷ k ∷ ws) ≡ holds (passed (comparison_holds Part.Constraints rs (constant_comparison w k)) w) ws

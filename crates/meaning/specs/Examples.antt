@@ -13,8 +13,8 @@ pub record Run : Type 0 where
   pub proposed : ℕ
   pub conflict : Bool
 
-abbrev epoch_of : Run → Epoch
-epoch_of x = record { events = set_of x.events; readings = record { given = set_of 1; values = x.reading ∷ [] } }
+abbrev run_epoch : Run → Epoch
+run_epoch x = record { events = set_of x.events; readings = record { given = set_of 1; values = x.reading ∷ [] } }
 
 -- `E1 E3 R0=41` proposes A3 and A4, on which the constraint holds; the others propose A4 or nothing
 unfoldable pub runs : List Run
@@ -30,6 +30,6 @@ computed x =
     record {
       events = x.events;
       reading = x.reading;
-      proposed = (proposed_on (epoch_of x)).bits;
-      conflict = run_constraints (epoch_of x).readings (proposed_on (epoch_of x)) (constraint_part_words worked);
+      proposed = (proposed_on (run_epoch x)).bits;
+      conflict = run_constraints (run_epoch x).readings (proposed_on (run_epoch x)) (constraint_part_words worked);
     }

@@ -18,7 +18,7 @@ use Rattle.word.specs.Word.{words_of}
 use Rattle.image.specs.declared.load.Loaded.{Loaded}
 use Rattle.image.specs.declared.load.Contents.{Contents}
 use Rattle.run.specs.Run.{run_rules, run_constraints, rule_fetches, trial_fetches}
-use Rattle.monitor.specs.Decision.{kept_by, tried_words, yielded_by, proposed_by, proposed_with_by, reduced_by, reduction_by, rules_in, constraints_in, issued_by, decided_by, on_epoch_line, on_image, decision_in}
+use Rattle.monitor.specs.Decision.{kept_by, tried_words, yielded_by, proposed_by, proposed_with_by, reduced_by, reduction_by, rule_words_in, constraint_words_in, issued_by, decided_by, on_epoch_line, on_image, decision_in}
 use Rattle.monitor.specs.Steps.Trial.{trial_of, kept_of}
 use Rattle.monitor.specs.declared.decision.Actions.{Actions}
 use Rattle.monitor.specs.declared.decision.Decision.{Decision}

@@ -16,7 +16,7 @@ use Rattle.run.proofs.FetchLaws.{rule_fetches_few, trial_fetches_few}
 use Rattle.run.specs.Run.{run_rules, rule_fetches, trial_fetches}
 use Rattle.monitor.proofs.DecideLaws.{taken_small}
 use Rattle.monitor.proofs.TrialLaws.{between_few}
-use Rattle.monitor.specs.Decision.{proposed_by, proposed_with_by, conflict_by, trial_words, tried_words, clash_by, clash_words, tried_event_words, yielded_by, reduced_by, reduction_by, rules_in, constraints_in, issued_by, decided_by, on_epoch_line, on_image, decision_in, visited_in}
+use Rattle.monitor.specs.Decision.{proposed_by, proposed_with_by, conflict_by, trial_words, tried_words, clash_by, clash_words, tried_event_words, yielded_by, reduced_by, reduction_by, rule_words_in, constraint_words_in, issued_by, decided_by, on_epoch_line, on_image, decision_in, visited_in}
 use Rattle.monitor.specs.declared.decision.Decision.{Decision}
 
 module _ (constraints : List ℕ) (few : length constraints < 8192) (rs : Readings) where
@@ -48,10 +48,10 @@ module _ (rules constraints : List ℕ) (p : length rules < 4096) (n : length co
 -- ---- the words of an image
 
 module _ (contents : Contents) (words : List ℕ) where
-  pub rules_few : contents.rule_words < 4096 → length (rules_in contents words) < 4096
+  pub rules_few : contents.rule_words < 4096 → length (rule_words_in contents words) < 4096
   rules_few p = omega (arith, between_few 1 (1 + contents.rule_words) words)
 
-  pub constraints_few : contents.constraint_words < 4096 → length (constraints_in contents words) < 4096
+  pub constraints_few : contents.constraint_words < 4096 → length (constraint_words_in contents words) < 4096
   constraints_few n = omega (arith, between_few (1 + contents.rule_words) (1 + contents.rule_words + contents.constraint_words) words)
 
 -- the words that a decision fetches are a number of 64 bits
@@ -62,9 +62,9 @@ visited_few mode image line = go (load image) refl (read_epoch line)
     decided : (m : Mode) (contents : Contents) → (contents.rule_words < 4096) × (contents.constraint_words < 4096) → (e : Epoch)
         → visited_in (decided_by m contents (words_of image) e) ≤ 65 * 8192
     decided Mode.Actions contents small e =
-        yielded_few (rules_in contents (words_of image)) (constraints_in contents (words_of image)) (rules_few contents (words_of image) small.0) (constraints_few contents (words_of image) small.1) e
+        yielded_few (rule_words_in contents (words_of image)) (constraint_words_in contents (words_of image)) (rules_few contents (words_of image) small.0) (constraints_few contents (words_of image) small.1) e
     decided Mode.Events contents small e =
-        reduced_few (rules_in contents (words_of image)) (constraints_in contents (words_of image)) (rules_few contents (words_of image) small.0) (constraints_few contents (words_of image) small.1) e
+        reduced_few (rule_words_in contents (words_of image)) (constraint_words_in contents (words_of image)) (rules_few contents (words_of image) small.0) (constraints_few contents (words_of image) small.1) e
 
     go : (l : Loaded) → load image ≡ l → (a : EpochAnswer) → visited_in (on_image mode l (words_of image) a) ≤ 65 * 8192
     go (Loaded.Refused r) q a = omega arith

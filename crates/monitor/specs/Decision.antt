@@ -90,18 +90,18 @@ reduction_by rules constraints e =
 
 -- ---- the words of an image with these contents
 
-abbrev pub rules_in : Contents → List ℕ → List ℕ
-rules_in contents words = between 1 (1 + contents.rule_words) words
+abbrev pub rule_words_in : Contents → List ℕ → List ℕ
+rule_words_in contents words = between 1 (1 + contents.rule_words) words
 
-abbrev pub constraints_in : Contents → List ℕ → List ℕ
-constraints_in contents words = between (1 + contents.rule_words) (1 + contents.rule_words + contents.constraint_words) words
+abbrev pub constraint_words_in : Contents → List ℕ → List ℕ
+constraint_words_in contents words = between (1 + contents.rule_words) (1 + contents.rule_words + contents.constraint_words) words
 
 unfoldable pub issued_by : Contents → List ℕ → Epoch → Actions
-issued_by contents words = yielded_by (rules_in contents words) (constraints_in contents words)
+issued_by contents words = yielded_by (rule_words_in contents words) (constraint_words_in contents words)
 
 unfoldable pub decided_by : Mode → Contents → List ℕ → Epoch → Decision
 decided_by Mode.Actions contents words e = Decision.Issued (issued_by contents words e)
-decided_by Mode.Events contents words e = reduction_by (rules_in contents words) (constraints_in contents words) e
+decided_by Mode.Events contents words e = reduction_by (rule_words_in contents words) (constraint_words_in contents words) e
 
 -- ---- the image's faults come first, then those of the line
 

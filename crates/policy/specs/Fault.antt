@@ -41,16 +41,16 @@ within s r = record { fault = r.fault; source = s; location = r.location }
 -- ---- of an answer, which may be a refusal
 
 -- the number of its fault; 0 where nothing is refused
-abbrev pub number_of : Option Refusal → ℕ
-number_of none = 0
-number_of (some r) = fault_number r.fault
+abbrev pub refusal_number : Option Refusal → ℕ
+refusal_number none = 0
+refusal_number (some r) = fault_number r.fault
 
 -- the number of the text that its place is in; 0 where nothing is refused
-abbrev pub text_of : Option Refusal → ℕ
-text_of none = 0
-text_of (some r) = source_number r.source
+abbrev pub refusal_text : Option Refusal → ℕ
+refusal_text none = 0
+refusal_text (some r) = source_number r.source
 
 -- its place; 0 where nothing is refused
-abbrev pub location_of : Option Refusal → ℕ
-location_of none = 0
-location_of (some r) = r.location
+abbrev pub refusal_location : Option Refusal → ℕ
+refusal_location none = 0
+refusal_location (some r) = r.location

@@ -12,7 +12,7 @@ use Rattle.policy.specs.declared.fault.Source.{Source}
 use Rattle.policy.specs.Policy.{Policy, Rule, Constraint}
 use Rattle.acceptance.proofs.Accepted.{accepted_acceptable}
 use Rattle.syntax.specs.Judge.{accepted}
-use Rattle.rule_text.specs.Text.{Progress, reading, advance, read_line, empty_policy, text_limit, read_text_behind, in_text, read_text, policy_read, policy_of}
+use Rattle.rule_text.specs.Text.{Progress, reading, advance, read_next_line, empty_policy, text_limit, read_text_behind, in_text, read_text, policy_read, policy_of}
 use Rattle.printer.proofs.LengthLaws.{widest, line_length_is}
 use Rattle.printer.proofs.ParseLaws.{line_read}
 use Rattle.printer.proofs.SplitLaws.{text_lines, ascii, lines_ascii}
@@ -56,14 +56,14 @@ module _ {A : Type 0} (line : A → PolicyLine) (part : List A → Policy) (limi
   Adds = (n : ℕ) (xs : List A) (x : A) → length xs < limit → advance n (part xs) (accepted (line x)) ≡ reading (suc n) (part (xs ++ x ∷ []))
 
   part_read : Adds → (xs read : List A) (n : ℕ) → all valid (map line xs) ≡ true → length read + length xs ≤ limit
-      → fold read_line (reading n (part read)) (map line_bytes (map line xs)) ≡ reading (n + length xs) (part (read ++ xs))
-  unfolding all read_line
+      → fold read_next_line (reading n (part read)) (map line_bytes (map line xs)) ≡ reading (n + length xs) (part (read ++ xs))
+  unfolding all read_next_line
   part_read add [] read n v h = rw (append-nil read) (ap (λ (k : ℕ). reading k (part read)) (omega arith))
   part_read add (x ∷ xs) read n v h =
       let r = and_out (valid (line x)) (all valid (map line xs)) v in
-      let one : read_line (reading n (part read)) (line_bytes (line x)) ≡ reading (suc n) (part (read ++ x ∷ [])) =
+      let one : read_next_line (reading n (part read)) (line_bytes (line x)) ≡ reading (suc n) (part (read ++ x ∷ [])) =
       ap (advance n (part read)) (line_read (line x) r.0) ∙ add n read x (omega arith) in
-      ap (λ (s : Progress). fold read_line s (map line_bytes (map line xs))) one
+      ap (λ (s : Progress). fold read_next_line s (map line_bytes (map line xs))) one
       ∙ part_read add xs (read ++ x ∷ []) (suc n) r.1 (omega (arith, length-append read (x ∷ [])))
       ∙ rw (append_snoc read x xs) (ap (λ (m : ℕ). reading m (part (read ++ x ∷ xs))) (omega arith))
 
@@ -79,13 +79,13 @@ unfolding advance
 add_constraint rs n cs c h = rw (lt-ltb (length cs) constraint_limit h)
 
 lines_read : (p : Policy) → Acceptable p
-    → fold read_line (reading 1 empty_policy) (map line_bytes (policy_lines p)) ≡ reading (1 + length p.rules + length p.constraints) p
+    → fold read_next_line (reading 1 empty_policy) (map line_bytes (policy_lines p)) ≡ reading (1 + length p.rules + length p.constraints) p
 lines_read p a =
     let rs : List (List ℕ) = map line_bytes (map rule p.rules) in
     let cs : List (List ℕ) = map line_bytes (map constraint p.constraints) in
-    ap (fold read_line (reading 1 empty_policy)) (map-append line_bytes (map rule p.rules) (map constraint p.constraints))
-    ∙ fold-append read_line (reading 1 empty_policy) rs cs
-    ∙ ap (λ (s : Progress). fold read_line s cs)
+    ap (fold read_next_line (reading 1 empty_policy)) (map-append line_bytes (map rule p.rules) (map constraint p.constraints))
+    ∙ fold-append read_next_line (reading 1 empty_policy) rs cs
+    ∙ ap (λ (s : Progress). fold read_next_line s cs)
     (part_read rule (λ rs. policy_with rs []) rule_limit add_rule p.rules [] 1 a.rules_valid (omega (arith, a.few_rules)))
     ∙ part_read constraint (policy_with p.rules) constraint_limit (add_constraint p.rules) p.constraints [] (1 + length p.rules)
     a.constraints_valid (omega (arith, a.few_constraints))

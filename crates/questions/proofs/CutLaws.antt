@@ -5,16 +5,16 @@ use Rattle.acceptance.proofs.Cut.{texts_cut}
 use Rattle.stream.specs.declared.failure.Failure.{Failure}
 use Rattle.stream.specs.Lines.{whole_part}
 use Rattle.stream.specs.Machine.{Known, AnswersAll, EndsBy}
-use Rattle.questions.specs.Answered.{answered}
-use Rattle.questions.specs.Run.{due, AnswersTexts, QuestionsEndBy}
+use Rattle.questions.specs.Answered.{answers_printed}
+use Rattle.questions.specs.Run.{answers_due, AnswersTexts, QuestionsEndBy}
 use Rattle.questions.proofs.Room.{answers_cut}
 
 module _ (maker site first second : List ℕ) (m : first ≡ take 32769 maker) (s : second ≡ take 32769 site) where
-  answered_cut : answered first second ≡ answered maker site
-  answered_cut = ap₂ answered m s ∙ (λ i. λ input. answers_cut maker site input i)
+  answered_cut : answers_printed first second ≡ answers_printed maker site
+  answered_cut = ap₂ answers_printed m s ∙ (λ i. λ input. answers_cut maker site input i)
 
-  due_cut : due first second ≡ due maker site
-  unfolding due
+  due_cut : answers_due first second ≡ answers_due maker site
+  unfolding answers_due
   due_cut = λ i. λ input. answered_cut i (whole_part input)
 
   read_cut : read_texts first second ≡ read_texts maker site
@@ -27,7 +27,7 @@ module _ (maker site first second : List ℕ) (m : first ≡ take 32769 maker) (
         go : (p : Progress) → AnswersTexts p first second old new → AnswersTexts p maker site old new
         go (stopped r) h = h
         go (reading n policy) h =
-            subst (λ d. AnswersAll (answered maker site) d old new) due_cut (subst (λ a. AnswersAll a (due first second) old new) answered_cut h)
+            subst (λ d. AnswersAll (answers_printed maker site) d old new) due_cut (subst (λ a. AnswersAll a (answers_due first second) old new) answered_cut h)
 
     pub end_cut : (e : Failure) → QuestionsEndBy e (read_texts first second) first second old new → QuestionsEndBy e (read_texts maker site) maker site old new
     end_cut e h = go (read_texts maker site) (subst (λ p. QuestionsEndBy e p first second old new) read_cut h)
@@ -35,4 +35,4 @@ module _ (maker site first second : List ℕ) (m : first ≡ take 32769 maker) (
         go : (p : Progress) → QuestionsEndBy e p first second old new → QuestionsEndBy e p maker site old new
         go (stopped r) h = h
         go (reading n policy) h =
-            subst (λ d. EndsBy e d (answered maker site) old new) due_cut (subst (λ a. EndsBy e (due first second) a old new) answered_cut h)
+            subst (λ d. EndsBy e d (answers_printed maker site) old new) due_cut (subst (λ a. EndsBy e (answers_due first second) a old new) answered_cut h)

@@ -7,16 +7,17 @@ use Rattle.layout.specs.Layout.{image_of}
 use Rattle.codegen.specs.Compile.{newest_form, compiled_texts}
 use Rattle.codegen.specs.declared.Compiled.{Compiled}
 use Rattle.codegen.proofs.RoomLaws.{Read, texts_read_is, texts_stopped}
-use Rattle.questions.specs.Answered.{next, answered}
+use Rattle.questions.specs.Answered.{answers_printed}
 use Rattle.questions.specs.Steps.Asked.{answer_held, last_answer}
 use Rattle.questions.specs.Steps.Explainer.{open_line, printed_of, given_of, IsAnswered, Starts}
-use Rattle.questions.specs.Run.{due}
+use Rattle.questions.specs.Run.{answers_due}
 use Rattle.questions.specs.Steps.Held.{start_question, is_open, Held, held_by, bytes_taken, line_taken}
 use Rattle.questions.specs.Steps.Left.{answers_from, answers_to_end, answers_so_far}
 use Rattle.questions.specs.declared.explainer.Explainer.{Explainer}
 use Rattle.questions.specs.declared.line.Question.{Question}
 use Rattle.questions.specs.declared.line.Taken.{Taken}
 use Rattle.questions.proofs.LeftLaws.{from_open, from_ended, starts_answered, starts_due}
+use Rattle.report.specs.Report.{next_number}
 
 -- ---- what waits
 
@@ -59,7 +60,7 @@ module _ (maker site image : List ℕ) (last : ℕ → Held → List ℕ) (n : �
   goes_open e rest = ap (λ (l : List ℕ). waits ++ l) (from_open maker site image last n q held chunk r held' t k e rest)
 
   pub goes_ended : waits ≡ [] → r.ended ≡ true → (rest : List ℕ) → before rest
-      ≡ answer_held maker site image n (held_by r.question held') ++ answers_from maker site image last (next n) (held_by start_question held') rest
+      ≡ answer_held maker site image n (held_by r.question held') ++ answers_from maker site image last (next_number n) (held_by start_question held') rest
   goes_ended none e rest =
       ap (λ (l : List ℕ). l ++ answers_from maker site image last n (held_by q held) (take r.taken chunk ++ rest)) none
       ∙ from_ended maker site image last n q held chunk r held' t k e rest
@@ -69,7 +70,7 @@ module _ (last : List ℕ → List ℕ → List ℕ → ℕ → Held → List �
   pub answered_left : (rest : List ℕ) → take new.used new.out
       ++ answers_from new.maker.now new.site.now new.image.now (last new.maker.now new.site.now new.image.now) new.number (open_line new) rest
       ≡ answer_held old.maker.now old.site.now old.image.now old.number (open_line old)
-      ++ answers_from old.maker.now old.site.now old.image.now (last old.maker.now old.site.now old.image.now) (next old.number) (held_by start_question old.held) rest
+      ++ answers_from old.maker.now old.site.now old.image.now (last old.maker.now old.site.now old.image.now) (next_number old.number) (held_by start_question old.held) rest
   answered_left rest = rw (a.maker, a.site, a.image, a.number, a.question, a.held, a.waits) refl
 
 pub answered_waits : (old new : Explainer) → IsAnswered old new → given_of new [] ≡ answer_held old.maker.now old.site.now old.image.now old.number (open_line old)
@@ -80,21 +81,21 @@ answered_waits old new a = waits_alone new.maker.now new.site.now new.image.now 
 module _ (maker site : List ℕ) (m : ℕ) (p : Policy) (r : read_texts maker site ≡ reading m p) where
   module _ (first second words : List ℕ) (n : ℕ) (q : Question) (held waits : List ℕ) (f : first ≡ maker) (s : second ≡ site) (w : words ≡ image_of newest_form p)
       (z : n ≡ 0) (b : q ≡ start_question) (u : waits ≡ []) (long : length held ≡ 1025) where
-    all_answered : (λ rest. waits ++ answers_to_end first second words n (held_by q held) rest) ≡ answered maker site
+    all_answered : (λ rest. waits ++ answers_to_end first second words n (held_by q held) rest) ≡ answers_printed maker site
     all_answered = rw (f, s, w, z, b, u) (starts_answered maker site m p r held long)
 
-    all_due : (λ rest. waits ++ answers_so_far first second words n (held_by q held) rest) ≡ due maker site
+    all_due : (λ rest. waits ++ answers_so_far first second words n (held_by q held) rest) ≡ answers_due maker site
     all_due = rw (f, s, w, z, b, u) (starts_due maker site m p r held long)
 
   module _ (e : Explainer) (words : List ℕ) (s : Starts e maker site words) (w : words ≡ image_of newest_form p) where
     none : take e.used e.out ≡ []
     none = ap (λ (k : ℕ). take k e.out) s.used
 
-    pub start_answered : printed_of e ≡ answered maker site
+    pub start_answered : printed_of e ≡ answers_printed maker site
     start_answered =
         all_answered e.maker.now e.site.now e.image.now e.number e.question e.held (take e.used e.out) s.maker s.site (s.image ∙ w) s.number s.question none s.long
 
-    pub start_due : given_of e ≡ due maker site
+    pub start_due : given_of e ≡ answers_due maker site
     start_due = all_due e.maker.now e.site.now e.image.now e.number e.question e.held (take e.used e.out) s.maker s.site (s.image ∙ w) s.number s.question none s.long
 
 pub start_empty : (e : Explainer) (maker site image : List ℕ) → Starts e maker site image → given_of e [] ≡ []

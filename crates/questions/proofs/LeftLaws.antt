@@ -9,15 +9,16 @@ use Rattle.lexer.specs.Lines.{pieces, lines_of, take_leading, in_line}
 use Rattle.rule_text.specs.Text.{Progress, reading, read_texts}
 use Rattle.layout.specs.Layout.{image_of}
 use Rattle.codegen.specs.Compile.{newest_form}
-use Rattle.stream.specs.Lines.{keep_byte, whole_part}
-use Rattle.questions.specs.Answered.{next, answer_lines, answers_on, answered}
+use Rattle.stream.specs.Lines.{add_to_whole, whole_part}
+use Rattle.questions.specs.Answered.{answer_lines, answers_on, answers_printed}
 use Rattle.questions.specs.Steps.Asked.{answer_held, last_answer}
-use Rattle.questions.specs.Run.{due}
+use Rattle.questions.specs.Run.{answers_due}
 use Rattle.questions.specs.Steps.Held.{start_question, Held, held_by, pushed, bytes_taken, line_taken}
 use Rattle.questions.specs.Steps.Left.{answers_from, answers_to_end, answers_so_far}
 use Rattle.questions.specs.declared.line.Question.{Question}
 use Rattle.questions.specs.declared.line.Taken.{Taken}
 use Rattle.questions.proofs.Whole.{line_ends, while_passes, chunk_open, chunk_ends, line_answered, line_says, last_answered, fold_length}
+use Rattle.report.specs.Report.{next_number}
 
 -- ---- along a chunk
 
@@ -53,7 +54,7 @@ module _ (maker site image : List ℕ) (last : ℕ → Held → List ℕ) where
 
     -- it has ended
     pub from_ended : r.ended ≡ true → (rest : List ℕ) → from n (held_by q held) (take r.taken chunk ++ rest)
-        ≡ answer_held maker site image n (held_by r.question held') ++ from (next n) (held_by start_question held') rest
+        ≡ answer_held maker site image n (held_by r.question held') ++ from (next_number n) (held_by start_question held') rest
     unfolding answers_from
     from_ended e rest =
         ap (λ (l : List ℕ). from n (held_by q held) (l ++ rest)) (ap (λ (x : Taken). take x.taken chunk) t ∙ chunk_ends q held chunk (sym (ap (λ (x : Taken). x.ended) t) ∙ e))
@@ -77,11 +78,11 @@ line_more : (line : List ℕ) (b : ℕ) → all in_line line ≡ true → eqb b 
 unfolding all
 line_more line b h e = all_append in_line line (b ∷ []) h (rw e refl)
 
-behind_end : (part : List ℕ) → keep_byte 10 part ≡ 10 ∷ part
+behind_end : (part : List ℕ) → add_to_whole 10 part ≡ 10 ∷ part
 behind_end [] = refl
 behind_end (x ∷ part) = refl
 
-behind_more : (begins part : List ℕ) (b : ℕ) → eqb b 10 ≡ false → behind_line (begins ++ b ∷ []) part ≡ behind_line begins (keep_byte b part)
+behind_more : (begins part : List ℕ) (b : ℕ) → eqb b 10 ≡ false → behind_line (begins ++ b ∷ []) part ≡ behind_line begins (add_to_whole b part)
 behind_more begins [] b e = rw e refl
 behind_more begins (x ∷ part) b e = snoc begins (x ∷ part) b
 
@@ -116,17 +117,17 @@ module _ (maker site : List ℕ) (m : ℕ) (p : Policy) (r : read_texts maker si
         line_long : length line.held ≡ 1025
         line_long = fold_length begins (held_by start_question first) ∙ long
 
-        ended : answers (next n) (held_by start_question line.held) rest ≡ answer_lines maker site (next n) (lines_of (whole [] rest))
-        ended = same [] line.held (next n) line_long refl
+        ended : answers (next_number n) (held_by start_question line.held) rest ≡ answer_lines maker site (next_number n) (lines_of (whole [] rest))
+        ended = same [] line.held (next_number n) line_long refl
 
         go : (x : Bool) → eqb b 10 ≡ x
-            → cond x (answer_held maker site image n line ++ answers (next n) (held_by start_question line.held) rest) (answers n (pushed line b) rest)
+            → cond x (answer_held maker site image n line ++ answers (next_number n) (held_by start_question line.held) rest) (answers n (pushed line b) rest)
             ≡ answer_lines maker site n (lines_of (whole begins (b ∷ rest)))
         go true e =
             let ten : b ≡ 10 = eqb-true b 10 e in
             let lines : lines_of (whole begins (b ∷ rest)) ≡ begins ∷ lines_of (whole [] rest) =
             ap (λ (c : ℕ). lines_of (whole begins (c ∷ rest))) ten ∙ ap lines_of (ends_line begins rest) ∙ line_ends begins (whole [] rest) h in
-            ap₂ (λ (x y : List ℕ). x ++ y) (line_answered maker site m p r (next n) begins line (line_says begins first long)) ended
+            ap₂ (λ (x y : List ℕ). x ++ y) (line_answered maker site m p r (next_number n) begins line (line_says begins first long)) ended
             ∙ sym (ap (answer_lines maker site n) lines)
         go false e =
             ap (λ (x : Held). answers n x rest) (sym (fold-append pushed (held_by start_question first) begins (b ∷ [])))
@@ -143,17 +144,17 @@ module _ (maker site : List ℕ) (m : ℕ) (p : Policy) (r : read_texts maker si
     unfolding answers_on
     started lines = sym (ap (λ (s : Progress). answers_on maker site s lines) r)
 
-    pub starts_answered : (λ (rest : List ℕ). answers_to_end maker site image 0 (held_by start_question first) rest) ≡ answered maker site
-    unfolding answered all
+    pub starts_answered : (λ (rest : List ℕ). answers_to_end maker site image 0 (held_by start_question first) rest) ≡ answers_printed maker site
+    unfolding answers_printed all
     starts_answered =
-        pointwise _ (answered maker site)
+        pointwise _ (answers_printed maker site)
         (λ rest. by_lines (last_answer maker site image) (λ begins rest. begins ++ rest) (last_answered maker site m p r) (λ begins rest. refl)
         (λ begins rest b e. snoc begins rest b) rest [] first 0 long refl ∙ started (lines_of rest))
 
-    pub starts_due : (λ (rest : List ℕ). answers_so_far maker site image 0 (held_by start_question first) rest) ≡ due maker site
-    unfolding due answered all answer_lines lines_of pieces
+    pub starts_due : (λ (rest : List ℕ). answers_so_far maker site image 0 (held_by start_question first) rest) ≡ answers_due maker site
+    unfolding answers_due answers_printed all answer_lines lines_of pieces
     starts_due =
-        pointwise _ (due maker site)
+        pointwise _ (answers_due maker site)
         (λ rest. by_lines (λ n h. []) (λ begins rest. behind_line begins (whole_part rest)) (λ n first long begins h. refl)
         (λ begins rest. ap (behind_line begins) (behind_end (whole_part rest)) ∙ ap (λ (l : List ℕ). begins ++ 10 ∷ l) (sym (behind_nothing (whole_part rest))))
         (λ begins rest b e. behind_more begins (whole_part rest) b e) rest [] first 0 long refl

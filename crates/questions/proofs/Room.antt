@@ -20,7 +20,7 @@ use Rattle.report.proofs.LengthLaws.{texts_refusal_short, not_proposed_short, no
 use Rattle.report.specs.Report.{texts_refusal_line}
 use Rattle.questions.specs.Steps.Answer.{answer_on, question_line}
 use Rattle.questions.specs.declared.line.Question.{Question}
-use Rattle.questions.specs.Answered.{outcome_line, explained_line, answers_on, answered}
+use Rattle.questions.specs.Answered.{outcome_line, explained_line, answers_on, answers_printed}
 
 -- ---- texts
 
@@ -58,8 +58,8 @@ module _ (maker site : List ℕ) where
       go (inr r) = let q : stopped r.why ≡ reading n p = sym r.read ∙ e in cc
 
   -- of a text over its length 32,769 bytes are enough
-  pub answers_cut : (input : List ℕ) → answered (take 32769 maker) (take 32769 site) input ≡ answered maker site input
-  unfolding answered answers_on
+  pub answers_cut : (input : List ℕ) → answers_printed (take 32769 maker) (take 32769 site) input ≡ answers_printed maker site input
+  unfolding answers_printed answers_on
   answers_cut input =
       ap (λ (s : Progress). answers_on (take 32769 maker) (take 32769 site) s (lines_of input)) (texts_cut maker site) ∙ go short-or-refused
     where
@@ -72,8 +72,8 @@ module _ (maker site : List ℕ) where
   -- ---- a refusal
 
   pub refusal_whole : (x : Refusal) → read_texts maker site ≡ stopped x → (out after : List ℕ) (end : ℕ) → 64 ≤ length out
-      → (end ≡ behind out 0 (texts_refusal_line x)) × (after ≡ appended out 0 (texts_refusal_line x)) → (input : List ℕ) → take end after ≡ answered maker site input
-  unfolding answered answers_on
+      → (end ≡ behind out 0 (texts_refusal_line x)) × (after ≡ appended out 0 (texts_refusal_line x)) → (input : List ℕ) → take end after ≡ answers_printed maker site input
+  unfolding answers_printed answers_on
   refusal_whole x e out after end room p input =
       put_take out 0 (texts_refusal_line x) after end (omega (arith, texts_refusal_short x (omega (arith, locations_small maker site x e)))) p
       ∙ sym (ap (λ (s : Progress). answers_on maker site s (lines_of input)) e)

@@ -1,5 +1,5 @@
 -- What is held of a question answers it as the whole line does, and what the program prints for all of its input.
-use Rattle.std.proofs.Common.{ℕ, suc, ◌+◌, ◌*◌, ◌-◌, min, ◌≤◌, ◌<◌, Bool, true, false, not, cond, ◌&&◌, ◌||◌, List, [], ◌∷◌, ◌++◌, append_assoc, append-nil, ◌⊎◌, inl, inr, ◌≡◌, refl, sym, ap, ap₂, ◌∙◌, add-one, arith, lt-ltb, le-ltb, ltb-true, ltb-false, eqb-true, eqb, ltb, length, take, drop, set, length-set, length-append, length-take, take_all, take-suc-set, length-take-le, fold}
+use Rattle.std.proofs.Common.{ℕ, ◌+◌, ◌*◌, ◌-◌, min, ◌≤◌, ◌<◌, Bool, true, false, not, cond, ◌&&◌, ◌||◌, List, [], ◌∷◌, ◌++◌, append_assoc, append-nil, ◌⊎◌, inl, inr, ◌≡◌, refl, sym, ap, ap₂, ◌∙◌, add-one, arith, lt-ltb, le-ltb, ltb-true, ltb-false, eqb-true, eqb, ltb, length, take, set, length-set, length-append, length-take, take_all, take-suc-set, length-take-le, fold}
 use Rattle.std.proofs.lemmas.Bool.{not-true}
 use Rattle.std.proofs.lemmas.List.Sums.{fold-append}
 use Rattle.std.proofs.Math.Path.{subst⁻¹}
@@ -22,13 +22,14 @@ use Rattle.codegen.specs.Compile.{newest_form}
 use Rattle.explanation.proofs.WhyLaws.{on_image_is, same_action}
 use Rattle.explanation.specs.Steps.On.{explained_on}
 use Rattle.explanation.specs.Why.{on_epoch, on_both_texts, explained}
-use Rattle.questions.specs.Answered.{in_word, word_of, epoch_of, no_action, explained_line, answer_for, answer_to, next, answer_lines, answers_on, answered}
+use Rattle.questions.specs.Answered.{in_word, word_of, epoch_part, no_action, explained_line, answer_for, question_answer, answer_lines, answers_on, answers_printed}
 use Rattle.questions.proofs.LineLaws.{push_length}
 use Rattle.questions.specs.Steps.Asked.{answer_held, Asked, begun, took, answers, last_answer}
 use Rattle.questions.specs.Steps.Answer.{answer_on, question_line}
 use Rattle.questions.specs.Steps.Held.{first_digit, more_digits, next_digit, scan_byte, start_question, has_byte, is_open, Held, held_by, kept, pushed, bytes_taken, line_taken}
 use Rattle.questions.specs.declared.line.Question.{Question}
 use Rattle.questions.specs.declared.line.Token.{Token}
+use Rattle.report.specs.Report.{next_number}
 
 -- ---- the word
 
@@ -192,28 +193,22 @@ epoch_held (b ∷ e) before t h k = rw (← append_assoc before (b ∷ []) e) (e
 pub record Says (line : List ℕ) (h : Held) : Type 0 where
   pub token : h.question.token ≡ fold scan_byte Token.Empty (word_of line)
   pub count : h.question.count ≤ length h.held
-  pub bytes : take h.question.count h.held ≡ take 1025 (epoch_of line)
+  pub bytes : take h.question.count h.held ≡ take 1025 (epoch_part line)
 
 -- a line is its word, and the epoch line behind a space if there is one
 data Split (line : List ℕ) : Type 0 where
-  alone : line ≡ word_of line → epoch_of line ≡ [] → Split line
-  spaced : line ≡ word_of line ++ 32 ∷ epoch_of line → Split line
-
-behind_first : (b n : ℕ) (s : List ℕ) → drop (suc n + 1) (b ∷ s) ≡ drop (n + 1) s
-behind_first b n s = let e : suc n + 1 ≡ suc (n + 1) = omega arith in ap (λ (k : ℕ). drop k (b ∷ s)) e
+  alone : line ≡ word_of line → epoch_part line ≡ [] → Split line
+  spaced : line ≡ word_of line ++ 32 ∷ epoch_part line → Split line
 
 split : (line : List ℕ) → Split line
-unfolding word_of epoch_of
+unfolding word_of epoch_part
 split [] = alone refl refl
 split (b ∷ s) = go (is_space b) refl (split s)
   where
-    n : ℕ
-    n = length (take_leading in_word s)
-
     go : (x : Bool) → is_space b ≡ x → Split s → Split (b ∷ s)
     go true e k = let h : b ≡ 32 = eqb-true b 32 e in spaced (rw e (ap (λ (c : ℕ). c ∷ s) h))
-    go false e (alone f g) = alone (rw e (ap (λ (t : List ℕ). b ∷ t) f)) (rw e (behind_first b n s ∙ g))
-    go false e (spaced f) = spaced (rw e (ap (λ (t : List ℕ). b ∷ t) (f ∙ ap (λ (t : List ℕ). take_leading in_word s ++ 32 ∷ t) (sym (behind_first b n s)))))
+    go false e (alone f g) = alone (rw e (ap (λ (t : List ℕ). b ∷ t) f)) (rw e g)
+    go false e (spaced f) = spaced (rw e (ap (λ (t : List ℕ). b ∷ t) f))
 
 word_words : (line : List ℕ) → all in_word (word_of line) ≡ true
 unfolding word_of all
@@ -245,10 +240,10 @@ line_says line held long = go (split line)
         let e : fold pushed (held_by start_question held) line ≡ held_by (record { token = t; spaced = false; count = 0 }) held = ap (fold pushed (held_by start_question held)) f ∙ worded in
         rw e (record { token = refl; count = omega arith; bytes = sym (ap (take 1025) g) })
     go (spaced f) =
-        let e : fold pushed (held_by start_question held) line ≡ fold pushed (pushed (held_by (record { token = t; spaced = false; count = 0 }) held) 32) (epoch_of line) =
-        ap (fold pushed (held_by start_question held)) f ∙ fold-append pushed (held_by start_question held) w (32 ∷ epoch_of line) ∙ ap (λ (h : Held). fold pushed (pushed h 32) (epoch_of line)) worded
+        let e : fold pushed (held_by start_question held) line ≡ fold pushed (pushed (held_by (record { token = t; spaced = false; count = 0 }) held) 32) (epoch_part line) =
+        ap (fold pushed (held_by start_question held)) f ∙ fold-append pushed (held_by start_question held) w (32 ∷ epoch_part line) ∙ ap (λ (h : Held). fold pushed (pushed h 32) (epoch_part line)) worded
         in
-        let k = epoch_held (epoch_of line) [] t (pushed (held_by (record { token = t; spaced = false; count = 0 }) held) 32) started in
+        let k = epoch_held (epoch_part line) [] t (pushed (held_by (record { token = t; spaced = false; count = 0 }) held) 32) started in
         rw e (record { token = k.token; count = omega (arith, k.count, k.long); bytes = k.bytes })
 
 -- ---- its answer
@@ -307,15 +302,15 @@ module _ (maker site : List ℕ) where
     answer_on_is Token.Other e = refl
 
     -- what is printed for what is held of a line is what is printed for the line
-    pub line_answered : (n : ℕ) (line : List ℕ) (h : Held) → Says line h → question_line maker site image n h.question h.held ≡ explained_line maker site n (answer_to maker site line)
-    unfolding question_line answer_to
+    pub line_answered : (n : ℕ) (line : List ℕ) (h : Held) → Says line h → question_line maker site image n h.question h.held ≡ explained_line maker site n (question_answer maker site line)
+    unfolding question_line question_answer
     line_answered n line h s =
         let k : min h.question.count (length h.held) ≡ h.question.count = omega (arith, s.count) in
         ap (explained_line maker site n)
         (ap₂ (λ (t : Token) (e : List ℕ). answer_on maker site image t e) s.token (ap (λ (c : ℕ). take c h.held) k ∙ s.bytes)
-        ∙ answer_on_is (fold scan_byte Token.Empty (word_of line)) (take 1025 (epoch_of line))
-        ∙ answer_cut (number_in (fold scan_byte Token.Empty (word_of line))) (epoch_of line)
-        ∙ answer_agrees (number_in (fold scan_byte Token.Empty (word_of line))) (named 65 (word_of line)) (epoch_of line) (word_number (word_of line)))
+        ∙ answer_on_is (fold scan_byte Token.Empty (word_of line)) (take 1025 (epoch_part line))
+        ∙ answer_cut (number_in (fold scan_byte Token.Empty (word_of line))) (epoch_part line)
+        ∙ answer_agrees (number_in (fold scan_byte Token.Empty (word_of line))) (named 65 (word_of line)) (epoch_part line) (word_number (word_of line)))
 
 -- ---- all of the input
 
@@ -444,8 +439,8 @@ module _ (maker site : List ℕ) (m : ℕ) (p : Policy) (r : read_texts maker si
       let opened : is_open h.question ≡ true = open_bytes l (pushed start b) (open_byte start b) in
       let lines : lines_of ((b ∷ l) ++ []) ≡ (b ∷ l) ∷ [] = ap lines_of (append-nil (b ∷ l)) ∙ line_open b l line in
       ap (λ (x : Bool). cond x (answer_held maker site (image_of newest_form p) n h) []) opened
-      ∙ line_answered maker site m p r (next n) (b ∷ l) h (line_says (b ∷ l) first long)
-      ∙ sym (ap (answer_lines maker site n) lines ∙ append-nil (explained_line maker site (next n) (answer_to maker site (b ∷ l))))
+      ∙ line_answered maker site m p r (next_number n) (b ∷ l) h (line_says (b ∷ l) first long)
+      ∙ sym (ap (answer_lines maker site n) lines ∙ append-nil (explained_line maker site (next_number n) (question_answer maker site (b ∷ l))))
 
   -- what the calls led to: the open line is held, and the rest of the input is answered behind what was printed
   record Reached (consumed printed : List ℕ) (n : ℕ) (h : Held) : Type 0 where
@@ -457,7 +452,7 @@ module _ (maker site : List ℕ) (m : ℕ) (p : Policy) (r : read_texts maker si
     prints : (rest : List ℕ) → answer_lines maker site 0 (lines_of (consumed ++ rest)) ≡ printed ++ answer_lines maker site n (lines_of (begins ++ rest))
 
   -- what is printed for the open line
-  answers_open : (consumed printed : List ℕ) (n k : ℕ) (h : Held) (q : Reached consumed printed n h) → question_line maker site (image_of newest_form p) k h.question h.held ≡ explained_line maker site k (answer_to maker site q.begins)
+  answers_open : (consumed printed : List ℕ) (n k : ℕ) (h : Held) (q : Reached consumed printed n h) → question_line maker site (image_of newest_form p) k h.question h.held ≡ explained_line maker site k (question_answer maker site q.begins)
   answers_open consumed printed n k h q =
       line_answered maker site m p r k q.begins h (rw q.holds (line_says q.begins q.first q.long))
 
@@ -481,7 +476,7 @@ module _ (maker site : List ℕ) (m : ℕ) (p : Policy) (r : read_texts maker si
         }
 
     -- and ends
-    ended : Reached (consumed ++ (w ++ 10 ∷ [])) (printed ++ answer_held maker site (image_of newest_form p) n (bytes_taken h.question h.held chunk)) (next n)
+    ended : Reached (consumed ++ (w ++ 10 ∷ [])) (printed ++ answer_held maker site (image_of newest_form p) n (bytes_taken h.question h.held chunk)) (next_number n)
         (held_by start_question (bytes_taken h.question h.held chunk).held)
     unfolding answer_lines all
     ended =
@@ -496,8 +491,8 @@ module _ (maker site : List ℕ) (m : ℕ) (p : Policy) (r : read_texts maker si
           prints = λ rest.
               ap (λ (s : List ℕ). answer_lines maker site 0 (lines_of s)) (behind_end consumed w rest) ∙ x.prints (10 ∷ rest)
               ∙ ap (λ (ls : List (List ℕ)). printed ++ answer_lines maker site n ls) (line_ends x.begins rest x.line)
-              ∙ sym (append_assoc printed (explained_line maker site (next n) (answer_to maker site x.begins)) (answer_lines maker site (next n) (lines_of rest)))
-              ∙ ap (λ (s : List ℕ). (printed ++ s) ++ answer_lines maker site (next n) (lines_of rest)) (sym (answers_open (consumed ++ w) printed n (next n) (bytes_taken h.question h.held chunk) x));
+              ∙ sym (append_assoc printed (explained_line maker site (next_number n) (question_answer maker site x.begins)) (answer_lines maker site (next_number n) (lines_of rest)))
+              ∙ ap (λ (s : List ℕ). (printed ++ s) ++ answer_lines maker site (next_number n) (lines_of rest)) (sym (answers_open (consumed ++ w) printed n (next_number n) (bytes_taken h.question h.held chunk) x));
         }
       where
         behind_end : (a b rest : List ℕ) → (a ++ (b ++ 10 ∷ [])) ++ rest ≡ (a ++ b) ++ 10 ∷ rest
@@ -512,14 +507,14 @@ module _ (maker site : List ℕ) (m : ℕ) (p : Policy) (r : read_texts maker si
       subst⁻¹ (λ (s : List ℕ). Reached (consumed ++ s) printed n (bytes_taken h.question h.held chunk)) (chunk_inside h.question h.held chunk e)
       (onward consumed printed n h (reached consumed printed n h a) chunk)
   reached _ _ _ _ (answers {consumed} {printed} {n} {h} chunk a e) =
-      subst⁻¹ (λ (s : List ℕ). Reached (consumed ++ s) (printed ++ answer_held maker site (image_of newest_form p) n (bytes_taken h.question h.held chunk)) (next n) (held_by start_question (bytes_taken h.question h.held chunk).held))
+      subst⁻¹ (λ (s : List ℕ). Reached (consumed ++ s) (printed ++ answer_held maker site (image_of newest_form p) n (bytes_taken h.question h.held chunk)) (next_number n) (held_by start_question (bytes_taken h.question h.held chunk).held))
       (chunk_ends h.question h.held chunk e)
       (ended consumed printed n h (reached consumed printed n h a) chunk)
 
   -- in whatever chunks the input came: what the calls printed, with the answer to the open line, is what is printed for all of it
   pub input_answered : (consumed printed : List ℕ) (n : ℕ) (h : Held) → Asked maker site (image_of newest_form p) consumed printed n h
-      → printed ++ last_answer maker site (image_of newest_form p) n h ≡ answered maker site consumed
-  unfolding answered answers_on
+      → printed ++ last_answer maker site (image_of newest_form p) n h ≡ answers_printed maker site consumed
+  unfolding answers_printed answers_on
   input_answered consumed printed n h a =
       let q = reached consumed printed n h a in
       let last : last_answer maker site (image_of newest_form p) n h ≡ answer_lines maker site n (lines_of (q.begins ++ [])) =

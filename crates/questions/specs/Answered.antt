@@ -6,7 +6,7 @@ use Rattle.std.proofs.Math.Option.{Option, none, some}
 use Rattle.policy.specs.Fault.{refusal}
 use Rattle.policy.specs.declared.fault.Fault.{Fault}
 use Rattle.lexer.specs.Byte.{bytes, is_space}
-use Rattle.lexer.specs.Lines.{lines_of, take_leading}
+use Rattle.lexer.specs.Lines.{lines_of, take_leading, drop_leading}
 use Rattle.lexer.specs.Token.{named}
 use Rattle.epoch_line.specs.Epoch.{epoch_limit}
 use Rattle.rule_text.specs.Text.{Progress, reading, stopped, read_texts}
@@ -15,7 +15,7 @@ use Rattle.explanation.specs.Why.{explained}
 use Rattle.explanation.specs.declared.why.Explained.{Explained}
 use Rattle.explanation.specs.declared.part.Shown.{Shown}
 use Rattle.explanation.specs.declared.why.Outcome.{Outcome}
-use Rattle.report.specs.Report.{texts_refusal_line, not_proposed_line, shown_line, not_explained_line}
+use Rattle.report.specs.Report.{texts_refusal_line, not_proposed_line, shown_line, not_explained_line, next_number}
 
 -- ---- a question
 
@@ -26,16 +26,12 @@ in_word b = not (is_space b)
 unfoldable pub word_of : List ℕ → List ℕ
 word_of line = take_leading in_word line
 
-unfoldable pub epoch_of : List ℕ → List ℕ
-epoch_of line = drop (length (word_of line) + 1) line
+unfoldable pub epoch_part : List ℕ → List ℕ
+epoch_part line = drop 1 (drop_leading in_word line)
 
 -- a first word that is not `A` and a number is refused under 12; as always, 1 comes before it
 unfoldable pub no_action : List ℕ → Explained
 no_action epoch = Explained.Refused (refusal (cond (ltb epoch_limit (length epoch)) Fault.TooLong Fault.EpochSyntax) 0)
-
--- numbers are of 64 bits
-abbrev pub next : ℕ → ℕ
-next n = (n + 1) % 2 ^ 64
 
 module _ (maker site : List ℕ) where
   -- ---- what is printed of an answer
@@ -55,15 +51,15 @@ module _ (maker site : List ℕ) where
   answer_for (some n) epoch = explained maker site epoch n
   answer_for none epoch = no_action epoch
 
-  unfoldable pub answer_to : List ℕ → Explained
-  answer_to line = answer_for (named (code "A") (word_of line)) (epoch_of line)
+  unfoldable pub question_answer : List ℕ → Explained
+  question_answer line = answer_for (named (code "A") (word_of line)) (epoch_part line)
 
   -- ---- all of them
 
   -- after n questions
   unfoldable pub answer_lines : ℕ → List (List ℕ) → List ℕ
   answer_lines n [] = []
-  answer_lines n (line ∷ lines) = explained_line (next n) (answer_to line) ++ answer_lines (next n) lines
+  answer_lines n (line ∷ lines) = explained_line (next_number n) (question_answer line) ++ answer_lines (next_number n) lines
 
   -- refused texts print their refusal and nothing else
   unfoldable pub answers_on : Progress → List (List ℕ) → List ℕ
@@ -71,5 +67,5 @@ module _ (maker site : List ℕ) where
   answers_on (reading n p) lines = answer_lines 0 lines
 
   -- the whole: both texts and all bytes of the input to all bytes of the output
-  unfoldable pub answered : List ℕ → List ℕ
-  answered input = answers_on (read_texts maker site) (lines_of input)
+  unfoldable pub answers_printed : List ℕ → List ℕ
+  answers_printed input = answers_on (read_texts maker site) (lines_of input)

@@ -2,7 +2,7 @@
 use Rattle.std.specs.Prelude.{ℕ, List, [], ◌∷◌}
 use Prim.Native.String.{String}
 use Rattle.lexer.specs.Byte.{bytes}
-use Rattle.questions.specs.Answered.{answered}
+use Rattle.questions.specs.Answered.{answers_printed}
 
 pub record Example : Type 0 where
   pub maker : String
@@ -34,7 +34,7 @@ examples =
     ∷ []
 
 unfoldable pub answered_to : Example → List ℕ
-answered_to x = answered (bytes x.maker) (bytes x.site) (bytes x.input)
+answered_to x = answers_printed (bytes x.maker) (bytes x.site) (bytes x.input)
 
 unfoldable pub expected : Example → List ℕ
 expected x = bytes x.output

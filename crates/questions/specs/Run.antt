@@ -7,24 +7,24 @@ use Rattle.stream.specs.Event.{GoOn, Fails}
 use Rattle.stream.specs.Lines.{whole_part}
 use Rattle.stream.specs.Inputs.{IsReadWhole, BothRead}
 use Rattle.stream.specs.Machine.{Known, Reads, Sends, AnswersAll, EndsBy, IsWriteFailure}
-use Rattle.questions.specs.Answered.{answered}
+use Rattle.questions.specs.Answered.{answers_printed}
 use Rattle.questions.specs.declared.texts.ExplainFailure.{ExplainFailure}
 use Rattle.questions.specs.declared.texts.ExplainFailure.TheVariants.{Maker, Site, Questions}
 
 module _ (maker site : List ℕ) where
   -- before the end of the input, what is printed for the lines that have ended
-  unfoldable pub due : List ℕ → List ℕ
-  due input = answered maker site (whole_part input)
+  unfoldable pub answers_due : List ℕ → List ℕ
+  answers_due input = answers_printed maker site (whole_part input)
 
 -- what was read of the texts; and with it all questions were answered. Of refused texts the refusal was written, and nothing was read
 abbrev pub AnswersTexts : Progress → (maker site : List ℕ) (old new : Known) → Type 0
 AnswersTexts (stopped r) maker site old new = Sends (GoOn 0) old new (texts_refusal_line r)
-AnswersTexts (reading n policy) maker site old new = AnswersAll (answered maker site) (due maker site) old new
+AnswersTexts (reading n policy) maker site old new = AnswersAll (answers_printed maker site) (answers_due maker site) old new
 
 -- or a call failed. Of refused texts a front of the refusal was written, and nothing was read
 abbrev pub QuestionsEndBy : Failure → Progress → (maker site : List ℕ) (old new : Known) → Type 0
 QuestionsEndBy e (stopped r) maker site old new = IsWriteFailure e × ((n : ℕ) × Sends (Fails e) old new (take n (texts_refusal_line r)))
-QuestionsEndBy e (reading n policy) maker site old new = EndsBy e (due maker site) (answered maker site) old new
+QuestionsEndBy e (reading n policy) maker site old new = EndsBy e (answers_due maker site) (answers_printed maker site) old new
 
 -- ---- the texts are inputs, too
 

@@ -1,6 +1,6 @@
 -- The lines that the programs print (docs/REFERENCE.md, "The programs").
 use Prim.Native.Char.{code}
-use Rattle.std.specs.Prelude.{ℕ, zero, suc, cond, List, [], ◌∷◌, ◌++◌}
+use Rattle.std.specs.Prelude.{ℕ, zero, suc, ◌+◌, ◌%◌, ◌^◌, cond, List, [], ◌∷◌, ◌++◌}
 use Rattle.lexer.specs.Byte.{bytes}
 use Rattle.output.specs.Number.{decimal, hex_word}
 use Rattle.policy.specs.Fault.{fault_number, source_number}
@@ -9,6 +9,10 @@ use Rattle.policy.specs.Set.{ActionSet, has}
 use Rattle.policy.specs.declared.fault.Fault.{Fault}
 use Rattle.policy.specs.declared.fault.Refusal.{Refusal}
 use Rattle.policy.specs.declared.fault.Source.{Source}
+
+-- the number behind n: those of epochs, of questions and of a dump's lines are of 64 bits
+abbrev pub next_number : ℕ → ℕ
+next_number n = (n + 1) % 2 ^ 64
 
 -- ---- actions
 

@@ -8,7 +8,7 @@ use Rattle.policy.proofs.ListLaws.{or_out}
 use Rattle.policy.specs.Fault.{refusal}
 use Rattle.policy.specs.Limits.{crowded, rule_limit, constraint_limit, head_limit, comparison_limit}
 use Rattle.policy.specs.Line.{PolicyLine, rule, constraint, heads_of, comparisons_of, ending_of, operand_constants, constant_count}
-use Rattle.line_value.specs.Value.{line_of, line_value, counted, head, no_comparison}
+use Rattle.line_value.specs.Value.{line_of, line_value, count_up_to, head, no_comparison}
 use Rattle.policy.specs.Policy.{Policy}
 use Rattle.policy.specs.declared.comparison.Comparison.{Comparison}
 use Rattle.policy.specs.declared.comparison.Operand.{Operand}
@@ -25,7 +25,7 @@ use Rattle.syntax.specs.Answer.{next_line, line_read}
 use Rattle.rule_text.specs.Steps.Tally.{Within, Small, Counted, with_line, tally_as, tallied_by}
 use Rattle.lexer.specs.Lines.{pieces, lines_of, first_line}
 use Rattle.syntax.specs.Judge.{LineAnswer, skipped, refused, accepted, line_answer}
-use Rattle.rule_text.specs.Text.{Progress, reading, stopped, with_rule, with_constraint, advance, read_line, empty_policy, text_limit, read_text_behind, in_text, read_text, read_site, read_texts}
+use Rattle.rule_text.specs.Text.{Progress, reading, stopped, with_rule, with_constraint, advance, read_next_line, empty_policy, text_limit, read_text_behind, in_text, read_text, read_site, read_texts}
 use Rattle.rule_text.specs.declared.LineCounts.{LineCounts}
 use Rattle.rule_text.specs.declared.TextCounts.{TextCounts}
 
@@ -45,8 +45,8 @@ unfolding counts_in
 counts_snoc ls l =
     rw (length-append ls (l ∷ []), total_snoc (λ (x : PolicyLine). length (heads_of x)) ls l, total_snoc (λ (x : PolicyLine). length (comparisons_of x)) ls l, total_snoc (λ (x : PolicyLine). constant_count (comparisons_of x)) ls l)
 
-view_line : (s : Progress) (line : List ℕ) → view (read_line s line) ≡ count_line (view s) line
-unfolding read_line view count_line counted_step stepped advance tally_as ending_of counts_of counts_in
+view_line : (s : Progress) (line : List ℕ) → view (read_next_line s line) ≡ count_line (view s) line
+unfolding read_next_line view count_line counted_step stepped advance tally_as ending_of counts_of counts_in
 view_line (stopped r) line = refl
 view_line (reading n p) line = go (line_answer line)
   where
@@ -76,9 +76,9 @@ view_line (reading n p) line = go (line_answer line)
         room true = ap₂ going (sym (add-one n)) made
         room false = refl
 
-view_lines : (s : Progress) (ls : List (List ℕ)) → view (fold read_line s ls) ≡ fold count_line (view s) ls
+view_lines : (s : Progress) (ls : List (List ℕ)) → view (fold read_next_line s ls) ≡ fold count_line (view s) ls
 view_lines s [] = refl
-view_lines s (l ∷ ls) = view_lines (read_line s l) ls ∙ ap (λ (x : Counting). fold count_line x ls) (view_line s l)
+view_lines s (l ∷ ls) = view_lines (read_next_line s l) ls ∙ ap (λ (x : Counting). fold count_line x ls) (view_line s l)
 
 stays : (r : Refusal) (ls : List (List ℕ)) → fold count_line (halted r) ls ≡ halted r
 unfolding count_line
@@ -95,8 +95,8 @@ uncrowded : (l : PolicyLine) → crowded l ≡ false → Uncrowded l
 unfolding crowded
 uncrowded l h = let p = or_out (ltb head_limit (length (heads_of l))) (ltb comparison_limit (length (comparisons_of l))) h in record { heads = p.0; comparisons = p.1 }
 
-few_counted : {A : Type 0} (limit : ℕ) (xs : List A) → length xs ≤ limit → counted limit xs ≡ length xs
-unfolding counted
+few_counted : {A : Type 0} (limit : ℕ) (xs : List A) → length xs ≤ limit → count_up_to limit xs ≡ length xs
+unfolding count_up_to
 few_counted limit xs h = omega arith
 
 value_counts : (c : LineCounts) (l : PolicyLine) → Uncrowded l → with_line c (line_value l) ≡ plus c l
@@ -104,8 +104,8 @@ unfolding with_line line_value line_of
 value_counts c l u =
     let i : length (heads_of l) ≤ 8 = ltb-false head_limit (length (heads_of l)) u.heads in
     let j : length (comparisons_of l) ≤ 4 = ltb-false comparison_limit (length (comparisons_of l)) u.comparisons in
-    let m : counted head_limit (map head (heads_of l)) ≡ length (heads_of l) = few_counted head_limit (map head (heads_of l)) (omega (arith, length-map (heads_of l) head)) ∙ length-map (heads_of l) head in
-    let n : counted comparison_limit (comparisons_of l) ≡ length (comparisons_of l) = few_counted comparison_limit (comparisons_of l) j in
+    let m : count_up_to head_limit (map head (heads_of l)) ≡ length (heads_of l) = few_counted head_limit (map head (heads_of l)) (omega (arith, length-map (heads_of l) head)) ∙ length-map (heads_of l) head in
+    let n : count_up_to comparison_limit (comparisons_of l) ≡ length (comparisons_of l) = few_counted comparison_limit (comparisons_of l) j in
     rw (padded_whole comparison_limit no_comparison (comparisons_of l) u.comparisons, m, n)
 
 few_constants : (cs : List Comparison) → constant_count cs ≤ length cs
@@ -173,7 +173,7 @@ module _ (c : TextCounts) (text : List ℕ) where
     read = read_accepted text l rest q
 
     pub step_counted : Counted l
-    unfolding line_value line_of counted
+    unfolding line_value line_of count_up_to
     step_counted = rw read.value (record { heads = omega arith; comparisons = omega arith })
 
     pub step_taken : tallied_by c l ≡ more
@@ -274,7 +274,7 @@ counts_behind : (p : Policy) (text : List ℕ) → count_behind (counts_of p) te
 unfolding count_behind read_text_behind count_from view
 counts_behind p text = go (ltb text_limit (length text))
   where
-    go : (b : Bool) → cond b (halted (refusal Fault.TooLong 0)) (fold count_line (going 1 (counts_of p)) (lines_of text)) ≡ view (cond b (stopped (refusal Fault.TooLong 0)) (fold read_line (reading 1 p) (lines_of text)))
+    go : (b : Bool) → cond b (halted (refusal Fault.TooLong 0)) (fold count_line (going 1 (counts_of p)) (lines_of text)) ≡ view (cond b (stopped (refusal Fault.TooLong 0)) (fold read_next_line (reading 1 p) (lines_of text)))
     go true = refl
     go false = sym (view_lines (reading 1 p) (lines_of text))
 

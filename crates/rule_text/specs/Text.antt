@@ -29,9 +29,9 @@ advance n p (refused f) = stopped (refusal f n)
 advance n p (accepted (rule r)) = cond (ltb (length p.rules) rule_limit) (reading (suc n) (with_rule p r)) (stopped (refusal Fault.TooManyLines n))
 advance n p (accepted (constraint c)) = cond (ltb (length p.constraints) constraint_limit) (reading (suc n) (with_constraint p c)) (stopped (refusal Fault.TooManyLines n))
 
-unfoldable pub read_line : Progress → List ℕ → Progress
-read_line (reading n p) line = advance n p (line_answer line)
-read_line (stopped r) line = stopped r
+unfoldable pub read_next_line : Progress → List ℕ → Progress
+read_next_line (reading n p) line = advance n p (line_answer line)
+read_next_line (stopped r) line = stopped r
 
 abbrev pub empty_policy : Policy
 empty_policy = record { rules = []; constraints = [] }
@@ -42,7 +42,7 @@ text_limit = 32768
 -- the lines of a text behind a policy: a text over its length is refused at no line; otherwise lines are counted from 1, skipped ones
 -- too
 unfoldable pub read_text_behind : Policy → List ℕ → Progress
-read_text_behind p text = cond (ltb text_limit (length text)) (stopped (refusal Fault.TooLong 0)) (fold read_line (reading 1 p) (lines_of text))
+read_text_behind p text = cond (ltb text_limit (length text)) (stopped (refusal Fault.TooLong 0)) (fold read_next_line (reading 1 p) (lines_of text))
 
 -- a location also says which text it is in
 unfoldable pub in_text : Source → Progress → Progress

@@ -8,7 +8,7 @@ use Rattle.policy.proofs.ListLaws.{true_false}
 use Rattle.policy.specs.Set.{ActionSet, has_action}
 use Rattle.operation.specs.Fields.{first_of, skip_of, operation_of}
 use Rattle.operation.specs.declared.operation.Operation.{Operation}
-use Rattle.run.specs.Run.{constant_count, ran, constraint_test, is_never, ends_constraint, fetches_of, fetches, up_to}
+use Rattle.run.specs.Run.{constants_behind, ran, constraint_test, is_never, ends_constraint, fetches_of, fetches, up_to}
 use Rattle.run.specs.Steps.Test.{IsTestOf, is_member_operation, left_at}
 use Rattle.run.specs.declared.test.Tested.{Tested}
 use Rattle.run.proofs.RunLaws.{ran_end, turn, last_turn}
@@ -49,7 +49,7 @@ module _ (rs : Readings) (s : ActionSet) (ws : List ℕ) where
 
   module _ (at w next : ℕ) (within : at < length ws) (this : w ≡ get_or ws at 0) where
     module _ (holds : Bool) (h : holds ≡ constraint_test rs s (operation_of w) w (get_or ws (at + 1) 0))
-        (e : next ≡ at + 1 + constant_count (operation_of w) + cond holds 0 (skip_of w)) where
+        (e : next ≡ at + 1 + constants_behind (operation_of w) + cond holds 0 (skip_of w)) where
       goes_on : ran (constraint_test rs s) 0 (drop at ws) ≡ w ∷ ran (constraint_test rs s) 0 (drop next ws)
       goes_on = turn (constraint_test rs s) ws at w next (operation_of w) within this refl holds h e
 
@@ -83,14 +83,14 @@ module _ (rs : Readings) (s : ActionSet) (ws : List ℕ) where
       member_turn m holds f ef eh en e =
           let o : operation_of w ≡ Operation.Member = is_member (operation_of w) m in
           go_on holds (eh ∙ ap (λ (n : ℕ). has_action s (record { 0 = n })) ef ∙ sym (ap (λ (x : Operation). constraint_test rs s x w (get_or ws (at + 1) 0)) o))
-          (en ∙ ap (λ (n : ℕ). n + cond holds 0 (skip_of w)) (sym (add-zero (at + 1)) ∙ ap (λ (x : Operation). at + 1 + constant_count x) (sym o)))
+          (en ∙ ap (λ (n : ℕ). n + cond holds 0 (skip_of w)) (sym (add-zero (at + 1)) ∙ ap (λ (x : Operation). at + 1 + constants_behind x) (sym o)))
           from from' g (ap is_never o) e
 
   -- the word at which the code leaves its loops: the last one, or the end of a constraint
   module _ (at w : ℕ) (within : at < length ws) (this : w ≡ get_or ws at 0) (way : (at + 1 ≡ length ws) ⊎ (ends_constraint w ≡ true)) where
     -- wherever the run would go on
     abbrev beyond : ℕ
-    beyond = at + 1 + constant_count (operation_of w) + cond (constraint_test rs s (operation_of w) w (get_or ws (at + 1) 0)) 0 (skip_of w)
+    beyond = at + 1 + constants_behind (operation_of w) + cond (constraint_test rs s (operation_of w) w (get_or ws (at + 1) 0)) 0 (skip_of w)
 
     pub constraints_last : holds_from at ≡ ends_constraint w
     unfolding any

@@ -6,7 +6,7 @@ use Rattle.policy.specs.Epoch.{Readings}
 use Rattle.policy.specs.declared.set.Events.{Events}
 use Rattle.operation.specs.Fields.{operation_of}
 use Rattle.operation.specs.declared.operation.Operation.{Operation}
-use Rattle.run.specs.Run.{constant_count, passes, ran, rule_test, constraint_test, is_never, ends_constraint, fetches_of, fetches, up_to, rule_fetches, trial_fetches}
+use Rattle.run.specs.Run.{constants_behind, passes, ran, rule_test, constraint_test, is_never, ends_constraint, fetches_of, fetches, up_to, rule_fetches, trial_fetches}
 use Rattle.run.proofs.TestLaws.{constants_small}
 
 -- ---- one word more
@@ -36,7 +36,7 @@ fetches_up_to w ws op is =
 -- the constants of the last word
 abbrev pub last_constants : List ℕ → ℕ
 last_constants [] = 0
-last_constants (w ∷ []) = constant_count (operation_of w)
+last_constants (w ∷ []) = constants_behind (operation_of w)
 last_constants (w ∷ v ∷ ws) = last_constants (v ∷ ws)
 
 pub last_behind : (w : ℕ) (ws : List ℕ) → 1 ≤ length ws → last_constants (w ∷ ws) ≡ last_constants ws

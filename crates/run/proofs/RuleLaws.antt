@@ -4,7 +4,7 @@ use Rattle.policy.specs.Set.{ActionSet, no_actions}
 use Rattle.policy.specs.Epoch.{Readings}
 use Rattle.policy.specs.declared.set.Events.{Events}
 use Rattle.operation.specs.Fields.{skip_of, operation_of}
-use Rattle.run.specs.Run.{constant_count, ran, rule_test, proposing, fetches_of, fetches}
+use Rattle.run.specs.Run.{constants_behind, ran, rule_test, proposing, fetches_of, fetches}
 use Rattle.run.specs.Steps.Test.{IsTestIn, AsksNothing}
 use Rattle.run.specs.declared.test.Tested.{Tested}
 use Rattle.run.proofs.RunLaws.{ran_end, turn}
@@ -29,10 +29,10 @@ module _ (ev : Events) (rs : Readings) (ws : List ℕ) where
 
   module _ (at w : ℕ) (s : ActionSet) (from : ℕ) (g : Running s at from) (within : at < length ws) (this : w ≡ get_or ws at 0) where
     go_on : (holds : Bool) → holds ≡ rule_test ev rs (operation_of w) w (get_or ws (at + 1) 0)
-        → Running (proposing s w) (at + 1 + constant_count (operation_of w) + cond holds 0 (skip_of w)) (from + cond holds 0 (skip_of w))
+        → Running (proposing s w) (at + 1 + constants_behind (operation_of w) + cond holds 0 (skip_of w)) (from + cond holds 0 (skip_of w))
     unfolding fetches
     go_on holds h =
-        let next : ℕ = at + 1 + constant_count (operation_of w) + cond holds 0 (skip_of w) in
+        let next : ℕ = at + 1 + constants_behind (operation_of w) + cond holds 0 (skip_of w) in
         let goes : ran (rule_test ev rs) 0 (drop at ws) ≡ w ∷ ran (rule_test ev rs) 0 (drop next ws) = turn (rule_test ev rs) ws at w next (operation_of w) within this refl holds h refl in
         let f : fetched_from at ≡ fetches_of (operation_of w) + fetched_from next = ap fetches goes in
         record { proposed = sym (ap (fold proposing s) goes) ∙ g.proposed; behind = omega (arith, g.behind); words = omega (arith, g.words, f) }
@@ -54,7 +54,7 @@ module _ (ev : Events) (rs : Readings) (ws : List ℕ) where
     -- a word that asks for none
     pub rules_pass : AsksNothing ev rs w (get_or ws (at + 1) 0) → Running (proposing s w) (at + 1) from
     rules_pass none =
-        let next : at + 1 + constant_count (operation_of w) + 0 ≡ at + 1 = omega (arith, none.alone) in
+        let next : at + 1 + constants_behind (operation_of w) + 0 ≡ at + 1 = omega (arith, none.alone) in
         rw (sym next, sym (add-zero from)) (go_on true (sym none.holds))
 
   pub rules_end : (s : ActionSet) (at : ℕ) → length ws ≤ at → proposed_from s at ≡ s

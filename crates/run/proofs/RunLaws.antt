@@ -3,7 +3,7 @@ use Rattle.std.proofs.Common.{ℕ, zero, suc, ◌+◌, ◌≤◌, ◌<◌, Bool,
 use Rattle.std.proofs.Math.ListN.{get_or}
 use Rattle.operation.specs.Fields.{skip_of, operation_of}
 use Rattle.operation.specs.declared.operation.Operation.{Operation}
-use Rattle.run.specs.Run.{constant_count, passes, ran}
+use Rattle.run.specs.Run.{constants_behind, passes, ran}
 
 module _ (test : Operation → ℕ → ℕ → Bool) where
   -- words that are passed over
@@ -31,7 +31,7 @@ module _ (test : Operation → ℕ → ℕ → Bool) where
     behind = get_or-drop (at + 1) ws 0 0 ∙ ap (λ (n : ℕ). get_or ws n 0) (add-zero (at + 1))
 
     pub turn : op ≡ operation_of w → (holds : Bool) → holds ≡ test op w (get_or ws (at + 1) 0)
-        → next ≡ at + 1 + constant_count op + cond holds 0 (skip_of w) → ran test 0 (drop at ws) ≡ w ∷ ran test 0 (drop next ws)
+        → next ≡ at + 1 + constants_behind op + cond holds 0 (skip_of w) → ran test 0 (drop at ws) ≡ w ∷ ran test 0 (drop next ws)
     unfolding ran
     turn is holds h e =
         ap (ran test 0) rest_at
@@ -42,7 +42,7 @@ module _ (test : Operation → ℕ → ℕ → Bool) where
         ∙ ap (λ (l : List ℕ). w ∷ l) (ran_pass (passes holds op w) (drop (at + 1) ws) ∙ ap (ran test 0) (drop-drop (passes holds op w) (at + 1) ws))
         ∙ ap (λ (n : ℕ). w ∷ ran test 0 (drop n ws)) (same ∙ sym e)
       where
-        same : at + 1 + passes holds op w ≡ at + 1 + constant_count op + cond holds 0 (skip_of w)
+        same : at + 1 + passes holds op w ≡ at + 1 + constants_behind op + cond holds 0 (skip_of w)
         same = omega arith
 
     -- of the last word

@@ -1,11 +1,11 @@
 -- Where the test of a word goes on.
 use Rattle.std.proofs.Common.{ℕ, ◌+◌, ◌≤◌, Bool, ◌≡◌, ap, arith}
 use Rattle.operation.specs.declared.operation.Operation.{Operation}
-use Rattle.run.specs.Run.{constant_count}
+use Rattle.run.specs.Run.{constants_behind}
 use Rattle.run.specs.Steps.Test.{tested}
 use Rattle.run.specs.declared.test.Tested.{Tested}
 
-pub constants_small : (op : Operation) → constant_count op ≤ 1
+pub constants_small : (op : Operation) → constants_behind op ≤ 1
 constants_small Operation.Present = omega arith
 constants_small Operation.Absent = omega arith
 constants_small Operation.AgainstConstant = omega arith
@@ -16,7 +16,7 @@ constants_small Operation.Never = omega arith
 constants_small Operation.Unknown = omega arith
 
 module _ (t : Tested) (b : Bool) (op : Operation) (behind : ℕ) (e : t ≡ tested b op behind) where
-  next_is : t.next ≡ behind + constant_count op
+  next_is : t.next ≡ behind + constants_behind op
   next_is = ap (λ (x : Tested). x.next) e
 
   pub tested_next : t.next ≤ behind + 1

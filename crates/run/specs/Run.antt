@@ -13,19 +13,19 @@ use Rattle.operation.specs.declared.operation.Operation.{Operation}
 -- ---- which words are run
 
 -- a comparison with a constant has it in the word behind
-abbrev pub constant_count : Operation → ℕ
-constant_count Operation.AgainstConstant = 1
-constant_count Operation.AgainstReading = 0
-constant_count Operation.Present = 0
-constant_count Operation.Absent = 0
-constant_count Operation.Proposes = 0
-constant_count Operation.Member = 0
-constant_count Operation.Never = 0
-constant_count Operation.Unknown = 0
+abbrev pub constants_behind : Operation → ℕ
+constants_behind Operation.AgainstConstant = 1
+constants_behind Operation.AgainstReading = 0
+constants_behind Operation.Present = 0
+constants_behind Operation.Absent = 0
+constants_behind Operation.Proposes = 0
+constants_behind Operation.Member = 0
+constants_behind Operation.Never = 0
+constants_behind Operation.Unknown = 0
 
 -- how many of the words behind a word are passed over: its constant always; "a test that fails passes over `skip` further words"
 abbrev pub passes : Bool → Operation → ℕ → ℕ
-passes holds op w = constant_count op + cond holds 0 (skip_of w)
+passes holds op w = constants_behind op + cond holds 0 (skip_of w)
 
 -- the words that are run, one after another, with the number of words still to pass over. Whether the test of a word holds is told
 -- by its operation, itself and the word behind it.
@@ -110,7 +110,7 @@ run_constraints rs s ws = any ends_constraint (ran (constraint_test rs s) 0 ws)
 
 -- a word that is run is fetched, and its constant with it
 abbrev pub fetches_of : Operation → ℕ
-fetches_of op = 1 + constant_count op
+fetches_of op = 1 + constants_behind op
 
 unfoldable pub fetches : List ℕ → ℕ
 fetches [] = 0

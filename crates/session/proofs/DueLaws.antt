@@ -4,7 +4,7 @@ use Rattle.std.proofs.lemmas.Bool.{eqb-false}
 use Rattle.std.proofs.Math.Option.{Option, none, some, or_else, Option-elim}
 use Rattle.policy.specs.declared.mode.Mode.{Mode}
 use Rattle.lexer.specs.Lines.{pieces, lines_of}
-use Rattle.stream.specs.Lines.{keep_byte, whole_part, due_for, due_by_lines}
+use Rattle.stream.specs.Lines.{add_to_whole, whole_part, due_for, due_by_lines}
 use Rattle.session.specs.Printed.{Session, text_only, with_epochs, to_text, split_at_run, mode_of, printed, has_epochs, runs, due}
 use Rattle.session.specs.Steps.Owed.{Seen, see_byte, see, picked}
 use Rattle.session.proofs.GivesLaws.{ran_stays_all}
@@ -53,7 +53,7 @@ abbrev Same : List ℕ → List ℕ → Type 0
 Same line [] = Unit {0}
 Same line (x ∷ part) = picked (see (open_with line) (x ∷ part)).ran ≡ runs (line ++ x ∷ part)
 
-same_more : (b : ℕ) (part : List ℕ) → ((line : List ℕ) → OneLine line → Same line part) → (line : List ℕ) → OneLine line → Same line (keep_byte b part)
+same_more : (b : ℕ) (part : List ℕ) → ((line : List ℕ) → OneLine line → Same line part) → (line : List ℕ) → OneLine line → Same line (add_to_whole b part)
 unfolding split_at_run lines_of pieces
 same_more b [] same line h = go (b == 10) refl
   where

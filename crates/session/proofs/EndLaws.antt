@@ -9,9 +9,9 @@ use Rattle.codegen.specs.Compile.{compiled}
 use Rattle.codegen.specs.declared.Compiled.{Compiled}
 use Rattle.monitor.specs.Decision.{decision_in}
 use Rattle.monitor.specs.declared.decision.Decision.{Decision}
-use Rattle.report.specs.Report.{refusal_line}
+use Rattle.report.specs.Report.{refusal_line, next_number}
 use Rattle.output.proofs.AppendLaws.{Put, put_length}
-use Rattle.session.specs.Printed.{Session, with_epochs, next, decision_line, epoch_lines, answers_to, printed_for}
+use Rattle.session.specs.Printed.{Session, with_epochs, decision_line, epoch_lines, answers_to, printed_for}
 use Rattle.session.specs.Steps.Owed.{current, left_in, owed, Fitting, Room, TracksIn}
 use Rattle.session.specs.Steps.Ended.{TextEnded, LineEnded}
 use Rattle.session.specs.declared.state.Phase.{Phase}
@@ -101,7 +101,7 @@ module _ (text : List ℕ) (mode : Mode) (s : State) (image out : List ℕ) (ans
 -- ---- the end of an epoch line
 
 pub line_ended_is : (s : State) (held image out : List ℕ) (d : Decision) (n : ℕ) (out' : List ℕ) (end : ℕ)
-    → s.start ≡ 0 → length out ≡ 65536 → Room s → n ≡ next s.epochs → d ≡ decision_in s.mode (take s.size image) (take s.count held)
+    → s.start ≡ 0 → length out ≡ 65536 → Room s → n ≡ next_number s.epochs → d ≡ decision_in s.mode (take s.size image) (take s.count held)
     → Put out s.used (decision_line n d) out' end
     → LineEnded s held image out (record { phase = s.phase; mode = s.mode; start = 0; count = 0; epochs = n; size = s.size; used = end }) out'
 line_ended_is s held image out d n out' end zero' long room number decided p =

@@ -4,10 +4,10 @@ use Rattle.std.proofs.Math.Option.{Option, none, some}
 use Rattle.policy.specs.declared.mode.Mode.{Mode}
 use Rattle.lexer.specs.Lines.{lines_of}
 use Rattle.monitor.specs.Decision.{decision_in}
-use Rattle.session.specs.Printed.{next, decision_line, epoch_lines}
+use Rattle.session.specs.Printed.{decision_line, epoch_lines}
 use Rattle.session.specs.Steps.Owed.{current, Good, Seen, see_byte, TracksIn, Took}
 use Rattle.session.specs.Steps.Held.{one_more_held, Pushed, room, full}
-use Rattle.session.specs.Steps.Ended.{decided_by, LineEnded}
+use Rattle.session.specs.Steps.Ended.{after_decision, LineEnded}
 use Rattle.session.specs.declared.state.Phase.{Phase}
 use Rattle.session.specs.declared.state.State.{State}
 use Rattle.session.proofs.EpochLaws.{epoch_ends, full_line}
@@ -15,6 +15,7 @@ use Rattle.session.proofs.GivesLaws.{Byte, took_byte}
 use Rattle.session.proofs.HeldLaws.{owed_epochs, fitting_epochs, as_epochs, held_more, snoc}
 use Rattle.session.proofs.LineLaws.{empty_line, line_more}
 use Rattle.session.proofs.SeenLaws.{held_grows, held_stays, see_end, see_other, ran_stays, tracks_at, at_tracks}
+use Rattle.report.specs.Report.{next_number}
 
 module _ (s : State) (held image out : List ℕ) (g : Good s held image out) (t : s.phase ≡ Phase.Epochs) where
   pub limits : (s.start ≡ 0) × (s.count ≤ 1025)
@@ -91,14 +92,14 @@ module _ (s : State) (held image out : List ℕ) (g : Good s held image out) (t 
   epoch_pushed b r held' n (room h e k) = rw (e, k) (took_byte _ _ _ _ _ _ _ _ _ (epoch_counted b h n))
   epoch_pushed b r held' n (full h e k) = rw (e, k) (took_byte _ _ _ _ _ _ _ _ _ (epoch_full b h n))
 
-  pub decided_good : (out' : List ℕ) (u : ℕ) → length out' ≡ 65536 → u ≤ 65536 → Good (decided_by s u) held image out'
+  pub decided_good : (out' : List ℕ) (u : ℕ) → length out' ≡ 65536 → u ≤ 65536 → Good (after_decision s u) held image out'
   decided_good out' u l k =
       record {
         held_long = g.held_long;
         image_long = g.image_long;
         out_long = l;
         ordered = omega arith;
-        fitting = as_epochs s.phase (decided_by s u) t (refl, omega arith);
+        fitting = as_epochs s.phase (after_decision s u) t (refl, omega arith);
         one_line = empty_line;
         sized = g.sized;
         used = k;
@@ -108,16 +109,16 @@ module _ (s : State) (held image out : List ℕ) (g : Good s held image out) (t 
   unfolding TracksIn
   epoch_line r out' d =
       subst (λ (x : State). Took s held image out (10 ∷ []) x held image out') (sym d.state)
-      (took_byte s held image out 10 (decided_by s r.used) held image out'
+      (took_byte s held image out 10 (after_decision s r.used) held image out'
       (record {
         owes = λ rest.
-            owed_epochs (decided_by s r.used) held image out' rest t
-            ∙ ap (λ (x : List ℕ). x ++ epoch_lines s.mode (take s.size image) (next s.epochs) (lines_of rest)) d.prints
-            ∙ append_assoc (take s.used out) (decision_line (next s.epochs) (decision_in s.mode (take s.size image) (current s held))) (epoch_lines s.mode (take s.size image) (next s.epochs) (lines_of rest))
+            owed_epochs (after_decision s r.used) held image out' rest t
+            ∙ ap (λ (x : List ℕ). x ++ epoch_lines s.mode (take s.size image) (next_number s.epochs) (lines_of rest)) d.prints
+            ∙ append_assoc (take s.used out) (decision_line (next_number s.epochs) (decision_in s.mode (take s.size image) (current s held))) (epoch_lines s.mode (take s.size image) (next_number s.epochs) (lines_of rest))
             ∙ ap (λ (x : List ℕ). take s.used out ++ x) (sym (epoch_ends s.mode (take s.size image) s.epochs (current s held) rest g.one_line))
             ∙ sym (owed_epochs s held image out (10 ∷ rest) t);
         tracks = λ x h.
-            at_tracks Phase.Epochs (see_byte x 10) (decided_by s r.used) held t
+            at_tracks Phase.Epochs (see_byte x 10) (after_decision s r.used) held t
             (ran_stays x 10 (tracks_at Phase.Epochs x s held t h).0, ap (λ (y : Seen). take 1025 y.tail) (sym (see_end x)));
         open_line = λ n. absurd (n refl);
         quiet = λ x h q.

@@ -8,18 +8,19 @@ use Rattle.word.specs.Word.{words_of}
 use Rattle.image.specs.Load.{load}
 use Rattle.monitor.specs.Decision.{on_image, decision_in}
 use Rattle.monitor.specs.declared.decision.Decision.{Decision}
-use Rattle.session.specs.Printed.{next, decision_line, epoch_lines}
+use Rattle.session.specs.Printed.{decision_line, epoch_lines}
 use Rattle.session.proofs.LineLaws.{OneLine, first, others, prepend_parts, lines_begun, lines_ended, lines_last}
+use Rattle.report.specs.Report.{next_number}
 
 module _ (mode : Mode) (image : List ℕ) (n : ℕ) where
   pub epoch_ends : (line rest : List ℕ) → OneLine line
-      → epoch_lines mode image n (lines_of (line ++ 10 ∷ rest)) ≡ decision_line (next n) (decision_in mode image line) ++ epoch_lines mode image (next n) (lines_of rest)
+      → epoch_lines mode image n (lines_of (line ++ 10 ∷ rest)) ≡ decision_line (next_number n) (decision_in mode image line) ++ epoch_lines mode image (next_number n) (lines_of rest)
   unfolding epoch_lines
   epoch_ends line rest h = rw (lines_ended line rest h)
 
-  pub epoch_last : (b : ℕ) (bs : List ℕ) → OneLine (b ∷ bs) → epoch_lines mode image n (lines_of (b ∷ bs)) ≡ decision_line (next n) (decision_in mode image (b ∷ bs))
+  pub epoch_last : (b : ℕ) (bs : List ℕ) → OneLine (b ∷ bs) → epoch_lines mode image n (lines_of (b ∷ bs)) ≡ decision_line (next_number n) (decision_in mode image (b ∷ bs))
   unfolding epoch_lines
-  epoch_last b bs h = rw (lines_last b bs h) (append-nil (decision_line (next n) (decision_in mode image (b ∷ bs))))
+  epoch_last b bs h = rw (lines_last b bs h) (append-nil (decision_line (next_number n) (decision_in mode image (b ∷ bs))))
 
   long_epoch : (line : List ℕ) → 1024 < length line → read_epoch line ≡ refused Fault.TooLong
   unfolding read_epoch
@@ -38,5 +39,5 @@ module _ (mode : Mode) (image : List ℕ) (n : ℕ) where
       let e : lines_of (b ∷ rest) ≡ (b ∷ first (lines_of rest)) ∷ others (lines_of rest) = rw (ne_eqb b 10 m) (prepend_parts b (lines_of rest)) in
       let x : lines_of ((a ∷ l') ++ b ∷ rest) ≡ ((a ∷ l') ++ b ∷ first (lines_of rest)) ∷ others (lines_of rest) = lines_begun a l' (b ∷ rest) h ∙ ap₂ (λ (p : List ℕ) (q : List (List ℕ)). ((a ∷ l') ++ p) ∷ q) (ap first e) (ap others e) in
       let d : decision_in mode image ((a ∷ l') ++ b ∷ first (lines_of rest)) ≡ decision_in mode image ((a ∷ l') ++ first (lines_of rest)) = long_same ((a ∷ l') ++ b ∷ first (lines_of rest)) ((a ∷ l') ++ first (lines_of rest)) (omega (arith, length-append (a ∷ l') (b ∷ first (lines_of rest)))) (omega (arith, length-append (a ∷ l') (first (lines_of rest)))) in
-      ap (epoch_lines mode image n) x ∙ ap (λ (q : Decision). decision_line (next n) q ++ epoch_lines mode image (next n) (others (lines_of rest))) d
+      ap (epoch_lines mode image n) x ∙ ap (λ (q : Decision). decision_line (next_number n) q ++ epoch_lines mode image (next_number n) (others (lines_of rest))) d
       ∙ sym (ap (epoch_lines mode image n) (lines_begun a l' rest h))

@@ -4,9 +4,9 @@ use Rattle.std.proofs.Math.Option.{none, some}
 use Rattle.policy.specs.declared.mode.Mode.{Mode}
 use Rattle.lexer.specs.Lines.{pieces, lines_of}
 use Rattle.monitor.specs.Decision.{decision_in}
-use Rattle.session.specs.Printed.{text_only, with_epochs, mode_of, next, decision_line, epoch_lines, printed_for}
+use Rattle.session.specs.Printed.{text_only, with_epochs, mode_of, decision_line, epoch_lines, printed_for}
 use Rattle.session.specs.Steps.Owed.{printed_behind, current, owed, Good, Seen, seen_by, TracksIn, Tracks, Finished}
-use Rattle.session.specs.Steps.Ended.{TextEnded, decided_by, LineEnded}
+use Rattle.session.specs.Steps.Ended.{TextEnded, after_decision, LineEnded}
 use Rattle.session.specs.declared.state.Phase.{Phase}
 use Rattle.session.specs.declared.state.State.{State}
 use Rattle.session.proofs.EpochByteLaws.{line_length_is, decided_good}
@@ -16,6 +16,7 @@ use Rattle.session.proofs.HeldLaws.{owed_text, owed_epochs, owed_over}
 use Rattle.session.proofs.LineLaws.{OneLine}
 use Rattle.session.proofs.SeenLaws.{at_tracks}
 use Rattle.session.proofs.SplitLaws.{no_epochs, end_run, end_text}
+use Rattle.report.specs.Report.{next_number}
 
 length_zero : (l : List ℕ) → length l ≡ 0 → l ≡ []
 length_zero [] e = refl
@@ -28,7 +29,7 @@ ended_all text mode s out r image' out' held e =
     sym (append-nil (take r.used out')) ∙ ap (λ (x : List ℕ). take r.used out' ++ x) (sym (e.quiet held)) ∙ e.owes held []
 
 last_line : (mode : Mode) (image : List ℕ) (n : ℕ) (line : List ℕ) → (length line ≡ 0 → ⊥) → OneLine line
-    → epoch_lines mode image n (lines_of line) ≡ decision_line (next n) (decision_in mode image line)
+    → epoch_lines mode image n (lines_of line) ≡ decision_line (next_number n) (decision_in mode image line)
 last_line mode image n [] l h = absurd (l refl)
 last_line mode image n (b ∷ bs) l h = epoch_last mode image n b bs h
 
@@ -90,10 +91,10 @@ module _ (s : State) (held image out : List ℕ) (g : Good s held image out) whe
         good = subst (λ (q : State). Good q held image out') (sym d.state) (decided_good s held image out g t out' r.used d.out_long d.used);
       }
     where
-      line_tracked : Tracks (seen_by (decided_by s r.used) held) (decided_by s r.used) held
+      line_tracked : Tracks (seen_by (after_decision s r.used) held) (after_decision s r.used) held
       line_tracked =
           let y : Seen = record { ran = some s.mode; tail = [] } in
-          tracked y (decided_by s r.used) held (at_tracks Phase.Epochs y (decided_by s r.used) held t (refl, refl))
+          tracked y (after_decision s r.used) held (at_tracks Phase.Epochs y (after_decision s r.used) held t (refl, refl))
 
   pub finish_over : s.phase ≡ Phase.Over → Finished s held image out s image out
   finish_over t = finished_same (sym (owed_over s held image out [] t))

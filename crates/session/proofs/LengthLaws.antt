@@ -13,7 +13,7 @@ use Rattle.image.specs.Load.{load}
 use Rattle.image.specs.declared.load.Contents.{Contents}
 use Rattle.image.specs.declared.load.Loaded.{Loaded}
 use Rattle.monitor.proofs.FewLaws.{visited_few}
-use Rattle.monitor.specs.Decision.{proposed_by, proposed_with_by, kept_by, yielded_by, clash_by, kept_events_by, reduced_by, reduction_by, rules_in, constraints_in, issued_by, decided_by, on_epoch_line, on_image, decision_in, answer_of, visited_in}
+use Rattle.monitor.specs.Decision.{proposed_by, proposed_with_by, kept_by, yielded_by, clash_by, kept_events_by, reduced_by, reduction_by, rule_words_in, constraint_words_in, issued_by, decided_by, on_epoch_line, on_image, decision_in, answer_of, visited_in}
 use Rattle.monitor.specs.declared.decision.Decision.{Decision}
 use Rattle.output.specs.Number.{decimal}
 use Rattle.output.proofs.DecimalLaws.{decimal_few, decimal_short}
@@ -70,9 +70,9 @@ reduction_apart rules constraints e = go (clash_by rules constraints e 0)
 decided_apart : (mode : Mode) (contents : Contents) (words : List ℕ) (e : Epoch) → ApartIn (decided_by mode contents words e)
 unfolding decided_by issued_by yielded_by
 decided_apart Mode.Actions contents words e =
-    let all = proposed_by (rules_in contents words) e in
-    difference_apart all.bits (kept_by (constraints_in contents words) e.readings all).bits
-decided_apart Mode.Events contents words e = reduction_apart (rules_in contents words) (constraints_in contents words) e
+    let all = proposed_by (rule_words_in contents words) e in
+    difference_apart all.bits (kept_by (constraint_words_in contents words) e.readings all).bits
+decided_apart Mode.Events contents words e = reduction_apart (rule_words_in contents words) (constraint_words_in contents words) e
 
 decision_apart : (mode : Mode) (image line : List ℕ) → ApartIn (decision_in mode image line)
 unfolding decision_in on_image on_epoch_line

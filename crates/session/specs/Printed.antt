@@ -10,7 +10,7 @@ use Rattle.codegen.specs.Compile.{newest_form}
 use Rattle.monitor.specs.Decision.{decision_in}
 use Rattle.monitor.specs.declared.decision.Decision.{Decision}
 use Rattle.stream.specs.Lines.{due_by_lines}
-use Rattle.report.specs.Report.{refusal_line, accept_line, refused_line}
+use Rattle.report.specs.Report.{refusal_line, accept_line, refused_line, next_number}
 
 -- ---- a line `run` picks the first mode, and a line `run events` in its place the second
 
@@ -43,10 +43,6 @@ text_part input (with_epochs text mode epochs) = ended text
 
 -- ---- one line for each epoch
 
--- numbers are of 64 bits
-abbrev pub next : ℕ → ℕ
-next n = (n + 1) % 2 ^ 64
-
 unfoldable pub decision_line : ℕ → Decision → List ℕ
 decision_line n (Decision.Refused r) = refused_line n r.fault
 decision_line n (Decision.Issued actions) = accept_line n actions.accepted actions.cancelled actions.visited
@@ -54,7 +50,7 @@ decision_line n (Decision.Issued actions) = accept_line n actions.accepted actio
 -- after n epochs
 unfoldable pub epoch_lines : Mode → List ℕ → ℕ → List (List ℕ) → List ℕ
 epoch_lines mode image n [] = []
-epoch_lines mode image n (line ∷ lines) = decision_line (next n) (decision_in mode image line) ++ epoch_lines mode image (next n) lines
+epoch_lines mode image n (line ∷ lines) = decision_line (next_number n) (decision_in mode image line) ++ epoch_lines mode image (next_number n) lines
 
 -- ---- a refused text prints its refusal line and nothing else
 

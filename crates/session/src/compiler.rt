@@ -1,6 +1,6 @@
 //! The compiler's whole runs.
 ghost use Rattle.std.specs.Prelude.{◌≤◌, length, OnOk, IfErr};
-ghost use Rattle.stream.specs.Machine.{AnswersAll, ListingEndsBy, nothing};
+ghost use Rattle.stream.specs.Machine.{AnswersAll, ListingEndsBy, nothing_due};
 ghost use Rattle.session.specs.Listed.{listed};
 ghost use Rattle.session.specs.Texts.{ListsTexts, TextsEndBy};
 
@@ -38,7 +38,7 @@ impl Summary for Compiler {
 
 /// Lists the text that is the input. It is read to its end, so that whoever writes it is not cut off; the listing is written then.
 pub fn list_input<E: Ends>(ends: &mut E) -> Result<(), Failure>
-    ensures ok { OnOk result (AnswersAll listed nothing (E.known ends.old) (E.known ends.new)) }
+    ensures ok { OnOk result (AnswersAll listed nothing_due (E.known ends.old) (E.known ends.new)) }
     ensures err { IfErr result (λ e. ListingEndsBy e listed (E.known ends.old) (E.known ends.new)) }
 {
     let mut compiler = Compiler {

@@ -7,7 +7,7 @@ use Rattle.std.proofs.KnownBytes.{Consumes-whole}
 use Rattle.stream.specs.declared.failure.Failure.{Failure}
 use Rattle.stream.specs.declared.failure.Failure.TheVariants.{Read, Write}
 use Rattle.stream.specs.Event.{came, GoOn, StopsAt, Fails, EndsBehind}
-use Rattle.stream.specs.Machine.{Goes, Known, Reads, Sends, Talks, AnswersAll, ReadFails, LastWriteFails, EndsBy, nothing, ListingEndsBy, IsWriteFailure}
+use Rattle.stream.specs.Machine.{Goes, Known, Reads, Sends, Talks, AnswersAll, ReadFails, LastWriteFails, EndsBy, nothing_due, ListingEndsBy, IsWriteFailure}
 use Rattle.stream.proofs.EventLaws.{go_on_append, go_on_came, stops_behind, fails_behind, ends_behind, prompt_came, prompt_failed}
 use Rattle.stream.proofs.KnownLaws.{talks_read, talks_send}
 use Rattle.stream.proofs.MachineLaws.{goes_due, goes_front, starts_refl, starts_cut}
@@ -88,9 +88,9 @@ module _ {S : Type 0} (given printed : S → List ℕ → List ℕ) (a b : S) (o
 
 -- the same where nothing is due before the end
 pub listing_fails : {S : Type 0} (printed : S → List ℕ → List ℕ) (a b : S) (old k : Known) (turns : ℕ) (bytes : List ℕ)
-    → Goes (λ s. nothing) printed a b bytes [] → Talks nothing (GoOn turns) old k bytes []
+    → Goes (λ s. nothing_due) printed a b bytes [] → Talks nothing_due (GoOn turns) old k bytes []
     → (mid new : Known) → Reads (StopsAt (came [])) k mid [] → IsAtEnd mid.unread
     → (e : Failure) → IsWriteFailure e × ((n : ℕ) × Sends (Fails e) mid new (take n (printed b []))) → ListingEndsBy e (printed a) old new
 listing_fails printed a b old k turns bytes goes talks mid new read end (Read e) w = absurd w.0
 listing_fails printed a b old k turns bytes goes talks mid new read end (Write e) (w, (n, sent)) =
-    last_write_fails (λ s. nothing) printed a b old k turns bytes [] goes refl talks mid new read end n e sent
+    last_write_fails (λ s. nothing_due) printed a b old k turns bytes [] goes refl talks mid new read end n e sent

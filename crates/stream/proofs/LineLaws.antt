@@ -1,6 +1,6 @@
 -- What is due by lines, along the bytes.
 use Rattle.std.proofs.Common.{◌≡◌, ℕ, ◌==◌, Bool, true, false, cond, List, [], ◌∷◌, ◌++◌, refl, sym, ap, ◌∙◌, append-nil}
-use Rattle.stream.specs.Lines.{keep_byte, whole_part, due_for, due_by_lines}
+use Rattle.stream.specs.Lines.{add_to_whole, whole_part, due_for, due_by_lines}
 
 -- a byte more
 module _ (runs runs' : List ℕ → Bool) (printed printed' : List ℕ → List ℕ) (waits waits' : List ℕ) (byte : ℕ)
@@ -21,7 +21,7 @@ module _ (runs runs' : List ℕ → Bool) (printed printed' : List ℕ → List 
   none_ended true h = alone (runs (byte ∷ [])) refl h
   none_ended false h = sym (open_line h)
 
-  kept : (part : List ℕ) → due_for runs printed waits (keep_byte byte part) ≡ due_for runs' printed' waits' part
+  kept : (part : List ℕ) → due_for runs printed waits (add_to_whole byte part) ≡ due_for runs' printed' waits' part
   kept [] = none_ended (byte == 10) refl
   kept (x ∷ part) = part_due x part (runs (byte ∷ x ∷ part)) refl ∙ ap (λ (b : Bool). cond b (printed' (x ∷ part)) waits') (same (x ∷ part))
 

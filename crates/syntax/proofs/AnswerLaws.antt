@@ -8,7 +8,7 @@ use Rattle.line_value.specs.Value.{line_value}
 use Rattle.line_value.specs.declared.Line.{Line}
 use Rattle.lexer.proofs.LeadingLaws.{leading_length}
 use Rattle.lexer.specs.Lines.{prepend, pieces, lines_of, in_line, first_line, behind_line, without_end}
-use Rattle.syntax.specs.Answer.{answered, next_line, line_read}
+use Rattle.syntax.specs.Answer.{line_result, next_line, line_read}
 use Rattle.syntax.specs.Judge.{LineAnswer, skipped, refused, accepted, line_answer}
 
 pub lines_here : (text : List ℕ) → 0 < length text → lines_of text ≡ first_line text ∷ lines_of (next_line text)
@@ -44,19 +44,19 @@ pub record Accepted (text : List ℕ) (l : Line) (rest : List ℕ) : Type 0 wher
 
 module _ (text : List ℕ) where
   pub read_refused : (f : Fault) → Err f ≡ line_read text → line_answer (first_line text) ≡ refused f
-  unfolding line_read answered
+  unfolding line_read line_result
   read_refused f = go (line_answer (first_line text))
     where
-      go : (a : LineAnswer) → Err f ≡ answered (next_line text) a → a ≡ refused f
+      go : (a : LineAnswer) → Err f ≡ line_result (next_line text) a → a ≡ refused f
       go skipped e = cc
       go (refused g) e = cc
       go (accepted l) e = cc
 
   pub read_skipped : (rest : List ℕ) → Ok (None, rest) ≡ line_read text → (line_answer (first_line text) ≡ skipped) × (rest ≡ next_line text)
-  unfolding line_read answered
+  unfolding line_read line_result
   read_skipped rest = go (line_answer (first_line text))
     where
-      go : (a : LineAnswer) → Ok (None, rest) ≡ answered (next_line text) a → (a ≡ skipped) × (rest ≡ next_line text)
+      go : (a : LineAnswer) → Ok (None, rest) ≡ line_result (next_line text) a → (a ≡ skipped) × (rest ≡ next_line text)
       go skipped e =
           let p : ◌≡◌ {A = Maybe Line × List ℕ} (None, rest) (None, next_line text) = cc in
           (refl, ap (λ (r : Maybe Line × List ℕ). r.1) p)
@@ -68,10 +68,10 @@ module _ (text : List ℕ) where
           absurd (omega arith)
 
   pub read_accepted : (l : Line) (rest : List ℕ) → Ok (Some l, rest) ≡ line_read text → Accepted text l rest
-  unfolding line_read answered
+  unfolding line_read line_result
   read_accepted l rest = go (line_answer (first_line text)) refl
     where
-      go : (a : LineAnswer) → line_answer (first_line text) ≡ a → Ok (Some l, rest) ≡ answered (next_line text) a → Accepted text l rest
+      go : (a : LineAnswer) → line_answer (first_line text) ≡ a → Ok (Some l, rest) ≡ line_result (next_line text) a → Accepted text l rest
       go skipped k e =
           let p : ◌≡◌ {A = Maybe Line × List ℕ} (Some l, rest) (None, next_line text) = cc in
           let q : ◌≡◌ {A = Maybe Line} (Some l) None = ap (λ (r : Maybe Line × List ℕ). r.0) p in

@@ -9,7 +9,7 @@ use Rattle.policy.proofs.SeenLaws.{seen_repeats}
 use Rattle.policy.specs.Limits.{in_range, crowded, repeated, test_number, head_number, comparison_in_range, ending_in_range, head_limit, comparison_limit}
 use Rattle.policy.specs.Steps.Seen.{seen_in}
 use Rattle.policy.specs.Line.{PolicyLine, heads_of, comparisons_of, ending_of}
-use Rattle.line_value.specs.Value.{line_of, line_value, padded, counted, head, no_head}
+use Rattle.line_value.specs.Value.{line_of, line_value, padded, count_up_to, head, no_head}
 use Rattle.policy.specs.List.{all}
 use Rattle.policy.specs.Number.{set_limit}
 use Rattle.policy.specs.declared.fault.Fault.{Fault}
@@ -23,7 +23,7 @@ use Rattle.lexer.specs.Steps.Scan.{in_token, token_in, without_spaces, tokens_in
 use Rattle.token.specs.Steps.PartIn.{test_in_range}
 use Rattle.syntax.proofs.DraftLaws.{line_range, line_held}
 use Rattle.syntax.proofs.FrontLaws.{ended}
-use Rattle.syntax.specs.Answer.{answered, line_read}
+use Rattle.syntax.specs.Answer.{line_result, line_read}
 use Rattle.syntax.specs.Grammar.{line_from}
 use Rattle.syntax.specs.Judge.{LineAnswer, skipped, refused, accepted, judge_line, is_comment, tokens_answer, line_answer}
 use Rattle.syntax.specs.Steps.Draft.{new_draft, line_into}
@@ -33,16 +33,16 @@ use Rattle.syntax.specs.declared.draft.Draft.{Draft}
 
 -- ---- counts and repeats of a value
 
-counted_over : {A : Type 0} (limit : ℕ) (xs : List A) → ltb limit (counted limit xs) ≡ ltb limit (length xs)
-unfolding counted
+counted_over : {A : Type 0} (limit : ℕ) (xs : List A) → ltb limit (count_up_to limit xs) ≡ ltb limit (length xs)
+unfolding count_up_to
 counted_over limit xs = go (ltb limit (length xs)) refl
   where
     go : (b : Bool) → ltb limit (length xs) ≡ b → ltb limit (min (length xs) (suc limit)) ≡ b
     go true e = let l = ltb-true limit (length xs) e in lt-ltb limit (min (length xs) (suc limit)) (omega arith)
     go false e = let l = ltb-false limit (length xs) e in le-ltb limit (min (length xs) (suc limit)) (omega arith)
 
-pub padded_whole : {A : Type 0} (limit : ℕ) (filler : A) (xs : List A) → ltb limit (length xs) ≡ false → take (counted limit xs) (padded limit filler xs) ≡ xs
-unfolding padded counted
+pub padded_whole : {A : Type 0} (limit : ℕ) (filler : A) (xs : List A) → ltb limit (length xs) ≡ false → take (count_up_to limit xs) (padded limit filler xs) ≡ xs
+unfolding padded count_up_to
 padded_whole limit filler xs e =
     let l : length xs ≤ limit = ltb-false limit (length xs) e in
     let k : length xs ≡ min (length xs) (suc limit) = omega arith in
@@ -124,11 +124,11 @@ judged_cases (some l) = go (in_range l) refl (crowded l) refl (repeated l) refl
     go false p b q c r = no_line Fault.OutOfRange (rw p)
 
 -- what is answered of a line that is judged
-judged_answer : (rest : List ℕ) (l : PolicyLine) → answered rest (judge_line (some l)) ≡ with_rest rest (value_of (judge_line (some l)))
-unfolding answered with_rest value_of
+judged_answer : (rest : List ℕ) (l : PolicyLine) → line_result rest (judge_line (some l)) ≡ with_rest rest (value_of (judge_line (some l)))
+unfolding line_result with_rest value_of
 judged_answer rest l = go (judged_cases (some l))
   where
-    go : Judged (some l) → answered rest (judge_line (some l)) ≡ with_rest rest (value_of (judge_line (some l)))
+    go : Judged (some l) → line_result rest (judge_line (some l)) ≡ with_rest rest (value_of (judge_line (some l)))
     go (yes_line m p _ _ _ k) = rw k
     go (no_line f k) = rw k
 
@@ -165,39 +165,39 @@ module _ (text : List ℕ) where
   start = without_spaces text
 
   pub line_blank : is_empty (token_in start) ≡ true → line_read text ≡ Ok (None, without_end start)
-  unfolding line_read answered line_answer tokens_answer tokens_in
-  line_blank h = ap₂ (λ l ts. answered (without_end l) (tokens_answer ts)) (ended text h).line (ended text h).tokens
+  unfolding line_read line_result line_answer tokens_answer tokens_in
+  line_blank h = ap₂ (λ l ts. line_result (without_end l) (tokens_answer ts)) (ended text h).line (ended text h).tokens
 
   module _ (h : is_empty (token_in start) ≡ false) where
-    by_tokens : line_read text ≡ answered (without_end (behind_line start)) (cond (eqb (get_or start 0 0) 35) skipped (judge_line (line_from (tokens_in start))))
+    by_tokens : line_read text ≡ line_result (without_end (behind_line start)) (cond (eqb (get_or start 0 0) 35) skipped (judge_line (line_from (tokens_in start))))
     unfolding line_read line_answer tokens_in tokens_answer
     by_tokens =
-        ap₂ (λ l ts. answered (without_end l) (tokens_answer ts)) (sym (line_past_spaces text)) (sym (tokens_after_spaces text))
-        ∙ ap (λ ts. answered (without_end (behind_line start)) (tokens_answer ts)) (tokens_first start h)
-        ∙ ap₂ (λ b ts. answered (without_end (behind_line start)) (cond b skipped (judge_line (line_from ts)))) (comment_byte start h) (sym (tokens_first start h))
+        ap₂ (λ l ts. line_result (without_end l) (tokens_answer ts)) (sym (line_past_spaces text)) (sym (tokens_after_spaces text))
+        ∙ ap (λ ts. line_result (without_end (behind_line start)) (tokens_answer ts)) (tokens_first start h)
+        ∙ ap₂ (λ b ts. line_result (without_end (behind_line start)) (cond b skipped (judge_line (line_from ts)))) (comment_byte start h) (sym (tokens_first start h))
 
     pub line_comment : get_or start 0 0 ≡ 35 → line_read text ≡ Ok (None, without_end (behind_line start))
-    unfolding answered
+    unfolding line_result
     line_comment q = by_tokens ∙ rw (eq-eqb (get_or start 0 0) 35 q)
 
     module _ (q : eqb (get_or start 0 0) 35 ≡ false) where
-      line_other : line_read text ≡ answered (without_end (behind_line start)) (judge_line (line_from (tokens_in start)))
+      line_other : line_read text ≡ line_result (without_end (behind_line start)) (judge_line (line_from (tokens_in start)))
       line_other = by_tokens ∙ rw q
 
       pub line_misshapen : None ≡ line_outcome new_draft (behind_line start) (line_from (tokens_in start)) → line_read text ≡ Err Fault.Syntax
-      unfolding line_outcome judge_line answered
+      unfolding line_outcome judge_line line_result
       line_misshapen e = line_other ∙ go (line_from (tokens_in start)) e
         where
-          go : (o : Option PolicyLine) → None ≡ line_outcome new_draft (behind_line start) o → answered (without_end (behind_line start)) (judge_line o) ≡ Err Fault.Syntax
+          go : (o : Option PolicyLine) → None ≡ line_outcome new_draft (behind_line start) o → line_result (without_end (behind_line start)) (judge_line o) ≡ Err Fault.Syntax
           go none k = refl
           go (some l) k = cc
 
       module _ (d : Draft) (rest : List ℕ) (e : Some (d, rest) ≡ line_outcome new_draft (behind_line start) (line_from (tokens_in start))) where
         parted : (r : Result Line Fault) → judged d ≡ r → line_read text ≡ with_rest (without_end rest) r
-        unfolding line_outcome answered with_rest value_of
+        unfolding line_outcome line_result with_rest value_of
         parted r k = line_other ∙ go (line_from (tokens_in start)) e
           where
-            go : (o : Option PolicyLine) → Some (d, rest) ≡ line_outcome new_draft (behind_line start) o → answered (without_end (behind_line start)) (judge_line o) ≡ with_rest (without_end rest) r
+            go : (o : Option PolicyLine) → Some (d, rest) ≡ line_outcome new_draft (behind_line start) o → line_result (without_end (behind_line start)) (judge_line o) ≡ with_rest (without_end rest) r
             go none m = cc
             go (some l) m =
                 let p : (d, rest) ≡ (line_into new_draft l, behind_line start) = cc in

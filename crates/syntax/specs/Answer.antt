@@ -7,10 +7,10 @@ use Rattle.lexer.specs.Lines.{first_line, behind_line, without_end}
 use Rattle.syntax.specs.Judge.{LineAnswer, line_answer}
 
 -- the fault of a line, or its value, none where it is skipped, and the lines behind it
-unfoldable pub answered : List ℕ → LineAnswer → Result (Maybe Line × List ℕ) Fault
-answered rest LineAnswer.skipped = Ok (None, rest)
-answered rest (LineAnswer.refused f) = Err f
-answered rest (LineAnswer.accepted l) = Ok (Some (line_value l), rest)
+unfoldable pub line_result : List ℕ → LineAnswer → Result (Maybe Line × List ℕ) Fault
+line_result rest LineAnswer.skipped = Ok (None, rest)
+line_result rest (LineAnswer.refused f) = Err f
+line_result rest (LineAnswer.accepted l) = Ok (Some (line_value l), rest)
 
 -- the lines behind the first
 abbrev pub next_line : List ℕ → List ℕ
@@ -18,4 +18,4 @@ next_line text = without_end (behind_line text)
 
 -- the first line of a text
 unfoldable pub line_read : List ℕ → Result (Maybe Line × List ℕ) Fault
-line_read text = answered (next_line text) (line_answer (first_line text))
+line_read text = line_result (next_line text) (line_answer (first_line text))

@@ -143,8 +143,8 @@ part_of Operation.Member w k = LinePart.Head (Test.Member (action_from w))
 part_of Operation.Never w k = LinePart.Ending Ending.Never
 part_of Operation.Unknown w k = LinePart.Nothing
 
-unfoldable pub part_at : List ℕ → ℕ → LinePart
-part_at ws at = part_of (operation_of (get_or ws at 0)) (get_or ws at 0) (get_or ws (at + 1) 0)
+unfoldable pub line_part_at : List ℕ → ℕ → LinePart
+line_part_at ws at = part_of (operation_of (get_or ws at 0)) (get_or ws at 0) (get_or ws (at + 1) 0)
 
 -- how many constants follow the word
 unfoldable pub constants_of : LinePart → ℕ
@@ -171,8 +171,8 @@ with_part LinePart.Nothing l = l
 unfoldable pub with_words : Line → ℕ → List ℕ → Line
 with_words l k [] = l
 with_words l (suc k) (w ∷ ws) = with_words l k ws
-with_words l zero (w ∷ ws) = with_words (with_part (part_at (w ∷ ws) 0) l) (constants_of (part_at (w ∷ ws) 0)) ws
+with_words l zero (w ∷ ws) = with_words (with_part (line_part_at (w ∷ ws) 0) l) (constants_of (line_part_at (w ∷ ws) 0)) ws
 
 -- the line that words say
-abbrev pub line_from : List ℕ → Line
-line_from ws = with_words (line_of [] [] Ending.Never) 0 ws
+abbrev pub value_from : List ℕ → Line
+value_from ws = with_words (line_of [] [] Ending.Never) 0 ws

@@ -8,8 +8,7 @@ use Rattle.image.specs.Held.{policy_in}
 use Rattle.image.specs.Load.{load}
 use Rattle.image.specs.declared.load.Loaded.{Loaded}
 use Rattle.printer.specs.Printed.{text_of}
-use Rattle.report.specs.Report.{image_refusal_line, not_word_line}
-use Rattle.dump.specs.Dump.{next}
+use Rattle.report.specs.Report.{image_refusal_line, not_word_line, next_number}
 use Rattle.dump.specs.declared.state.State.{State}
 
 -- a state with the image's buffer
@@ -34,7 +33,7 @@ with_digit s d =
 
 -- one word more, of which so many are then held
 abbrev pub with_word : State → ℕ → State
-with_word s count = record { lines = next s.lines; words = count; digits = 0; value = 0; broken = false }
+with_word s count = record { lines = next_number s.lines; words = count; digits = 0; value = 0; broken = false }
 
 -- the open line has ended
 unfoldable pub line_ended : Held → Held
@@ -54,8 +53,8 @@ stepped h b =
     (cond (is_line_end b) (line_ended h) (held (digit_taken h.state (hex_value b)) h.image))
 
 -- the bytes of a chunk
-abbrev pub fed : Held → List ℕ → Held
-fed h chunk = fold stepped h chunk
+abbrev pub held_behind : Held → List ℕ → Held
+held_behind h chunk = fold stepped h chunk
 
 -- the input has ended: an open line has ended with it
 unfoldable pub closed : Held → Held
@@ -77,4 +76,4 @@ image_within room image = answer_within room (load image) (text_of (policy_in im
 
 -- the line behind those that were read is no word, or all are
 unfoldable pub finished : ℕ → Held → List ℕ
-finished room h = cond h.state.broken (not_word_line (next h.state.lines)) (image_within room (image_held h))
+finished room h = cond h.state.broken (not_word_line (next_number h.state.lines)) (image_within room (image_held h))

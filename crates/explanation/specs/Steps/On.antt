@@ -9,13 +9,13 @@ use Rattle.explanation.specs.Why.{on_action}
 use Rattle.explanation.specs.declared.why.Explained.{Explained}
 
 -- the epoch of a line: an empty one where the line is refused
-abbrev pub epoch_of : List ℕ → Epoch
-epoch_of line = epoch_in (epoch_read line)
+abbrev pub epoch_on : List ℕ → Epoch
+epoch_on line = epoch_in (epoch_read line)
 
 module _ (maker site line : List ℕ) (n : ℕ) where
   unfoldable pub on_decision : Decision → Explained
   on_decision (Decision.Refused r) = Explained.Refused r
-  on_decision (Decision.Issued actions) = on_action maker site actions.accepted actions.cancelled (epoch_of line) (check_action n)
+  on_decision (Decision.Issued actions) = on_action maker site actions.accepted actions.cancelled (epoch_on line) (check_action n)
 
   unfoldable pub explained_on : List ℕ → Explained
   explained_on image = on_decision (decision image line)

@@ -13,15 +13,15 @@ use Rattle.explanation.specs.declared.find.Search.{Search}
 use Rattle.explanation.specs.declared.find.Sought.{Sought}
 use Rattle.explanation.specs.declared.part.Shown.{Shown}
 
-abbrev pub readings_of : Sought → List ℤ → Readings
-readings_of q values = record { given = q.given; values = values }
+abbrev pub readings_sought : Sought → List ℤ → Readings
+readings_sought q values = record { given = q.given; values = values }
 
 -- whether the words of a line say that it is sought: a rule that proposes the action, or a constraint that holds on the set
 unfoldable pub tells : Part → Ending → Sought → List ℤ → List ℕ → Bool
-tells Part.Rules (Ending.Causes a) q values ws = has_action (run_rules (all_events q.events) (readings_of q values) ws) q.action
+tells Part.Rules (Ending.Causes a) q values ws = has_action (run_rules (all_events q.events) (readings_sought q values) ws) q.action
 tells Part.Rules Ending.Never q values ws = false
 tells Part.Constraints (Ending.Causes a) q values ws = false
-tells Part.Constraints Ending.Never q values ws = run_constraints (readings_of q values) q.set ws
+tells Part.Constraints Ending.Never q values ws = run_constraints (readings_sought q values) q.set ws
 
 -- the lines that are sought
 unfoldable pub sought_by : Sought → List ℤ → PolicyLine → Bool

@@ -1,6 +1,6 @@
 -- What an explainer hands out from here on.
 use Rattle.std.specs.Prelude.{◌≡◌, ℕ, List, ◌++◌, length, take}
-use Rattle.questions.specs.Answered.{next}
+use Rattle.report.specs.Report.{next_number}
 use Rattle.questions.specs.Steps.Asked.{answer_held}
 use Rattle.questions.specs.Steps.Held.{start_question, Held, held_by}
 use Rattle.questions.specs.Steps.Left.{answers_to_end, answers_so_far}
@@ -20,7 +20,7 @@ pub record IsAnswered (old new : Explainer) : Type 0 where
   pub maker : new.maker.now ≡ old.maker.now
   pub site : new.site.now ≡ old.site.now
   pub image : new.image.now ≡ old.image.now
-  pub number : new.number ≡ next old.number
+  pub number : new.number ≡ next_number old.number
   pub question : new.question ≡ start_question
   pub held : new.held ≡ old.held
   pub waits : take new.used new.out ≡ answer_held old.maker.now old.site.now old.image.now old.number (open_line old)

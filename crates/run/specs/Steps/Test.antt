@@ -5,13 +5,13 @@ use Rattle.policy.specs.Set.{ActionSet}
 use Rattle.policy.specs.declared.set.Events.{Events}
 use Rattle.operation.specs.Fields.{operation_of}
 use Rattle.operation.specs.declared.operation.Operation.{Operation}
-use Rattle.run.specs.Run.{constant_count, rule_test, proposing, constraint_test, ends_constraint, fetches_of}
+use Rattle.run.specs.Run.{constants_behind, rule_test, proposing, constraint_test, ends_constraint, fetches_of}
 use Rattle.run.specs.declared.constraints.Trial.{Trial}
 use Rattle.run.specs.declared.test.Tested.{Tested}
 
 -- the outcome of the test of an operation, whose word stands before the index `behind`
 abbrev pub tested : Bool → Operation → ℕ → Tested
-tested holds op behind = record { holds = holds; next = behind + constant_count op }
+tested holds op behind = record { holds = holds; next = behind + constants_behind op }
 
 -- the test of a word that asks for one, and so proposes nothing, with the word behind it, which has the index `behind`
 pub record IsTestIn (ev : Events) (rs : Readings) (w k behind : ℕ) (t : Tested) : Type 0 where
@@ -21,7 +21,7 @@ pub record IsTestIn (ev : Events) (rs : Readings) (w k behind : ℕ) (t : Tested
 -- a word that asks for no test, and has no constant
 pub record AsksNothing (ev : Events) (rs : Readings) (w k : ℕ) : Type 0 where
   pub holds : rule_test ev rs (operation_of w) w k ≡ true
-  pub alone : constant_count (operation_of w) ≡ 0
+  pub alone : constants_behind (operation_of w) ≡ 0
 
 -- the test of a word that ends no constraint, with the word behind it, which has the index `behind`
 pub record IsTestOf (rs : Readings) (s : ActionSet) (w k behind : ℕ) (t : Tested) : Type 0 where

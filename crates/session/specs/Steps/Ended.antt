@@ -4,9 +4,10 @@ use Rattle.std.proofs.Math.Option.{some}
 use Rattle.policy.specs.declared.mode.Mode.{Mode}
 use Rattle.lexer.specs.Lines.{lines_of}
 use Rattle.monitor.specs.Decision.{decision_in}
-use Rattle.session.specs.Printed.{with_epochs, printed_for, next, decision_line}
+use Rattle.session.specs.Printed.{with_epochs, printed_for, decision_line}
 use Rattle.session.specs.Steps.Owed.{current, left_in, owed, Good, Seen, Tracks}
 use Rattle.session.specs.declared.state.State.{State}
+use Rattle.report.specs.Report.{next_number}
 
 -- the text is complete, and epochs are decided in the mode; nothing is held
 pub record TextEnded (text : List ℕ) (mode : Mode) (s : State) (out : List ℕ) (r : State) (image' out' : List ℕ) : Type 0 where
@@ -17,12 +18,12 @@ pub record TextEnded (text : List ℕ) (mode : Mode) (s : State) (out : List ℕ
   -- the end of the input adds nothing
   pub quiet : (held : List ℕ) → left_in r.phase r held image' [] ≡ []
 
-abbrev pub decided_by : State → ℕ → State
-decided_by s used = record { phase = s.phase; mode = s.mode; start = 0; count = 0; epochs = next s.epochs; size = s.size; used = used }
+abbrev pub after_decision : State → ℕ → State
+after_decision s used = record { phase = s.phase; mode = s.mode; start = 0; count = 0; epochs = next_number s.epochs; size = s.size; used = used }
 
 -- the epoch line is complete
 pub record LineEnded (s : State) (held image out : List ℕ) (r : State) (out' : List ℕ) : Type 0 where
-  pub state : r ≡ decided_by s r.used
-  pub prints : take r.used out' ≡ take s.used out ++ decision_line (next s.epochs) (decision_in s.mode (take s.size image) (current s held))
+  pub state : r ≡ after_decision s r.used
+  pub prints : take r.used out' ≡ take s.used out ++ decision_line (next_number s.epochs) (decision_in s.mode (take s.size image) (current s held))
   pub out_long : length out' ≡ 65536
   pub used : r.used ≤ 65536

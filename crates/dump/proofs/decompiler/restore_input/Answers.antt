@@ -1,5 +1,5 @@
 use Rattle.std.proofs.Common.{◌≤◌, length, OnOk, IfErr, subst, arith}
-use Rattle.stream.specs.Machine.{AnswersAll, ListingEndsBy, nothing}
+use Rattle.stream.specs.Machine.{AnswersAll, ListingEndsBy, nothing_due}
 use Rattle.dump.proofs.Whole.{starts_restored}
 use Rattle.dump.proofs.decompiler.restore_input.Goals as goal
 
@@ -9,7 +9,7 @@ returns-clause-ok g c =
     let old = g.E.Ends.known c.args.ends.now in
     let new = g.E.Ends.known c.summarize.new.ends in
     let room : 13068 ≤ length d.image = omega arith in
-    subst (λ p. OnOk c.summarize.result (AnswersAll p nothing old new)) (starts_restored d.state d.image c.new-decompiler.ensures room) c.summarize.ensures.ok
+    subst (λ p. OnOk c.summarize.result (AnswersAll p nothing_due old new)) (starts_restored d.state d.image c.new-decompiler.ensures room) c.summarize.ensures.ok
 
 pub returns-clause-err : goal.returns-clause-err
 returns-clause-err g c =

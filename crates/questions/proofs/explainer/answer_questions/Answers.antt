@@ -1,6 +1,6 @@
 use Rattle.std.proofs.Common.{refl, sym, subst, OnOk, IfErr, arith, length-take-le}
 use Rattle.stream.specs.Machine.{AnswersAll, EndsBy}
-use Rattle.questions.specs.Answered.{answered}
+use Rattle.questions.specs.Answered.{answers_printed}
 use Rattle.questions.specs.Steps.Explainer.{given_of}
 use Rattle.questions.specs.Run.{AnswersTexts, QuestionsEndBy}
 use Rattle.questions.proofs.Room.{accepted-short}
@@ -60,7 +60,7 @@ returns-in-Image-clause-ok g c =
     let old = g.E.Ends.known c.args.ends.now in
     let new = g.E.Ends.known c.converse.new.ends in
     subst (λ s. OnOk c.converse.result (AnswersTexts s maker site old new)) (sym read.read)
-    (subst (λ d. OnOk c.converse.result (AnswersAll (answered maker site) d old new)) (start_due maker site _ _ read.read e _ c.new-explainer.ensures read.image)
+    (subst (λ d. OnOk c.converse.result (AnswersAll (answers_printed maker site) d old new)) (start_due maker site _ _ read.read e _ c.new-explainer.ensures read.image)
     (subst (λ p. OnOk c.converse.result (AnswersAll p (given_of e) old new)) (start_answered maker site _ _ read.read e _ c.new-explainer.ensures read.image) c.converse.ensures.ok))
 
 pub returns-in-Image-clause-err : goal.returns-in-Image-clause-err
@@ -73,5 +73,5 @@ returns-in-Image-clause-err g c =
     let old = g.E.Ends.known c.args.ends.now in
     let new = g.E.Ends.known c.converse.new.ends in
     subst (λ s. IfErr c.converse.result (λ f. QuestionsEndBy f s maker site old new)) (sym read.read)
-    (subst (λ d. IfErr c.converse.result (λ f. EndsBy f d (answered maker site) old new)) (start_due maker site _ _ read.read e _ c.new-explainer.ensures read.image)
+    (subst (λ d. IfErr c.converse.result (λ f. EndsBy f d (answers_printed maker site) old new)) (start_due maker site _ _ read.read e _ c.new-explainer.ensures read.image)
     (subst (λ p. IfErr c.converse.result (λ f. EndsBy f (given_of e) p old new)) (start_answered maker site _ _ read.read e _ c.new-explainer.ensures read.image) c.converse.ensures.err))
