@@ -41,7 +41,7 @@ stays r (l ∷ ls) = stays r ls
 module _ (n : ℕ) (p : Policy) (l : List ℕ) where
   here_taken : (q : Policy) → Takes p l q → read_next_line (reading n p) l ≡ reading (suc n) q
   unfolding read_next_line advance
-  here_taken q (Takes.skips s) = ap (advance n p) (skipped_answer l s)
+  here_taken q (Takes.passed s) = ap (advance n p) (skipped_answer l s)
   here_taken q (Takes.one_rule r a k) = ap (advance n p) (accepted_answer l (rule r) a) ∙ rw (lt-ltb _ _ k) refl
   here_taken q (Takes.one_constraint c a k) = ap (advance n p) (accepted_answer l (constraint c) a) ∙ rw (lt-ltb _ _ k) refl
 
@@ -56,14 +56,14 @@ here : (p : Policy) (l : List ℕ) → ((q : Policy) × Takes p l q) ⊎ ((f : F
 here p l = go (kinds l)
   where
     go : Kinds l → ((q : Policy) × Takes p l q) ⊎ ((f : Fault) × LineFault p l f)
-    go (Kinds.is_skipped s) = inl (p, Takes.skips s)
-    go (Kinds.is_refused f r) = inr (f, LineFault.own f r)
-    go (Kinds.is_accepted (rule r) a) = room (ltb (length p.rules) rule_limit) refl
+    go (Kinds.skips s) = inl (p, Takes.passed s)
+    go (Kinds.refuses f r) = inr (f, LineFault.own f r)
+    go (Kinds.accepts (rule r) a) = room (ltb (length p.rules) rule_limit) refl
       where
         room : (b : Bool) → ltb (length p.rules) rule_limit ≡ b → ((q : Policy) × Takes p l q) ⊎ ((f : Fault) × LineFault p l f)
         room true e = inl (with_rule p r, Takes.one_rule r a (ltb-true _ _ e))
         room false e = inr (Fault.TooManyLines, LineFault.one_rule_more r a (ltb-false _ _ e))
-    go (Kinds.is_accepted (constraint c) a) = room (ltb (length p.constraints) constraint_limit) refl
+    go (Kinds.accepts (constraint c) a) = room (ltb (length p.constraints) constraint_limit) refl
       where
         room : (b : Bool) → ltb (length p.constraints) constraint_limit ≡ b → ((q : Policy) × Takes p l q) ⊎ ((f : Fault) × LineFault p l f)
         room true e = inl (with_constraint p c, Takes.one_constraint c a (ltb-true _ _ e))

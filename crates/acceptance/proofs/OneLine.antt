@@ -12,7 +12,7 @@ use Rattle.syntax.specs.Grammar.{line_from}
 use Rattle.syntax.specs.Judge.{LineAnswer, skipped, refused, accepted, judge_line, tokens_answer, line_answer}
 use Rattle.acceptance.proofs.Accepted.{accepted_valid}
 use Rattle.acceptance.proofs.Written.{line_in, line_read}
-use Rattle.acceptance.specs.OneLine.{no_line, LineSkipped, LineAccepted, LineRefused}
+use Rattle.acceptance.specs.OneLine.{is_skipped, LineSkipped, LineAccepted, LineRefused}
 use Rattle.acceptance.specs.Written.{IsWritten}
 
 -- a number for each kind of answer, so that no two are one
@@ -40,10 +40,10 @@ module _ (line : List ℕ) where
   -- ---- back: from what is written to the answer
 
   pub skipped_answer : LineSkipped line → line_answer line ≡ skipped
-  unfolding line_answer tokens_answer no_line
+  unfolding line_answer tokens_answer is_skipped
   skipped_answer h = go (tokens_of line) h
     where
-      go : (ts : List Token) → no_line ts ≡ true → tokens_answer ts ≡ skipped
+      go : (ts : List Token) → is_skipped ts ≡ true → tokens_answer ts ≡ skipped
       go [] k = refl
       go (t ∷ ts) k = rw k refl
 
@@ -65,11 +65,11 @@ module _ (line : List ℕ) where
     written : (l : PolicyLine) → o ≡ some l → IsWritten line l
     only : (l : PolicyLine) → IsWritten line l → o ≡ some l
 
-  read : no_line (tokens_of line) ≡ false → (o : Option PolicyLine) × Read o
-  unfolding line_answer tokens_answer no_line
+  read : is_skipped (tokens_of line) ≡ false → (o : Option PolicyLine) × Read o
+  unfolding line_answer tokens_answer is_skipped
   read h = go (tokens_of line) refl h
     where
-      go : (ts : List Token) → tokens_of line ≡ ts → no_line ts ≡ false → (o : Option PolicyLine) × Read o
+      go : (ts : List Token) → tokens_of line ≡ ts → is_skipped ts ≡ false → (o : Option PolicyLine) × Read o
       go [] e k = absurd (true_false refl k)
       go (t ∷ ts) e k = (
         line_from (t ∷ ts),
@@ -94,27 +94,27 @@ module _ (line : List ℕ) where
   -- ---- there: each line is one of the three
 
   pub data Kinds : Type 0 where
-    is_skipped : LineSkipped line → Kinds
-    is_accepted : (l : PolicyLine) → LineAccepted line l → Kinds
-    is_refused : (f : Fault) → LineRefused line f → Kinds
+    skips : LineSkipped line → Kinds
+    accepts : (l : PolicyLine) → LineAccepted line l → Kinds
+    refuses : (f : Fault) → LineRefused line f → Kinds
 
   pub kinds : Kinds
   unfolding judge_line
-  kinds = go (no_line (tokens_of line)) refl
+  kinds = go (is_skipped (tokens_of line)) refl
     where
       of_line : (l : PolicyLine) → IsWritten line l → (r c d : Bool) → in_range l ≡ r → crowded l ≡ c → repeated l ≡ d → Kinds
-      of_line l w false c d p q s = is_refused Fault.OutOfRange (LineRefused.out_of_range l w p)
-      of_line l w true true d p q s = is_refused Fault.TooManyParts (LineRefused.too_many l w p q)
-      of_line l w true false true p q s = is_refused Fault.Duplicate (LineRefused.twice l w p q s)
+      of_line l w false c d p q s = refuses Fault.OutOfRange (LineRefused.out_of_range l w p)
+      of_line l w true true d p q s = refuses Fault.TooManyParts (LineRefused.too_many l w p q)
+      of_line l w true false true p q s = refuses Fault.Duplicate (LineRefused.twice l w p q s)
       of_line l w true false false p q s =
-          is_accepted l (record { written = w; valid = accepted_valid line l (written_answer l w ∙ rw (p, q, s) refl) })
+          accepts l (record { written = w; valid = accepted_valid line l (written_answer l w ∙ rw (p, q, s) refl) })
 
-      shaped : no_line (tokens_of line) ≡ false → (o : Option PolicyLine) × Read o → Kinds
-      shaped h (none, r) = is_refused Fault.Syntax (LineRefused.wrong_shape h (λ l w. let n : ◌≡◌ {A = Option PolicyLine} none (some l) = r.only l w in let z : ◌≡◌ {A = ℕ} 0 1 = cc in omega arith))
+      shaped : is_skipped (tokens_of line) ≡ false → (o : Option PolicyLine) × Read o → Kinds
+      shaped h (none, r) = refuses Fault.Syntax (LineRefused.wrong_shape h (λ l w. let n : ◌≡◌ {A = Option PolicyLine} none (some l) = r.only l w in let z : ◌≡◌ {A = ℕ} 0 1 = cc in omega arith))
       shaped h (some l, r) = of_line l (r.written l refl) (in_range l) (crowded l) (repeated l) refl refl refl
 
-      go : (b : Bool) → no_line (tokens_of line) ≡ b → Kinds
-      go true h = is_skipped h
+      go : (b : Bool) → is_skipped (tokens_of line) ≡ b → Kinds
+      go true h = skips h
       go false h = shaped h (read h)
 
   -- ---- exactly
@@ -126,22 +126,22 @@ module _ (line : List ℕ) where
   line_refused_exactly f = (λ h. go kinds h, refused_answer f)
     where
       go : Kinds → line_answer line ≡ refused f → LineRefused line f
-      go (is_skipped s) h = differ skipped (refused f) (skipped_answer s) h refl
-      go (is_accepted l a) h = differ (refused f) (accepted l) h (accepted_answer l a) refl
-      go (is_refused g r) h = subst (LineRefused line) (ap (fault_or f) (sym (refused_answer g r) ∙ h)) r
+      go (skips s) h = differ skipped (refused f) (skipped_answer s) h refl
+      go (accepts l a) h = differ (refused f) (accepted l) h (accepted_answer l a) refl
+      go (refuses g r) h = subst (LineRefused line) (ap (fault_or f) (sym (refused_answer g r) ∙ h)) r
 
   pub line_accepted_exactly : (l : PolicyLine) → (line_answer line ≡ accepted l) ↔ LineAccepted line l
   line_accepted_exactly l = (λ h. go kinds h, accepted_answer l)
     where
       go : Kinds → line_answer line ≡ accepted l → LineAccepted line l
-      go (is_skipped s) h = differ skipped (accepted l) (skipped_answer s) h refl
-      go (is_accepted m a) h = subst (LineAccepted line) (ap (line_or l) (sym (accepted_answer m a) ∙ h)) a
-      go (is_refused f r) h = differ (refused f) (accepted l) (refused_answer f r) h refl
+      go (skips s) h = differ skipped (accepted l) (skipped_answer s) h refl
+      go (accepts m a) h = subst (LineAccepted line) (ap (line_or l) (sym (accepted_answer m a) ∙ h)) a
+      go (refuses f r) h = differ (refused f) (accepted l) (refused_answer f r) h refl
 
   pub line_skipped_exactly : (line_answer line ≡ skipped) ↔ LineSkipped line
   line_skipped_exactly = (λ h. go kinds h, skipped_answer)
     where
       go : Kinds → line_answer line ≡ skipped → LineSkipped line
-      go (is_skipped s) h = s
-      go (is_accepted l a) h = differ skipped (accepted l) h (accepted_answer l a) refl
-      go (is_refused f r) h = differ skipped (refused f) h (refused_answer f r) refl
+      go (skips s) h = s
+      go (accepts l a) h = differ skipped (accepted l) h (accepted_answer l a) refl
+      go (refuses f r) h = differ skipped (refused f) h (refused_answer f r) refl

@@ -28,7 +28,7 @@ use Rattle.acceptance.proofs.FirstFault.{epoch_refused_exactly}
 use Rattle.acceptance.proofs.OneLine.{refused_answer}
 use Rattle.acceptance.proofs.Patterns.{bare_prefix, other_byte, wide_comparison, wide_value}
 use Rattle.acceptance.specs.FirstFault.{EpochFault}
-use Rattle.acceptance.specs.OneLine.{no_line, LineRefused}
+use Rattle.acceptance.specs.OneLine.{is_skipped, LineRefused}
 use Rattle.acceptance.specs.Patterns.{prefixed}
 use Rattle.acceptance.specs.Written.{AreJoined, AreComparisons, AreCondition, IsRule, IsConstraint, IsLine, IsWritten}
 
@@ -142,7 +142,7 @@ module _ (ds : List ℕ) where
     stands : (l : PolicyLine) → IsWritten line l → Stands (comparisons_of l)
     stands l w = in_line (w.first ∷ w.others) l w.written (subst (Memᴰ token) w.tokens m)
 
-    pub bare_prefix_refused : (ds ≡ []) ⊎ (all is_hex_digit ds ≡ false) → no_line (tokens_of line) ≡ false → line_answer line ≡ refused Fault.Syntax
+    pub bare_prefix_refused : (ds ≡ []) ⊎ (all is_hex_digit ds ≡ false) → is_skipped (tokens_of line) ≡ false → line_answer line ≡ refused Fault.Syntax
     unfolding operand_of reading_of named or_else bytes comparison_of
     bare_prefix_refused b h = refused_answer line Fault.Syntax (LineRefused.wrong_shape h (λ l w. nowhere (stands l w)))
       where

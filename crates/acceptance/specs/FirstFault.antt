@@ -18,7 +18,7 @@ use Rattle.acceptance.specs.OneLine.{LineSkipped, LineAccepted, LineRefused}
 -- a line that can stand behind those of a policy, and the policy with it: a skipped one adds nothing, an accepted one comes last of its kind, if there
 -- is room for one more
 pub data Takes (p : Policy) (line : List ℕ) : Policy → Type 0 where
-  skips : LineSkipped line → Takes p line p
+  passed : LineSkipped line → Takes p line p
   one_rule : (r : Rule) → LineAccepted line (rule r) → length p.rules < rule_limit → Takes p line (with_rule p r)
   one_constraint : (c : Constraint) → LineAccepted line (constraint c) → length p.constraints < constraint_limit → Takes p line (with_constraint p c)
 

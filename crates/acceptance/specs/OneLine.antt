@@ -9,12 +9,12 @@ use Rattle.syntax.specs.Judge.{is_comment}
 use Rattle.acceptance.specs.Written.{IsWritten}
 
 -- no token, or the first begins with `#`
-unfoldable pub no_line : List Token → Bool
-no_line [] = true
-no_line (t ∷ ts) = is_comment t
+unfoldable pub is_skipped : List Token → Bool
+is_skipped [] = true
+is_skipped (t ∷ ts) = is_comment t
 
 abbrev pub LineSkipped : List ℕ → Type 0
-LineSkipped line = no_line (tokens_of line) ≡ true
+LineSkipped line = is_skipped (tokens_of line) ≡ true
 
 -- written as that line, its numbers in range, not too many parts, and none twice
 pub record LineAccepted (line : List ℕ) (l : PolicyLine) : Type 0 where
@@ -23,7 +23,7 @@ pub record LineAccepted (line : List ℕ) (l : PolicyLine) : Type 0 where
 
 -- the faults in their order: each stands behind those before it
 pub data LineRefused (line : List ℕ) : Fault → Type 0 where
-  wrong_shape : no_line (tokens_of line) ≡ false → ((l : PolicyLine) → ¬ IsWritten line l) → LineRefused line Fault.Syntax
+  wrong_shape : is_skipped (tokens_of line) ≡ false → ((l : PolicyLine) → ¬ IsWritten line l) → LineRefused line Fault.Syntax
   -- an event or an action past 63, a reading past 15, a constant that is no value of 32 bits or has more than eight hexadecimal digits
   out_of_range : (l : PolicyLine) → IsWritten line l → in_range l ≡ false → LineRefused line Fault.OutOfRange
   -- more than eight literals or actions, or more than four comparisons

@@ -14,19 +14,13 @@ use Rattle.syntax.specs.Judge.{is_comment}
 unfoldable pub AreJoined : {A : Type 0} → (Token → Option A) → List Token → List A → Type 0
 AreJoined item (t ∷ []) (x ∷ []) = item t ≡ some x
 AreJoined item (t ∷ s ∷ ts) (x ∷ xs) = (item t ≡ some x) × (is "&" s ≡ true) × AreJoined item ts xs
-AreJoined item (t ∷ []) (x ∷ y ∷ xs) = ⊥
-AreJoined item (t ∷ ts) [] = ⊥
-AreJoined item [] xs = ⊥
+AreJoined _ _ _ = ⊥
 
 -- one or more comparisons of three tokens each, joined by `,`
 unfoldable pub AreComparisons : List Token → List Comparison → Type 0
 AreComparisons (r ∷ relation ∷ o ∷ []) (c ∷ []) = comparison_of r relation o ≡ some c
 AreComparisons (r ∷ relation ∷ o ∷ s ∷ ts) (c ∷ cs) = (comparison_of r relation o ≡ some c) × (is "," s ≡ true) × AreComparisons ts cs
-AreComparisons (r ∷ relation ∷ o ∷ []) (c ∷ d ∷ cs) = ⊥
-AreComparisons (r ∷ relation ∷ o ∷ ts) [] = ⊥
-AreComparisons (r ∷ relation ∷ []) cs = ⊥
-AreComparisons (r ∷ []) cs = ⊥
-AreComparisons [] cs = ⊥
+AreComparisons _ _ = ⊥
 
 -- `if` and comparisons, or nothing
 unfoldable pub AreCondition : List Token → List Comparison → Type 0

@@ -1,15 +1,18 @@
 //! Laws of what the loader takes and refuses, by the lines whose words stand in the bytes.
 
-ghost use Rattle.std.specs.Prelude.{List, ℕ, ◌↔◌, ◌≡◌};
+ghost use Rattle.std.specs.Prelude.{List, ℕ, ◌+◌, ◌∷◌, ◌↔◌, ◌≡◌, length, drop};
 ghost use Rattle.std.proofs.Math.Option.{some};
 ghost use Rattle.word.specs.Word.{Bytes};
 ghost use Rattle.policy.specs.Line.{PolicyLine};
 ghost use Rattle.policy.specs.declared.fault.Refusal.{Refusal};
 ghost use Rattle.policy.specs.declared.line.Part.{Part};
+ghost use Rattle.line_value.specs.Value.{line_value};
+ghost use Rattle.layout.specs.Layout.{line_words};
 ghost use Rattle.decode.specs.Stands.{Stands, AreLines};
 ghost use Rattle.decode.specs.Decode.{line_at};
 ghost use Rattle.image.specs.Lines.{whole, fault, lines_from};
 ghost use Rattle.image.specs.Load.{load};
+ghost use Rattle.image.specs.Walk.{lines_left};
 ghost use Rattle.image.specs.declared.load.Loaded.{Loaded};
 ghost use Rattle.exactness.specs.ImageFault.{ImageFault, NoLineAt};
 ghost use Rattle.guarantees.specs.Claims.{SomeText};
@@ -47,4 +50,9 @@ pub fn part_whole_exactly()
 /// A location in a part is told exactly if there are whole lines up to it and none fits there.
 pub fn part_fault_exactly()
     ensures { (part : Part) (room from : ℕ) (words : List ℕ) (location : ℕ) → (lines_from part room from words ≡ fault location) ↔ NoLineAt part room from words location }
+{}
+
+/// Going over words, where a line of either part stands its value comes first, and then what comes from behind its words on.
+pub fn standing_given()
+    ensures { (part : Part) (words : List ℕ) (at : ℕ) (line : PolicyLine) → Stands part (drop at words) line → lines_left words at ≡ line_value line ∷ lines_left words (at + length (line_words line)) }
 {}

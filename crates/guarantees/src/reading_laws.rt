@@ -23,7 +23,7 @@ ghost use Rattle.rule_text.specs.Text.{stopped, read_texts, policy_of, policy_of
 ghost use Rattle.epoch_line.specs.Epoch.{Item, value, at_equals, items_of, given_by, epoch_limit, refused, accepted, read_epoch};
 ghost use Rattle.acceptance.specs.FirstFault.{TextAccepted, TextsFault, EpochFault};
 ghost use Rattle.acceptance.specs.Named.{named_by};
-ghost use Rattle.acceptance.specs.OneLine.{no_line, LineSkipped, LineAccepted, LineRefused};
+ghost use Rattle.acceptance.specs.OneLine.{is_skipped, LineSkipped, LineAccepted, LineRefused};
 ghost use Rattle.acceptance.specs.Texts.{Joint};
 ghost use Rattle.acceptance.specs.Written.{IsLine, IsWritten};
 ghost use Rattle.acceptance.specs.Patterns.{prefixed, IsPattern, HasWord, Hexadecimal};
@@ -48,7 +48,8 @@ pub fn line_skipped_exactly()
     ensures { (line : List ℕ) → (line_answer line ≡ Judge.skipped) ↔ LineSkipped line }
 {}
 
-/// A line that has a constant of more than eight hexadecimal digits is refused for a number out of range, whatever else it has.
+/// A line that is written right, with a comparison with a constant of more than eight hexadecimal digits, is refused for a number out of range, whatever else
+/// it has.
 pub fn wide_constant_refused()
     ensures { (line : List ℕ) (l : PolicyLine) → IsWritten line l → (ds : List ℕ) → all is_hex_digit ds ≡ true → pattern_digits < length ds → (r q : Token) (c : Comparison) → comparison_of r q (prefixed ds) ≡ some c → (before after : List Comparison) → comparisons_of l ≡ before ++ c ∷ after → line_answer line ≡ Judge.refused Fault.OutOfRange }
 {}
@@ -60,7 +61,7 @@ pub fn wide_token_refused()
 
 /// A line that has, at any place, the token `0x`, or one of `0x` and bytes of which some one is no hexadecimal digit, has a wrong shape, unless it is skipped.
 pub fn bare_prefix_refused()
-    ensures { (ds line : List ℕ) → Memᴰ (prefixed ds) (tokens_of line) → (ds ≡ []) ⊎ (all is_hex_digit ds ≡ false) → no_line (tokens_of line) ≡ false → line_answer line ≡ Judge.refused Fault.Syntax }
+    ensures { (ds line : List ℕ) → Memᴰ (prefixed ds) (tokens_of line) → (ds ≡ []) ⊎ (all is_hex_digit ds ≡ false) → is_skipped (tokens_of line) ≡ false → line_answer line ≡ Judge.refused Fault.Syntax }
 {}
 
 /// One to eight hexadecimal digits behind `0x` are the constant whose word of 32 bits in two's complement they are.

@@ -4,6 +4,7 @@ use Rattle.policy.proofs.ListLaws.{and_out}
 use Rattle.policy.specs.Limits.{valid}
 use Rattle.policy.specs.Line.{PolicyLine}
 use Rattle.policy.specs.List.{all}
+use Rattle.policy.specs.declared.line.Part.{Part}
 use Rattle.line_value.specs.Value.{line_value}
 use Rattle.line_value.specs.declared.Line.{Line}
 use Rattle.word.proofs.ChunkLaws.{words_in_length}
@@ -12,6 +13,7 @@ use Rattle.operation.specs.Fields.{skip_of}
 use Rattle.layout.specs.Layout.{line_words, lines_words}
 use Rattle.decode.proofs.FoundLaws.{line_some}
 use Rattle.decode.proofs.ReadLaws.{line_from_is, first_skip}
+use Rattle.decode.specs.Stands.{Stands}
 use Rattle.decode.specs.Steps.Scan.{value_from}
 use Rattle.image.specs.Walk.{values_behind, lines_left, told_length}
 
@@ -54,6 +56,10 @@ line_given ws at l rest e v =
     ∙ ap (λ (k : ℕ). value_from (take k (line_words l ++ rest)) ∷ values_behind 0 (drop k (line_words l ++ rest))) told
     ∙ ap₂ (λ (x : Line) (xs : List Line). x ∷ xs) (ap value_from (take_at (line_words l) rest (length (line_words l)) refl) ∙ line_from_is l v)
     (ap (λ (xs : List ℕ). values_behind 0 (drop (length (line_words l)) xs)) (sym e) ∙ ap (values_behind 0) (drop-drop (length (line_words l)) at ws))
+
+-- the same of a line that stands there
+pub standing_given : (part : Part) (ws : List ℕ) (at : ℕ) (l : PolicyLine) → Stands part (drop at ws) l → lines_left ws at ≡ line_value l ∷ lines_left ws (at + length (line_words l))
+standing_given part ws at l s = line_given ws at l (drop (length (line_words l)) (drop at ws)) s.words s.sound
 
 pub lines_given : (ls : List PolicyLine) → all valid ls ≡ true → values_behind 0 (lines_words ls) ≡ map line_value ls
 unfolding lines_words all values_behind

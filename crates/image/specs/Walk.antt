@@ -1,5 +1,6 @@
 -- Going over an image from line to line. Nothing is checked, so that what comes is defined on any words: the skip of a line's first word
--- tells where the line ends. On the words of valid lines their values come (`line_given` in proofs/ValueLaws.antt).
+-- tells where the line ends. Where a line stands its value comes, as a law says (`standing_given` in guarantees), so that `value_from` and
+-- `told_length` need not be believed for images that are taken.
 use Rattle.std.specs.Prelude.{ℕ, zero, suc, ◌+◌, min, List, [], ◌∷◌, ◌≡◌, MatchOption, length, get_or, take, drop}
 use Rattle.std.specs.Iterator.{YieldsFirst}
 use Rattle.std.specs.declared.option.Option.{Option}

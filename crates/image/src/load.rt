@@ -15,6 +15,9 @@ use layout::{constraint_words_of, form_of, rule_words_of, sum_words};
 use policy::{CONSTRAINT_LIMIT, Fault, Part, RULE_LIMIT, Refusal};
 use word::{nth_word_or_zero, part, words};
 
+// The only form.
+const FORM: u32 = 1;
+
 // Words of the rules: 128 lines of 17 words, which are eight heads, four comparisons with constants and the ending.
 const RULE_WORD_LIMIT: usize = 2176;
 
@@ -116,7 +119,7 @@ pub fn load_image(image: &[u8]) -> Loaded
     let words = words(image);
     let header = nth_word_or_zero(words, 0);
     let form = form_of(header);
-    if form != 1 {
+    if form != FORM {
         return Loaded::Refused(Fault::ImageForm.at(0));
     }
     let rule_words = rule_words_of(header) as usize;

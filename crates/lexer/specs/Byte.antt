@@ -12,9 +12,8 @@ bytes (String.◌∷◌ c s) = code c ∷ bytes s
 
 unfoldable pub bytes_equal : List ℕ → List ℕ → Bool
 bytes_equal [] [] = true
-bytes_equal [] (y ∷ ys) = false
-bytes_equal (x ∷ xs) [] = false
 bytes_equal (x ∷ xs) (y ∷ ys) = eqb x y && bytes_equal xs ys
+bytes_equal _ _ = false
 
 -- the bytes are those of the keyword
 unfoldable pub is : String → List ℕ → Bool

@@ -26,9 +26,8 @@ positive none = none
 positive (some n) = some (pos n)
 
 unfoldable pub negative : Option ℕ → Option ℤ
-negative none = none
-negative (some zero) = none
 negative (some (suc n)) = some (negsuc n)
+negative _ = none
 
 -- a decimal constant may have a minus before a number other than 0
 unfoldable pub decimal_of : List ℕ → Option ℤ
@@ -57,9 +56,8 @@ pattern_of (d ∷ ds) =
 
 -- `0x` and such digits
 unfoldable pub hexadecimal_of : List ℕ → Option ℤ
-hexadecimal_of [] = none
-hexadecimal_of (z ∷ []) = none
 hexadecimal_of (z ∷ x ∷ ds) = cond (eqb z (code "0") && eqb x (code "x")) (pattern_of ds) none
+hexadecimal_of _ = none
 
 -- a constant of a text, or the value of a reading in an epoch line
 unfoldable pub constant_of : List ℕ → Option ℤ

@@ -54,19 +54,16 @@ operand_of t = or_else (map Operand.Reading (reading_of t)) (map Operand.Constan
 
 module _ {A B C : Type 0} where
   unfoldable pub both : (A → B → C) → Option A → Option B → Option C
-  both f none y = none
-  both f (some x) none = none
   both f (some x) (some y) = some (f x y)
+  both _ _ _ = none
 
 abbrev pub compare : Reading → Relation → Operand → Comparison
 compare reading relation operand = record { reading = reading; relation = relation; operand = operand }
 
 -- where all three are there
 abbrev pub comparison_by : Option Reading → Option Relation → Option Operand → Option Comparison
-comparison_by none relation operand = none
-comparison_by (some reading) none operand = none
-comparison_by (some reading) (some relation) none = none
 comparison_by (some reading) (some relation) (some operand) = some (compare reading relation operand)
+comparison_by _ _ _ = none
 
 -- a reading, a relation and an operand
 unfoldable pub comparison_of : Token → Token → Token → Option Comparison

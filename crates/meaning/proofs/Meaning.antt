@@ -138,7 +138,7 @@ module _ (ev : Events) (rs : Readings) where
     rules_reading w ws o = quiet s w ws Operation.AgainstReading o refl refl
 
     rules_ends : (a : Action) → a.0 < 64 → (ws : List ℕ) → more s 0 (ending_word (Ending.Causes a) ∷ ws) ≡ more (insert_action s a) 0 ws
-    unfolding rule_test proposes_at
+    unfolding rule_test proposes_at comparison_test
     rules_ends a h ws =
         ap (fold proposing s) (ran_other (rule_test ev rs) (ending_word (Ending.Causes a)) ws Operation.Proposes (causes_operation a h) refl)
         ∙ ap (λ (x : ActionSet). more x 0 ws) (ap (λ (p : Operation). proposes_at p (ending_word (Ending.Causes a)) s) (causes_operation a h) ∙ ap (insert_action s) (causes_action a h))

@@ -15,13 +15,7 @@ use Rattle.operation.specs.declared.operation.Operation.{Operation}
 -- a comparison with a constant has it in the word behind
 abbrev pub constants_behind : Operation → ℕ
 constants_behind Operation.AgainstConstant = 1
-constants_behind Operation.AgainstReading = 0
-constants_behind Operation.Present = 0
-constants_behind Operation.Absent = 0
-constants_behind Operation.Proposes = 0
-constants_behind Operation.Member = 0
-constants_behind Operation.Never = 0
-constants_behind Operation.Unknown = 0
+constants_behind _ = 0
 
 -- how many of the words behind a word are passed over: its constant always; "a test that fails passes over `skip` further words"
 abbrev pub passes : Bool → Operation → ℕ → ℕ
@@ -41,46 +35,24 @@ module _ (test : Operation → ℕ → ℕ → Bool) where
 unfoldable pub comparison_test : Part → Readings → Operation → ℕ → ℕ → Bool
 comparison_test part rs Operation.AgainstConstant w k = comparison_holds part rs (constant_comparison w k)
 comparison_test part rs Operation.AgainstReading w k = comparison_holds part rs (reading_comparison w)
-comparison_test part rs Operation.Present w k = true
-comparison_test part rs Operation.Absent w k = true
-comparison_test part rs Operation.Proposes w k = true
-comparison_test part rs Operation.Member w k = true
-comparison_test part rs Operation.Never w k = true
-comparison_test part rs Operation.Unknown w k = true
+comparison_test _ _ _ _ _ = true
 
--- in the rule part
+-- in the rule part: an event present or absent, or a comparison
 unfoldable pub rule_test : Events → Readings → Operation → ℕ → ℕ → Bool
 rule_test ev rs Operation.Present w k = has_event ev.present (event_from w)
 rule_test ev rs Operation.Absent w k = not (has_event ev.occurred (event_from w))
-rule_test ev rs Operation.AgainstConstant w k = comparison_test Part.Rules rs Operation.AgainstConstant w k
-rule_test ev rs Operation.AgainstReading w k = comparison_test Part.Rules rs Operation.AgainstReading w k
-rule_test ev rs Operation.Proposes w k = true
-rule_test ev rs Operation.Member w k = true
-rule_test ev rs Operation.Never w k = true
-rule_test ev rs Operation.Unknown w k = true
+rule_test ev rs op w k = comparison_test Part.Rules rs op w k
 
--- in the constraint part
+-- in the constraint part: an action in the set, or a comparison
 unfoldable pub constraint_test : Readings → ActionSet → Operation → ℕ → ℕ → Bool
 constraint_test rs s Operation.Member w k = has_action s (action_from w)
-constraint_test rs s Operation.AgainstConstant w k = comparison_test Part.Constraints rs Operation.AgainstConstant w k
-constraint_test rs s Operation.AgainstReading w k = comparison_test Part.Constraints rs Operation.AgainstReading w k
-constraint_test rs s Operation.Present w k = true
-constraint_test rs s Operation.Absent w k = true
-constraint_test rs s Operation.Proposes w k = true
-constraint_test rs s Operation.Never w k = true
-constraint_test rs s Operation.Unknown w k = true
+constraint_test rs s op w k = comparison_test Part.Constraints rs op w k
 
 -- ---- what the run of a part yields
 
 unfoldable pub proposes_at : Operation → ℕ → ActionSet → ActionSet
 proposes_at Operation.Proposes w s = insert_action s (action_from w)
-proposes_at Operation.Present w s = s
-proposes_at Operation.Absent w s = s
-proposes_at Operation.AgainstConstant w s = s
-proposes_at Operation.AgainstReading w s = s
-proposes_at Operation.Member w s = s
-proposes_at Operation.Never w s = s
-proposes_at Operation.Unknown w s = s
+proposes_at _ _ s = s
 
 abbrev pub proposing : ActionSet → ℕ → ActionSet
 proposing s w = proposes_at (operation_of w) w s
@@ -91,13 +63,7 @@ run_rules ev rs ws = fold proposing no_actions (ran (rule_test ev rs) 0 ws)
 
 unfoldable pub is_never : Operation → Bool
 is_never Operation.Never = true
-is_never Operation.Present = false
-is_never Operation.Absent = false
-is_never Operation.AgainstConstant = false
-is_never Operation.AgainstReading = false
-is_never Operation.Proposes = false
-is_never Operation.Member = false
-is_never Operation.Unknown = false
+is_never _ = false
 
 abbrev pub ends_constraint : ℕ → Bool
 ends_constraint w = is_never (operation_of w)

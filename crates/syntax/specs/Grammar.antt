@@ -15,11 +15,9 @@ abbrev single : Comparison → List Comparison
 single c = c ∷ []
 
 unfoldable pub comparisons_from : List Token → Option (List Comparison)
-comparisons_from [] = none
-comparisons_from (r ∷ []) = none
-comparisons_from (r ∷ relation ∷ []) = none
 comparisons_from (r ∷ relation ∷ o ∷ []) = map single (comparison_of r relation o)
 comparisons_from (r ∷ relation ∷ o ∷ t ∷ ts) = cond (is "," t) (both ◌∷◌ (comparison_of r relation o) (comparisons_from ts)) none
+comparisons_from _ = none
 
 unfoldable pub condition_from : List Token → Option (List Comparison)
 condition_from [] = some []
@@ -51,9 +49,8 @@ causes literals action comparisons = rule (record { literals = literals; action 
 
 -- what follows the literals of a rule
 unfoldable pub rule_after : List Literal → List Token → Option PolicyLine
-rule_after literals [] = none
-rule_after literals (t ∷ []) = none
 rule_after literals (t ∷ a ∷ ts) = cond (is "causes" t) (both (causes literals) (action_of a) (condition_from ts)) none
+rule_after _ _ = none
 
 abbrev pub never : List Action → List Comparison → PolicyLine
 never actions comparisons = constraint (record { actions = actions; comparisons = comparisons })

@@ -66,7 +66,7 @@ image_held h = take (min h.state.words (length h.image / 4) * 4) h.image
 
 -- ---- what is printed at the end of the input, in a lent buffer of so many bytes
 
--- as `answer_to`, but a text that has no room is refused
+-- as `loaded_answer`, but a text that has no room is refused
 unfoldable pub answer_within : ℕ → Loaded → List ℕ → List ℕ
 answer_within room (Loaded.Refused r) text = image_refusal_line r
 answer_within room (Loaded.Image contents) text = cond (nat_le (length text) room) text (image_refusal_line (refusal Fault.BufferTooSmall 0))

@@ -30,44 +30,20 @@ pub record IsTestOf (rs : Readings) (s : ActionSet) (w k behind : ℕ) (t : Test
 
 abbrev pub is_member_operation : Operation → Bool
 is_member_operation Operation.Member = true
-is_member_operation Operation.Unknown = false
-is_member_operation Operation.Present = false
-is_member_operation Operation.Absent = false
-is_member_operation Operation.AgainstConstant = false
-is_member_operation Operation.AgainstReading = false
-is_member_operation Operation.Proposes = false
-is_member_operation Operation.Never = false
+is_member_operation _ = false
 
 abbrev pub is_present_operation : Operation → Bool
 is_present_operation Operation.Present = true
-is_present_operation Operation.Absent = false
-is_present_operation Operation.AgainstConstant = false
-is_present_operation Operation.AgainstReading = false
-is_present_operation Operation.Proposes = false
-is_present_operation Operation.Member = false
-is_present_operation Operation.Never = false
-is_present_operation Operation.Unknown = false
+is_present_operation _ = false
 
 abbrev pub is_absent_operation : Operation → Bool
-is_absent_operation Operation.Present = false
 is_absent_operation Operation.Absent = true
-is_absent_operation Operation.AgainstConstant = false
-is_absent_operation Operation.AgainstReading = false
-is_absent_operation Operation.Proposes = false
-is_absent_operation Operation.Member = false
-is_absent_operation Operation.Never = false
-is_absent_operation Operation.Unknown = false
+is_absent_operation _ = false
 
 -- a comparison with a constant
 abbrev pub is_constant_operation : Operation → Bool
 is_constant_operation Operation.AgainstConstant = true
-is_constant_operation Operation.Unknown = false
-is_constant_operation Operation.Present = false
-is_constant_operation Operation.Absent = false
-is_constant_operation Operation.AgainstReading = false
-is_constant_operation Operation.Proposes = false
-is_constant_operation Operation.Member = false
-is_constant_operation Operation.Never = false
+is_constant_operation _ = false
 
 -- the answer of a trial that was left at a word, before which as many words were fetched as lie between `from` and it
 unfoldable pub left_at : List ℕ → ℕ → ℕ → Trial

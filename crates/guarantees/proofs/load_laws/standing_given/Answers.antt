@@ -1,0 +1,5 @@
+use Rattle.image.proofs.ValueLaws as laws
+use Rattle.guarantees.proofs.load_laws.standing_given.Goals as goal
+
+pub returns : goal.returns
+returns c = laws.standing_given
