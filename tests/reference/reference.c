@@ -826,12 +826,17 @@ static const struct constraint *violated(const struct policy *policy, const stru
     return NULL;
 }
 
+bool satisfies(const struct policy *policy, const struct epoch *epoch, action_set set)
+{
+    return violated(policy, epoch, set) == NULL;
+}
+
 action_set accepted(const struct policy *policy, const struct epoch *epoch, action_set candidates)
 {
     action_set kept = 0;
     unsigned action;
     for (action = 0; action < ACTIONS; action++)
-        if (in_set(candidates, action) && violated(policy, epoch, kept | UINT64_C(1) << action) == NULL)
+        if (in_set(candidates, action) && satisfies(policy, epoch, kept | UINT64_C(1) << action))
             kept |= UINT64_C(1) << action;
     return kept;
 }
@@ -847,7 +852,7 @@ struct epoch reduction(const struct epoch *epoch, event_set kept)
 
 bool is_consistent(const struct policy *policy, const struct epoch *epoch)
 {
-    return violated(policy, epoch, proposed(policy, epoch)) == NULL;
+    return satisfies(policy, epoch, proposed(policy, epoch));
 }
 
 bool kept_events(const struct policy *policy, const struct epoch *epoch, event_set *kept)

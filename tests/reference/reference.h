@@ -173,6 +173,9 @@ size_t read_dump(const uint8_t *input, size_t length, uint8_t image[DUMP_BYTES],
 /* Reads an epoch line. A refused one leaves the epoch as it was. */
 struct verdict read_epoch(const uint8_t *line, size_t length, struct epoch *epoch);
 
+/* Whether no never line holds on a set of actions. */
+bool satisfies(const struct policy *policy, const struct epoch *epoch, action_set set);
+
 /* What the rules of a policy propose, and in the first mode which of it is accepted; the rest is cancelled. */
 action_set proposed(const struct policy *policy, const struct epoch *epoch);
 action_set accepted(const struct policy *policy, const struct epoch *epoch, action_set candidates);

@@ -26,11 +26,11 @@ use Rattle.codegen.specs.Compile.{newest_form}
 use Rattle.pdl.specs.Answer.{Answer}
 use Rattle.pdl.specs.Pdl.{Reducible}
 use Rattle.pdl.specs.Reduction.{proposed_with, kept_events}
-use Rattle.guarantees.proofs.Decisions.{written_refuses, written_yields, written_obeys, written_changed}
+use Rattle.guarantees.proofs.Decisions.{written_refuses, written_yields, written_obeys, written_best, written_changed}
 use Rattle.guarantees.proofs.Reductions.{written_reduces, written_conflict, written_obeys_events}
 use Rattle.monitor.specs.Decision.{decision_in, decision, answer_of}
 use Rattle.monitor.specs.declared.decision.Decision.{Decision}
-use Rattle.guarantees.specs.Decisions.{CheckFailed, Obeys, ObeysEvents}
+use Rattle.guarantees.specs.Decisions.{CheckFailed, Obeys, IsBest, ObeysEvents}
 use Rattle.guarantees.specs.Claims.{CompilesTo, TextsCompileTo, answers}
 use Rattle.guarantees.specs.Machine.{yield_in, answer, step, steps, ToldLine, machine_of, machine, machine_of_texts}
 
@@ -110,6 +110,10 @@ module _ (known : Option Policy) (image : List ℕ) (t : ImageOf known image) wh
     same_policy : p ≡ t.policy
     same_policy = let k : some p ≡ some t.policy = sym q ∙ t.read in cc
 
+    accepts_best : IsBest p e (answer_of (decision image line)).accepted
+    accepts_best =
+        rw (t.same, same_policy) (written_best newest_form newest_known t.policy t.acceptable line e r)
+
     conflict_refused : (decision_in Mode.Events image line ≡ Decision.Refused (refusal Fault.Unavoidable 0)) ↔ ¬ Reducible p.constraints (proposed_with p.rules) e
     conflict_refused =
         rw (t.same, same_policy) (written_conflict newest_form newest_known t.policy t.acceptable line e r)
@@ -154,6 +158,10 @@ module _ (maker site image : List ℕ) (c : TextsCompileTo maker site image) whe
   -- a decision that is not refused is a maximal action cancellation of what the texts' rules propose
   pub decision_obeys : (p : Policy) → policy_of_texts maker site ≡ some p → (line : List ℕ) (e : Epoch) → read_epoch line ≡ accepted e → Obeys p e (answer_of (decision image line))
   decision_obeys = obeys (policy_of_texts maker site) image (image_of_texts maker site image c)
+
+  -- and it accepts the best of all sets of proposed actions on which no constraint holds
+  pub decision_best : (p : Policy) → policy_of_texts maker site ≡ some p → (line : List ℕ) (e : Epoch) → read_epoch line ≡ accepted e → IsBest p e (answer_of (decision image line)).accepted
+  decision_best = accepts_best (policy_of_texts maker site) image (image_of_texts maker site image c)
 
   -- in the second mode a decision is refused under 17 exactly if no reduction of the epoch is free of conflict
   pub events_conflict_refused : (p : Policy) → policy_of_texts maker site ≡ some p → (line : List ℕ) (e : Epoch) → read_epoch line ≡ accepted e

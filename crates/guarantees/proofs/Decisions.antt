@@ -18,8 +18,10 @@ use Rattle.policy.specs.declared.line.Test.{Test}
 use Rattle.policy.specs.declared.mode.Mode.{Mode}
 use Rattle.policy.specs.declared.number.Action.{Action}
 use Rattle.pdl.proofs.Monitor.{accepted_with_cancelled, cancelled_apart, cancelled_trial, giving_back_violates, maximal_cancellation, nothing_cancelled}
-use Rattle.pdl.specs.Answer.{refuses, issues}
+use Rattle.pdl.proofs.BestLaws.{accepted_best, accepted_only_best}
+use Rattle.pdl.specs.Answer.{Answer, refuses, issues}
 use Rattle.pdl.specs.Pdl.{NameActions}
+use Rattle.pdl.specs.Yield as Yield
 use Rattle.pdl.specs.Yield.{cancelled}
 use Rattle.acceptance.proofs.Refusals.{epoch_faults}
 use Rattle.epoch_line.specs.Answer.{answer_read, epoch_read, refusal_in_epoch}
@@ -37,7 +39,7 @@ use Rattle.monitor.proofs.DecideLaws.{image_refused, line_refused}
 use Rattle.monitor.specs.Decision.{decided_by, on_epoch_line, on_image, decision_in, decision, answer_of}
 use Rattle.monitor.specs.declared.decision.Actions.{Actions}
 use Rattle.monitor.specs.declared.decision.Decision.{Decision}
-use Rattle.guarantees.specs.Decisions.{RefusedFor, the_image, the_line, OfDecision, of_image, of_line, CheckFailed, NotRefused, yield_of, Obeys}
+use Rattle.guarantees.specs.Decisions.{RefusedFor, the_image, the_line, OfDecision, of_image, of_line, CheckFailed, NotRefused, yield_of, Obeys, IsBest}
 
 -- ---- refusals
 
@@ -97,6 +99,11 @@ name_actions (k ∷ cs) v c (Memᴰ.head q) =
 name_actions (k ∷ cs) v c (Memᴰ.tail m) =
     name_actions cs (and_out (valid (constraint k)) (all valid (map constraint cs)) v).1 c m
 
+-- what a policy accepts is the best of all sets of proposed actions on which no constraint holds
+accepted_is_best : (p : Policy) (e : Epoch) → NameActions p.constraints → IsBest p e (Yield.accepted p e)
+accepted_is_best p e named =
+    record { lowest = accepted_best p e; best = (accepted_only_best p e named (Yield.accepted p e)).1 refl; only = λ s. (accepted_only_best p e named s).0 }
+
 module _ (image : List ℕ) (bounded : Bytes image) (contents : Contents) (taken : load image ≡ Loaded.Image contents) where
   abbrev P : Policy
   P = policy_in image
@@ -118,6 +125,11 @@ module _ (image : List ℕ) (bounded : Bytes image) (contents : Contents) (taken
       lowest_first = cancelled_trial P e;
       conservative = nothing_cancelled P e;
     })
+
+    pub best_policy : IsBest P e (answer_of (decision image line)).accepted
+    best_policy =
+        subst (λ (a : Answer). IsBest P e a.accepted) (sym holds_policy)
+        (accepted_is_best P e (name_actions P.constraints (held_acceptable image bounded contents taken).constraints_valid))
 
 -- ---- one word changed
 
@@ -153,6 +165,11 @@ module _ (form : ℕ) (known : known_form form ≡ true) (p : Policy) (ok : Acce
   written_obeys line e q =
       subst (λ (x : Policy). Obeys x e (answer_of (decision (image_of form p) line))) (image_holds form known p ok)
       (obeys_policy (image_of form p) (image_bounded form known p ok) (contents_of form p) (image_taken form known p ok) line e q)
+
+  pub written_best : (line : List ℕ) (e : Epoch) → read_epoch line ≡ accepted e → IsBest p e (answer_of (decision (image_of form p) line)).accepted
+  written_best line e q =
+      subst (λ (x : Policy). IsBest x e (answer_of (decision (image_of form p) line)).accepted) (image_holds form known p ok)
+      (best_policy (image_of form p) (image_bounded form known p ok) (contents_of form p) (image_taken form known p ok) line e q)
 
   -- with any other value in the place of one word it is refused whatever the line and its mode
   pub written_changed : (i v : ℕ) → i < length (words_of (image_of form p)) → v < word_limit → ¬ (v ≡ word_at (image_of form p) i)

@@ -10,6 +10,7 @@ use Rattle.policy.specs.declared.mode.Mode.{Mode}
 use Rattle.policy.specs.declared.number.Action.{Action}
 use Rattle.policy.specs.declared.number.Event.{Event}
 use Rattle.pdl.specs.Answer.{Answer, issues}
+use Rattle.pdl.specs.Best.{LowestDifference, BestIn}
 use Rattle.pdl.specs.Pdl.{Satisfies, Violated, MaximalIn, MaximalReduction, Reducible, ◌⊆◌, ◌⊑◌}
 use Rattle.pdl.specs.Reduction.{proposed_with}
 use Rattle.pdl.specs.Yield as Yield
@@ -86,6 +87,15 @@ pub record Obeys (p : Policy) (e : Epoch) (a : Answer) : Type 0 where
       → Violated p.constraints e.readings (insert_action (actions_below a.accepted x) x)
   -- where nothing clashes, nothing is cancelled
   pub conservative : Satisfies p.constraints e.readings (proposed p.rules e) → a.cancelled ≡ no_actions
+
+-- what is accepted is the best choice: lower actions are the more important ones
+pub record IsBest (p : Policy) (e : Epoch) (accepted : ActionSet) : Type 0 where
+  -- the lowest action in which another set of proposed actions on which no constraint holds differs from it is accepted
+  pub lowest : (u : ActionSet) → u ⊆ proposed p.rules e → Satisfies p.constraints e.readings u → (a : Action) → LowestDifference accepted u a
+      → has_action accepted a ≡ true
+  -- for each other such set there is one, and no other set has that property
+  pub best : BestIn p.constraints e.readings (proposed p.rules e) accepted
+  pub only : (s : ActionSet) → BestIn p.constraints e.readings (proposed p.rules e) s → s ≡ accepted
 
 -- an action that a constraint of its own forbids: it is not accepted, and where it is proposed and the epoch is not refused, it is cancelled
 pub record KeptOut (p : Policy) (e : Epoch) (x : Action) (a : Answer) : Type 0 where

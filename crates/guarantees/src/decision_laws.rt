@@ -4,7 +4,7 @@ ghost use Rattle.std.specs.Prelude.{List, ℕ, ◌≡◌, ◌<◌, length, set, 
 ghost use Rattle.guarantees.specs.Claims.{CompilesTo, answers, TextsCompileTo};
 ghost use Rattle.guarantees.specs.Machine.{ToldLine, machine, machine_of_texts};
 ghost use Rattle.std.proofs.Math.Option.{some};
-ghost use Rattle.guarantees.specs.Decisions.{CheckFailed, RefusedIn, OfDecisionIn, KeptOut, Obeys, ObeysEvents};
+ghost use Rattle.guarantees.specs.Decisions.{CheckFailed, RefusedIn, OfDecisionIn, KeptOut, Obeys, IsBest, ObeysEvents};
 ghost use Rattle.policy.specs.declared.mode.Mode.{Mode};
 ghost use Rattle.policy.specs.declared.number.Action.{Action};
 ghost use mathlib.Core.List.{Memᴰ};
@@ -25,6 +25,7 @@ ghost use Rattle.policy.specs.declared.fault.Fault.{Fault};
 ghost use Rattle.policy.specs.Fault.{refusal};
 ghost use Rattle.image.specs.declared.load.Contents.{Contents};
 ghost use Rattle.image.specs.declared.load.Loaded.{Loaded};
+ghost use Rattle.image.specs.Held.{policy_in};
 ghost use Rattle.image.specs.Load.{load};
 
 /// For every text, the bytes that the compiler wrote for it and every list of epoch lines with the mode of each, refused ones included: the list of
@@ -82,6 +83,17 @@ pub fn decision_obeys()
 /// What a policy asks of a decision by actions is met by one answer alone.
 pub fn answer_determined()
     ensures { (p : Policy) (e : Epoch) (a b : Answer) → Obeys p e a → Obeys p e b → a ≡ b }
+{}
+
+/// On the image of two texts, a decision by actions accepts the best choice: take any other set of proposed actions on which no constraint holds; the lowest
+/// action in which it differs from what is accepted is accepted.
+pub fn decision_best()
+    ensures { (maker site image : List ℕ) → TextsCompileTo maker site image → (p : Policy) → policy_of_texts maker site ≡ some p → (line : List ℕ) (e : Epoch) → read_epoch line ≡ accepted e → IsBest p e (answer_of (decision image line)).accepted }
+{}
+
+/// The same on every image that the loader takes, by the policy that it holds.
+pub fn image_decision_best()
+    ensures { (image : List ℕ) → Bytes image → (contents : Contents) → load image ≡ Loaded.Image contents → (line : List ℕ) (e : Epoch) → read_epoch line ≡ accepted e → IsBest (policy_in image) e (answer_of (decision image line)).accepted }
 {}
 
 /// By events: where some reduction of the epoch is free of conflict, the kept events are a maximal one and what they propose is issued.

@@ -2,10 +2,12 @@
 
 ghost use Rattle.std.specs.Prelude.{List, ◌≡◌, true, ◌↔◌, false, map};
 ghost use Rattle.pdl.specs.Yield as Yield;
-ghost use Rattle.pdl.specs.Pdl.{MaximalActionCancellation, NameActions, Violated, ◌⊆◌, MaximalEventCancellation, Reducible};
+ghost use Rattle.pdl.specs.Best.{LowestDifference, BestIn};
+ghost use Rattle.pdl.specs.Pdl.{MaximalActionCancellation, NameActions, Satisfies, Violated, ◌⊆◌, MaximalEventCancellation, Reducible};
 ghost use Rattle.policy.specs.Policy.{Rule, Policy};
 ghost use Rattle.pdl.specs.Yield.{proposed};
-ghost use Rattle.policy.specs.Set.{ActionSet};
+ghost use Rattle.policy.specs.Set.{ActionSet, has_action};
+ghost use Rattle.policy.specs.declared.number.Action.{Action};
 ghost use Rattle.policy.specs.Epoch.{Epoch, Readings};
 ghost use Rattle.pdl.specs.Reduction.{issued, proposed_with, unavoidable};
 ghost use Rattle.policy.specs.declared.comparison.Comparison.{Comparison};
@@ -21,6 +23,16 @@ pub fn maximal_cancellation()
 /// Giving back one or more cancelled actions makes a constraint hold.
 pub fn giving_back_violates()
     ensures { (p : Policy) (e : Epoch) (u : ActionSet) → Yield.accepted p e ⊆ u → u ⊆ proposed p.rules e → ¬ (u ≡ Yield.accepted p e) → Violated p.constraints e.readings u }
+{}
+
+/// Of any other set of proposed actions on which no constraint holds, the lowest action in which it differs from the accepted set is in the accepted set.
+pub fn accepted_best()
+    ensures { (p : Policy) (e : Epoch) (u : ActionSet) → u ⊆ proposed p.rules e → Satisfies p.constraints e.readings u → (a : Action) → LowestDifference (Yield.accepted p e) u a → has_action (Yield.accepted p e) a ≡ true }
+{}
+
+/// Where each constraint names an action: there is such an action for each other such set, and the accepted set alone has that property.
+pub fn accepted_only_best()
+    ensures { (p : Policy) (e : Epoch) → NameActions p.constraints → (s : ActionSet) → BestIn p.constraints e.readings (proposed p.rules e) s ↔ (s ≡ Yield.accepted p e) }
 {}
 
 /// What is issued by events is a maximal event cancellation of what is proposed.

@@ -1,8 +1,10 @@
--- Laws of keeping candidates by rising number: what is kept lies within the candidates, is not bad, and is maximal.
-use Rattle.std.proofs.Common.{ℕ, zero, suc, ◌+◌, ◌-◌, ◌^◌, ◌≤◌, ◌<◌, Bool, true, false, not, ◌&&◌, cond, ◌≢◌, ⊎_elim, ◌≡◌, refl, sym, ap, ◌∙◌, zero-add, suc-add, arith, ltb-true, ltb-false}
+-- Laws of keeping candidates by rising number: what is kept lies within the candidates, is not bad, and is the best such set, so it is
+-- maximal.
+use Rattle.std.proofs.Common.{ℕ, zero, suc, ◌+◌, ◌-◌, ◌^◌, ◌≤◌, ◌<◌, Bool, true, false, not, ◌&&◌, cond, ◌≢◌, ◌⊎◌, inl, inr, ⊎_elim, subst, ◌≡◌, refl, sym, ap, ◌∙◌, zero-add, suc-add, arith, ltb-true, ltb-false}
+use Rattle.std.proofs.Math.Nat.{eq-or-lt_of_le}
 use Rattle.std.proofs.lemmas.Bool.{not-true}
 use Rattle.std.proofs.Math.Dec.{ltb}
-use Rattle.policy.proofs.ListLaws.{true_false, and_in, and_out, bool_ext, not_false_is}
+use Rattle.policy.proofs.ListLaws.{true_false, and_in, and_out, not_false_is, not_true_is}
 use Rattle.policy.proofs.SetLaws.{has_empty, has_insert_same, has_insert_other, has_insert_cases, has_limit, set_ext, has_below, has_below_past}
 use Rattle.pdl.specs.Greedy.{try_next, kept_below, greedy}
 use Rattle.policy.specs.Number.{set_limit}
@@ -18,6 +20,35 @@ Monotone bad = (s t : ℕ) → Within s t → bad s ≡ true → bad t ≡ true
 
 insert_within : (s n t : ℕ) → Within s t → has t n ≡ true → Within (insert s n) t
 insert_within s n t h k m e = ⊎_elim (λ q. ap (has t) q ∙ k) (h m) (has_insert_cases s n m e)
+
+below_within : (s n t : ℕ) → ((m : ℕ) → m < n → has s m ≡ true → has t m ≡ true) → Within (below s n) t
+below_within s n t h m e = go (ltb m n) refl
+  where
+    go : (b : Bool) → ltb m n ≡ b → has t m ≡ true
+    go true q = h m (ltb-true m n q) (sym (has_below s n m (ltb-true m n q)) ∙ e)
+    go false q = absurd (true_false e (has_below_past s n m (ltb-false m n q)))
+
+-- ---- the lowest number in which two sets differ
+
+module _ (s t : ℕ) where
+  abbrev pub AgreeBelow : ℕ → Type 0
+  AgreeBelow n = (m : ℕ) → m < n → has s m ≡ has t m
+
+  abbrev pub DifferAt : ℕ → Type 0
+  DifferAt n = ¬ (has s n ≡ has t n) × AgreeBelow n
+
+  pub agree_or_differ : (n : ℕ) → AgreeBelow n ⊎ ((m : ℕ) × DifferAt m)
+  agree_or_differ zero = inl (λ m h. absurd (omega arith))
+  agree_or_differ (suc n) = ⊎_elim (λ lower. at (has s n) (has t n) refl refl lower) inr (agree_or_differ n)
+    where
+      more : AgreeBelow n → has s n ≡ has t n → AgreeBelow (suc n)
+      more lower e m h = ⊎_elim (λ q. subst (λ (k : ℕ). has s k ≡ has t k) (sym q) e) (lower m) (eq-or-lt_of_le (omega arith))
+
+      at : (a b : Bool) → has s n ≡ a → has t n ≡ b → AgreeBelow n → AgreeBelow (suc n) ⊎ ((m : ℕ) × DifferAt m)
+      at true true p q lower = inl (more lower (p ∙ sym q))
+      at false false p q lower = inl (more lower (p ∙ sym q))
+      at true false p q lower = inr (n, (λ e. true_false p (e ∙ q), lower))
+      at false true p q lower = inr (n, (λ e. true_false q (sym e ∙ p), lower))
 
 module _ (bad : ℕ → Bool) (candidates : ℕ) where
   passes : ℕ → ℕ → Bool
@@ -121,21 +152,33 @@ module _ (bad : ℕ → Bool) (candidates : ℕ) where
   unfolding greedy
   greedy_good z = kept_good z 64
 
-  -- no larger set of candidates is free of bad
-  pub greedy_maximal : Monotone bad → candidates < 2 ^ 64 → (u : ℕ) → Within (greedy bad candidates) u → Within u candidates → bad u ≡ false → u ≡ greedy bad candidates
-  greedy_maximal mono limit u h k good = set_ext u (greedy bad candidates) (λ n. bool_ext (has u n) (has (greedy bad candidates) n) (kept n) (h n))
-    where
-      lower : (n : ℕ) → Within (below (greedy bad candidates) n) u
-      lower n m e = go (ltb m n) refl
-        where
-          go : (b : Bool) → ltb m n ≡ b → has u m ≡ true
-          go true q = h m (sym (has_below (greedy bad candidates) n m (ltb-true m n q)) ∙ e)
-          go false q = absurd (true_false e (has_below_past (greedy bad candidates) n m (ltb-false m n q)))
+  module _ (mono : Monotone bad) (limit : candidates < 2 ^ 64) (u : ℕ) (within : Within u candidates) (good : bad u ≡ false) where
+    -- the lowest number in which what is kept differs from another good set of candidates is kept
+    pub greedy_best : (n : ℕ) → DifferAt (greedy bad candidates) u n → has (greedy bad candidates) n ≡ true
+    greedy_best n d = not_false_is (has (greedy bad candidates) n) clash
+      where
+        clash : has (greedy bad candidates) n ≡ false → ⊥
+        clash e =
+            let h : has u n ≡ true = not_false_is (has u n) (λ q. d.0 (e ∙ sym q)) in
+            let lower : Within (below (greedy bad candidates) n) u = below_within (greedy bad candidates) n u (λ m l q. sym (d.1 m l) ∙ q) in
+            true_false
+            (mono (insert (below (greedy bad candidates) n) n) u (insert_within (below (greedy bad candidates) n) n u lower h)
+            (greedy_dropped n (has_limit candidates limit n (within n h)) (within n h) e))
+            good
 
-      kept : (n : ℕ) → has u n ≡ true → has (greedy bad candidates) n ≡ true
-      kept n e =
-          not_false_is (has (greedy bad candidates) n)
-          (λ q. true_false
-          (mono (insert (below (greedy bad candidates) n) n) u (insert_within (below (greedy bad candidates) n) n u (lower n) e)
-          (greedy_dropped n (has_limit candidates limit n (k n e)) (k n e) q))
-          good)
+    -- two such sets are equal, or there is such a number
+    pub greedy_differs : (u ≡ greedy bad candidates) ⊎ ((n : ℕ) × DifferAt (greedy bad candidates) u n)
+    greedy_differs = ⊎_elim (λ h. inl (set_ext u (greedy bad candidates) (λ n. at h n (ltb n 64) refl))) inr (agree_or_differ (greedy bad candidates) u 64)
+      where
+        at : AgreeBelow (greedy bad candidates) u 64 → (n : ℕ) (b : Bool) → ltb n 64 ≡ b → has u n ≡ has (greedy bad candidates) n
+        at h n true q = sym (h n (ltb-true n 64 q))
+        at h n false q =
+            let l : 64 ≤ n = ltb-false n 64 q in
+            not_true_is (has u n) (λ e. past l (has_limit candidates limit n (within n e))) ∙ sym (greedy_past n l)
+          where
+            past : 64 ≤ n → n < set_limit → ⊥
+            past l k = omega arith
+
+    -- no larger one is good
+    pub greedy_maximal : Within (greedy bad candidates) u → u ≡ greedy bad candidates
+    greedy_maximal h = ⊎_elim (λ e. e) (λ d. let k = greedy_best d.0 d.1 in absurd (d.1.0 (k ∙ sym (h d.0 k)))) greedy_differs

@@ -1,6 +1,7 @@
 pub mod GreedyLaws
 pub mod CostLaws
 pub mod Resolution
+pub mod BestLaws
 pub mod Others
 pub mod Proposals
 pub mod Monitor

@@ -98,7 +98,7 @@ module _ (p : Policy) (e : Epoch) where
   module _ (inside : InAlphabet e) where
     maximal : (u : EventSet) → kept_events p e ⊑ u → u ⊑ e.events → clashes p e u ≡ false → u ≡ kept_events p e
     unfolding kept_events
-    maximal u h k good = ap set_of (greedy_maximal bad e.events.bits bad_monotone inside u.bits (λ n. h (record { 0 = n })) (λ n. k (record { 0 = n })) good)
+    maximal u h k good = ap set_of (greedy_maximal bad e.events.bits bad_monotone inside u.bits (λ n. k (record { 0 = n })) good (λ n. h (record { 0 = n })))
 
     pub kept_maximal : unavoidable p e ≡ false → MaximalReduction p.constraints (proposed_with p.rules) e (kept_events p e)
     kept_maximal avoidable = record { reduction = kept_reduces avoidable; maximal = λ u h r. maximal u h r.within (no_clash u r) }

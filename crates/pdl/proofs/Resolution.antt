@@ -49,7 +49,7 @@ module _ (constraints : List Constraint) (rs : Readings) where
   pub no_conflict : (s : ActionSet) → Satisfies constraints rs s → conflict constraints rs s ≡ false
   no_conflict s h = not_true_is (conflict constraints rs s) (λ e. let v = conflict_out s e in h v.constraint v.listed v.holds)
 
-  abbrev bad : ℕ → Bool
+  abbrev pub bad : ℕ → Bool
   bad kept = conflict constraints rs (set_of kept)
 
   -- what holds on a set holds on a larger one
@@ -62,7 +62,7 @@ module _ (constraints : List Constraint) (rs : Readings) where
         holds = record { members = λ a m. h a (v.holds.members a m); condition = v.holds.condition };
       })
 
-  bad_monotone : Monotone bad
+  pub bad_monotone : Monotone bad
   bad_monotone s t h = conflict_more (set_of s) (set_of t) (λ a. h a.0)
 
   bad_empty : NameActions constraints → bad 0 ≡ false
@@ -95,7 +95,7 @@ module _ (constraints : List Constraint) (rs : Readings) where
     pub resolve_maximal : s.bits < 2 ^ 64 → (u : ActionSet) → resolve constraints rs s ⊆ u → u ⊆ s → Satisfies constraints rs u → u ≡ resolve constraints rs s
     unfolding resolve
     resolve_maximal limit u h k good =
-        ap set_of (greedy_maximal bad s.bits bad_monotone limit u.bits (λ n. h (record { 0 = n })) (λ n. k (record { 0 = n })) (no_conflict u good))
+        ap set_of (greedy_maximal bad s.bits bad_monotone limit u.bits (λ n. k (record { 0 = n })) (no_conflict u good) (λ n. h (record { 0 = n })))
 
     -- what the trial of a member that is not kept showed
     pub resolve_dropped : s.bits < 2 ^ 64 → (a : Action) → has_action s a ≡ true → has_action (resolve constraints rs s) a ≡ false → Violated constraints rs (insert_action (actions_below (resolve constraints rs s) a) a)

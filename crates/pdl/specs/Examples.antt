@@ -1,10 +1,11 @@
 -- Examples of both modes that need no text, one row each.
-use Rattle.std.specs.Prelude.{ℕ, true, false, ℤ, pos, List, [], ◌∷◌, map, fold}
+use Rattle.std.specs.Prelude.{ℕ, zero, suc, Bool, true, false, not, if◌then◌else◌, ℤ, pos, List, [], ◌∷◌, map, fold, Option, None, Some}
 use Rattle.policy.specs.Epoch.{Epoch}
 use Rattle.policy.specs.Policy.{Policy, Rule, Constraint}
-use Rattle.policy.specs.Set.{ActionSet, EventSet, no_events, insert_event, actions_from, no_readings, set_of}
+use Rattle.policy.specs.Number.{set_limit}
+use Rattle.policy.specs.Set.{ActionSet, has_action, EventSet, no_events, insert_event, actions_from, no_readings, set_of}
 use Rattle.pdl.specs.Reduction.{kept_events, issued, withheld}
-use Rattle.pdl.specs.Yield.{accepted, cancelled}
+use Rattle.pdl.specs.Yield.{conflict, accepted, cancelled}
 use Rattle.policy.specs.declared.comparison.Comparison.{Comparison}
 use Rattle.policy.specs.declared.comparison.Operand.{Operand}
 use Rattle.policy.specs.declared.comparison.Relation.{Relation}
@@ -55,6 +56,59 @@ yielded x =
 
 unfoldable pub expected : Example → Resolved
 expected x = record { accepts = actions_from x.accepted_actions; cancels = actions_from x.cancelled_actions }
+
+-- ---- the accepted set against another set of proposed actions on which no constraint holds
+
+pub record Choice : Type 0 where
+  pub proposals : List ℕ
+  pub constraints : List Constraint
+  pub reading : ℤ
+  pub other : List ℕ
+  -- the lowest action in which the two differ
+  pub lowest : ℕ
+
+abbrev chain : List ℕ → ℕ → Choice
+chain other lowest =
+    record { proposals = 1 ∷ 2 ∷ 3 ∷ []; constraints = never (1 ∷ 2 ∷ []) [] ∷ never (2 ∷ 3 ∷ []) [] ∷ []; reading = pos 0; other = other; lowest = lowest }
+
+abbrev from_100 : ℤ → List ℕ → ℕ → Choice
+from_100 reading other lowest =
+    record { proposals = 1 ∷ 2 ∷ []; constraints = never (1 ∷ 2 ∷ []) (at_least (pos 100) ∷ []) ∷ []; reading = reading; other = other; lowest = lowest }
+
+unfoldable pub choices : List Choice
+choices =
+    -- A1 with A3 is accepted; the others are none, A1, A2 and A3
+    chain [] 1 ∷ chain (1 ∷ []) 3 ∷ chain (2 ∷ []) 1 ∷ chain (3 ∷ []) 1
+    -- under its bound the constraint doesn't hold, and both are accepted; at its bound A1 is
+    ∷ from_100 (pos 99) [] 1 ∷ from_100 (pos 99) (1 ∷ []) 2 ∷ from_100 (pos 99) (2 ∷ []) 1
+    ∷ from_100 (pos 100) [] 1 ∷ from_100 (pos 100) (2 ∷ []) 1
+    ∷ []
+
+abbrev differ : Bool → Bool → Bool
+differ one other = if one then not other else other
+
+-- the lowest of so many actions, from the n-th on, in which two sets differ
+unfoldable pub lowest_from : ActionSet → ActionSet → ℕ → ℕ → Option ℕ
+lowest_from s t n zero = None
+lowest_from s t n (suc more) = if differ (has_action s (action n)) (has_action t (action n)) then Some n else lowest_from s t (suc n) more
+
+pub record Compared : Type 0 where
+  pub is_free : Bool
+  pub lowest_action : Option ℕ
+  pub is_accepted : Bool
+
+unfoldable pub compared : Choice → Compared
+compared x =
+    let policy : Policy = record { rules = proposing x.proposals; constraints = x.constraints } in
+    let other : ActionSet = actions_from x.other in
+    record {
+      is_free = not (conflict x.constraints (epoch_at x.reading).readings other);
+      lowest_action = lowest_from (accepted policy (epoch_at x.reading)) other 0 set_limit;
+      is_accepted = has_action (accepted policy (epoch_at x.reading)) (action x.lowest);
+    }
+
+unfoldable pub expected_choice : Choice → Compared
+expected_choice x = record { is_free = true; lowest_action = Some x.lowest; is_accepted = true }
 
 -- ---- event cancellation
 

@@ -298,7 +298,11 @@ static void check_answer(struct kinohazel_decision answer, const uint8_t *image,
     plain.visited = (size_t)answer.visited; /* the plain machine counts none */
     if (!agree(answer, plain))
         fail_on(name, "the plain machine answers differently", line, length);
-    if (mode == CANCEL_EVENTS && read_epoch(line, length, &epoch).fault == FAULT_NONE)
+    if (read_epoch(line, length, &epoch).fault != FAULT_NONE)
+        return;
+    if (mode == CANCEL_ACTIONS)
+        check_choices(policy, &epoch, answer.accepted);
+    else
         check_reductions(policy, &epoch, answer);
 }
 

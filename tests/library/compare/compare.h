@@ -51,6 +51,14 @@ enum extreme {
     EXTREMES
 };
 
+/* Decisions by action cancellation, compared with every other choice of the proposed actions. */
+enum choosing {
+    ALL_CHOICES,   /* compared */
+    OTHER_CHOICE,  /* there is another one without a clash that is no part of what is accepted */
+    LARGER_CHOICE, /* there is one that has more actions */
+    CHOOSINGS
+};
+
 /* Decisions by event cancellation that show how events are kept and dropped. */
 enum dropping {
     ONE_DROPPED,    /* an event is dropped */
@@ -83,7 +91,7 @@ enum counted {
 struct tally {
     unsigned long comparisons, compile[FAULTS], check[FAULTS], text[FAULTS], decide[MODES][FAULTS];
     unsigned long check_locations[4], text_locations[4], flaws[2][FLAWS], accepting[MODES], cancelling[MODES];
-    unsigned long extremes[EXTREMES], droppings[DROPPINGS];
+    unsigned long extremes[EXTREMES], choosings[CHOOSINGS], droppings[DROPPINGS];
     unsigned long compile_nulls[4], check_nulls[4], text_nulls[4], decide_nulls[MODES][4], lines_in_images[MODES];
     unsigned long missing[2]; /* proposals, and cancellations, that would be others if missing readings were 0 */
     unsigned long counted[COUNTED];
@@ -263,6 +271,15 @@ void compare_lines_in_image(void);
 
 /* Decisions that take all there can be. */
 void compare_extremes(struct buffer *text, struct buffer *line);
+
+/* actions.c: action cancellation. */
+
+/* Of two sets, the one that has the lowest number in which they differ comes first. */
+bool comes_first(uint64_t one, uint64_t other);
+
+/* What is accepted comes before every other set of proposed actions on which no never line holds. Nothing is done where there are too
+   many sets. */
+void check_choices(const struct policy *policy, const struct epoch *epoch, action_set chosen);
 
 /* events.c: event cancellation. */
 

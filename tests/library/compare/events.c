@@ -7,13 +7,6 @@
 
 enum { MOST_LINES = 4096 }; /* lines of the policy, over all reductions */
 
-/* Of two sets, the one that has the lowest event in which they differ comes first. */
-static bool comes_first(event_set one, event_set other)
-{
-    event_set differing = one ^ other, lowest = differing & (0 - differing);
-    return (one & lowest) != 0;
-}
-
 /* The first of all reductions on which no never line holds. False if there is none. Since a reduction comes before those that are
    smaller, the first is maximal. */
 static bool first_reduction(const struct policy *policy, const struct epoch *epoch, event_set *first)

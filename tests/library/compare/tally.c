@@ -94,12 +94,19 @@ static bool print_modes(void)
         [IDLE] = "never words counted where nothing is proposed",
         [ALL_REDUCTIONS] = "all reductions compared",
         [MOST_TRIALS] = "187,520 words"};
+    static const char *const choosings[CHOOSINGS] = {[ALL_CHOICES] = "all choices of actions compared",
+        [OTHER_CHOICE] = "one without a clash that is no part of the accepted",
+        [LARGER_CHOICE] = "one with more actions"};
     bool all = true;
     int i;
     for (i = CANCEL_ACTIONS; i <= CANCEL_EVENTS; i++) {
         printf("; by %s %lu accept an action, %lu cancel one", i == CANCEL_ACTIONS ? "action cancellation" : "event cancellation",
             tally.accepting[i], tally.cancelling[i]);
         all = all && tally.accepting[i] > 0 && tally.cancelling[i] > 0;
+    }
+    for (i = 0; i < CHOOSINGS; i++) {
+        printf(", %s %lu", choosings[i], tally.choosings[i]);
+        all = all && tally.choosings[i] > 0;
     }
     for (i = 0; i < DROPPINGS; i++) {
         printf(", %s %lu", droppings[i], tally.droppings[i]);
