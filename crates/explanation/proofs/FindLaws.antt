@@ -1,6 +1,6 @@
 -- The first line of a text that is sought: what one turn of the search does, and what is shown of a line.
 use Rattle.std.specs.Prelude.{Some, None, Ok, Err}
-use Rattle.std.proofs.Common.{ℕ, ◌+◌, ◌-◌, ◌≤◌, ◌<◌, Bool, true, false, cond, List, [], ◌∷◌, ◌≡◌, refl, sym, ap, ap₂, ◌∙◌, arith, eqb-true, ℤ, length, drop}
+use Rattle.std.proofs.Common.{ℕ, ◌+◌, ◌-◌, ◌≤◌, ◌<◌, Bool, true, false, cond, List, [], ◌∷◌, ◌≡◌, refl, sym, ap, ap₂, ◌∙◌, arith, eqb-true, ℤ, length}
 use Rattle.std.proofs.Math.Option.{Option, none, some}
 use Rattle.policy.proofs.ValidLaws.{valid_out}
 use Rattle.policy.specs.Limits.{valid}
