@@ -23,7 +23,7 @@ use Rattle.word.specs.Word.{word_limit, Bytes, words_of, word_at, bytes_of, betw
 use Rattle.layout.specs.Header.{pack_header, form_of, rule_count_of, constraint_count_of}
 use Rattle.image.specs.Check.{rule_count, constraint_count, form_byte, well_sized, counts_fit, sums_to_zero}
 use Rattle.image.specs.Held.{lines_in, policy_in}
-use Rattle.layout.specs.Layout.{lines_words, known_form, check_count, sum, check_word, check_words, header_word, rule_part_words, constraint_part_words, content_words, image_words, image_of}
+use Rattle.layout.specs.Layout.{known_form, check_count, sum, check_word, check_words, header_word, rule_part_words, constraint_part_words, content_words, image_words, image_of}
 use Rattle.image.specs.Lines.{Lines, whole, fault, lines_from, part_lines, rule_lines, constraint_lines}
 use Rattle.image.specs.Load.{body_answer, load_words, load, refusal_in}
 use Rattle.exactness.specs.Exact.{IsImage, contents_of, changed, Checked, RefusedEarly, RefusalOf, of_checks, of_body}

@@ -3,7 +3,6 @@ ghost use Rattle.std.specs.Prelude.{◌≡◌, ◌+◌, ◌<◌, ◌≤◌, ◌�
 ghost use Rattle.std.specs.Iterator.{item_count};
 ghost use Rattle.word.specs.Chunk.{words_in};
 ghost use Rattle.decode.specs.Decode.{line_at, line_length};
-ghost use Rattle.decode.specs.Steps.Scan.{value_from};
 ghost use Rattle.image.specs.Walk.{GivesLine, lines_ahead, told_length};
 ghost use Rattle.image.specs.Steps.Past.{IsPast};
 
