@@ -135,7 +135,8 @@ fn refuse<E: Ends>(refusal: Refusal, ends: &mut E) -> Result<(), Failure>
     }
 }
 
-/// Answers the questions of an input on the maker's and the site's text. Each answer is written before the next question is looked at.
+/// Answers the questions of an input on the maker's and the site's text. The answers to the questions that a read completed are written
+/// before the next read.
 /// Where the texts are refused, that is written in place of answers, and no question is read.
 pub fn answer_questions<E: Ends>(maker: &[u8], site: &[u8], ends: &mut E) -> Result<(), Failure>
     ensures ok { OnOk result (AnswersTexts (read_texts maker.now site.now) maker.now site.now (E.known ends.old) (E.known ends.new)) }
