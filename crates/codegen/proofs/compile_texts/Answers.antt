@@ -1,6 +1,7 @@
-use Rattle.std.proofs.Common.{sym, ◌∙◌, arith}
+use Rattle.std.proofs.Common.{sym, ap, ◌∙◌, arith}
 use Rattle.codegen.proofs.AcceptedLaws.{accepted_texts}
 use Rattle.codegen.proofs.CompileLaws.{compiled_short, compiled_image, compiled_refused}
+use Rattle.codegen.specs.declared.Compiled.{Compiled}
 use Rattle.codegen.proofs.compile_texts.Goals as goal
 
 pub words-rule_words-requires : goal.words-rule_words-requires
@@ -31,7 +32,7 @@ overflow_mul-size c =
 pub returns-then-out-size : goal.returns-then-out-size
 returns-then-out-size c =
     let t = accepted_texts _ _ _ (sym c.read_texts.ensures ∙ c.in-Ok.is) in
-    let r = compiled_short _ _ _ t _ _ _ c.words-rule_words.ensures c.words-constraint_words.ensures _ c.at.ensures c.if-out-size.true in record { answer = r.0; buffer = r.1 }
+    let r = compiled_short _ _ _ t _ _ _ c.words-rule_words.ensures c.words-constraint_words.ensures _ c.at.ensures (omega (arith, c.if-out-size.true)) in record { answer = r.0; buffer = r.1 }
 
 pub put_image-requires : goal.put_image-requires
 put_image-requires c =
@@ -44,4 +45,4 @@ returns-in-Err c = let r = compiled_refused _ _ _ _ (sym c.read_texts.ensures �
 pub returns-else-out-size : goal.returns-else-out-size
 returns-else-out-size c =
     let t = accepted_texts _ _ _ (sym c.read_texts.ensures ∙ c.in-Ok.is) in
-    let r = compiled_image _ _ _ t _ _ _ c.words-rule_words.ensures c.words-constraint_words.ensures c.if-out-size.false _ c.put_image.ensures in record { answer = r.0; buffer = r.1 }
+    let r = compiled_image _ _ _ t _ _ _ c.words-rule_words.ensures c.words-constraint_words.ensures (omega (arith, c.if-out-size.false)) _ c.put_image.ensures in record { answer = ap Compiled.Image (omega arith) ∙ r.0; buffer = r.1 }
