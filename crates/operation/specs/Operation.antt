@@ -29,7 +29,7 @@ operation_from (suc (suc (suc (suc (suc (suc zero)))))) = Operation.Member
 operation_from (suc (suc (suc (suc (suc (suc (suc zero))))))) = Operation.Never
 operation_from (suc (suc (suc (suc (suc (suc (suc (suc n)))))))) = Operation.Unknown
 
--- "Relations: = 0, != 1, < 2, <= 3, > 4, >= 5."
+-- the numbers of the relations (docs/REFERENCE.md, "The image")
 abbrev pub relation_code : Relation → ℕ
 relation_code Relation.Equal = 0
 relation_code Relation.NotEqual = 1

@@ -20,7 +20,7 @@ pub fn second(word: u32) -> u32
     (word >> 16) % 64
 }
 
-pub fn relation_code_of(word: u32) -> u32
+pub(crate) fn relation_code_of(word: u32) -> u32
     ensures { result ≡ relation_code_of word }
 {
     (word >> 13) % 8

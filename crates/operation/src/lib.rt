@@ -5,7 +5,7 @@
 mod fields;
 mod operation;
 
-pub use fields::{first, opcode, relation_code_of, second, skip};
+pub use fields::{first, opcode, second, skip};
 pub use operation::{
     Operation, comparison_word, constant_comparison, constant_holds, ending_word,
     reading_comparison, reading_holds, test_word,

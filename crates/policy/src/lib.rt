@@ -18,4 +18,4 @@ pub use limit::{COMPARISON_LIMIT, CONSTRAINT_LIMIT, HEAD_LIMIT, READING_LIMIT, R
 pub use line::{Ending, Head, Part, Test};
 pub use mode::Mode;
 pub use number::{Action, Event, Numbered, Reading};
-pub use set::{ActionSet, EventSet, Events, ReadingSet, Set, member, members_below, with_member};
+pub use set::{ActionSet, EventSet, Events, ReadingSet, Set, member, with_member};

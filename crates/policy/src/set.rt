@@ -21,7 +21,7 @@ pub fn with_member(set: u64, n: u8) -> u64
 }
 
 /// The members under `n` of a set of bits.
-pub fn members_below(set: u64, n: u8) -> u64
+pub(crate) fn members_below(set: u64, n: u8) -> u64
     ensures { result ≡ below set n }
 {
     if n < 64 { set % (1 << n) } else { set }

@@ -25,7 +25,7 @@ fn put_member<S: Sink>(sink: &mut S, number: u8, first: bool)
 }
 
 /// Puts the names of the actions with commas between them, or `-` for none.
-pub fn put_actions<S: Sink>(sink: &mut S, set: ActionSet)
+pub(crate) fn put_actions<S: Sink>(sink: &mut S, set: ActionSet)
     ensures { sink.new ≡ fed S.taken sink.old (action_list set) }
 {
     let mut first = true;

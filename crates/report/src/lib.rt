@@ -5,7 +5,6 @@ mod action;
 mod line;
 mod question;
 
-pub use action::put_actions;
 pub use line::{
     put_accept, put_image_refusal, put_not_word, put_refusal, put_refused, put_texts_refusal,
     put_word_line,

@@ -17,7 +17,7 @@ abbrev pub constants_behind : Operation → ℕ
 constants_behind Operation.AgainstConstant = 1
 constants_behind _ = 0
 
--- how many of the words behind a word are passed over: its constant always; "a test that fails passes over `skip` further words"
+-- how many of the words behind a word are passed over: its constant always, and where its test fails as many more as its skip tells
 abbrev pub passes : Bool → Operation → ℕ → ℕ
 passes holds op w = constants_behind op + cond holds 0 (skip_of w)
 
@@ -87,10 +87,10 @@ unfoldable pub up_to : (ℕ → Bool) → List ℕ → List ℕ
 up_to test [] = []
 up_to test (w ∷ ws) = w ∷ cond (test w) [] (up_to test ws)
 
--- "each rule word fetched"
+-- how many words the run of rules fetches
 unfoldable pub rule_fetches : Events → Readings → List ℕ → ℕ
 rule_fetches ev rs ws = fetches (ran (rule_test ev rs) 0 ws)
 
--- "each never word fetched" in the trial of a set: "A trial's remainder after a never line holds doesn't count."
+-- how many words the trial of a set fetches: none behind the constraint that holds
 unfoldable pub trial_fetches : Readings → ActionSet → List ℕ → ℕ
 trial_fetches rs s ws = fetches (up_to ends_constraint (ran (constraint_test rs s) 0 ws))
