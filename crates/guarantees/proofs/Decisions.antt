@@ -1,6 +1,6 @@
 -- What holds of every decision: when it is refused and what it then carries, that it is what the image's policy yields in the first
 -- mode, and that an image in which one word was changed is refused. Of the second mode speaks Reductions.
-use Rattle.std.proofs.Common.{ℕ, ◌<◌, true, List, [], ◌∷◌, map, ◌↔◌, ◌⊎◌, inl, inr, ⊎_elim, ◌≡◌, refl, sym, ap, ◌∙◌, subst, arith, length}
+use Rattle.std.proofs.Common.{ℕ, ◌<◌, true, List, [], ◌∷◌, map, ◌⊎◌, inl, inr, ◌≡◌, refl, sym, ap, ◌∙◌, subst, arith, length}
 use Rattle.std.proofs.Math.Option.{some}
 use mathlib.Core.List.Memᴰ
 use Rattle.policy.proofs.ListLaws.{and_out}
@@ -35,7 +35,6 @@ use Rattle.exactness.specs.Exact.{contents_of, changed, Checked, RefusedEarly}
 use Rattle.meaning.proofs.Decided.{decided_is, image_bounded, image_refuses_in, image_decides}
 use Rattle.monitor.proofs.DecideLaws.{image_refused, line_refused}
 use Rattle.monitor.specs.Decision.{decided_by, on_epoch_line, on_image, decision_in, decision, answer_of}
-use Rattle.monitor.specs.declared.decision.Actions.{Actions}
 use Rattle.monitor.specs.declared.decision.Decision.{Decision}
 use Rattle.guarantees.specs.Decisions.{RefusedFor, the_image, the_line, OfDecision, of_image, of_line, CheckFailed, NotRefused, yield_of, Obeys}
 
