@@ -1,12 +1,10 @@
 -- The first line of a text that is sought: what one turn of the search does, and what is shown of a line.
-use Rattle.std.specs.Prelude.{Some, None, Ok, Err}
-use Rattle.std.proofs.Common.{ℕ, ◌+◌, ◌-◌, ◌≤◌, ◌<◌, Bool, true, false, cond, List, [], ◌∷◌, ◌≡◌, refl, sym, ap, ap₂, ◌∙◌, arith, eqb-true, ℤ, length}
-use Rattle.std.proofs.Math.Option.{Option, none, some}
+use Rattle.std.specs.Prelude.{Option, Some, None, Ok, Err}
+use Rattle.std.proofs.Common.{ℕ, ◌+◌, ◌-◌, ◌≤◌, ◌<◌, Bool, true, false, cond, List, [], ◌∷◌, ◌≡◌, refl, sym, ap, ap₂, ◌∙◌, arith, eqb-true, ℤ, length, take}
 use Rattle.policy.proofs.ValidLaws.{valid_out}
 use Rattle.policy.specs.Limits.{valid}
 use Rattle.policy.specs.Line.{PolicyLine, ending_of}
 use Rattle.policy.specs.declared.fault.Fault.{Fault}
-use Rattle.policy.specs.declared.fault.Source.{Source}
 use Rattle.policy.specs.declared.line.Ending.{Ending}
 use Rattle.line_value.specs.Value.{line_of, line_value}
 use Rattle.line_value.specs.declared.Line.{Line}
@@ -23,11 +21,10 @@ use Rattle.syntax.proofs.AnswerLaws.{lines_here, next_shorter, read_refused, rea
 use Rattle.syntax.specs.Answer.{next_line, line_read}
 use Rattle.syntax.specs.Judge.{LineAnswer, skipped, refused, accepted, line_answer}
 use Rattle.explanation.proofs.TellLaws.{line_below}
-use Rattle.explanation.specs.Part.{trim_start, trim_end, trim, shown_at, or_later, first_from}
-use Rattle.explanation.specs.Steps.Sought.{tells, sought_by, Writable, search_of}
-use Rattle.explanation.specs.declared.find.Search.{Search}
+use Rattle.explanation.proofs.TrimLaws.{trimmed_front}
+use Rattle.explanation.specs.Part.{trim_start, trim_end, trim, Stretch, shown_at, or_later, first_from}
+use Rattle.explanation.specs.Steps.Sought.{tells, sought_by, Writable}
 use Rattle.explanation.specs.declared.find.Sought.{Sought}
-use Rattle.explanation.specs.declared.part.Shown.{Shown}
 
 -- ---- what is shown of a line
 
@@ -53,45 +50,47 @@ line_behind_spaces (b ∷ s) =
 pub behind_shorter : (text first : List ℕ) → first ≡ without_spaces text → length first ≤ length text
 behind_shorter text first e = omega (arith, ap length e, leading_length is_space text)
 
-pub shown_is : (source : Source) (at n : ℕ) (text : List ℕ) → n ≡ length (trim_end (first_line (without_spaces text)))
-    → record { source = source; start = at + (length text - length (without_spaces text)); length = n } ≡ shown_at source at (first_line text)
+pub shown_is : (at n : ℕ) (text part : List ℕ) → n ≡ length (trim_end (first_line (without_spaces text))) → part ≡ take n (without_spaces text)
+    → record { start = at + (length text - length (without_spaces text)); bytes = part } ≡ shown_at at (first_line text)
 unfolding shown_at trim
-shown_is source at n text e =
+shown_is at n text part e p =
     let k : length text - length (without_spaces text) ≡ length (take_leading is_space (first_line text)) = omega (arith, leading_length is_space text, ap length (spaces_in_line text)) in
-    ap₂ (λ (x y : ℕ). record { source = source; start = at + x; length = y }) k (e ∙ ap (λ (t : List ℕ). length (trim_end t)) (line_behind_spaces text))
+    let q : part ≡ trim_end (trim_start (first_line text)) =
+    p ∙ ap (λ (m : ℕ). take m (without_spaces text)) e ∙ trimmed_front (without_spaces text) ∙ ap trim_end (line_behind_spaces text) in
+    ap₂ (λ (x : ℕ) (y : List ℕ). record { start = at + x; bytes = y }) k q
 
 -- ---- one turn of the search
 
-module _ (text : List ℕ) (source : Source) (q : Sought) (values : List ℤ) where
+module _ (text : List ℕ) (q : Sought) (values : List ℤ) where
   -- what is found in the rest of the text
-  abbrev found : List ℕ → Option Shown
-  found rest = first_from (sought_by q values) source (length text - length rest) (lines_of rest)
+  abbrev found : List ℕ → Option Stretch
+  found rest = first_from (sought_by q values) (length text - length rest) (lines_of rest)
 
   -- nothing has been found before the rest
   pub record Seeking (rest : List ℕ) : Type 0 where
     pub inside : length rest ≤ length text
-    pub same : first_from (sought_by q values) source 0 (lines_of text) ≡ found rest
+    pub same : first_from (sought_by q values) 0 (lines_of text) ≡ found rest
 
   pub seeking_none : Seeking text
   seeking_none = let z : length text - length text ≡ 0 = omega arith in record { inside = omega arith; same = rw z }
 
   -- the lines behind the first, wherever a line behind a text without a line end would start
-  lines_behind : (rest : List ℕ) → length rest ≤ length text → first_from (sought_by q values) source (length text - length rest + length (first_line rest) + 1) (lines_of (next_line rest)) ≡ found (next_line rest)
+  lines_behind : (rest : List ℕ) → length rest ≤ length text → first_from (sought_by q values) (length text - length rest + length (first_line rest) + 1) (lines_of (next_line rest)) ≡ found (next_line rest)
   unfolding first_from lines_of pieces
   lines_behind rest h = go (behind_line rest) (leading_length in_line rest)
     where
-      go : (t : List ℕ) → length (first_line rest) + length t ≡ length rest → first_from (sought_by q values) source (length text - length rest + length (first_line rest) + 1) (lines_of (without_end t)) ≡ found (without_end t)
+      go : (t : List ℕ) → length (first_line rest) + length t ≡ length rest → first_from (sought_by q values) (length text - length rest + length (first_line rest) + 1) (lines_of (without_end t)) ≡ found (without_end t)
       go [] e = refl
       go (b ∷ t) e =
           let k : length text - length rest + length (first_line rest) + 1 ≡ length text - length t = omega arith in
-          ap (λ (n : ℕ). first_from (sought_by q values) source n (lines_of t)) k
+          ap (λ (n : ℕ). first_from (sought_by q values) n (lines_of t)) k
 
   module _ (rest : List ℕ) (s : Seeking rest) where
-    pub seeking_all : length rest ≡ 0 → Search.Absent ≡ search_of (first_from (sought_by q values) source 0 (lines_of text))
-    unfolding search_of first_from lines_of pieces
-    seeking_all h = sym (ap search_of (s.same ∙ nothing rest h))
+    pub seeking_all : length rest ≡ 0 → None ≡ first_from (sought_by q values) 0 (lines_of text)
+    unfolding first_from lines_of pieces
+    seeking_all h = sym (s.same ∙ nothing rest h)
       where
-        nothing : (t : List ℕ) → length t ≡ 0 → found t ≡ none
+        nothing : (t : List ℕ) → length t ≡ 0 → found t ≡ None
         nothing [] e = refl
         nothing (b ∷ t) e = absurd (omega arith)
 
@@ -99,18 +98,18 @@ module _ (text : List ℕ) (source : Source) (q : Sought) (values : List ℤ) wh
       abbrev at : ℕ
       at = length text - length rest
 
-      turned : (a : LineAnswer) → line_answer (first_line rest) ≡ a → first_from (sought_by q values) source 0 (lines_of text) ≡ or_later (sought_by q values) source a at (first_line rest) (found (next_line rest))
+      turned : (a : LineAnswer) → line_answer (first_line rest) ≡ a → first_from (sought_by q values) 0 (lines_of text) ≡ or_later (sought_by q values) a at (first_line rest) (found (next_line rest))
       unfolding first_from
       turned a k =
-          s.same ∙ ap (first_from (sought_by q values) source at) (lines_here rest h)
-          ∙ ap₂ (λ (x : LineAnswer) (later : Option Shown). or_later (sought_by q values) source x at (first_line rest) later) k (lines_behind rest s.inside)
+          s.same ∙ ap (first_from (sought_by q values) at) (lines_here rest h)
+          ∙ ap₂ (λ (x : LineAnswer) (later : Option Stretch). or_later (sought_by q values) x at (first_line rest) later) k (lines_behind rest s.inside)
 
-      pub seeking_stop : (f : Fault) → Err f ≡ line_read rest → Search.Absent ≡ search_of (first_from (sought_by q values) source 0 (lines_of text))
-      unfolding or_later search_of
-      seeking_stop f e = sym (ap search_of (turned (refused f) (read_refused rest f e)))
+      pub seeking_stop : (f : Fault) → Err f ≡ line_read rest → None ≡ first_from (sought_by q values) 0 (lines_of text)
+      unfolding or_later
+      seeking_stop f e = sym (turned (refused f) (read_refused rest f e))
 
       module _ (behind : List ℕ) where
-        onward : behind ≡ next_line rest → first_from (sought_by q values) source 0 (lines_of text) ≡ found (next_line rest) → Seeking behind
+        onward : behind ≡ next_line rest → first_from (sought_by q values) 0 (lines_of text) ≡ found (next_line rest) → Seeking behind
         onward n m = rw n (record { inside = omega (arith, next_shorter rest h, s.inside); same = m })
 
         shorter : behind ≡ next_line rest → length behind < length rest
@@ -124,12 +123,12 @@ module _ (text : List ℕ) (source : Source) (q : Sought) (values : List ℤ) wh
         pub record Judging (l : Line) : Type 0 where
           pub writable : Writable (value_words l)
           pub later : length behind < length rest
-          pub hit : (b : Bool) → b ≡ tells q.part l.ending q values (value_words l) → b ≡ true → (x : Shown) → x ≡ shown_at source at (first_line rest)
-              → Search.Found x ≡ search_of (first_from (sought_by q values) source 0 (lines_of text))
+          pub hit : (b : Bool) → b ≡ tells q.part l.ending q values (value_words l) → b ≡ true → (x : Stretch) → x ≡ shown_at at (first_line rest)
+              → Some x ≡ first_from (sought_by q values) 0 (lines_of text)
           pub miss : (b : Bool) → b ≡ tells q.part l.ending q values (value_words l) → b ≡ false → Seeking behind
 
         pub seeking_judge : (l : Line) → Ok (Some l, behind) ≡ line_read rest → Judging l
-        unfolding line_value line_of sought_by or_later search_of
+        unfolding line_value line_of sought_by or_later
         seeking_judge l e =
             let r = read_accepted rest l behind e in
             let k : PolicyLine = r.line in
@@ -142,7 +141,7 @@ module _ (text : List ℕ) (source : Source) (q : Sought) (values : List ℤ) wh
               writable = rw words (record { few = line_limit_is k v; small = line_below k v });
               later = shorter r.behind;
               hit = λ b j t x u.
-                  ap Search.Found u
-                  ∙ sym (ap search_of (turned (accepted k) r.answer ∙ ap (λ (y : Bool). cond y (some (shown_at source at (first_line rest))) (found (next_line rest))) (sym (j ∙ same) ∙ t)));
-              miss = λ b j t. onward r.behind (turned (accepted k) r.answer ∙ ap (λ (y : Bool). cond y (some (shown_at source at (first_line rest))) (found (next_line rest))) (sym (j ∙ same) ∙ t));
+                  ap Some u
+                  ∙ sym (turned (accepted k) r.answer ∙ ap (λ (y : Bool). cond y (Some (shown_at at (first_line rest))) (found (next_line rest))) (sym (j ∙ same) ∙ t));
+              miss = λ b j t. onward r.behind (turned (accepted k) r.answer ∙ ap (λ (y : Bool). cond y (Some (shown_at at (first_line rest))) (found (next_line rest))) (sym (j ∙ same) ∙ t));
             }

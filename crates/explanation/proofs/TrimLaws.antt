@@ -1,10 +1,10 @@
 -- Laws of trimming.
-use Rattle.std.proofs.Common.{ℕ, suc, ◌+◌, ◌-◌, ◌≤◌, ◌<◌, true, false, cond, List, [], ◌∷◌, ◌≡◌, refl, ◌∙◌, arith, eq-eqb, ne_eqb, le-ltb, length, take, drop}
+use Rattle.std.proofs.Common.{ℕ, suc, ◌+◌, ◌-◌, ◌≤◌, ◌<◌, true, false, cond, List, [], ◌∷◌, ◌≡◌, refl, ◌∙◌, arith, eq-eqb, ne_eqb, length, take, drop, length-take, ap}
 use Rattle.std.proofs.lemmas.List.{take_rest}
 use Rattle.std.proofs.Math.ListN.{get_or}
 use Rattle.lexer.specs.Byte.{is_space}
-use Rattle.lexer.specs.Lines.{first_line}
-use Rattle.explanation.specs.Part.{add_to_trimmed, trim_end, part_at}
+use Rattle.lexer.specs.Lines.{in_line, first_line}
+use Rattle.explanation.specs.Part.{add_to_trimmed, trim_end}
 
 -- how long a line is without the spaces at its end, told by what is left of it behind so many bytes: as long as it was so far, if that is
 -- nothing, and otherwise by all of that
@@ -47,10 +47,20 @@ pub length_whole : (s : List ℕ) → length s ≡ length_with 0 0 s
 length_whole [] = refl
 length_whole (b ∷ s) = omega arith
 
--- ---- a part of a text
+-- ---- the bytes of a line without the spaces at its end
 
-pub part_inside : (text : List ℕ) (start count : ℕ) → start ≤ length text → count ≤ length text - start → take (start + count - start) (drop start text) ≡ part_at text start count
-unfolding part_at
-part_inside text start count h k =
-    let e : start + count - start ≡ count = omega arith in
-    rw (e, le-ltb (length text) start h, le-ltb (length text - start) count k)
+pub trimmed_front : (s : List ℕ) → take (length (trim_end (first_line s))) s ≡ trim_end (first_line s)
+unfolding trim_end add_to_trimmed
+trimmed_front [] = refl
+trimmed_front (b ∷ s) =
+    elim (in_line b) as (λ x. take (length (trim_end (cond x (b ∷ first_line s) []))) (b ∷ s) ≡ trim_end (cond x (b ∷ first_line s) [])) [
+      | true ↦ go (trim_end (first_line s)) (trimmed_front s)
+      | false ↦ refl
+    ]
+  where
+    go : (t : List ℕ) → take (length t) s ≡ t → take (length (add_to_trimmed b t)) (b ∷ s) ≡ add_to_trimmed b t
+    go [] e = elim (is_space b) as (λ x. take (length (cond x [] (b ∷ []))) (b ∷ s) ≡ cond x [] (b ∷ [])) [ true ↦ refl | false ↦ refl ]
+    go (c ∷ t) e = ap (λ (u : List ℕ). b ∷ u) e
+
+pub trimmed_inside : (s : List ℕ) → length (trim_end (first_line s)) ≤ length s
+trimmed_inside s = omega (arith, ap length (trimmed_front s), length-take (length (trim_end (first_line s))) s)

@@ -1,7 +1,7 @@
 -- What became of an action: each way through the functions that answer it.
-use Rattle.std.specs.Prelude.{Option as Maybe, Some, None}
-use Rattle.std.proofs.Common.{ℕ, ◌+◌, ◌≤◌, Bool, true, false, cond, List, [], ◌∷◌, ◌≡◌, refl, sym, ap, ap₂, ◌∙◌, arith, length, take}
-use Rattle.std.proofs.Math.Option.{Option, none, some}
+use Rattle.std.specs.Prelude.{Option, Some, None, option_map, Result, Ok, Err}
+use Rattle.std.specs.Option.{option_or, option_map_or}
+use Rattle.std.proofs.Common.{ℕ, ◌+◌, ◌≤◌, Bool, true, false, cond, List, [], ◌∷◌, ◌≡◌, refl, sym, ap, ap₂, ◌∙◌, length, take}
 use Rattle.policy.specs.Epoch.{Epoch}
 use Rattle.policy.specs.Fault.{refusal}
 use Rattle.policy.specs.Limits.{valid, Acceptable}
@@ -11,7 +11,6 @@ use Rattle.policy.specs.Policy.{Policy}
 use Rattle.policy.specs.Set.{ActionSet, has_action, insert_action, actions_below}
 use Rattle.policy.specs.declared.fault.Fault.{Fault}
 use Rattle.policy.specs.declared.fault.Refusal.{Refusal}
-use Rattle.policy.specs.declared.fault.Source.{Source}
 use Rattle.policy.specs.declared.line.Part.{Part}
 use Rattle.policy.specs.declared.number.Action.{Action}
 use Rattle.lexer.specs.Lines.{lines_of}
@@ -33,108 +32,92 @@ use Rattle.monitor.specs.declared.decision.Actions.{Actions}
 use Rattle.monitor.specs.declared.decision.Decision.{Decision}
 use Rattle.rule_text.specs.Text.{Progress, reading, stopped, read_texts}
 use Rattle.explanation.proofs.TellLaws.{rules_sought, constraints_sought}
-use Rattle.explanation.specs.Part.{shown_at, empty_part, or_later, first_from, or_site, first_shown, part_in, shown_part}
-use Rattle.explanation.specs.Why.{is_proposing_rule, is_cancelling_constraint, because, reason_for, on_action, on_epoch, on_both_texts, explained, part_shown}
+use Rattle.explanation.specs.Part.{Stretch, Quote, of_maker, of_site, shown_at, or_later, first_from, first_shown}
+use Rattle.explanation.specs.Why.{is_proposing_rule, is_cancelling_constraint, Explanation, not_proposed, accepted_by, cancelled_by, explanation_for, on_action, on_epoch, on_both_texts, explained}
 use Rattle.explanation.specs.Steps.On.{epoch_on, on_decision, explained_on}
-use Rattle.explanation.specs.Steps.Sought.{sought_by, search_of}
-use Rattle.explanation.specs.declared.find.Search.{Search}
-use Rattle.explanation.specs.declared.part.Shown.{Shown}
-use Rattle.explanation.specs.declared.why.Explained.{Explained}
-use Rattle.explanation.specs.declared.why.Outcome.{Outcome}
-use Rattle.explanation.specs.declared.why.Reason.{Reason}
+use Rattle.explanation.specs.Steps.Sought.{sought_by}
 
 -- ---- the first line of both texts
 
-found_some : (o : Option Shown) (x : Shown) → Search.Found x ≡ search_of o → o ≡ some x
-unfolding search_of
-found_some none x e = let w : ◌≡◌ {A = ℕ} 0 1 = cc in absurd (omega arith)
-found_some (some y) x e = let q : y ≡ x = cc in ap some q
+module _ (test : PolicyLine → Bool) (maker site : List ℕ) where
+  pub shown_first : (x : Stretch) → Some x ≡ first_from test 0 (lines_of maker) → Some (of_maker x) ≡ first_shown test maker site
+  unfolding first_shown
+  shown_first x e = rw (sym e)
 
-found_none : (o : Option Shown) → Search.Absent ≡ search_of o → o ≡ none
-unfolding search_of
-found_none none e = refl
-found_none (some y) e = let w : ◌≡◌ {A = ℕ} 0 1 = cc in absurd (omega arith)
+  pub shown_second : None ≡ first_from test 0 (lines_of maker) → (x : Stretch) → Some x ≡ first_from test 0 (lines_of site) → Some (of_site x) ≡ first_shown test maker site
+  unfolding first_shown
+  shown_second e x h = rw (sym e, sym h)
 
-module _ (test : PolicyLine → Bool) (maker site : List ℕ) (first : Search) (f : first ≡ search_of (first_from test Source.Maker 0 (lines_of maker))) where
-  pub shown_first : (x : Shown) → first ≡ Search.Found x → x ≡ first_shown test maker site
-  unfolding first_shown or_site
-  shown_first x e = rw (found_some _ x (sym e ∙ f))
-
-  module _ (e : first ≡ Search.Absent) (second : Search) (g : second ≡ search_of (first_from test Source.Site 0 (lines_of site))) where
-    pub shown_second : (x : Shown) → second ≡ Search.Found x → x ≡ first_shown test maker site
-    unfolding first_shown or_site
-    shown_second x h = rw (found_none _ (sym e ∙ f), found_some _ x (sym h ∙ g))
-
-    pub shown_none : (x : Shown) → second ≡ Search.Absent → x ≡ empty_part → x ≡ first_shown test maker site
-    unfolding first_shown or_site
-    shown_none x h k = rw (found_none _ (sym e ∙ f), found_none _ (sym h ∙ g)) k
+  pub shown_none : None ≡ first_from test 0 (lines_of maker) → None ≡ first_from test 0 (lines_of site) → None ≡ first_shown test maker site
+  unfolding first_shown
+  shown_none e h = rw (sym e, sym h)
 
 -- ---- tests that agree on valid lines show the same
 
 module _ (s t : PolicyLine → Bool) (agree : (l : PolicyLine) → valid l ≡ true → s l ≡ t l) where
-  first_same : (source : Source) (at : ℕ) (lines : List (List ℕ)) → first_from s source at lines ≡ first_from t source at lines
+  first_same : (at : ℕ) (lines : List (List ℕ)) → first_from s at lines ≡ first_from t at lines
   unfolding first_from or_later
-  first_same source at [] = refl
-  first_same source at (line ∷ lines) = go (line_answer line) refl (first_same source (at + length line + 1) lines)
+  first_same at [] = refl
+  first_same at (line ∷ lines) = go (line_answer line) refl (first_same (at + length line + 1) lines)
     where
-      go : (a : LineAnswer) → line_answer line ≡ a → {later later' : Option Shown} → later ≡ later' → or_later s source a at line later ≡ or_later t source a at line later'
+      go : (a : LineAnswer) → line_answer line ≡ a → {later later' : Option Stretch} → later ≡ later' → or_later s a at line later ≡ or_later t a at line later'
       go skipped k h = h
       go (refused f) k h = refl
-      go (accepted l) k h = ap₂ (λ (b : Bool) (later : Option Shown). cond b (some (shown_at source at line)) later) (agree l (accepted_valid line l k)) h
+      go (accepted l) k h = ap₂ (λ (b : Bool) (later : Option Stretch). cond b (Some (shown_at at line)) later) (agree l (accepted_valid line l k)) h
 
   shown_same : (maker site : List ℕ) → first_shown s maker site ≡ first_shown t maker site
   unfolding first_shown
-  shown_same maker site = ap₂ or_site (first_same Source.Maker 0 (lines_of maker)) (first_same Source.Site 0 (lines_of site))
+  shown_same maker site = ap₂ (λ (x y : Option Stretch). option_or (option_map of_maker x) (option_map of_site y)) (first_same 0 (lines_of maker)) (first_same 0 (lines_of site))
 
--- ---- the reason
+-- ---- what is said of an action
 
 module _ (maker site : List ℕ) (accepts cancels : ActionSet) (line : List ℕ) (a : Action) (read : EpochRead) (r : read ≡ epoch_read line) where
   epoch_is : epoch_in read ≡ epoch_on line
   epoch_is = ap epoch_in r
 
-  pub accepted_reason : (b : Bool) → b ≡ has_action accepts a → b ≡ true → (set : ActionSet) (x : Shown)
+  pub says_accepted : (b : Bool) → b ≡ has_action accepts a → b ≡ true → (set : ActionSet) (x : Option Quote)
       → x ≡ first_shown (sought_by (record { part = Part.Rules; action = a; set = set; events = read.events; given = read.given }) read.values) maker site
-      → because Outcome.Accepted x ≡ reason_for maker site accepts cancels (epoch_on line) a
-  unfolding reason_for
-  accepted_reason b h t set x e =
+      → option_map_or accepted_by x not_proposed ≡ explanation_for maker site accepts cancels (epoch_on line) a
+  unfolding explanation_for
+  says_accepted b h t set x e =
       rw (sym h ∙ t)
-      (ap (because Outcome.Accepted)
+      (ap (λ (y : Option Quote). option_map_or accepted_by y not_proposed)
       (e ∙ shown_same _ (is_proposing_rule (epoch_in read) a) (rules_sought (epoch_in read) a set) maker site ∙ ap (λ (y : Epoch). first_shown (is_proposing_rule y a) maker site) epoch_is))
 
   module _ (b : Bool) (h : b ≡ has_action accepts a) (t : b ≡ false) where
-    pub cancelled_reason : (c : Bool) → c ≡ has_action cancels a → c ≡ true → (below set : ActionSet) → below ≡ actions_below accepts a → set ≡ insert_action below a → (x : Shown)
+    pub says_cancelled : (c : Bool) → c ≡ has_action cancels a → c ≡ true → (below set : ActionSet) → below ≡ actions_below accepts a → set ≡ insert_action below a → (x : Option Quote)
         → x ≡ first_shown (sought_by (record { part = Part.Constraints; action = a; set = set; events = read.events; given = read.given }) read.values) maker site
-        → because Outcome.Cancelled x ≡ reason_for maker site accepts cancels (epoch_on line) a
-    unfolding reason_for
-    cancelled_reason c k u below set l m x e =
+        → option_map_or cancelled_by x not_proposed ≡ explanation_for maker site accepts cancels (epoch_on line) a
+    unfolding explanation_for
+    says_cancelled c k u below set l m x e =
         let same : set ≡ insert_action (actions_below accepts a) a = m ∙ ap (λ (y : ActionSet). insert_action y a) l in
         rw (sym h ∙ t, sym k ∙ u)
-        (ap (because Outcome.Cancelled)
+        (ap (λ (y : Option Quote). option_map_or cancelled_by y not_proposed)
         (e
         ∙ ap (λ (y : ActionSet). first_shown (sought_by (record { part = Part.Constraints; action = a; set = y; events = read.events; given = read.given }) read.values) maker site) same
         ∙ shown_same _ (is_cancelling_constraint (epoch_in read).readings accepts a) (constraints_sought (epoch_in read) accepts a) maker site
         ∙ ap (λ (y : Epoch). first_shown (is_cancelling_constraint y.readings accepts a) maker site) epoch_is))
 
-    pub other_reason : (c : Bool) → c ≡ has_action cancels a → c ≡ false → (x : Shown) → x ≡ empty_part → because Outcome.NotProposed x ≡ reason_for maker site accepts cancels (epoch_on line) a
-    unfolding reason_for
-    other_reason c k u x e = rw (sym h ∙ t, sym k ∙ u) (ap (because Outcome.NotProposed) e)
+    pub says_neither : (c : Bool) → c ≡ has_action cancels a → c ≡ false → not_proposed ≡ explanation_for maker site accepts cancels (epoch_on line) a
+    unfolding explanation_for
+    says_neither c k u = rw (sym h ∙ t, sym k ∙ u)
 
 -- ---- the answer on an image
 
 module _ (maker site line : List ℕ) (n : ℕ) (image : List ℕ) (d : Decision) (made : d ≡ decision image line) where
-  pub on_refused : (r : Refusal) → d ≡ Decision.Refused r → Explained.Refused r ≡ explained_on maker site line n image
+  pub on_refused : (r : Refusal) → d ≡ Decision.Refused r → Err r ≡ explained_on maker site line n image
   unfolding explained_on on_decision
   on_refused r e = rw (sym made ∙ e)
 
-  module _ (actions : Actions) (e : d ≡ Decision.Issued actions) (check : Maybe Action) (c : check ≡ check_action n) where
-    pub on_over : check ≡ None → (r : Refusal) → r ≡ refusal Fault.EpochRange 0 → Explained.Refused r ≡ explained_on maker site line n image
+  module _ (actions : Actions) (e : d ≡ Decision.Issued actions) (check : Option Action) (c : check ≡ check_action n) where
+    pub on_over : check ≡ None → (r : Refusal) → r ≡ refusal Fault.EpochRange 0 → Err r ≡ explained_on maker site line n image
     unfolding explained_on on_decision on_action
-    on_over k r h = rw (sym made ∙ e, sym c ∙ k) (ap Explained.Refused h)
+    on_over k r h = rw (sym made ∙ e, sym c ∙ k) (ap Err h)
 
-    pub on_action_is : (a : Action) → check ≡ Some a → (why : Reason) → why ≡ reason_for maker site actions.accepted actions.cancelled (epoch_on line) a
-        → Explained.Because why ≡ explained_on maker site line n image
+    pub on_action_is : (a : Action) → check ≡ Some a → (x : Explanation) → x ≡ explanation_for maker site actions.accepted actions.cancelled (epoch_on line) a
+        → Ok x ≡ explained_on maker site line n image
     unfolding explained_on on_decision on_action
-    on_action_is a k why h = rw (sym made ∙ e, sym c ∙ k) (ap Explained.Because h)
+    on_action_is a k x h = rw (sym made ∙ e, sym c ∙ k) (ap Ok h)
 
 -- ---- on the image of the texts
 
@@ -154,14 +137,14 @@ on_image_is maker site line n p ok = go (read_epoch line) refl
 
 module _ (maker site line : List ℕ) (n : ℕ) (buffer written : List ℕ) (answer : Compiled) (made : answer ≡ (compiled_texts maker site buffer).answer)
     (wrote : written ≡ (compiled_texts maker site buffer).buffer) (long : length buffer ≡ 13064) where
-  pub explains_refusal : (r : Refusal) → answer ≡ Compiled.Refused r → Explained.Refused r ≡ explained maker site line n
+  pub explains_refusal : (r : Refusal) → answer ≡ Compiled.Refused r → Err r ≡ explained maker site line n
   unfolding explained on_both_texts
   explains_refusal r e = rw (texts_stopped maker site buffer long r (sym made ∙ e))
 
   pub explains_within : (size : ℕ) → answer ≡ Compiled.Image size → size ≤ 13064
   explains_within size e = (texts_read_is maker site buffer long size (sym made ∙ e)).small
 
-  pub explains_image : (size : ℕ) → answer ≡ Compiled.Image size → (x : Explained) → x ≡ explained_on maker site line n (take size written) → x ≡ explained maker site line n
+  pub explains_image : (size : ℕ) → answer ≡ Compiled.Image size → (x : Result Explanation Refusal) → x ≡ explained_on maker site line n (take size written) → x ≡ explained maker site line n
   unfolding explained on_both_texts
   explains_image size e x h =
       let r = texts_read_is maker site buffer long size (sym made ∙ e) in
@@ -181,13 +164,3 @@ same_action maker site line m n h = go (read_texts maker site)
     go : (s : Progress) → on_both_texts maker site line m s ≡ on_both_texts maker site line n s
     go (stopped r) = refl
     go (reading next p) = on p (read_epoch line)
-
--- ---- the bytes that are shown
-
-module _ (maker site : List ℕ) (x y : Explained) (e : y ≡ x) where
-  pub part_refused : (r : Refusal) → y ≡ Explained.Refused r → [] ≡ part_shown maker site x
-  unfolding part_in
-  part_refused r h = sym (ap (part_shown maker site) (sym e ∙ h))
-
-  pub part_because : (why : Reason) (bytes : List ℕ) → y ≡ Explained.Because why → bytes ≡ shown_part maker site why.shown → bytes ≡ part_shown maker site x
-  part_because why bytes h k = k ∙ sym (ap (part_shown maker site) (sym e ∙ h))

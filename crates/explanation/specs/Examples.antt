@@ -1,18 +1,19 @@
 -- What is said of an action, one row each: two texts, an epoch line and the action's number.
-use Rattle.std.specs.Prelude.{ℕ, List, [], ◌∷◌}
+use Rattle.std.specs.Prelude.{ℕ, List, [], ◌∷◌, Result, Ok, Err}
 use Prim.Native.String.{String}
 use Rattle.policy.specs.Fault.{fault_number, source_number}
+use Rattle.policy.specs.declared.fault.Refusal.{Refusal}
 use Rattle.lexer.specs.Byte.{bytes}
-use Rattle.explanation.specs.Part.{shown_part}
-use Rattle.explanation.specs.Why.{explained}
-use Rattle.explanation.specs.declared.why.Explained.{Explained}
-use Rattle.explanation.specs.declared.why.Outcome.{Outcome}
+use Rattle.explanation.specs.Part.{of_maker, of_site}
+use Rattle.explanation.specs.Why as Why
+use Rattle.explanation.specs.Why.{Explanation, accepted_by, cancelled_by, explained}
 
+-- the number of the text that the shown part is from, and its bytes; and of a refusal the fault's number, the text's, and the line
 pub data Said : Type 0 where
-  -- what became of the action, the number of the text that the shown part is from, and its bytes
-  because : Outcome → ℕ → List ℕ → Said
-  -- the fault's number, the text's, and the line
-  refused : ℕ → ℕ → ℕ → Said
+  is_accepted : ℕ → List ℕ → Said
+  is_cancelled : ℕ → List ℕ → Said
+  is_not_proposed : Said
+  is_refused : ℕ → ℕ → ℕ → Said
 
 pub record Example : Type 0 where
   pub maker : String
@@ -25,13 +26,16 @@ abbrev row : String → String → String → ℕ → Said → Example
 row maker site line action said = record { maker = maker; site = site; line = line; action = action; said = said }
 
 abbrev accepted : ℕ → String → Said
-accepted text part = because Outcome.Accepted text (bytes part)
+accepted text part = is_accepted text (bytes part)
 
 abbrev cancelled : ℕ → String → Said
-cancelled text part = because Outcome.Cancelled text (bytes part)
+cancelled text part = is_cancelled text (bytes part)
 
 abbrev not_proposed : Said
-not_proposed = because Outcome.NotProposed 0 []
+not_proposed = is_not_proposed
+
+abbrev refused : ℕ → ℕ → ℕ → Said
+refused = is_refused
 
 -- the maker's lines; the site adds `E3 causes A4`
 abbrev worked : String
@@ -72,9 +76,13 @@ explanations =
 
 -- ---- what the definitions say of a row
 
-unfoldable pub said_in : List ℕ → List ℕ → Explained → Said
-said_in maker site (Explained.Refused r) = refused (fault_number r.fault) (source_number r.source) r.location
-said_in maker site (Explained.Because why) = because why.outcome (source_number why.shown.source) (shown_part maker site why.shown)
+unfoldable pub said_in : Result Explanation Refusal → Said
+said_in (Err r) = is_refused (fault_number r.fault) (source_number r.source) r.location
+said_in (Ok Why.not_proposed) = is_not_proposed
+said_in (Ok (accepted_by (of_maker x))) = is_accepted 1 x.bytes
+said_in (Ok (accepted_by (of_site x))) = is_accepted 2 x.bytes
+said_in (Ok (cancelled_by (of_maker x))) = is_cancelled 1 x.bytes
+said_in (Ok (cancelled_by (of_site x))) = is_cancelled 2 x.bytes
 
 unfoldable pub said_of : Example → Said
-said_of x = said_in (bytes x.maker) (bytes x.site) (explained (bytes x.maker) (bytes x.site) (bytes x.line) x.action)
+said_of x = said_in (explained (bytes x.maker) (bytes x.site) (bytes x.line) x.action)

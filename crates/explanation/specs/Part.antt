@@ -1,12 +1,12 @@
 -- The first line that passes a test, without its line end, trimmed of spaces at both ends, and straight out of the text that it
 -- stands in.
-use Rattle.std.specs.Prelude.{ℕ, ◌+◌, ◌-◌, Bool, cond, List, [], ◌∷◌, ltb, length, take, drop}
-use Rattle.std.proofs.Math.Option.{Option, none, some}
+use Rattle.std.specs.Prelude.{ℕ, ◌+◌, Bool, cond, List, [], ◌∷◌, length, Option, Some, None, option_map}
+use Rattle.std.specs.Option.{option_or}
 use Rattle.policy.specs.Line.{PolicyLine}
-use Rattle.policy.specs.declared.fault.Source.{Source}
 use Rattle.lexer.specs.Byte.{is_space}
 use Rattle.lexer.specs.Lines.{lines_of, take_leading, drop_leading}
 use Rattle.syntax.specs.Judge.{LineAnswer, skipped, refused, accepted, line_answer}
+use Rattle.explanation.specs.declared.part.Excerpt.{Excerpt}
 use Rattle.explanation.specs.declared.part.Shown.{Shown}
 
 -- ---- trimmed of spaces
@@ -31,47 +31,44 @@ trim s = trim_end (trim_start s)
 
 -- ---- where a line stands
 
--- what is shown of the line that starts at a position of a text
-unfoldable pub shown_at : Source → ℕ → List ℕ → Shown
-shown_at source at line = record { source = source; start = at + length (take_leading is_space line); length = length (trim line) }
+-- a part of a text: from which byte on it stands there, counted from 0, and its bytes
+pub record Stretch : Type 0 where
+  pub start : ℕ
+  pub bytes : List ℕ
 
--- nothing is shown
-abbrev pub empty_part : Shown
-empty_part = record { source = Source.Neither; start = 0; length = 0 }
+-- what is shown of the line that starts at a position of a text
+unfoldable pub shown_at : ℕ → List ℕ → Stretch
+shown_at at line = record { start = at + length (take_leading is_space line); bytes = trim line }
 
 -- ---- the first line that passes
 
-module _ (test : PolicyLine → Bool) (source : Source) where
+module _ (test : PolicyLine → Bool) where
   -- a line that starts at a position, and what is shown of those behind it; from a line that is refused on, nothing is
-  unfoldable pub or_later : LineAnswer → ℕ → List ℕ → Option Shown → Option Shown
+  unfoldable pub or_later : LineAnswer → ℕ → List ℕ → Option Stretch → Option Stretch
   or_later skipped at line later = later
-  or_later (refused f) at line later = none
-  or_later (accepted l) at line later = cond (test l) (some (shown_at source at line)) later
+  or_later (refused f) at line later = None
+  or_later (accepted l) at line later = cond (test l) (Some (shown_at at line)) later
 
   -- of lines, the first of which starts at a position
-  unfoldable pub first_from : ℕ → List (List ℕ) → Option Shown
-  first_from at [] = none
+  unfoldable pub first_from : ℕ → List (List ℕ) → Option Stretch
+  first_from at [] = None
   first_from at (line ∷ lines) = or_later (line_answer line) at line (first_from (at + length line + 1) lines)
 
+-- a part of the maker's text, or one of the site's
+pub data Quote : Type 0 where
+  of_maker : Stretch → Quote
+  of_site : Stretch → Quote
+
 -- in the joint order: the maker's lines before the site's
-unfoldable pub or_site : Option Shown → Option Shown → Shown
-or_site (some shown) site = shown
-or_site none (some shown) = shown
-or_site none none = empty_part
+unfoldable pub first_shown : (PolicyLine → Bool) → List ℕ → List ℕ → Option Quote
+first_shown test maker site =
+    option_or (option_map of_maker (first_from test 0 (lines_of maker))) (option_map of_site (first_from test 0 (lines_of site)))
 
-unfoldable pub first_shown : (PolicyLine → Bool) → List ℕ → List ℕ → Shown
-first_shown test maker site = or_site (first_from test Source.Maker 0 (lines_of maker)) (first_from test Source.Site 0 (lines_of site))
+-- ---- what the values of the code say
 
--- ---- the bytes that are shown
+abbrev pub stretch_of : Excerpt → Stretch
+stretch_of x = record { start = x.start; bytes = x.bytes.now }
 
--- the part of a text with so many bytes from a position on; none where the text has not as many
-unfoldable pub part_at : List ℕ → ℕ → ℕ → List ℕ
-part_at text start count = cond (ltb (length text) start) [] (cond (ltb (length text - start) count) [] (take count (drop start text)))
-
-unfoldable pub part_in : List ℕ → List ℕ → Source → ℕ → ℕ → List ℕ
-part_in maker site Source.Neither start count = []
-part_in maker site Source.Maker start count = part_at maker start count
-part_in maker site Source.Site start count = part_at site start count
-
-abbrev pub shown_part : List ℕ → List ℕ → Shown → List ℕ
-shown_part maker site s = part_in maker site s.source s.start s.length
+abbrev pub quote_of : Shown → Quote
+quote_of (Shown.Maker x) = of_maker (stretch_of x)
+quote_of (Shown.Site x) = of_site (stretch_of x)

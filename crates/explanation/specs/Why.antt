@@ -1,7 +1,6 @@
 -- For an epoch and an action: whether the action is not proposed, accepted, or cancelled, and which line is shown for it.
-use Rattle.std.specs.Prelude.{Option as Maybe, Some, None}
-use Rattle.std.specs.Prelude.{ℕ, Bool, false, cond, ◌&&◌, List, eqb}
-use Rattle.std.proofs.Math.Option.{Option, none, some}
+use Rattle.std.specs.Prelude.{ℕ, Bool, false, cond, ◌&&◌, List, eqb, Option, Some, None, Result, Ok, Err}
+use Rattle.std.specs.Option.{option_map_or}
 use Rattle.policy.specs.Epoch.{Epoch, Readings}
 use Rattle.policy.specs.Fault.{refusal}
 use Rattle.policy.specs.Line.{PolicyLine, rule, constraint}
@@ -15,11 +14,8 @@ use Rattle.pdl.specs.Yield as Yield
 use Rattle.pdl.specs.Yield.{rule_holds, constraint_holds}
 use Rattle.epoch_line.specs.Epoch.{EpochAnswer, refused, accepted, read_epoch}
 use Rattle.rule_text.specs.Text.{Progress, reading, stopped, read_texts}
-use Rattle.explanation.specs.Part.{empty_part, first_shown, shown_part}
-use Rattle.explanation.specs.declared.why.Explained.{Explained}
+use Rattle.explanation.specs.Part.{Quote, first_shown, quote_of}
 use Rattle.explanation.specs.declared.why.Outcome.{Outcome}
-use Rattle.explanation.specs.declared.why.Reason.{Reason}
-use Rattle.explanation.specs.declared.part.Shown.{Shown}
 
 -- ---- which lines are shown
 
@@ -35,45 +31,46 @@ is_cancelling_constraint rs accepts a (constraint c) = constraint_holds rs (inse
 
 -- ---- what became of an action that a decision accepted, cancelled, or neither
 
-abbrev pub because : Outcome → Shown → Reason
-because outcome shown = record { outcome = outcome; shown = shown }
+pub data Explanation : Type 0 where
+  not_proposed : Explanation
+  -- by the line that is quoted
+  accepted_by : Quote → Explanation
+  cancelled_by : Quote → Explanation
 
 module _ (maker site : List ℕ) where
-  unfoldable pub reason_for : ActionSet → ActionSet → Epoch → Action → Reason
-  reason_for accepts cancels e a =
-      cond (has_action accepts a) (because Outcome.Accepted (first_shown (is_proposing_rule e a) maker site))
-      (cond (has_action cancels a) (because Outcome.Cancelled (first_shown (is_cancelling_constraint e.readings accepts a) maker site))
-      (because Outcome.NotProposed empty_part))
+  unfoldable pub explanation_for : ActionSet → ActionSet → Epoch → Action → Explanation
+  explanation_for accepts cancels e a =
+      cond (has_action accepts a) (option_map_or accepted_by (first_shown (is_proposing_rule e a) maker site) not_proposed)
+      (cond (has_action cancels a) (option_map_or cancelled_by (first_shown (is_cancelling_constraint e.readings accepts a) maker site) not_proposed)
+      not_proposed)
 
   -- ---- an action over 63 is refused under 13, after all other checks
 
-  unfoldable pub on_action : ActionSet → ActionSet → Epoch → Maybe Action → Explained
-  on_action accepts cancels e None = Explained.Refused (refusal Fault.EpochRange 0)
-  on_action accepts cancels e (Some a) = Explained.Because (reason_for accepts cancels e a)
+  unfoldable pub on_action : ActionSet → ActionSet → Epoch → Option Action → Result Explanation Refusal
+  on_action accepts cancels e None = Err (refusal Fault.EpochRange 0)
+  on_action accepts cancels e (Some a) = Ok (explanation_for accepts cancels e a)
 
   -- the epoch's faults, in no text and at no line
-  unfoldable pub on_epoch : Policy → ℕ → EpochAnswer → Explained
-  on_epoch p n (refused f) = Explained.Refused (refusal f 0)
+  unfoldable pub on_epoch : Policy → ℕ → EpochAnswer → Result Explanation Refusal
+  on_epoch p n (refused f) = Err (refusal f 0)
   on_epoch p n (accepted e) = on_action (Yield.accepted p e) (Yield.cancelled p e) e (check_action n)
 
   -- the texts' faults come first
-  unfoldable pub on_both_texts : List ℕ → ℕ → Progress → Explained
-  on_both_texts line n (stopped r) = Explained.Refused r
+  unfoldable pub on_both_texts : List ℕ → ℕ → Progress → Result Explanation Refusal
+  on_both_texts line n (stopped r) = Err r
   on_both_texts line n (reading next p) = on_epoch p n (read_epoch line)
 
-  unfoldable pub explained : List ℕ → ℕ → Explained
+  unfoldable pub explained : List ℕ → ℕ → Result Explanation Refusal
   explained line n = on_both_texts line n (read_texts maker site)
 
--- ---- what an explanation says
+-- what is shown of the texts: nothing for an action that is not proposed
+abbrev pub quoted : Explanation → Option Quote
+quoted not_proposed = None
+quoted (accepted_by x) = Some x
+quoted (cancelled_by x) = Some x
 
-abbrev pub refusal_in : Explained → Option Refusal
-refusal_in (Explained.Refused r) = some r
-refusal_in (Explained.Because why) = none
-
-abbrev pub shown_in : Explained → Shown
-shown_in (Explained.Refused r) = empty_part
-shown_in (Explained.Because why) = why.shown
-
--- the bytes that are shown
-abbrev pub part_shown : List ℕ → List ℕ → Explained → List ℕ
-part_shown maker site x = shown_part maker site (shown_in x)
+-- what an answer of the code says
+abbrev pub said_by : Outcome → Explanation
+said_by Outcome.NotProposed = not_proposed
+said_by (Outcome.Accepted x) = accepted_by (quote_of x)
+said_by (Outcome.Cancelled x) = cancelled_by (quote_of x)

@@ -1,15 +1,15 @@
 //! The first line of a text that tells why. A line is judged by running its words, as the engine runs those of an image.
-ghost use Rattle.std.specs.Prelude.{◌≡◌, ◌+◌, ◌^◌, ◌<◌, length};
+ghost use Rattle.std.specs.Prelude.{◌≡◌, ◌+◌, ◌^◌, ◌<◌, length, option_map};
 ghost use Rattle.lexer.specs.Lines.{lines_of, first_line};
 ghost use Rattle.layout.specs.Steps.Value.{value_words};
-ghost use Rattle.explanation.specs.Part.{trim_end, shown_at, first_from};
-ghost use Rattle.explanation.specs.Steps.Sought.{Writable, tells, sought_by, search_of};
+ghost use Rattle.explanation.specs.Part.{trim_end, stretch_of, shown_at, first_from};
+ghost use Rattle.explanation.specs.Steps.Sought.{Writable, tells, sought_by};
 
-use crate::part::Shown;
+use crate::part::Excerpt;
 use layout::put_line;
 use lexer::skip_spaces;
 use line_value::Line;
-use policy::{Action, ActionSet, Ending, EventSet, Part, READING_LIMIT, ReadingSet, Source};
+use policy::{Action, ActionSet, Ending, EventSet, Part, READING_LIMIT, ReadingSet};
 use run::{run_constraints, run_rules};
 use syntax::read_line;
 use word::{part, words};
@@ -77,45 +77,37 @@ fn trimmed_length(text: &[u8]) -> usize
 }
 
 /// What is shown of the first line of a text, which starts at a position.
-fn shown_at(source: Source, at: usize, text: &[u8]) -> Shown
+fn excerpt_at<'t>(at: usize, text: &'t [u8]) -> Excerpt<'t>
     requires { at + length text.now < 2 ^ 63 }
-    ensures { result ≡ shown_at source at (first_line text.now) }
+    ensures { stretch_of result ≡ shown_at at (first_line text.now) }
 {
     let first = skip_spaces(text);
-    Shown {
-        source,
+    let count = trimmed_length(first);
+    Excerpt {
         start: at + (text.len() - first.len()),
-        length: trimmed_length(first),
+        bytes: &first[..count],
     }
 }
 
-/// What a search in a text came to.
-#[derive(Clone, Copy)]
-pub enum Search {
-    Found(Shown),
-    Absent,
-}
-
 /// The first line that is sought. A text that is refused at a line has none from there on.
-pub(crate) fn find(
-    text: &[u8],
-    source: Source,
+pub(crate) fn find<'t>(
+    text: &'t [u8],
     sought: Sought,
     values: &[i32; READING_LIMIT],
-) -> Search
-    ensures { result ≡ search_of (first_from (sought_by sought values.now) source 0 (lines_of text.now)) }
+) -> Option<Excerpt<'t>>
+    ensures { option_map stretch_of result ≡ first_from (sought_by sought values.now) 0 (lines_of text.now) }
 {
     let mut rest = text;
     while !rest.is_empty() {
         let Ok((line, behind)) = read_line(rest) else {
-            return Search::Absent;
+            return None;
         };
         if let Some(line) = line {
             if told(&line, sought, values) {
-                return Search::Found(shown_at(source, text.len() - rest.len(), rest));
+                return Some(excerpt_at(text.len() - rest.len(), rest));
             }
         }
         rest = behind;
     }
-    Search::Absent
+    None
 }

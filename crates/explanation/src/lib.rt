@@ -6,5 +6,5 @@ mod find;
 mod part;
 mod why;
 
-pub use part::{Shown, part_of};
-pub use why::{Explained, Outcome, Reason, explain, explain_on, explanation};
+pub use part::{Excerpt, Shown};
+pub use why::{Outcome, explain, explain_on};

@@ -1,78 +1,56 @@
 //! What became of an action, and the line that says why.
-ghost use Rattle.std.specs.Prelude.{◌≡◌, length};
-ghost use Rattle.explanation.specs.Part.{empty_part, first_shown};
-ghost use Rattle.explanation.specs.Why.{reason_for, explained, part_shown};
+ghost use Rattle.std.specs.Prelude.{◌≡◌, length, option_map};
+ghost use Rattle.std.specs.Result.{result_map_both};
+ghost use Rattle.explanation.specs.Part.{quote_of, first_shown};
+ghost use Rattle.explanation.specs.Why.{said_by, explanation_for, explained};
 ghost use Rattle.explanation.specs.Steps.On.{epoch_on, explained_on};
 ghost use Rattle.explanation.specs.Steps.Sought.{sought_by};
 
-use crate::find::{Search, Sought, find};
-use crate::part::{Shown, part_of};
+use crate::find::{Sought, find};
+use crate::part::Shown;
 use codegen::{Compiled, compile_texts};
 use epoch_line::read_epoch;
 use image::IMAGE_SIZE;
 use monitor::{Decision, decide};
-use policy::{Action, ActionSet, Fault, Mode, Part, READING_LIMIT, Refusal, Source};
-
-/// What became of an action.
-#[derive(Clone, Copy)]
-pub enum Outcome {
-    NotProposed,
-    Accepted,
-    Cancelled,
-}
+use policy::{Action, ActionSet, Fault, Mode, Part, READING_LIMIT, Refusal};
 
 /// What became of an action, and what is shown for it: of an accepted one the first rule that proposed it, of a cancelled one the first
 /// constraint that held on the accepted actions with lower numbers together with it.
 #[derive(Clone, Copy)]
-pub struct Reason {
-    pub outcome: Outcome,
-    pub shown: Shown,
-}
-
-/// The answer to a question about an action.
-#[derive(Clone, Copy)]
-pub enum Explained {
-    /// A fault of the texts, 1 to 6, or, on an image, of the image, 7 to 11; then of the epoch line, 1 and 12 to 14; then 13 for a number
-    /// over 63.
-    Refused(Refusal),
-    Because(Reason),
-}
-
-fn no_part() -> Shown
-    ensures { result ≡ empty_part }
-{
-    Shown {
-        source: Source::Neither,
-        start: 0,
-        length: 0,
-    }
+pub enum Outcome<'m, 's> {
+    NotProposed,
+    Accepted(Shown<'m, 's>),
+    Cancelled(Shown<'m, 's>),
 }
 
 /// The first line of both texts that is sought, the maker's lines before the site's.
-fn first_shown(maker: &[u8], site: &[u8], sought: Sought, values: &[i32; READING_LIMIT]) -> Shown
-    ensures { result ≡ first_shown (sought_by sought values.now) maker.now site.now }
+fn first_shown<'m, 's>(
+    maker: &'m [u8],
+    site: &'s [u8],
+    sought: Sought,
+    values: &[i32; READING_LIMIT],
+) -> Option<Shown<'m, 's>>
+    ensures { option_map quote_of result ≡ first_shown (sought_by sought values.now) maker.now site.now }
 {
-    match find(maker, Source::Maker, sought, values) {
-        Search::Found(shown) => shown,
-        Search::Absent => {
-            match find(site, Source::Site, sought, values) {
-                Search::Found(shown) => shown,
-                Search::Absent => no_part(),
-            }
-        }
+    match find(maker, sought, values) {
+        Some(excerpt) => Some(Shown::Maker(excerpt)),
+        None => match find(site, sought, values) {
+            Some(excerpt) => Some(Shown::Site(excerpt)),
+            None => None,
+        },
     }
 }
 
 /// What became of an action that a decision accepted, cancelled, or neither.
-fn reason_for(
-    maker: &[u8],
-    site: &[u8],
+fn outcome_for<'m, 's>(
+    maker: &'m [u8],
+    site: &'s [u8],
     accepted: ActionSet,
     cancelled: ActionSet,
     line: &[u8],
     action: Action,
-) -> Reason
-    ensures { result ≡ reason_for maker.now site.now accepted cancelled (epoch_on line.now) action }
+) -> Outcome<'m, 's>
+    ensures { said_by result ≡ explanation_for maker.now site.now accepted cancelled (epoch_on line.now) action }
 {
     let epoch = read_epoch(line);
     let events = epoch.events;
@@ -86,9 +64,9 @@ fn reason_for(
             events,
             given,
         };
-        return Reason {
-            outcome: Outcome::Accepted,
-            shown: first_shown(maker, site, rules, &values),
+        return match first_shown(maker, site, rules, &values) {
+            Some(shown) => Outcome::Accepted(shown),
+            None => Outcome::NotProposed,
         };
     }
     if cancelled.has(action) {
@@ -99,65 +77,61 @@ fn reason_for(
             events,
             given,
         };
-        return Reason {
-            outcome: Outcome::Cancelled,
-            shown: first_shown(maker, site, constraints, &values),
+        return match first_shown(maker, site, constraints, &values) {
+            Some(shown) => Outcome::Cancelled(shown),
+            None => Outcome::NotProposed,
         };
     }
-    Reason {
-        outcome: Outcome::NotProposed,
-        shown: no_part(),
-    }
+    Outcome::NotProposed
 }
 
 /// The explanation of an action by the texts, from what is decided on an image. Where the image is that of the texts, it is that of
 /// `explain`, which compiles them each time.
-pub fn explain_on(image: &[u8], maker: &[u8], site: &[u8], line: &[u8], number: u32) -> Explained
-    ensures { result ≡ explained_on maker.now site.now line.now number image.now }
+pub fn explain_on<'m, 's>(
+    image: &[u8],
+    maker: &'m [u8],
+    site: &'s [u8],
+    line: &[u8],
+    number: u32,
+) -> Result<Outcome<'m, 's>, Refusal>
+    ensures { result_map_both said_by (λ refusal. refusal) result ≡ explained_on maker.now site.now line.now number image.now }
 {
     match decide(image, line, Mode::Actions) {
-        Decision::Refused(refusal) => Explained::Refused(refusal),
-        Decision::Issued(actions) => {
-            match Action::new(number) {
-                None => Explained::Refused(Fault::EpochRange.at(0)),
-                Some(action) => {
-                    let why = reason_for(
-                        maker,
-                        site,
-                        actions.accepted,
-                        actions.cancelled,
-                        line,
-                        action,
-                    );
-                    Explained::Because(why)
-                }
+        Decision::Refused(refusal) => Err(refusal),
+        Decision::Issued(actions) => match Action::new(number) {
+            None => Err(Fault::EpochRange.at(0)),
+            Some(action) => {
+                let outcome = outcome_for(
+                    maker,
+                    site,
+                    actions.accepted,
+                    actions.cancelled,
+                    line,
+                    action,
+                );
+                Ok(outcome)
             }
-        }
+        },
     }
 }
 
 /// The explanation of the action of a number on an epoch line, without its line end, by the maker's and the site's text. What is decided
-/// is decided in the first mode, by action cancellation.
-pub fn explain(maker: &[u8], site: &[u8], line: &[u8], number: u32) -> Explained
-    ensures { result ≡ explained maker.now site.now line.now number }
+/// is decided in the first mode, by action cancellation. What is shown lives as long as the text that it is from, whatever becomes of the
+/// line and of the other text.
+///
+/// Refused is a fault of the texts, 1 to 6, or, on an image, of the image, 7 to 11; then of the epoch line, 1 and 12 to 14; then 13 for a
+/// number over 63.
+pub fn explain<'m, 's>(
+    maker: &'m [u8],
+    site: &'s [u8],
+    line: &[u8],
+    number: u32,
+) -> Result<Outcome<'m, 's>, Refusal>
+    ensures { result_map_both said_by (λ refusal. refusal) result ≡ explained maker.now site.now line.now number }
 {
     let mut image = [0u8; IMAGE_SIZE];
     match compile_texts(maker, site, &mut image) {
-        Compiled::Refused(refusal) => Explained::Refused(refusal),
+        Compiled::Refused(refusal) => Err(refusal),
         Compiled::Image(size) => explain_on(&image[..size], maker, site, line, number),
-    }
-}
-
-/// The bytes that are shown, out of the text that they stand in: none where nothing is shown. They live as long as the texts, whatever
-/// becomes of the line.
-pub fn explanation<'t, 'e>(maker: &'t [u8], site: &'t [u8], line: &'e [u8], number: u32) -> &'t [u8]
-    ensures { result.now ≡ part_shown maker.now site.now (explained maker.now site.now line.now number) }
-{
-    match explain(maker, site, line, number) {
-        Explained::Refused(_) => &maker[0..0],
-        Explained::Because(why) => {
-            let shown = why.shown;
-            part_of(maker, site, shown)
-        }
     }
 }

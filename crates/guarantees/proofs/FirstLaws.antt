@@ -1,6 +1,6 @@
 -- The first line of both texts that passes a test: where some line of their policy does, one is shown, and it is the first.
 use Rattle.std.proofs.Common.{ℕ, suc, ◌+◌, Bool, true, false, cond, List, [], ◌∷◌, ◌++◌, ◌↔◌, ◌⊎◌, inl, inr, ⊎_elim, ◌≡◌, refl, sym, ap, ap₂, ◌∙◌, subst, arith, length, fold}
-use Rattle.std.proofs.Math.Option.{Option, none, some}
+use Rattle.std.specs.Prelude.{Option, Some, None}
 use Rattle.std.proofs.Math.Path.{subst⁻¹}
 use Rattle.std.proofs.Math.Dec.{ltb}
 use mathlib.Core.List.Memᴰ
@@ -20,10 +20,9 @@ use Rattle.rule_text.specs.Answer.{counts_of, text_read_of, texts_read}
 use Rattle.rule_text.specs.Text.{Progress, reading, stopped, with_rule, with_constraint, advance, read_next_line, empty_policy, text_limit, read_text_behind, in_text, read_text, read_site, read_texts}
 use Rattle.codegen.proofs.AcceptedLaws.{accepted_texts}
 use Rattle.codegen.specs.Steps.Put.{accepted_line, accepted_lines, lines_of_both}
-use Rattle.explanation.specs.Part.{trim, shown_at, or_later, first_from, or_site, first_shown, part_at, part_in}
-use Rattle.explanation.specs.declared.part.Shown.{Shown}
-use Rattle.guarantees.proofs.ShownLaws.{trimming, not_empty, LineAt, line_at, part_at_is, part_straight}
-use Rattle.guarantees.specs.Explanations.{Listed, NoneSays, ended_length, text_of_source, Trimmed, FirstLine}
+use Rattle.explanation.specs.Part.{trim, Stretch, Quote, of_maker, of_site, shown_at, or_later, first_from, first_shown}
+use Rattle.guarantees.proofs.ShownLaws.{trimming, not_empty, line_at, part_straight}
+use Rattle.guarantees.specs.Explanations.{Listed, ended_length, Trimmed, FirstOf, FirstLine}
 
 -- ---- the lines of a policy
 
@@ -102,8 +101,8 @@ held (x ∷ ls) n m p q e line i l k = go (line_answer x) refl e (Memᴰ.cases_c
 
 -- ---- the first line of a text that passes
 
-module _ (test : PolicyLine → Bool) (source : Source) where
-  record Found (at : ℕ) (lines : List (List ℕ)) (shown : Shown) : Type 0 where
+module _ (test : PolicyLine → Bool) where
+  record Found (at : ℕ) (lines : List (List ℕ)) (shown : Stretch) : Type 0 where
     before : List (List ℕ)
     line : List ℕ
     behind : List (List ℕ)
@@ -112,10 +111,10 @@ module _ (test : PolicyLine → Bool) (source : Source) where
     read : line_answer line ≡ accepted is
     passes : test is ≡ true
     first : (x : List ℕ) → Memᴰ x before → (l : PolicyLine) → line_answer x ≡ accepted l → test l ≡ true → ⊥
-    shows : shown ≡ shown_at source (at + ended_length before) line
+    shows : shown ≡ shown_at (at + ended_length before) line
 
-  module _ (at : ℕ) (line : List ℕ) (lines : List (List ℕ)) (shown : Shown) where
-    found_here : (l : PolicyLine) → line_answer line ≡ accepted l → test l ≡ true → shown_at source at line ≡ shown → Found at (line ∷ lines) shown
+  module _ (at : ℕ) (line : List ℕ) (lines : List (List ℕ)) (shown : Stretch) where
+    found_here : (l : PolicyLine) → line_answer line ≡ accepted l → test l ≡ true → shown_at at line ≡ shown → Found at (line ∷ lines) shown
     unfolding ended_length
     found_here l k t e =
         let z : at + 0 ≡ at = omega arith in
@@ -128,7 +127,7 @@ module _ (test : PolicyLine → Bool) (source : Source) where
           read = k;
           passes = t;
           first = λ x m. absurd (Memᴰ.not-nil m);
-          shows = sym e ∙ ap (λ (n : ℕ). shown_at source n line) (sym z);
+          shows = sym e ∙ ap (λ (n : ℕ). shown_at n line) (sym z);
         }
 
     found_later : ((l : PolicyLine) → line_answer line ≡ accepted l → test l ≡ true → ⊥) → Found (at + length line + 1) lines shown → Found at (line ∷ lines) shown
@@ -144,42 +143,42 @@ module _ (test : PolicyLine → Bool) (source : Source) where
           read = f.read;
           passes = f.passes;
           first = λ x m l k. ⊎_elim (λ w. fails l (sym (ap line_answer w) ∙ k)) (λ i. f.first x i l k) (Memᴰ.cases_cons m);
-          shows = f.shows ∙ ap (λ (n : ℕ). shown_at source n f.line) n;
+          shows = f.shows ∙ ap (λ (n : ℕ). shown_at n f.line) n;
         }
 
-  found : (lines : List (List ℕ)) (at : ℕ) (shown : Shown) → first_from test source at lines ≡ some shown → Found at lines shown
+  found : (lines : List (List ℕ)) (at : ℕ) (shown : Stretch) → first_from test at lines ≡ Some shown → Found at lines shown
   unfolding first_from or_later
   found [] at shown e = let w : ◌≡◌ {A = ℕ} 0 1 = cc in absurd (omega arith)
   found (line ∷ lines) at shown e = go (line_answer line) refl (found lines (at + length line + 1) shown) e
     where
-      next : Option Shown
-      next = first_from test source (at + length line + 1) lines
+      next : Option Stretch
+      next = first_from test (at + length line + 1) lines
 
-      go : (a : LineAnswer) → line_answer line ≡ a → (next ≡ some shown → Found (at + length line + 1) lines shown) → or_later test source a at line next ≡ some shown → Found at (line ∷ lines) shown
+      go : (a : LineAnswer) → line_answer line ≡ a → (next ≡ Some shown → Found (at + length line + 1) lines shown) → or_later test a at line next ≡ Some shown → Found at (line ∷ lines) shown
       go skipped k rec h = found_later at line lines shown (λ l j t. let w : ◌≡◌ {A = ℕ} 0 1 = cc in omega arith) (rec h)
       go (refused f) k rec h = let w : ◌≡◌ {A = ℕ} 0 1 = cc in absurd (omega arith)
       go (accepted l) k rec h = passing (test l) refl h
         where
-          passing : (b : Bool) → test l ≡ b → cond b (some (shown_at source at line)) next ≡ some shown → Found at (line ∷ lines) shown
-          passing true t v = let w : shown_at source at line ≡ shown = cc in found_here at line lines shown l k t w
+          passing : (b : Bool) → test l ≡ b → cond b (Some (shown_at at line)) next ≡ Some shown → Found at (line ∷ lines) shown
+          passing true t v = let w : shown_at at line ≡ shown = cc in found_here at line lines shown l k t w
           passing false t v = found_later at line lines shown (λ m j u. let w : l ≡ m = cc in true_false (ap test w ∙ u) t) (rec v)
 
   -- where none is found, no line of the policy passes
-  none_found : (lines : List (List ℕ)) (at : ℕ) → first_from test source at lines ≡ none → (l : PolicyLine) → Memᴰ l (accepted_lines lines) → test l ≡ true → ⊥
+  none_found : (lines : List (List ℕ)) (at : ℕ) → first_from test at lines ≡ None → (l : PolicyLine) → Memᴰ l (accepted_lines lines) → test l ≡ true → ⊥
   unfolding first_from or_later accepted_lines accepted_line
   none_found [] at e l m t = Memᴰ.not-nil m
   none_found (line ∷ lines) at e l m t = go (line_answer line) (none_found lines (at + length line + 1)) e m
     where
-      next : Option Shown
-      next = first_from test source (at + length line + 1) lines
+      next : Option Stretch
+      next = first_from test (at + length line + 1) lines
 
-      go : (a : LineAnswer) → (next ≡ none → (l : PolicyLine) → Memᴰ l (accepted_lines lines) → test l ≡ true → ⊥)
-          → or_later test source a at line next ≡ none → Memᴰ l (accepted_line a (accepted_lines lines)) → ⊥
+      go : (a : LineAnswer) → (next ≡ None → (l : PolicyLine) → Memᴰ l (accepted_lines lines) → test l ≡ true → ⊥)
+          → or_later test a at line next ≡ None → Memᴰ l (accepted_line a (accepted_lines lines)) → ⊥
       go skipped rec h i = rec h l i t
       go (refused f) rec h i = Memᴰ.not-nil i
       go (accepted k) rec h i = passing (test k) refl h (Memᴰ.cases_cons i)
         where
-          passing : (b : Bool) → test k ≡ b → cond b (some (shown_at source at line)) next ≡ none → (l ≡ k) ⊎ Memᴰ l (accepted_lines lines) → ⊥
+          passing : (b : Bool) → test k ≡ b → cond b (Some (shown_at at line)) next ≡ None → (l ≡ k) ⊎ Memᴰ l (accepted_lines lines) → ⊥
           passing true q v c = let w : ◌≡◌ {A = ℕ} 0 1 = cc in omega arith
           passing false q v (inl w) = true_false t (ap test w ∙ q)
           passing false q v (inr j) = rec v l j t
@@ -222,19 +221,23 @@ both maker site n p e = go (read_text maker) refl e
         }
     go (stopped r) k h = let w : ◌≡◌ {A = ℕ} 0 1 = cc in absurd (omega arith)
 
+-- the first line of both texts that passes is shown
+pub record FirstShown (test : PolicyLine → Bool) (Says : PolicyLine → Type 0) (p : Policy) (maker site : List ℕ) : Type 0 where
+  pub shown : Quote
+  pub found : first_shown test maker site ≡ Some shown
+  pub line : FirstLine Says p maker site shown
+
 module _ (test : PolicyLine → Bool) (Says : PolicyLine → Type 0) (means : (l : PolicyLine) → (test l ≡ true) ↔ Says l) (maker site : List ℕ) (p : Policy) (b : Both maker site p) where
   both_listed : (l : PolicyLine) → Memᴰ l (lines_of_both maker site) → Listed p l
   both_listed l m =
       subst (λ (q : Policy). Listed q l) (ap₂ (λ (x : List Rule) (y : List Constraint). record { rules = x; constraints = y }) b.rules b.constraints)
       (line_listed (lines_of_both maker site) l m)
 
-  first_in : (source : Source) (text : List ℕ) → text_of_source maker site source ≡ text → ((n m : ℕ) → part_in maker site source n m ≡ part_at text n m)
-      → ((l : PolicyLine) → Memᴰ l (accepted_lines (lines_of text)) → Listed p l) → Held (lines_of text)
-      → (source ≡ Source.Site → NoneSays Says (lines_of maker)) → (shown : Shown) → Found test source 0 (lines_of text) shown → FirstLine Says p maker site shown
+  first_in : (text : List ℕ) → ((l : PolicyLine) → Memᴰ l (accepted_lines (lines_of text)) → Listed p l) → Held (lines_of text) → (shown : Stretch) → Found test 0 (lines_of text) shown → FirstOf Says p text shown
   unfolding shown_at trimming
-  first_in source text same part listed holds makers shown f =
+  first_in text listed holds shown f =
       let n : 0 + ended_length f.before ≡ ended_length f.before = omega arith in
-      subst⁻¹ (FirstLine Says p maker site) (f.shows ∙ ap (λ (k : ℕ). shown_at source k f.line) n) made
+      subst⁻¹ (FirstOf Says p text) (f.shows ∙ ap (λ (k : ℕ). shown_at k f.line) n) made
     where
       at : ℕ
       at = ended_length f.before
@@ -242,53 +245,44 @@ module _ (test : PolicyLine → Bool) (Says : PolicyLine → Type 0) (means : (l
       t : Trimmed f.line (trim f.line)
       t = trimming f.line
 
-      l : LineAt text at f.line
-      l = line_at f.before text f.line f.behind f.stands
-
-      bytes : part_in maker site source (at + length t.ahead) (length (trim f.line)) ≡ trim f.line
-      bytes = part (at + length t.ahead) (length (trim f.line)) ∙ part_at_is text at f.line (trim f.line) l t
-
-      made : FirstLine Says p maker site (shown_at source at f.line)
+      made : FirstOf Says p text (shown_at at f.line)
       made =
           record {
             before = f.before;
             line = f.line;
             behind = f.behind;
-            stands = ap lines_of same ∙ f.stands;
+            stands = f.stands;
             is = f.is;
             read = f.read;
             listed = listed f.is (holds f.line (rw f.stands (Memᴰ.append_right f.before (Memᴰ.head refl))) f.is f.read);
             says = (means f.is).0 f.passes;
             first = λ x i k j s. f.first x i k j ((means k).1 s);
-            makers = makers;
-            trimmed =
-                record {
-                  ahead = t.ahead;
-                  behind = t.behind;
-                  whole = t.whole ∙ ap (λ (s : List ℕ). t.ahead ++ (s ++ t.behind)) (sym bytes);
-                  spaces_ahead = t.spaces_ahead;
-                  spaces_behind = t.spaces_behind;
-                  unspaced = rw bytes t.unspaced;
-                };
+            trimmed = t;
             at = refl;
-            straight = rw (same, bytes) (part_straight text at f.line (trim f.line) l t source (not_empty f.line (trim f.line) f.is f.read t));
+            straight = part_straight text at f.line (trim f.line) (line_at f.before text f.line f.behind f.stands) t (not_empty f.line (trim f.line) f.is f.read t);
           }
 
-  -- where a line of the policy passes, the first one is shown
-  pub first_line : (l : PolicyLine) → Memᴰ l (lines_of_both maker site) → test l ≡ true → FirstLine Says p maker site (first_shown test maker site)
-  unfolding first_shown or_site part_in
-  first_line l m t = in_maker (first_from test Source.Maker 0 (lines_of maker)) refl
+  -- where a line of the policy passes, there is one
+  pub first_line : (l : PolicyLine) → Memᴰ l (lines_of_both maker site) → test l ≡ true → FirstShown test Says p maker site
+  unfolding first_shown
+  first_line l m t = go (first_from test 0 (lines_of maker)) (first_from test 0 (lines_of site)) refl refl
     where
-      in_site : first_from test Source.Maker 0 (lines_of maker) ≡ none → (y : Option Shown) → first_from test Source.Site 0 (lines_of site) ≡ y → FirstLine Says p maker site (or_site none y)
-      in_site e (some y) k =
-          first_in Source.Site site refl (λ n m. refl) (λ l i. both_listed l (Memᴰ.append_right (accepted_lines (lines_of maker)) i)) b.sites
-          (λ q line i l j s. none_found test Source.Maker (lines_of maker) 0 e l (b.makers line i l j) ((means l).1 s)) y (found test Source.Site (lines_of site) 0 y k)
-      in_site e none k =
-          absurd (⊎_elim (λ i. none_found test Source.Maker (lines_of maker) 0 e l i t) (λ i. none_found test Source.Site (lines_of site) 0 k l i t)
+      go : (x y : Option Stretch) → first_from test 0 (lines_of maker) ≡ x → first_from test 0 (lines_of site) ≡ y → FirstShown test Says p maker site
+      go (Some x) y e k =
+          record {
+            shown = of_maker x;
+            found = rw e;
+            line = first_in maker (λ l i. both_listed l (Memᴰ.append_left (accepted_lines (lines_of site)) i)) b.makers x (found test (lines_of maker) 0 x e);
+          }
+      go None (Some y) e k =
+          record {
+            shown = of_site y;
+            found = rw (e, k);
+            line = (
+              λ line i l j s. none_found test (lines_of maker) 0 e l (b.makers line i l j) ((means l).1 s),
+              first_in site (λ l i. both_listed l (Memᴰ.append_right (accepted_lines (lines_of maker)) i)) b.sites y (found test (lines_of site) 0 y k),
+            );
+          }
+      go None None e k =
+          absurd (⊎_elim (λ i. none_found test (lines_of maker) 0 e l i t) (λ i. none_found test (lines_of site) 0 k l i t)
           (Memᴰ.append_cases (accepted_lines (lines_of maker)) m))
-
-      in_maker : (x : Option Shown) → first_from test Source.Maker 0 (lines_of maker) ≡ x → FirstLine Says p maker site (or_site x (first_from test Source.Site 0 (lines_of site)))
-      in_maker (some x) e =
-          first_in Source.Maker maker refl (λ n m. refl) (λ l i. both_listed l (Memᴰ.append_left (accepted_lines (lines_of site)) i)) b.makers
-          (λ q. let w : ◌≡◌ {A = ℕ} 0 1 = cc in absurd (omega arith)) x (found test Source.Maker (lines_of maker) 0 x e)
-      in_maker none e = in_site e (first_from test Source.Site 0 (lines_of site)) refl

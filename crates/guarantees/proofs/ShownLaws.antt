@@ -1,18 +1,17 @@
 -- What is shown of a line: it stands in its text, without line end and trimmed of spaces at both ends.
-use Rattle.std.proofs.Common.{ℕ, suc, ◌+◌, ◌-◌, ◌≤◌, Bool, true, false, cond, List, [], ◌∷◌, ◌++◌, append_assoc, ⊎_elim, ◌≡◌, refl, sym, ap, ◌∙◌, arith, eqb-true, eq-eqb, le-ltb, length, take, drop, length-append, length-drop, take-append-drop, drop-drop, length-take-le}
+use Rattle.std.proofs.Common.{ℕ, suc, ◌+◌, ◌≤◌, Bool, true, false, cond, List, [], ◌∷◌, ◌++◌, append_assoc, ⊎_elim, ◌≡◌, refl, sym, ap, ◌∙◌, arith, eqb-true, eq-eqb, length, take, drop, length-append, length-drop, take-append-drop, drop-drop, length-take-le}
 use Rattle.std.proofs.lemmas.Bool.{eqb-false}
 use Rattle.std.proofs.Math.Dec.{eqb}
-use Rattle.std.proofs.Math.Seq.{drop-append_seam, drop-append-add, take-append_seam}
+use Rattle.std.proofs.Math.Seq.{drop-append_seam, drop-append-add}
 use mathlib.Core.List.Memᴰ
 use mathlib.Core.List.{Memᴰ}
 use Rattle.policy.proofs.ListLaws.{all_out}
 use Rattle.policy.specs.Line.{PolicyLine}
-use Rattle.policy.specs.declared.fault.Source.{Source}
 use Rattle.lexer.proofs.LeadingLaws.{leading_joined, leading_pass, leading_ends}
 use Rattle.lexer.specs.Byte.{is_space}
 use Rattle.lexer.specs.Lines.{prepend, pieces, lines_of, non_empty, tokens_of, take_leading}
 use Rattle.syntax.specs.Judge.{skipped, accepted, tokens_answer, line_answer}
-use Rattle.explanation.specs.Part.{trim_start, add_to_trimmed, trim_end, trim, part_at}
+use Rattle.explanation.specs.Part.{trim_start, add_to_trimmed, trim_end, trim}
 use Rattle.guarantees.specs.Explanations.{ended_length, Spaces, Trimmed, Straight}
 
 -- ---- trimming
@@ -201,20 +200,13 @@ module _ (text : List ℕ) (at : ℕ) (line part : List ℕ) (l : LineAt text at
   start_inside =
       omega (arith, l.inside, length-drop at text, ap length l.whole, length-append line l.rest, ap length t.whole, length-append t.ahead (part ++ t.behind))
 
-  pub part_at_is : part_at text start (length part) ≡ part
-  unfolding part_at
-  part_at_is =
-      let k : length part ≤ length text - start = omega (arith, length-drop start text, ap length from_start, length-append part (t.behind ++ l.rest)) in
-      rw (le-ltb (length text) start start_inside, le-ltb (length text - start) (length part) k) (ap (take (length part)) from_start ∙ take-append_seam part (t.behind ++ l.rest))
-
-  pub part_straight : (source : Source) → (part ≡ [] → ⊥) → Straight text (record { source = source; start = start; length = length part }) part
-  part_straight source some =
+  pub part_straight : (part ≡ [] → ⊥) → Straight text (record { start = start; bytes = part })
+  part_straight some =
       record {
         before = take start text;
         behind = t.behind ++ l.rest;
         whole = sym (take-append-drop start text) ∙ ap (λ (s : List ℕ). take start text ++ s) from_start;
         start = length-take-le start text start_inside;
-        long = refl;
         some = some;
         unspaced = t.unspaced;
         no_line_end = λ m. l.no_end (rw t.whole (Memᴰ.append_right t.ahead (Memᴰ.append_left t.behind m)));

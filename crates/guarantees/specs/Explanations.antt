@@ -1,6 +1,6 @@
 -- What is claimed of explanations: when there is one, what it says became of an action, which line it shows, and that
 -- what it shows stands in the text.
-use Rattle.std.specs.Prelude.{ℕ, ◌+◌, ◌<◌, ◌≤◌, true, false, ◌↔◌, ◌≡◌, length, List, [], ◌∷◌, ◌++◌}
+use Rattle.std.specs.Prelude.{ℕ, ◌+◌, ◌<◌, ◌≤◌, true, false, ◌≡◌, length, List, [], ◌∷◌, ◌++◌}
 use mathlib.Core.List.{Memᴰ}
 use Rattle.std.proofs.Math.Option.{some}
 use Rattle.policy.specs.Epoch.{Epoch}
@@ -11,7 +11,6 @@ use Rattle.policy.specs.Policy.{Policy}
 use Rattle.policy.specs.Set.{ActionSet, all_events, has_action, insert_action, actions_below}
 use Rattle.policy.specs.declared.fault.Fault.{Fault}
 use Rattle.policy.specs.declared.fault.Refusal.{Refusal}
-use Rattle.policy.specs.declared.fault.Source.{Source}
 use Rattle.policy.specs.declared.number.Action.{Action}
 use Rattle.pdl.specs.Answer.{Answer}
 use Rattle.pdl.specs.Pdl.{Derives, HoldsOn}
@@ -20,9 +19,8 @@ use Rattle.syntax.specs.Judge as Judge
 use Rattle.syntax.specs.Judge.{line_answer}
 use Rattle.rule_text.specs.Text.{stopped, read_texts, policy_of_texts}
 use Rattle.epoch_line.specs.Epoch.{refused, accepted, read_epoch}
-use Rattle.explanation.specs.Part.{shown_part}
-use Rattle.explanation.specs.declared.part.Shown.{Shown}
-use Rattle.explanation.specs.declared.why.Outcome.{Outcome}
+use Rattle.explanation.specs.Part.{Stretch, Quote, of_maker, of_site}
+use Rattle.explanation.specs.Why.{Explanation, not_proposed, accepted_by, cancelled_by}
 
 abbrev pub action : ℕ → Action
 action n = record { 0 = n }
@@ -48,10 +46,10 @@ pub data Unexplained (maker site line : List ℕ) (n : ℕ) (r : Refusal) : Type
 -- ---- what became of an action
 
 -- what is told is whether the answer to the epoch has the action in its sets
-pub record TellsOutcome (answer : Answer) (a : Action) (outcome : Outcome) : Type 0 where
-  pub accepted : (outcome ≡ Outcome.Accepted) ↔ (has_action answer.accepted a ≡ true)
-  pub cancelled : (outcome ≡ Outcome.Cancelled) ↔ (has_action answer.cancelled a ≡ true)
-  pub neither : (outcome ≡ Outcome.NotProposed) ↔ ((has_action answer.accepted a ≡ false) × (has_action answer.cancelled a ≡ false))
+abbrev pub TellsOutcome : Answer → Action → Explanation → Type 0
+TellsOutcome answer a (accepted_by x) = (has_action answer.accepted a ≡ true) × (has_action answer.cancelled a ≡ false)
+TellsOutcome answer a (cancelled_by x) = (has_action answer.accepted a ≡ false) × (has_action answer.cancelled a ≡ true)
+TellsOutcome answer a not_proposed = (has_action answer.accepted a ≡ false) × (has_action answer.cancelled a ≡ false)
 
 -- ---- which line is shown
 
@@ -73,11 +71,6 @@ Listed p (constraint c) = Memᴰ c p.constraints
 -- no line of a text that is read as a line of a policy says so
 abbrev pub NoneSays : (PolicyLine → Type 0) → List (List ℕ) → Type 0
 NoneSays Says lines = (line : List ℕ) → Memᴰ line lines → (l : PolicyLine) → line_answer line ≡ Judge.accepted l → ¬ Says l
-
-abbrev pub text_of_source : List ℕ → List ℕ → Source → List ℕ
-text_of_source maker site Source.Neither = []
-text_of_source maker site Source.Maker = maker
-text_of_source maker site Source.Site = site
 
 -- how many bytes lines have, with their line ends
 unfoldable pub ended_length : List (List ℕ) → ℕ
@@ -103,29 +96,37 @@ pub record Trimmed (line part : List ℕ) : Type 0 where
   pub unspaced : Unspaced part
 
 -- straight out of the text that it stands in: from its first byte on it is that part of the text, not empty and within a line
-pub record Straight (text : List ℕ) (shown : Shown) (part : List ℕ) : Type 0 where
+pub record Straight (text : List ℕ) (shown : Stretch) : Type 0 where
   pub before : List ℕ
   pub behind : List ℕ
-  pub whole : text ≡ before ++ (part ++ behind)
+  pub whole : text ≡ before ++ (shown.bytes ++ behind)
   pub start : length before ≡ shown.start
-  pub long : length part ≡ shown.length
-  pub some : ¬ (part ≡ [])
-  pub unspaced : Unspaced part
-  pub no_line_end : ¬ Memᴰ 10 part
+  pub some : ¬ (shown.bytes ≡ [])
+  pub unspaced : Unspaced shown.bytes
+  pub no_line_end : ¬ Memᴰ 10 shown.bytes
 
--- the first line of both texts that says so, the maker's lines before the site's, and what is shown of it
-pub record FirstLine (Says : PolicyLine → Type 0) (p : Policy) (maker site : List ℕ) (shown : Shown) : Type 0 where
+-- of the text that it is from
+abbrev pub QuotedStraight : (maker site : List ℕ) → Quote → Type 0
+QuotedStraight maker site (of_maker x) = Straight maker x
+QuotedStraight maker site (of_site x) = Straight site x
+
+-- the first line of a text that says so, and what is shown of it
+pub record FirstOf (Says : PolicyLine → Type 0) (p : Policy) (text : List ℕ) (shown : Stretch) : Type 0 where
   pub before : List (List ℕ)
   pub line : List ℕ
   pub behind : List (List ℕ)
-  pub stands : lines_of (text_of_source maker site shown.source) ≡ before ++ line ∷ behind
+  pub stands : lines_of text ≡ before ++ line ∷ behind
   pub is : PolicyLine
   pub read : line_answer line ≡ Judge.accepted is
   pub listed : Listed p is
   pub says : Says is
   -- no earlier line does
   pub first : NoneSays Says before
-  pub makers : shown.source ≡ Source.Site → NoneSays Says (lines_of maker)
-  pub trimmed : Trimmed line (shown_part maker site shown)
+  pub trimmed : Trimmed line shown.bytes
   pub at : shown.start ≡ ended_length before + length trimmed.ahead
-  pub straight : Straight (text_of_source maker site shown.source) shown (shown_part maker site shown)
+  pub straight : Straight text shown
+
+-- of both texts: one of the site's where none of the maker's says so
+abbrev pub FirstLine : (PolicyLine → Type 0) → Policy → (maker site : List ℕ) → Quote → Type 0
+FirstLine Says p maker site (of_maker x) = FirstOf Says p maker x
+FirstLine Says p maker site (of_site x) = NoneSays Says (lines_of maker) × FirstOf Says p site x

@@ -4,13 +4,12 @@
 #![tactic(auto)]
 
 ghost use Rattle.std.specs.Prelude.{◌≡◌};
-ghost use Rattle.policy.specs.Fault.{fault_number, source_number};
 ghost use Rattle.policy.specs.Number.{check_action};
+ghost use Rattle.explanation.specs.Part.{quote_of};
 ghost use Rattle.explanation.specs.Why.{explained};
-ghost use Rattle.kinohazel_tools.specs.Export.{outcome_number, explanation_of};
+ghost use Rattle.kinohazel_tools.specs.Export.{quoting, explanation_of};
 
-use explanation::{Explained, Outcome};
-use policy::Source;
+use explanation::{Outcome, Shown};
 
 /// The fault's number, or 0; its text, 1 the maker's, 2 the site's, 0 neither alone, and its line, counted from 1; what became of the
 /// action: 1 not proposed, 2 accepted, 3 cancelled, 0 on a refusal; and where the part stands that says why: in which text, from which
@@ -27,19 +26,39 @@ pub struct ActionExplanation {
     pub part_length: u64,
 }
 
-fn source_number(source: Source) -> u64
-    ensures { result ≡ source_number source }
+/// An answer that refuses nothing and shows nothing.
+fn no_part(outcome: u64) -> ActionExplanation
+    ensures { result ≡ record { fault = 0; text = 0; line = 0; outcome = outcome; part_text = 0; part_start = 0; part_length = 0 } }
 {
-    source.number() as u64
+    ActionExplanation {
+        fault: 0,
+        text: 0,
+        line: 0,
+        outcome,
+        part_text: 0,
+        part_start: 0,
+        part_length: 0,
+    }
 }
 
-fn outcome_number(outcome: Outcome) -> u64
-    ensures { result ≡ outcome_number outcome }
+/// An answer that shows a part of one of both texts.
+fn shows<'m, 's>(outcome: u64, shown: Shown<'m, 's>) -> ActionExplanation
+    ensures { result ≡ quoting outcome (quote_of shown.entry) }
 {
-    match outcome {
-        Outcome::NotProposed => 1,
-        Outcome::Accepted => 2,
-        Outcome::Cancelled => 3,
+    let answer = no_part(outcome);
+    match shown {
+        Shown::Maker(excerpt) => ActionExplanation {
+            part_text: 1,
+            part_start: excerpt.start as u64,
+            part_length: excerpt.bytes.len() as u64,
+            ..answer
+        },
+        Shown::Site(excerpt) => ActionExplanation {
+            part_text: 2,
+            part_start: excerpt.start as u64,
+            part_length: excerpt.bytes.len() as u64,
+            ..answer
+        },
     }
 }
 
@@ -63,12 +82,12 @@ pub extern "C" fn kinohazel_explain_nonnull(
 {
     let number = action_number(action);
     match explanation::explain(maker, site, line, number) {
-        Explained::Refused(refusal) => {
+        Err(refusal) => {
             let fault = refusal.fault;
             let source = refusal.source;
             ActionExplanation {
                 fault: fault.number() as u64,
-                text: source_number(source),
+                text: source.number() as u64,
                 line: refusal.location as u64,
                 outcome: 0,
                 part_text: 0,
@@ -76,19 +95,8 @@ pub extern "C" fn kinohazel_explain_nonnull(
                 part_length: 0,
             }
         }
-        Explained::Because(why) => {
-            let outcome = why.outcome;
-            let shown = why.shown;
-            let source = shown.source;
-            ActionExplanation {
-                fault: 0,
-                text: 0,
-                line: 0,
-                outcome: outcome_number(outcome),
-                part_text: source_number(source),
-                part_start: shown.start as u64,
-                part_length: shown.length as u64,
-            }
-        }
+        Ok(Outcome::NotProposed) => no_part(1),
+        Ok(Outcome::Accepted(shown)) => shows(2, shown),
+        Ok(Outcome::Cancelled(shown)) => shows(3, shown),
     }
 }

@@ -1,78 +1,64 @@
 -- The answer to a question: each way through the functions, and that what is held of a line answers as the line does.
-use Rattle.std.proofs.Common.{ℕ, min, ◌≤◌, ◌<◌, List, ◌≡◌, sym, ap, ◌∙◌, lt-ltb, le-ltb, length, take}
+use Rattle.std.proofs.Common.{ℕ, min, ◌≤◌, ◌<◌, List, ◌≡◌, ap, ◌∙◌, lt-ltb, le-ltb, length, take, Result, Err}
 use Rattle.policy.specs.Fault.{refusal}
 use Rattle.policy.specs.declared.fault.Fault.{Fault}
 use Rattle.policy.specs.declared.fault.Refusal.{Refusal}
-use Rattle.lexer.specs.Byte.{bytes}
-use Rattle.explanation.specs.Part.{shown_part}
+use Rattle.policy.specs.declared.fault.Source.{Source}
+use Rattle.explanation.specs.Part.{quote_of}
 use Rattle.explanation.specs.Steps.On.{explained_on}
+use Rattle.explanation.specs.Why.{Explanation}
+use Rattle.explanation.specs.declared.part.Excerpt.{Excerpt}
 use Rattle.explanation.specs.declared.part.Shown.{Shown}
-use Rattle.explanation.specs.declared.why.Explained.{Explained}
-use Rattle.explanation.specs.declared.why.Outcome.{Outcome}
-use Rattle.explanation.specs.declared.why.Reason.{Reason}
-use Rattle.report.specs.Report.{not_proposed_line, shown_line, not_explained_line}
-use Rattle.questions.specs.Answered.{no_action, outcome_line, explained_line}
+use Rattle.report.specs.Report.{shown_line}
+use Rattle.questions.specs.Answered.{no_action, quoted_line, explained_line}
 use Rattle.questions.specs.Steps.Answer.{answer_on, question_line}
 use Rattle.questions.specs.declared.line.Question.{Question}
 use Rattle.questions.specs.declared.line.Token.{Token}
 
 -- ---- no action
 
-pub long_epoch : (epoch : List ℕ) (r : Refusal) → 1024 < length epoch → r ≡ refusal Fault.TooLong 0 → Explained.Refused r ≡ no_action epoch
+pub long_epoch : (epoch : List ℕ) (r : Refusal) → 1024 < length epoch → r ≡ refusal Fault.TooLong 0 → r ≡ no_action epoch
 unfolding no_action
-long_epoch epoch r h e = rw (lt-ltb 1024 (length epoch) h) (ap Explained.Refused e)
+long_epoch epoch r h e = rw (lt-ltb 1024 (length epoch) h) e
 
-pub no_token : (epoch : List ℕ) (r : Refusal) → length epoch ≤ 1024 → r ≡ refusal Fault.EpochSyntax 0 → Explained.Refused r ≡ no_action epoch
+pub no_token : (epoch : List ℕ) (r : Refusal) → length epoch ≤ 1024 → r ≡ refusal Fault.EpochSyntax 0 → r ≡ no_action epoch
 unfolding no_action
-no_token epoch r h e = rw (le-ltb 1024 (length epoch) h) (ap Explained.Refused e)
+no_token epoch r h e = rw (le-ltb 1024 (length epoch) h) e
 
 -- ---- the answer by the word
 
-module _ (maker site image epoch : List ℕ) (token : Token) (x : Explained) where
-  pub answer_zero : token ≡ Token.Zero → x ≡ explained_on maker site epoch 0 image → x ≡ answer_on maker site image token epoch
+module _ (maker site image epoch : List ℕ) (token : Token) where
+  pub answer_zero : (x : Result Explanation Refusal) → token ≡ Token.Zero → x ≡ explained_on maker site epoch 0 image → x ≡ answer_on maker site image token epoch
   unfolding answer_on
-  answer_zero t e = rw t e
+  answer_zero x t e = rw t e
 
-  pub answer_number : (n : ℕ) → token ≡ Token.Number n → x ≡ explained_on maker site epoch n image → x ≡ answer_on maker site image token epoch
+  pub answer_number : (x : Result Explanation Refusal) (n : ℕ) → token ≡ Token.Number n → x ≡ explained_on maker site epoch n image → x ≡ answer_on maker site image token epoch
   unfolding answer_on
-  answer_number n t e = rw t e
+  answer_number x n t e = rw t e
 
-  pub answer_empty : token ≡ Token.Empty → x ≡ no_action epoch → x ≡ answer_on maker site image token epoch
+  pub answer_empty : token ≡ Token.Empty → (r : Refusal) → r ≡ no_action epoch → Err r ≡ answer_on maker site image token epoch
   unfolding answer_on
-  answer_empty t e = rw t e
+  answer_empty t r e = rw t (ap Err e)
 
-  pub answer_letter : token ≡ Token.Letter → x ≡ no_action epoch → x ≡ answer_on maker site image token epoch
+  pub answer_letter : token ≡ Token.Letter → (r : Refusal) → r ≡ no_action epoch → Err r ≡ answer_on maker site image token epoch
   unfolding answer_on
-  answer_letter t e = rw t e
+  answer_letter t r e = rw t (ap Err e)
 
-  pub answer_other : token ≡ Token.Other → x ≡ no_action epoch → x ≡ answer_on maker site image token epoch
+  pub answer_other : token ≡ Token.Other → (r : Refusal) → r ≡ no_action epoch → Err r ≡ answer_on maker site image token epoch
   unfolding answer_on
-  answer_other t e = rw t e
+  answer_other t r e = rw t (ap Err e)
 
 -- ---- what is printed
 
-module _ (maker site : List ℕ) (n : ℕ) where
-  module _ (o : Outcome) (s : Shown) where
-    pub line_not_proposed : o ≡ Outcome.NotProposed → not_proposed_line n ≡ outcome_line maker site n o s
-    unfolding outcome_line
-    line_not_proposed e = rw e
+pub quotes_maker : (n : ℕ) (became : List ℕ) (x : Shown) (excerpt : Excerpt) → x ≡ Shown.Maker excerpt → shown_line n became Source.Maker excerpt.bytes.now ≡ quoted_line n became (quote_of x)
+unfolding quoted_line
+quotes_maker n became x excerpt e = rw e
 
-    pub line_accepted : (part : List ℕ) → o ≡ Outcome.Accepted → part ≡ shown_part maker site s → shown_line n (bytes " accepted ") s.source part ≡ outcome_line maker site n o s
-    unfolding outcome_line
-    line_accepted part e h = rw e (ap (shown_line n (bytes " accepted ") s.source) h)
+pub quotes_site : (n : ℕ) (became : List ℕ) (x : Shown) (excerpt : Excerpt) → x ≡ Shown.Site excerpt → shown_line n became Source.Site excerpt.bytes.now ≡ quoted_line n became (quote_of x)
+unfolding quoted_line
+quotes_site n became x excerpt e = rw e
 
-    pub line_cancelled : (part : List ℕ) → o ≡ Outcome.Cancelled → part ≡ shown_part maker site s → shown_line n (bytes " cancelled ") s.source part ≡ outcome_line maker site n o s
-    unfolding outcome_line
-    line_cancelled part e h = rw e (ap (shown_line n (bytes " cancelled ") s.source) h)
-
-  module _ (image held : List ℕ) (q : Question) (count : ℕ) (c : count ≡ min q.count (length held)) (x : Explained) (e : x ≡ answer_on maker site image q.token (take count held)) where
-    asked : x ≡ answer_on maker site image q.token (take (min q.count (length held)) held)
-    asked = e ∙ ap (λ (k : ℕ). answer_on maker site image q.token (take k held)) c
-
-    pub prints_refusal : (r : Refusal) → x ≡ Explained.Refused r → not_explained_line n r.fault ≡ question_line maker site image n q held
-    unfolding question_line explained_line
-    prints_refusal r h = ap (explained_line maker site n) (sym h ∙ asked)
-
-    pub prints_reason : (why : Reason) → x ≡ Explained.Because why → outcome_line maker site n why.outcome why.shown ≡ question_line maker site image n q held
-    unfolding question_line explained_line
-    prints_reason why h = ap (explained_line maker site n) (sym h ∙ asked)
+module _ (maker site : List ℕ) (n : ℕ) (image held : List ℕ) (q : Question) (count : ℕ) (c : count ≡ min q.count (length held)) where
+  pub prints : (x : Result Explanation Refusal) → x ≡ answer_on maker site image q.token (take count held) → explained_line n x ≡ question_line maker site image n q held
+  unfolding question_line
+  prints x e = ap (explained_line n) (e ∙ ap (λ (k : ℕ). answer_on maker site image q.token (take k held)) c)

@@ -18,12 +18,12 @@ use Rattle.syntax.specs.Judge.{judge_line, is_comment, tokens_answer, line_answe
 use Rattle.rule_text.specs.Text.{advance, read_next_line, read_text_behind, in_text, read_text, read_site, read_texts}
 use Rattle.epoch_line.specs.Epoch.{to_left, at_equals, assignment_of, item_of, items_of, item_in_range, given_by, add_item, judge_epoch, read_epoch}
 use Rattle.output.specs.Number.{digits, decimal}
-use Rattle.explanation.specs.Part.{trim_start, add_to_trimmed, trim_end, trim, shown_at, or_later, first_from, or_site, first_shown, part_at, part_in}
-use Rattle.explanation.specs.Why.{is_proposing_rule, is_cancelling_constraint, reason_for, on_action, on_epoch, on_both_texts, explained}
+use Rattle.explanation.specs.Part.{trim_start, add_to_trimmed, trim_end, trim, shown_at, or_later, first_from, first_shown}
+use Rattle.explanation.specs.Why.{is_proposing_rule, is_cancelling_constraint, explanation_for, on_action, on_epoch, on_both_texts, explained}
 use Rattle.report.specs.Report.{texts_refusal_line, not_proposed_line, shown_line, not_explained_line}
-use Rattle.questions.specs.Answered.{word_of, epoch_part, no_action, outcome_line, explained_line, answer_for, question_answer, answer_lines, answers_on, answers_printed}
+use Rattle.questions.specs.Answered.{word_of, epoch_part, no_action, quoted_line, explained_line, answer_for, question_answer, answer_lines, answers_on, answers_printed}
 use Rattle.questions.specs.Examples.{examples, answered_to, expected}
 
 pub answers_hold : map answered_to examples ≡ map expected examples
-unfolding all any has insert below reading_value missing_holds values_relate eq_z relation_holds operand_value comparison_holds heads_of comparisons_of ending_of is_reading_value test_number operand_in_range comparison_in_range ending_in_range in_range crowded repeats repeated try_next kept_below greedy literal_holds rule_holds propose proposals constraint_holds conflict resolve accepted cancelled bytes bytes_equal is decimal_from number_of positive negative hex_value decimal_of pattern_of hexadecimal_of constant_of prepend pieces lines_of non_empty tokens_of named literal_of action_of reading_of relation_of or_else operand_of both comparison_of comparisons_from condition_from joined rule_after constraint_after after line_from judge_line is_comment tokens_answer line_answer advance read_next_line read_text_behind in_text read_text read_site read_texts to_left at_equals assignment_of item_of items_of item_in_range given_by add_item judge_epoch read_epoch trim_start add_to_trimmed trim_end trim shown_at or_later first_from or_site first_shown part_at part_in is_proposing_rule is_cancelling_constraint reason_for on_action on_epoch on_both_texts explained digits decimal texts_refusal_line not_proposed_line shown_line not_explained_line word_of epoch_part no_action outcome_line explained_line answer_for question_answer answer_lines answers_on answers_printed examples answered_to expected
+unfolding all any has insert below reading_value missing_holds values_relate eq_z relation_holds operand_value comparison_holds heads_of comparisons_of ending_of is_reading_value test_number operand_in_range comparison_in_range ending_in_range in_range crowded repeats repeated try_next kept_below greedy literal_holds rule_holds propose proposals constraint_holds conflict resolve accepted cancelled bytes bytes_equal is decimal_from number_of positive negative hex_value decimal_of pattern_of hexadecimal_of constant_of prepend pieces lines_of non_empty tokens_of named literal_of action_of reading_of relation_of or_else operand_of both comparison_of comparisons_from condition_from joined rule_after constraint_after after line_from judge_line is_comment tokens_answer line_answer advance read_next_line read_text_behind in_text read_text read_site read_texts to_left at_equals assignment_of item_of items_of item_in_range given_by add_item judge_epoch read_epoch trim_start add_to_trimmed trim_end trim shown_at or_later first_from first_shown is_proposing_rule is_cancelling_constraint explanation_for on_action on_epoch on_both_texts explained digits decimal texts_refusal_line not_proposed_line shown_line not_explained_line word_of epoch_part no_action quoted_line explained_line answer_for question_answer answer_lines answers_on answers_printed examples answered_to expected
 answers_hold = refl

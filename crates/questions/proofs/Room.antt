@@ -1,5 +1,5 @@
 -- The buffers of the program are long enough: of each text 32,769 bytes, of an answer 32,802, of a refusal 64.
-use Rattle.std.proofs.Common.{ℕ, ◌-◌, min, ◌^◌, ◌≤◌, ◌<◌, Bool, true, false, cond, List, [], ◌⊎◌, inl, inr, ◌≡◌, refl, sym, ap, ap₂, ◌∙◌, arith, ltb, take_all, ltb-true, ltb-false, length, take, drop, length-take, length-drop}
+use Rattle.std.proofs.Common.{ℕ, min, ◌^◌, ◌≤◌, ◌<◌, Bool, true, false, List, ◌⊎◌, inl, inr, ◌≡◌, refl, sym, ap, ap₂, ◌∙◌, arith, ltb, take_all, ltb-true, ltb-false, length, take, Result, Ok, Err}
 use Rattle.policy.specs.Fault.{refusal, within}
 use Rattle.policy.specs.Policy.{Policy}
 use Rattle.policy.specs.declared.fault.Fault.{Fault}
@@ -10,17 +10,17 @@ use Rattle.lexer.specs.Lines.{lines_of}
 use Rattle.rule_text.specs.Text.{Progress, reading, stopped, empty_policy, in_text, read_text, read_site, read_texts}
 use Rattle.acceptance.proofs.Cut.{long_stops, texts_cut}
 use Rattle.acceptance.proofs.Locations.{locations_small}
-use Rattle.explanation.specs.Part.{part_at, part_in, shown_part}
-use Rattle.explanation.specs.declared.part.Shown.{Shown}
-use Rattle.explanation.specs.declared.why.Explained.{Explained}
-use Rattle.explanation.specs.declared.why.Outcome.{Outcome}
+use Rattle.explanation.proofs.SizeLaws.{said_size, said_size_on}
+use Rattle.explanation.specs.Part.{of_maker, of_site}
+use Rattle.explanation.specs.Why.{Explanation, not_proposed, accepted_by, cancelled_by}
 use Rattle.output.specs.Buffer.{appended, behind}
 use Rattle.output.proofs.RoomLaws.{put_take}
 use Rattle.report.proofs.LengthLaws.{texts_refusal_short, not_proposed_short, not_explained_short, shown_short}
 use Rattle.report.specs.Report.{texts_refusal_line}
 use Rattle.questions.specs.Steps.Answer.{answer_on, question_line}
 use Rattle.questions.specs.declared.line.Question.{Question}
-use Rattle.questions.specs.Answered.{outcome_line, explained_line, answers_on, answers_printed}
+use Rattle.questions.specs.declared.line.Token.{Token}
+use Rattle.questions.specs.Answered.{quoted_line, explained_line, answers_on, answers_printed}
 
 -- ---- texts
 
@@ -80,45 +80,33 @@ module _ (maker site : List ℕ) where
 
 -- ---- an answer
 
-part_short : (text : List ℕ) (start count : ℕ) → length (part_at text start count) ≤ length text
-unfolding part_at
-part_short text start count = go (ltb (length text) start) (ltb (length text - start) count)
-  where
-    go : (b c : Bool) → length (cond b [] (cond c [] (take count (drop start text)))) ≤ length text
-    go true c = omega arith
-    go false true = omega arith
-    go false false = omega (arith, length-take count (drop start text), length-drop start text)
+nothing : 0 ≤ 32768
+nothing = omega arith
+
+answer_short : (n : ℕ) → n < 2 ^ 64 → (x : Result Explanation Refusal) → said_size x ≤ 32768 → length (explained_line n x) ≤ 32802
+unfolding explained_line quoted_line bytes
+answer_short n h (Err r) k = omega (arith, not_explained_short n r.fault h)
+answer_short n h (Ok not_proposed) k = omega (arith, not_proposed_short n h)
+answer_short n h (Ok (accepted_by (of_maker x))) k = omega (arith, shown_short n (bytes " accepted ") Source.Maker x.bytes h, k)
+answer_short n h (Ok (accepted_by (of_site x))) k = omega (arith, shown_short n (bytes " accepted ") Source.Site x.bytes h, k)
+answer_short n h (Ok (cancelled_by (of_maker x))) k = omega (arith, shown_short n (bytes " cancelled ") Source.Maker x.bytes h, k)
+answer_short n h (Ok (cancelled_by (of_site x))) k = omega (arith, shown_short n (bytes " cancelled ") Source.Site x.bytes h, k)
 
 module _ (maker site : List ℕ) (m : length maker ≤ 32768) (s : length site ≤ 32768) where
-  shown_part_short : (x : Shown) → length (shown_part maker site x) ≤ 32768
-  unfolding part_in
-  shown_part_short x = go x.source
-    where
-      go : (source : Source) → length (part_in maker site source x.start x.length) ≤ 32768
-      go Source.Neither = omega arith
-      go Source.Maker = omega (arith, part_short maker x.start x.length)
-      go Source.Site = omega (arith, part_short site x.start x.length)
+  answered_size : (image : List ℕ) (token : Token) (epoch : List ℕ) → said_size (answer_on maker site image token epoch) ≤ 32768
+  unfolding answer_on
+  answered_size image Token.Empty epoch = nothing
+  answered_size image Token.Letter epoch = nothing
+  answered_size image Token.Zero epoch = said_size_on maker site 32768 m s epoch 0 image
+  answered_size image (Token.Number n) epoch = said_size_on maker site 32768 m s epoch n image
+  answered_size image Token.Other epoch = nothing
 
-  outcome_short : (n : ℕ) → n < 2 ^ 64 → (o : Outcome) (x : Shown) → length (outcome_line maker site n o x) ≤ 32802
-  unfolding outcome_line bytes
-  outcome_short n h Outcome.NotProposed x = omega (arith, not_proposed_short n h)
-  outcome_short n h Outcome.Accepted x = omega (arith, shown_short n (bytes " accepted ") x.source (shown_part maker site x) h, shown_part_short x)
-  outcome_short n h Outcome.Cancelled x = omega (arith, shown_short n (bytes " cancelled ") x.source (shown_part maker site x) h, shown_part_short x)
-
-  answer_short : (n : ℕ) → n < 2 ^ 64 → (x : Explained) → length (explained_line maker site n x) ≤ 32802
-  unfolding explained_line
-  answer_short n h (Explained.Refused r) = omega (arith, not_explained_short n r.fault h)
-  answer_short n h (Explained.Because why) = outcome_short n h why.outcome why.shown
-
-  -- into a buffer of 32,802 bytes the whole answer is put
-  pub answer_whole : (n : ℕ) → n < 2 ^ 64 → (x : Explained) (out after : List ℕ) (end : ℕ) → 32802 ≤ length out
-      → (end ≡ behind out 0 (explained_line maker site n x)) × (after ≡ appended out 0 (explained_line maker site n x)) → take end after ≡ explained_line maker site n x
-  answer_whole n h x out after end room p = put_take out 0 (explained_line maker site n x) after end (omega (arith, answer_short n h x)) p
-
-  -- so is the answer to a question that is held
+  -- into a buffer of 32,802 bytes the whole answer to a question that is held is put
   pub question-whole : (image held : List ℕ) (q : Question) (n : ℕ) → n < 2 ^ 64 → (out after : List ℕ) (end : ℕ) → 32802 ≤ length out
       → (end ≡ behind out 0 (question_line maker site image n q held)) × (after ≡ appended out 0 (question_line maker site image n q held))
       → take end after ≡ question_line maker site image n q held
   unfolding question_line
   question-whole image held q n h out after end room p =
-      answer_whole n h (answer_on maker site image q.token (take (min q.count (length held)) held)) out after end room p
+      let x : Result Explanation Refusal = answer_on maker site image q.token (take (min q.count (length held)) held) in
+      let k = answered_size image q.token (take (min q.count (length held)) held) in
+      put_take out 0 (explained_line n x) after end (omega (arith, answer_short n h x k)) p

@@ -302,11 +302,11 @@ module _ (maker site : List ℕ) where
     answer_on_is Token.Other e = refl
 
     -- what is printed for what is held of a line is what is printed for the line
-    pub line_answered : (n : ℕ) (line : List ℕ) (h : Held) → Says line h → question_line maker site image n h.question h.held ≡ explained_line maker site n (question_answer maker site line)
+    pub line_answered : (n : ℕ) (line : List ℕ) (h : Held) → Says line h → question_line maker site image n h.question h.held ≡ explained_line n (question_answer maker site line)
     unfolding question_line question_answer
     line_answered n line h s =
         let k : min h.question.count (length h.held) ≡ h.question.count = omega (arith, s.count) in
-        ap (explained_line maker site n)
+        ap (explained_line n)
         (ap₂ (λ (t : Token) (e : List ℕ). answer_on maker site image t e) s.token (ap (λ (c : ℕ). take c h.held) k ∙ s.bytes)
         ∙ answer_on_is (fold scan_byte Token.Empty (word_of line)) (take 1025 (epoch_part line))
         ∙ answer_cut (number_in (fold scan_byte Token.Empty (word_of line))) (epoch_part line)
@@ -440,7 +440,7 @@ module _ (maker site : List ℕ) (m : ℕ) (p : Policy) (r : read_texts maker si
       let lines : lines_of ((b ∷ l) ++ []) ≡ (b ∷ l) ∷ [] = ap lines_of (append-nil (b ∷ l)) ∙ line_open b l line in
       ap (λ (x : Bool). cond x (answer_held maker site (image_of newest_form p) n h) []) opened
       ∙ line_answered maker site m p r (next_number n) (b ∷ l) h (line_says (b ∷ l) first long)
-      ∙ sym (ap (answer_lines maker site n) lines ∙ append-nil (explained_line maker site (next_number n) (question_answer maker site (b ∷ l))))
+      ∙ sym (ap (answer_lines maker site n) lines ∙ append-nil (explained_line (next_number n) (question_answer maker site (b ∷ l))))
 
   -- what the calls led to: the open line is held, and the rest of the input is answered behind what was printed
   record Reached (consumed printed : List ℕ) (n : ℕ) (h : Held) : Type 0 where
@@ -452,7 +452,7 @@ module _ (maker site : List ℕ) (m : ℕ) (p : Policy) (r : read_texts maker si
     prints : (rest : List ℕ) → answer_lines maker site 0 (lines_of (consumed ++ rest)) ≡ printed ++ answer_lines maker site n (lines_of (begins ++ rest))
 
   -- what is printed for the open line
-  answers_open : (consumed printed : List ℕ) (n k : ℕ) (h : Held) (q : Reached consumed printed n h) → question_line maker site (image_of newest_form p) k h.question h.held ≡ explained_line maker site k (question_answer maker site q.begins)
+  answers_open : (consumed printed : List ℕ) (n k : ℕ) (h : Held) (q : Reached consumed printed n h) → question_line maker site (image_of newest_form p) k h.question h.held ≡ explained_line k (question_answer maker site q.begins)
   answers_open consumed printed n k h q =
       line_answered maker site m p r k q.begins h (rw q.holds (line_says q.begins q.first q.long))
 
@@ -491,7 +491,7 @@ module _ (maker site : List ℕ) (m : ℕ) (p : Policy) (r : read_texts maker si
           prints = λ rest.
               ap (λ (s : List ℕ). answer_lines maker site 0 (lines_of s)) (behind_end consumed w rest) ∙ x.prints (10 ∷ rest)
               ∙ ap (λ (ls : List (List ℕ)). printed ++ answer_lines maker site n ls) (line_ends x.begins rest x.line)
-              ∙ sym (append_assoc printed (explained_line maker site (next_number n) (question_answer maker site x.begins)) (answer_lines maker site (next_number n) (lines_of rest)))
+              ∙ sym (append_assoc printed (explained_line (next_number n) (question_answer maker site x.begins)) (answer_lines maker site (next_number n) (lines_of rest)))
               ∙ ap (λ (s : List ℕ). (printed ++ s) ++ answer_lines maker site (next_number n) (lines_of rest)) (sym (answers_open (consumed ++ w) printed n (next_number n) (bytes_taken h.question h.held chunk) x));
         }
       where

@@ -1,20 +1,19 @@
 -- What the explaining program prints (docs/REFERENCE.md, "The programs"). A question is an action, one space and an epoch line, as
 -- `A4 E1 E3 R0=41`; `A4` alone asks of the empty epoch.
 use Prim.Native.Char.{code}
-use Rattle.std.specs.Prelude.{ℕ, ◌+◌, ◌%◌, ◌^◌, Bool, not, cond, List, [], ◌∷◌, ◌++◌, ltb, length, drop}
+use Rattle.std.specs.Prelude.{ℕ, Bool, not, cond, List, [], ◌∷◌, ◌++◌, ltb, length, drop, Result, Ok, Err}
 use Rattle.std.proofs.Math.Option.{Option, none, some}
 use Rattle.policy.specs.Fault.{refusal}
 use Rattle.policy.specs.declared.fault.Fault.{Fault}
+use Rattle.policy.specs.declared.fault.Refusal.{Refusal}
+use Rattle.policy.specs.declared.fault.Source.{Source}
 use Rattle.lexer.specs.Byte.{bytes, is_space}
 use Rattle.lexer.specs.Lines.{lines_of, take_leading, drop_leading}
 use Rattle.lexer.specs.Token.{named}
 use Rattle.epoch_line.specs.Epoch.{epoch_limit}
 use Rattle.rule_text.specs.Text.{Progress, reading, stopped, read_texts}
-use Rattle.explanation.specs.Part.{shown_part}
-use Rattle.explanation.specs.Why.{explained}
-use Rattle.explanation.specs.declared.why.Explained.{Explained}
-use Rattle.explanation.specs.declared.part.Shown.{Shown}
-use Rattle.explanation.specs.declared.why.Outcome.{Outcome}
+use Rattle.explanation.specs.Part.{Quote, of_maker, of_site}
+use Rattle.explanation.specs.Why.{Explanation, not_proposed, accepted_by, cancelled_by, explained}
 use Rattle.report.specs.Report.{texts_refusal_line, not_proposed_line, shown_line, not_explained_line, next_number}
 
 -- ---- a question
@@ -30,28 +29,30 @@ unfoldable pub epoch_part : List ℕ → List ℕ
 epoch_part line = drop 1 (drop_leading in_word line)
 
 -- a first word that is not `A` and a number is refused under 12; as always, 1 comes before it
-unfoldable pub no_action : List ℕ → Explained
-no_action epoch = Explained.Refused (refusal (cond (ltb epoch_limit (length epoch)) Fault.TooLong Fault.EpochSyntax) 0)
+unfoldable pub no_action : List ℕ → Refusal
+no_action epoch = refusal (cond (ltb epoch_limit (length epoch)) Fault.TooLong Fault.EpochSyntax) 0
+
+-- ---- what is printed of an answer
+
+-- with what became of the action, the line that says why
+unfoldable pub quoted_line : ℕ → List ℕ → Quote → List ℕ
+quoted_line n became (of_maker x) = shown_line n became Source.Maker x.bytes
+quoted_line n became (of_site x) = shown_line n became Source.Site x.bytes
+
+unfoldable pub explained_line : ℕ → Result Explanation Refusal → List ℕ
+explained_line n (Err r) = not_explained_line n r.fault
+explained_line n (Ok not_proposed) = not_proposed_line n
+explained_line n (Ok (accepted_by x)) = quoted_line n (bytes " accepted ") x
+explained_line n (Ok (cancelled_by x)) = quoted_line n (bytes " cancelled ") x
 
 module _ (maker site : List ℕ) where
-  -- ---- what is printed of an answer
-
-  unfoldable pub outcome_line : ℕ → Outcome → Shown → List ℕ
-  outcome_line n Outcome.NotProposed s = not_proposed_line n
-  outcome_line n Outcome.Accepted s = shown_line n (bytes " accepted ") s.source (shown_part maker site s)
-  outcome_line n Outcome.Cancelled s = shown_line n (bytes " cancelled ") s.source (shown_part maker site s)
-
-  unfoldable pub explained_line : ℕ → Explained → List ℕ
-  explained_line n (Explained.Refused r) = not_explained_line n r.fault
-  explained_line n (Explained.Because why) = outcome_line n why.outcome why.shown
-
   -- ---- the answer to a question
 
-  unfoldable pub answer_for : Option ℕ → List ℕ → Explained
+  unfoldable pub answer_for : Option ℕ → List ℕ → Result Explanation Refusal
   answer_for (some n) epoch = explained maker site epoch n
-  answer_for none epoch = no_action epoch
+  answer_for none epoch = Err (no_action epoch)
 
-  unfoldable pub question_answer : List ℕ → Explained
+  unfoldable pub question_answer : List ℕ → Result Explanation Refusal
   question_answer line = answer_for (named (code "A") (word_of line)) (epoch_part line)
 
   -- ---- all of them

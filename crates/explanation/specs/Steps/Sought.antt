@@ -1,6 +1,5 @@
 -- Which lines are sought, and judging one by running its words.
 use Rattle.std.specs.Prelude.{ℕ, ◌≤◌, Bool, false, List, ℤ, length}
-use Rattle.std.proofs.Math.Option.{Option, none, some}
 use Rattle.policy.specs.Epoch.{Readings}
 use Rattle.policy.specs.Line.{PolicyLine, ending_of}
 use Rattle.policy.specs.Set.{all_events, has_action}
@@ -9,9 +8,7 @@ use Rattle.policy.specs.declared.line.Part.{Part}
 use Rattle.word.specs.Word.{word_limit, Below}
 use Rattle.layout.specs.Layout.{line_words}
 use Rattle.run.specs.Run.{run_rules, run_constraints}
-use Rattle.explanation.specs.declared.find.Search.{Search}
 use Rattle.explanation.specs.declared.find.Sought.{Sought}
-use Rattle.explanation.specs.declared.part.Shown.{Shown}
 
 abbrev pub readings_sought : Sought → List ℤ → Readings
 readings_sought q values = record { given = q.given; values = values }
@@ -31,7 +28,3 @@ sought_by q values l = tells q.part (ending_of l) q values (line_words l)
 pub record Writable (ws : List ℕ) : Type 0 where
   pub few : length ws ≤ 17
   pub small : Below word_limit ws
-
-unfoldable pub search_of : Option Shown → Search
-search_of none = Search.Absent
-search_of (some shown) = Search.Found shown

@@ -1,11 +1,11 @@
 use Rattle.explanation.proofs.WhyLaws.{shown_first, shown_second, shown_none}
 use Rattle.explanation.proofs.why.first_shown.Goals as goal
 
-pub returns-in-Found : goal.returns-in-Found
-returns-in-Found c = shown_first _ _ _ _ c.find.ensures _ c.in-Found.is
+pub returns-in-Some : goal.returns-in-Some
+returns-in-Some c = shown_first _ _ _ _ c.in-Some.ensures
 
-pub returns-in-Found-find : goal.returns-in-Found-find
-returns-in-Found-find c = shown_second _ _ _ _ c.find.ensures c.in-Absent.is _ c.find-in-Absent.ensures _ c.in-Found-find.is
+pub returns-in-Some-find : goal.returns-in-Some-find
+returns-in-Some-find c = shown_second _ _ _ c.in-None.ensures _ c.in-Some-find.ensures
 
-pub returns-in-Absent-find : goal.returns-in-Absent-find
-returns-in-Absent-find c = shown_none _ _ _ _ c.find.ensures c.in-Absent.is _ c.find-in-Absent.ensures _ c.in-Absent-find.is c.no_part.ensures
+pub returns-in-None-find : goal.returns-in-None-find
+returns-in-None-find c = shown_none _ _ _ c.in-None.ensures c.in-None-find.ensures
