@@ -7,7 +7,7 @@ ghost use Rattle.explanation.specs.Steps.Sought.{sought_by};
 
 use crate::find::{Search, Sought, find};
 use crate::part::{Shown, part_of};
-use codegen::{Compiled, compile_texts};
+use codegen::compile_texts;
 use epoch_line::read_epoch;
 use image::IMAGE_SIZE;
 use monitor::{Decision, decide};
@@ -143,8 +143,8 @@ pub fn explain(maker: &[u8], site: &[u8], line: &[u8], number: u32) -> Explained
 {
     let mut image = [0u8; IMAGE_SIZE];
     match compile_texts(maker, site, &mut image) {
-        Compiled::Refused(refusal) => Explained::Refused(refusal),
-        Compiled::Image(size) => explain_on(&image[..size], maker, site, line, number),
+        Err(refusal) => Explained::Refused(refusal),
+        Ok(size) => explain_on(&image[..size], maker, site, line, number),
     }
 }
 
