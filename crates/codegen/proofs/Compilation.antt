@@ -1,4 +1,5 @@
 -- What a compilation has done: the statements about `compiled` and `compiled_texts`.
+use Rattle.std.specs.Prelude.{Ok, Err}
 use Rattle.std.proofs.Common.{ℕ, ◌≤◌, ◌<◌, List, ◌↔◌, ◌≡◌, refl, sym, ap, ◌∙◌, arith, le-leb, leb-true, length}
 use Rattle.std.proofs.lemmas.Bool.{lt-leb}
 use Rattle.std.proofs.Math.Option.{Option, some}
@@ -19,9 +20,8 @@ use Rattle.image.specs.Held.{policy_in}
 use Rattle.acceptance.proofs.Accepted.{accepted_acceptable, texts_acceptable}
 use Rattle.rule_text.specs.Text.{Progress, reading, stopped, read_text, read_texts, policy_read, policy_of, policy_of_texts}
 use Rattle.codegen.proofs.AcceptedLaws.{newest_known}
-use Rattle.codegen.specs.Compile.{newest_form, output_of, compiled, compiled_texts, refusal_in, size_of}
+use Rattle.codegen.specs.Compile.{newest_form, output_of, compiled, compiled_texts}
 use Rattle.codegen.specs.Written.{written_by, WrittenBy, written_in, ImageWritten, TextsImageWritten}
-use Rattle.codegen.specs.declared.Compiled.{Compiled}
 
 -- ---- of what was read, be it a text or two
 
@@ -46,96 +46,96 @@ module _ (s : Progress) (keeps : (n : ℕ) (p : Policy) → s ≡ reading n p �
         again = ap (λ (b : List ℕ). image_of newest_form (policy_in b)) w ∙ ap (image_of newest_form) (image_holds newest_form newest_known p ok) ∙ sym w;
       }
 
-  output_written : (size : ℕ) → (output_of s buffer).answer ≡ Compiled.Image size → WrittenBy (policy_read s) (output_of s buffer) buffer size
+  output_written : (size : ℕ) → (output_of s buffer).answer ≡ Ok size → WrittenBy (policy_read s) (output_of s buffer) buffer size
   unfolding output_of
   output_written size e = go s refl e
     where
-      go : (x : Progress) → s ≡ x → (output_of x buffer).answer ≡ Compiled.Image size → WrittenBy (policy_read s) (output_of s buffer) buffer size
-      go (reading n p) r k = written_by_is n p size r (rw r (fill_delivered Compiled.Refused Compiled.Image refusal_in size_of (λ x. refl) (λ m. refl) (λ m. refl) (image_of newest_form p) buffer size k))
-      go (stopped x) r k = let w : ◌≡◌ {A = ℕ} 0 1 = cc in absurd (omega arith)
+      go : (x : Progress) → s ≡ x → (output_of x buffer).answer ≡ Ok size → WrittenBy (policy_read s) (output_of s buffer) buffer size
+      go (reading n p) r k = written_by_is n p size r (rw r (fill_delivered (image_of newest_form p) buffer size k))
+      go (stopped x) r k = let w : ⊥ = cc in absurd w
 
 module _ (s : Progress) (buffer : List ℕ) where
-  output_refused : (r : Refusal) → s ≡ stopped r → refusal_in (output_of s buffer).answer ≡ some r
+  output_refused : (r : Refusal) → s ≡ stopped r → (output_of s buffer).answer ≡ Err r
   unfolding output_of
   output_refused r e = rw e
 
   module _ (n : ℕ) (p : Policy) (r : s ≡ reading n p) where
-    output_short : length buffer < length (image_of newest_form p) → refusal_in (output_of s buffer).answer ≡ some (refusal Fault.BufferTooSmall 0)
+    output_short : length buffer < length (image_of newest_form p) → (output_of s buffer).answer ≡ Err (refusal Fault.BufferTooSmall 0)
     unfolding output_of
     output_short h = rw (r, lt-leb (length (image_of newest_form p)) (length buffer) h)
 
-    output_delivered : length (image_of newest_form p) ≤ length buffer → output_of s buffer ≡ deliver Compiled.Refused Compiled.Image (image_of newest_form p) buffer
+    output_delivered : length (image_of newest_form p) ≤ length buffer → output_of s buffer ≡ deliver (image_of newest_form p) buffer
     unfolding output_of
     output_delivered h = rw (r, le-leb (length (image_of newest_form p)) (length buffer) h)
 
-  output_unchanged : (r : Refusal) → refusal_in (output_of s buffer).answer ≡ some r → (output_of s buffer).buffer ≡ buffer
+  output_unchanged : (r : Refusal) → (output_of s buffer).answer ≡ Err r → (output_of s buffer).buffer ≡ buffer
   unfolding output_of
   output_unchanged r e = go s e
     where
-      go : (x : Progress) → refusal_in (output_of x buffer).answer ≡ some r → (output_of x buffer).buffer ≡ buffer
-      go (reading n p) k = fill_unchanged Compiled.Refused Compiled.Image refusal_in size_of (λ x. refl) (λ m. refl) (λ m. refl) (image_of newest_form p) buffer r k
+      go : (x : Progress) → (output_of x buffer).answer ≡ Err r → (output_of x buffer).buffer ≡ buffer
+      go (reading n p) k = fill_unchanged (image_of newest_form p) buffer r k
       go (stopped x) k = refl
 
 -- ---- a text
 
 module _ (text buffer : List ℕ) where
   -- where the compiler answers a size, it has written an image of that size
-  pub image_written : (size : ℕ) → (compiled text buffer).answer ≡ Compiled.Image size → ImageWritten text buffer size
+  pub image_written : (size : ℕ) → (compiled text buffer).answer ≡ Ok size → ImageWritten text buffer size
   unfolding compiled policy_of
   image_written size e = output_written (read_text text) (accepted_acceptable text) buffer size e
 
   -- ---- when it is refused, and that a refusal changes no byte of the buffer
 
   -- 1 to 6, at the line, whatever room there is
-  pub text_refused : (r : Refusal) → read_text text ≡ stopped r → refusal_in (compiled text buffer).answer ≡ some r
+  pub text_refused : (r : Refusal) → read_text text ≡ stopped r → (compiled text buffer).answer ≡ Err r
   unfolding compiled
   text_refused r e = output_refused (read_text text) buffer r e
 
   module _ (n : ℕ) (p : Policy) (r : read_text text ≡ reading n p) where
     -- 15 where the image has more bytes than the buffer
-    pub room_refused : length buffer < length (image_of newest_form p) → refusal_in (compiled text buffer).answer ≡ some (refusal Fault.BufferTooSmall 0)
+    pub room_refused : length buffer < length (image_of newest_form p) → (compiled text buffer).answer ≡ Err (refusal Fault.BufferTooSmall 0)
     unfolding compiled
     room_refused h = output_short (read_text text) buffer n p r h
 
     -- every other text is accepted, and its image delivered
-    pub text_delivered : length (image_of newest_form p) ≤ length buffer → compiled text buffer ≡ deliver Compiled.Refused Compiled.Image (image_of newest_form p) buffer
+    pub text_delivered : length (image_of newest_form p) ≤ length buffer → compiled text buffer ≡ deliver (image_of newest_form p) buffer
     unfolding compiled
     text_delivered h = output_delivered (read_text text) buffer n p r h
 
-    pub text_compiled : length (image_of newest_form p) ≤ length buffer → (compiled text buffer).answer ≡ Compiled.Image (length (image_of newest_form p))
-    text_compiled h = ap (λ (o : Filled Compiled). o.answer) (text_delivered h)
+    pub text_compiled : length (image_of newest_form p) ≤ length buffer → (compiled text buffer).answer ≡ Ok (length (image_of newest_form p))
+    text_compiled h = ap (λ (o : Filled). o.answer) (text_delivered h)
 
-  pub refused_unchanged : (r : Refusal) → refusal_in (compiled text buffer).answer ≡ some r → (compiled text buffer).buffer ≡ buffer
+  pub refused_unchanged : (r : Refusal) → (compiled text buffer).answer ≡ Err r → (compiled text buffer).buffer ≡ buffer
   unfolding compiled
   refused_unchanged r e = output_unchanged (read_text text) buffer r e
 
 -- ---- two texts as one
 
 module _ (maker site buffer : List ℕ) where
-  pub texts_written : (size : ℕ) → (compiled_texts maker site buffer).answer ≡ Compiled.Image size → TextsImageWritten maker site buffer size
+  pub texts_written : (size : ℕ) → (compiled_texts maker site buffer).answer ≡ Ok size → TextsImageWritten maker site buffer size
   unfolding compiled_texts policy_of_texts
   texts_written size e = output_written (read_texts maker site) (texts_acceptable maker site) buffer size e
 
-  pub texts_refused : (r : Refusal) → read_texts maker site ≡ stopped r → refusal_in (compiled_texts maker site buffer).answer ≡ some r
+  pub texts_refused : (r : Refusal) → read_texts maker site ≡ stopped r → (compiled_texts maker site buffer).answer ≡ Err r
   unfolding compiled_texts
   texts_refused r e = output_refused (read_texts maker site) buffer r e
 
   module _ (n : ℕ) (p : Policy) (r : read_texts maker site ≡ reading n p) where
-    pub texts_short : length buffer < length (image_of newest_form p) → refusal_in (compiled_texts maker site buffer).answer ≡ some (refusal Fault.BufferTooSmall 0)
+    pub texts_short : length buffer < length (image_of newest_form p) → (compiled_texts maker site buffer).answer ≡ Err (refusal Fault.BufferTooSmall 0)
     unfolding compiled_texts
     texts_short h = output_short (read_texts maker site) buffer n p r h
 
-    pub texts_delivered : length (image_of newest_form p) ≤ length buffer → compiled_texts maker site buffer ≡ deliver Compiled.Refused Compiled.Image (image_of newest_form p) buffer
+    pub texts_delivered : length (image_of newest_form p) ≤ length buffer → compiled_texts maker site buffer ≡ deliver (image_of newest_form p) buffer
     unfolding compiled_texts
     texts_delivered h = output_delivered (read_texts maker site) buffer n p r h
 
-  pub texts_unchanged : (r : Refusal) → refusal_in (compiled_texts maker site buffer).answer ≡ some r → (compiled_texts maker site buffer).buffer ≡ buffer
+  pub texts_unchanged : (r : Refusal) → (compiled_texts maker site buffer).answer ≡ Err r → (compiled_texts maker site buffer).buffer ≡ buffer
   unfolding compiled_texts
   texts_unchanged r e = output_unchanged (read_texts maker site) buffer r e
 
 -- ---- what an image keeps of a text: its rules in their order and its constraints in theirs, and nothing else
 
-same_written : (known known' : Option Policy) (made made' : Filled Compiled) (out out' : List ℕ) (m n : ℕ) → WrittenBy known made out m → WrittenBy known' made' out' n
+same_written : (known known' : Option Policy) (made made' : Filled) (out out' : List ℕ) (m n : ℕ) → WrittenBy known made out m → WrittenBy known' made' out' n
     → (written_by m made ≡ written_by n made') ↔ (known ≡ known')
 same_written known known' made made' out out' m n a b = (there, back)
   where
@@ -148,11 +148,11 @@ same_written known known' made made' out out' m n a b = (there, back)
         let p : a.policy ≡ b.policy = cc in
         a.image ∙ ap (image_of newest_form) p ∙ sym b.image
 
-pub same_images : (s t out out' : List ℕ) (m n : ℕ) → (compiled s out).answer ≡ Compiled.Image m → (compiled t out').answer ≡ Compiled.Image n → (written_in m s out ≡ written_in n t out') ↔ (policy_of s ≡ policy_of t)
+pub same_images : (s t out out' : List ℕ) (m n : ℕ) → (compiled s out).answer ≡ Ok m → (compiled t out').answer ≡ Ok n → (written_in m s out ≡ written_in n t out') ↔ (policy_of s ≡ policy_of t)
 same_images s t out out' m n d e =
     same_written (policy_of s) (policy_of t) (compiled s out) (compiled t out') out out' m n (image_written s out m d) (image_written t out' n e)
 
-pub pairs_same_images : (maker site maker' site' out out' : List ℕ) (m n : ℕ) → (compiled_texts maker site out).answer ≡ Compiled.Image m → (compiled_texts maker' site' out').answer ≡ Compiled.Image n
+pub pairs_same_images : (maker site maker' site' out out' : List ℕ) (m n : ℕ) → (compiled_texts maker site out).answer ≡ Ok m → (compiled_texts maker' site' out').answer ≡ Ok n
     → (written_by m (compiled_texts maker site out) ≡ written_by n (compiled_texts maker' site' out')) ↔ (policy_of_texts maker site ≡ policy_of_texts maker' site')
 pairs_same_images maker site maker' site' out out' m n d e =
     same_written (policy_of_texts maker site) (policy_of_texts maker' site') (compiled_texts maker site out) (compiled_texts maker' site' out') out out' m n

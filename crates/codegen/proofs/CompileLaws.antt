@@ -1,5 +1,5 @@
 -- Putting word 0, the lines and the check words into a buffer with room for them leaves the image of the text's policy in it.
-use Rattle.std.specs.Prelude.{Err}
+use Rattle.std.specs.Prelude.{Result, Ok, Err}
 use Rattle.std.proofs.Common.{ℕ, ◌+◌, ◌*◌, ◌/◌, ◌≤◌, ◌<◌, List, [], ◌∷◌, ◌++◌, map, ◌≡◌, refl, sym, ap, ap₂, ◌∙◌, zero-add, arith, le-leb, length, take, drop, length-append, take_at}
 use Rattle.std.proofs.lemmas.Bool.{lt-leb}
 use Rattle.policy.specs.Line.{PolicyLine, rule, constraint, ending_of}
@@ -23,7 +23,6 @@ use Rattle.rule_text.specs.declared.TextCounts.{TextCounts}
 use Rattle.codegen.proofs.AcceptedLaws.{newest_known, AcceptedTexts}
 use Rattle.codegen.specs.Compile.{newest_form, output_of, compiled, compiled_texts}
 use Rattle.codegen.specs.Steps.Put.{word_count, cursor_for, cursors_after, lines_of_both, put_lines, put_content, put_image}
-use Rattle.codegen.specs.declared.Compiled.{Compiled}
 
 -- ---- the lines, one after another, are the two parts
 
@@ -123,25 +122,25 @@ module _ (maker site : List ℕ) (counts : TextCounts) (t : AcceptedTexts maker 
     size_is : size ≡ length image
     size_is = omega (arith, image_bytes, t.rule_count_is, t.constraint_count_is)
 
-    pub compiled_short : (x : Refusal) → x ≡ refusal Fault.BufferTooSmall 0 → length buffer < size → (Compiled.Refused x ≡ (compiled_texts maker site buffer).answer) × (buffer ≡ (compiled_texts maker site buffer).buffer)
+    pub compiled_short : (x : Refusal) → x ≡ refusal Fault.BufferTooSmall 0 → length buffer < size → (Err x ≡ (compiled_texts maker site buffer).answer) × (buffer ≡ (compiled_texts maker site buffer).buffer)
     unfolding compiled_texts output_of
     compiled_short x e h = rw (e, t.read, lt-leb (length image) (length buffer) (omega (arith, size_is))) (refl, refl)
 
     pub compiled_image : size ≤ length buffer → (after : List ℕ) → after ≡ put_image (lines_of_both maker site) rules constraints buffer
-        → (Compiled.Image size ≡ (compiled_texts maker site buffer).answer) × (after ≡ (compiled_texts maker site buffer).buffer)
+        → (Ok size ≡ (compiled_texts maker site buffer).answer) × (after ≡ (compiled_texts maker site buffer).buffer)
     unfolding compiled_texts output_of
     compiled_image h after e =
         let room : length image ≤ length buffer = omega (arith, size_is) in
         let done : after ≡ image ++ drop (length image) buffer = e ∙ ap₂ (λ (m n : ℕ). put_image (lines_of_both maker site) m n buffer) (r ∙ t.rule_count_is) (k ∙ t.constraint_count_is) ∙ image_written room in
-        rw (t.read, le-leb (length image) (length buffer) room) (ap Compiled.Image size_is, done)
+        rw (t.read, le-leb (length image) (length buffer) room) (ap Ok size_is, done)
 
-pub compiled_refused : (maker site buffer : List ℕ) (r : Refusal) → texts_read maker site ≡ Err r → (Compiled.Refused r ≡ (compiled_texts maker site buffer).answer) × (buffer ≡ (compiled_texts maker site buffer).buffer)
+pub compiled_refused : (maker site buffer : List ℕ) (r : Refusal) → texts_read maker site ≡ Err r → (Err r ≡ (compiled_texts maker site buffer).answer) × (buffer ≡ (compiled_texts maker site buffer).buffer)
 unfolding texts_read text_read_of compiled_texts output_of
 compiled_refused maker site buffer r e = go (read_texts maker site) e
   where
-    go : (s : Progress) → text_read_of s ≡ Err r → (Compiled.Refused r ≡ (output_of s buffer).answer) × (buffer ≡ (output_of s buffer).buffer)
+    go : (s : Progress) → text_read_of s ≡ Err r → (Err r ≡ (output_of s buffer).answer) × (buffer ≡ (output_of s buffer).buffer)
     go (reading m p) k = let w : ◌≡◌ {A = ℕ} 0 1 = cc in absurd (omega arith)
-    go (stopped x) k = let a : Compiled.Refused r ≡ Compiled.Refused x = cc in (a, refl)
+    go (stopped x) k = let p : r ≡ x = cc in (ap Err p, refl)
 
 -- ---- a single text
 
@@ -154,8 +153,8 @@ compiled_alone text buffer = ap (λ (s : Progress). output_of s buffer) (site_em
     go (reading n p) = refl
     go (stopped r) = refl
 
-pub alone_answer : (text buffer : List ℕ) (x : Compiled) → x ≡ (compiled_texts text [] buffer).answer → x ≡ (compiled text buffer).answer
-alone_answer text buffer x e = e ∙ ap (λ (o : Filled Compiled). o.answer) (compiled_alone text buffer)
+pub alone_answer : (text buffer : List ℕ) (x : Result ℕ Refusal) → x ≡ (compiled_texts text [] buffer).answer → x ≡ (compiled text buffer).answer
+alone_answer text buffer x e = e ∙ ap (λ (o : Filled). o.answer) (compiled_alone text buffer)
 
 pub alone_buffer : (text buffer after : List ℕ) → after ≡ (compiled_texts text [] buffer).buffer → after ≡ (compiled text buffer).buffer
-alone_buffer text buffer after e = e ∙ ap (λ (o : Filled Compiled). o.buffer) (compiled_alone text buffer)
+alone_buffer text buffer after e = e ∙ ap (λ (o : Filled). o.buffer) (compiled_alone text buffer)

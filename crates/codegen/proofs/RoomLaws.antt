@@ -1,4 +1,5 @@
 -- What a compilation into a buffer with room for every image says of the text, or of two.
+use Rattle.std.specs.Prelude.{Result, Ok, Err}
 use Rattle.std.proofs.Common.{ℕ, ◌≤◌, List, ◌++◌, ◌≡◌, refl, sym, ap, ◌∙◌, arith, le-leb, leb-true, length, take, drop}
 use Rattle.std.proofs.Math.Dec.{leb}
 use Rattle.std.proofs.Math.Seq.{take-append_seam}
@@ -14,7 +15,6 @@ use Rattle.layout.specs.Layout.{image_of, size_limit}
 use Rattle.image.specs.Check.{well_sized}
 use Rattle.codegen.proofs.AcceptedLaws.{newest_known}
 use Rattle.codegen.specs.Compile.{newest_form, output_of, compiled, compiled_texts}
-use Rattle.codegen.specs.declared.Compiled.{Compiled}
 
 -- what was read, be it a text or two, and its image
 pub record Read (s : Progress) (buffer : List ℕ) (size : ℕ) : Type 0 where
@@ -22,7 +22,6 @@ pub record Read (s : Progress) (buffer : List ℕ) (size : ℕ) : Type 0 where
   pub policy : Policy
   pub read : s ≡ reading lines policy
   pub image : take size buffer ≡ image_of newest_form policy
-  pub small : size ≤ 13064
 
 pub image_small : (p : Policy) → Acceptable p → length (image_of newest_form p) ≤ 13064
 unfolding well_sized
@@ -31,54 +30,52 @@ image_small p ok =
     leb-true size size_limit (and_out (leb 8 size) (leb size size_limit) (and_out _ _ (image_size newest_form newest_known p ok)).0).1
 
 module _ (s : Progress) (keeps : (n : ℕ) (p : Policy) → s ≡ reading n p → Acceptable p) (buffer : List ℕ) (room : length buffer ≡ 13064) where
-  delivered : (n : ℕ) (p : Policy) → s ≡ reading n p → output_of s buffer ≡ deliver Compiled.Refused Compiled.Image (image_of newest_form p) buffer
+  delivered : (n : ℕ) (p : Policy) → s ≡ reading n p → output_of s buffer ≡ deliver (image_of newest_form p) buffer
   unfolding output_of
   delivered n p r = rw (r, room, le-leb (length (image_of newest_form p)) 13064 (image_small p (keeps n p r)))
 
-  pub output_stopped : (x : Refusal) → (output_of s buffer).answer ≡ Compiled.Refused x → s ≡ stopped x
+  pub output_stopped : (x : Refusal) → (output_of s buffer).answer ≡ Err x → s ≡ stopped x
   unfolding output_of
   output_stopped x e = go s refl
     where
       go : (t : Progress) → s ≡ t → t ≡ stopped x
-      go (stopped y) r =
-          let q : Compiled.Refused y ≡ Compiled.Refused x = sym (rw r) ∙ e in
-          cc
+      go (stopped y) r = let q : ◌≡◌ {A = Result ℕ Refusal} (Err y) (Err x) = sym (rw r) ∙ e in cc
       go (reading n p) r =
-          let q : Compiled.Image (length (image_of newest_form p)) ≡ Compiled.Refused x = sym (ap (λ (o : Filled Compiled). o.answer) (delivered n p r)) ∙ e in
-          let z : ◌≡◌ {A = ℕ} 0 1 = cc in
-          absurd (omega arith)
+          let q : ◌≡◌ {A = Result ℕ Refusal} (Ok (length (image_of newest_form p))) (Err x) = sym (ap (λ (o : Filled). o.answer) (delivered n p r)) ∙ e in
+          let z : ⊥ = cc in
+          absurd z
 
-  pub output_read : (size : ℕ) → (output_of s buffer).answer ≡ Compiled.Image size → Read s (output_of s buffer).buffer size
+  pub output_read : (size : ℕ) → (output_of s buffer).answer ≡ Ok size → Read s (output_of s buffer).buffer size
   unfolding output_of
   output_read size e = go s refl
     where
       go : (t : Progress) → s ≡ t → Read s (output_of s buffer).buffer size
       go (stopped y) r =
-          let q : Compiled.Refused y ≡ Compiled.Image size = sym (rw r) ∙ e in
-          let z : ◌≡◌ {A = ℕ} 0 1 = cc in
-          absurd (omega arith)
+          let q : ◌≡◌ {A = Result ℕ Refusal} (Err y) (Ok size) = sym (rw r) ∙ e in
+          let z : ⊥ = cc in
+          absurd z
       go (reading n p) r =
           let image : List ℕ = image_of newest_form p in
-          let q : Compiled.Image (length image) ≡ Compiled.Image size = sym (ap (λ (o : Filled Compiled). o.answer) (delivered n p r)) ∙ e in
+          let q : ◌≡◌ {A = Result ℕ Refusal} (Ok (length image)) (Ok size) = sym (ap (λ (o : Filled). o.answer) (delivered n p r)) ∙ e in
           let m : length image ≡ size = cc in
-          let b : (output_of s buffer).buffer ≡ image ++ drop (length image) buffer = ap (λ (o : Filled Compiled). o.buffer) (delivered n p r) in
+          let b : (output_of s buffer).buffer ≡ image ++ drop (length image) buffer = ap (λ (o : Filled). o.buffer) (delivered n p r) in
           let i : take size (output_of s buffer).buffer ≡ image = rw (← m) (ap (take (length image)) b ∙ take-append_seam image (drop (length image) buffer)) in
-          record { lines = n; policy = p; read = r; image = i; small = rw (← m) (image_small p (keeps n p r)) }
+          record { lines = n; policy = p; read = r; image = i }
 
 module _ (text buffer : List ℕ) (room : length buffer ≡ 13064) where
-  pub compiled_stopped : (x : Refusal) → (compiled text buffer).answer ≡ Compiled.Refused x → read_text text ≡ stopped x
+  pub compiled_stopped : (x : Refusal) → (compiled text buffer).answer ≡ Err x → read_text text ≡ stopped x
   unfolding compiled
   compiled_stopped = output_stopped (read_text text) (accepted_acceptable text) buffer room
 
-  pub compiled_read : (size : ℕ) → (compiled text buffer).answer ≡ Compiled.Image size → Read (read_text text) (compiled text buffer).buffer size
+  pub compiled_read : (size : ℕ) → (compiled text buffer).answer ≡ Ok size → Read (read_text text) (compiled text buffer).buffer size
   unfolding compiled
   compiled_read = output_read (read_text text) (accepted_acceptable text) buffer room
 
 module _ (maker site buffer : List ℕ) (room : length buffer ≡ 13064) where
-  pub texts_stopped : (x : Refusal) → (compiled_texts maker site buffer).answer ≡ Compiled.Refused x → read_texts maker site ≡ stopped x
+  pub texts_stopped : (x : Refusal) → (compiled_texts maker site buffer).answer ≡ Err x → read_texts maker site ≡ stopped x
   unfolding compiled_texts
   texts_stopped = output_stopped (read_texts maker site) (texts_acceptable maker site) buffer room
 
-  pub texts_read_is : (size : ℕ) → (compiled_texts maker site buffer).answer ≡ Compiled.Image size → Read (read_texts maker site) (compiled_texts maker site buffer).buffer size
+  pub texts_read_is : (size : ℕ) → (compiled_texts maker site buffer).answer ≡ Ok size → Read (read_texts maker site) (compiled_texts maker site buffer).buffer size
   unfolding compiled_texts
   texts_read_is = output_read (read_texts maker site) (texts_acceptable maker site) buffer room

@@ -10,15 +10,14 @@ use Rattle.image.specs.Load.{load}
 use Rattle.image.specs.Held.{policy_in}
 use Rattle.image.specs.declared.load.Loaded.{Loaded}
 use Rattle.rule_text.specs.Text.{policy_of, policy_of_texts}
-use Rattle.codegen.specs.declared.Compiled.{Compiled}
 use Rattle.codegen.specs.Compile.{newest_form, compiled, compiled_texts}
 
 -- the first bytes of the buffer, as many as were answered
-abbrev pub written_by : ℕ → Filled Compiled → List ℕ
+abbrev pub written_by : ℕ → Filled → List ℕ
 written_by size made = take size made.buffer
 
 -- a compilation into a buffer that answered so many bytes, of texts that have this policy: they are accepted
-pub record WrittenBy (known : Option Policy) (made : Filled Compiled) (buffer : List ℕ) (size : ℕ) : Type 0 where
+pub record WrittenBy (known : Option Policy) (made : Filled) (buffer : List ℕ) (size : ℕ) : Type 0 where
   -- the bytes are the policy's image, and as many as were answered
   pub policy : Policy
   pub read : known ≡ some policy

@@ -1,7 +1,7 @@
 //! The compiler: from a rule text, or two texts as one, to the image of their policy, in a lent buffer. Start with specs/Compile.antt.
 #![tactic(auto)]
 
-ghost use Rattle.std.specs.Prelude.{◌≡◌, ◌≤◌, length};
+ghost use Rattle.std.specs.Prelude.{◌≡◌, ◌≤◌, length, IfOk};
 ghost use Rattle.word.specs.Steps.Write.{put_words};
 ghost use Rattle.layout.specs.Steps.Value.{value_words};
 ghost use Rattle.lexer.specs.Lines.{lines_of};
@@ -17,15 +17,6 @@ use word::put_word;
 
 /// The form that is written.
 const FORM: u8 = 1;
-
-/// What came of a text, or of two.
-#[derive(Clone, Copy)]
-pub enum Compiled {
-    /// A fault of a text, 1 to 6, or 15 where the buffer has too few bytes for the image.
-    Refused(Refusal),
-    /// How many bytes the image has.
-    Image(usize),
-}
 
 /// How many words lines take.
 fn words(counts: LineCounts) -> usize
@@ -108,31 +99,30 @@ fn put_image(out: &mut [u8], maker: &[u8], site: &[u8], rule_words: usize, const
     put_check_words(out, FORM, middle + constraint_words);
 }
 
-/// Writes the image of the maker's and the site's text as one from the start of the buffer on, or says why there is none. A refusal
-/// leaves the buffer as it is, and an image what stands behind it. 13,064 bytes are enough for every image.
-pub fn compile_texts(maker: &[u8], site: &[u8], out: &mut [u8]) -> Compiled
+/// Writes the image of the maker's and the site's text as one from the start of the buffer on, and answers how many bytes it has, or why
+/// there is none: a fault of a text, 1 to 6, or 15 where the buffer has too few bytes. A refusal leaves the buffer as it is, and an image
+/// what stands behind it. 13,064 bytes are enough for every image.
+pub fn compile_texts(maker: &[u8], site: &[u8], out: &mut [u8]) -> Result<usize, Refusal>
     ensures answer { result ≡ (compiled_texts maker.now site.now out.old).answer }
     ensures buffer { out.new ≡ (compiled_texts maker.now site.now out.old).buffer }
+    ensures within { IfOk result (λ size. size ≤ length out.new) }
 {
-    match read_texts(maker, site) {
-        Err(refusal) => Compiled::Refused(refusal),
-        Ok(counts) => {
-            let rule_words = words(counts.rules);
-            let constraint_words = words(counts.constraints);
-            let size = (rule_words + constraint_words + 2) * 4;
-            if out.len() < size {
-                return Compiled::Refused(Fault::BufferTooSmall.at(0));
-            }
-            put_image(out, maker, site, rule_words, constraint_words);
-            Compiled::Image(size)
-        }
+    let counts = read_texts(maker, site)?;
+    let rule_words = words(counts.rules);
+    let constraint_words = words(counts.constraints);
+    let size = (rule_words + constraint_words + 2) * 4;
+    if out.len() < size {
+        return Err(Fault::BufferTooSmall.at(0));
     }
+    put_image(out, maker, site, rule_words, constraint_words);
+    Ok(size)
 }
 
 /// The same of a single text, which is the maker's: the site's is empty.
-pub fn compile(text: &[u8], out: &mut [u8]) -> Compiled
+pub fn compile(text: &[u8], out: &mut [u8]) -> Result<usize, Refusal>
     ensures answer { result ≡ (compiled text.now out.old).answer }
     ensures buffer { out.new ≡ (compiled text.now out.old).buffer }
+    ensures within { IfOk result (λ size. size ≤ length out.new) }
 {
     compile_texts(text, b"", out)
 }

@@ -1,4 +1,5 @@
 -- Each way through `decompile`.
+use Rattle.std.specs.Prelude.{Result, Ok, Err}
 use Rattle.std.proofs.Common.{ℕ, ◌≤◌, ◌<◌, min, List, ◌++◌, ◌≡◌, sym, ap, ◌∙◌, arith, le-leb, length, drop}
 use Rattle.std.proofs.lemmas.Bool.{lt-leb}
 use Rattle.policy.specs.Fault.{refusal}
@@ -15,19 +16,18 @@ use Rattle.printer.specs.Printed.{text_of}
 use Rattle.decompile.proofs.TextLaws.{TakenText}
 use Rattle.decompile.specs.Decompile.{output_of, decompiled}
 use Rattle.decompile.specs.Steps.Walk.{text_of_values}
-use Rattle.decompile.specs.declared.Decompiled.{Decompiled}
 
 -- what the function answers and leaves in the buffer
-abbrev Answers : List ℕ → List ℕ → Decompiled → List ℕ → Type 0
+abbrev Answers : List ℕ → List ℕ → Result ℕ Refusal → List ℕ → Type 0
 Answers image buffer answer after = (answer ≡ (decompiled image buffer).answer) × (after ≡ (decompiled image buffer).buffer)
 
-answers : (image buffer : List ℕ) (answer : Decompiled) (after : List ℕ) → decompiled image buffer ≡ record { answer = answer; buffer = after } → Answers image buffer answer after
-answers image buffer answer after e = (sym (ap (λ (o : Filled Decompiled). o.answer) e), sym (ap (λ (o : Filled Decompiled). o.buffer) e))
+answers : (image buffer : List ℕ) (answer : Result ℕ Refusal) (after : List ℕ) → decompiled image buffer ≡ record { answer = answer; buffer = after } → Answers image buffer answer after
+answers image buffer answer after e = (sym (ap (λ (o : Filled). o.answer) e), sym (ap (λ (o : Filled). o.buffer) e))
 
 module _ (image buffer : List ℕ) where
-  pub refused : (r : Refusal) → load image ≡ Loaded.Refused r → Answers image buffer (Decompiled.Refused r) buffer
+  pub refused : (r : Refusal) → load image ≡ Loaded.Refused r → Answers image buffer (Err r) buffer
   unfolding decompiled output_of
-  refused r e = answers image buffer (Decompiled.Refused r) buffer (ap (λ (l : Loaded). output_of l (text_of (policy_in image)) buffer) e)
+  refused r e = answers image buffer (Err r) buffer (ap (λ (l : Loaded). output_of l (text_of (policy_in image)) buffer) e)
 
   module _ (values : List Line) (t : TakenText image values) where
     text : List ℕ
@@ -41,18 +41,18 @@ module _ (image buffer : List ℕ) where
     same : text_of_values values ≡ text_of (policy_in image)
     same = t.text
 
-    pub short : length buffer < length (text_of_values values) → Answers image buffer (Decompiled.Refused (refusal Fault.BufferTooSmall 0)) buffer
+    pub short : length buffer < length (text_of_values values) → Answers image buffer (Err (refusal Fault.BufferTooSmall 0)) buffer
     unfolding output_of text
     short h =
-        answers image buffer (Decompiled.Refused (refusal Fault.BufferTooSmall 0)) buffer
+        answers image buffer (Err (refusal Fault.BufferTooSmall 0)) buffer
         (on_text ∙ rw (lt-leb (length (text_of (policy_in image))) (length buffer) (rw same at h)))
 
     pub written : length (text_of_values values) ≤ length buffer → (size : ℕ) → size ≡ min (length (text_of_values values)) (length buffer)
-        → (after : List ℕ) → after ≡ appended buffer 0 (text_of_values values) → Answers image buffer (Decompiled.Text size) after
+        → (after : List ℕ) → after ≡ appended buffer 0 (text_of_values values) → Answers image buffer (Ok size) after
     unfolding output_of text
     written h size e after q =
         let n : length (text_of (policy_in image)) ≡ size = omega (arith, ap length same) in
         let whole : after ≡ text_of (policy_in image) ++ drop (length (text_of (policy_in image))) buffer =
         (rw same at q) ∙ append_start buffer (text_of (policy_in image)) (rw same at h) in
-        answers image buffer (Decompiled.Text size) after
+        answers image buffer (Ok size) after
         (on_text ∙ rw (le-leb (length (text_of (policy_in image))) (length buffer) (rw same at h)) (rw (whole, n)))

@@ -1,7 +1,7 @@
 -- What holds of every decompilation: what it has written, and when it is refused.
+use Rattle.std.specs.Prelude.{Ok, Err}
 use Rattle.std.proofs.Common.{ℕ, ◌≤◌, ◌<◌, List, ◌≡◌, refl, ap, ◌∙◌, arith, le-leb, length}
 use Rattle.std.proofs.lemmas.Bool.{lt-leb}
-use Rattle.std.proofs.Math.Option.{some}
 use Rattle.policy.proofs.FillLaws.{fill_delivered, fill_unchanged}
 use Rattle.policy.specs.Fault.{refusal}
 use Rattle.policy.specs.declared.fault.Fault.{Fault}
@@ -14,19 +14,18 @@ use Rattle.image.specs.declared.load.Loaded.{Loaded}
 use Rattle.exactness.proofs.Exact.{held_acceptable}
 use Rattle.printer.proofs.Printing.{text_length}
 use Rattle.printer.specs.Printed.{longest_text, text_of}
-use Rattle.decompile.specs.Decompile.{output_of, decompiled, refusal_in, size_of}
+use Rattle.decompile.specs.Decompile.{output_of, decompiled}
 use Rattle.decompile.specs.Written.{TextWritten}
-use Rattle.decompile.specs.declared.Decompiled.{Decompiled}
 
 module _ (image buffer : List ℕ) where
   -- where the decompiler answers a size, it has written a text of that size
-  pub text_written : Bytes image → (size : ℕ) → (decompiled image buffer).answer ≡ Decompiled.Text size → TextWritten image buffer size
+  pub text_written : Bytes image → (size : ℕ) → (decompiled image buffer).answer ≡ Ok size → TextWritten image buffer size
   unfolding decompiled output_of
   text_written bounded size e = go (load image) refl e
     where
-      go : (l : Loaded) → load image ≡ l → (output_of l (text_of (policy_in image)) buffer).answer ≡ Decompiled.Text size → TextWritten image buffer size
+      go : (l : Loaded) → load image ≡ l → (output_of l (text_of (policy_in image)) buffer).answer ≡ Ok size → TextWritten image buffer size
       go (Loaded.Image c) q k =
-          let d = fill_delivered Decompiled.Refused Decompiled.Text refusal_in size_of (λ x. refl) (λ n. refl) (λ n. refl) (text_of (policy_in image)) buffer size k in
+          let d = fill_delivered (text_of (policy_in image)) buffer size k in
           record {
             contents = c;
             taken = q;
@@ -35,34 +34,34 @@ module _ (image buffer : List ℕ) where
             behind = rw q d.behind;
             largest = omega (arith, d.long, text_length (policy_in image) (held_acceptable image bounded c q));
           }
-      go (Loaded.Refused r) q k = let w : ◌≡◌ {A = ℕ} 0 1 = cc in absurd (omega arith)
+      go (Loaded.Refused r) q k = let w : ⊥ = cc in absurd w
 
   -- ---- when it is refused, and that a refusal changes no byte of the buffer
 
   -- 7 to 11, at the word, whatever room there is
-  pub image_refused : (r : Refusal) → load image ≡ Loaded.Refused r → refusal_in (decompiled image buffer).answer ≡ some r
+  pub image_refused : (r : Refusal) → load image ≡ Loaded.Refused r → (decompiled image buffer).answer ≡ Err r
   unfolding decompiled output_of
   image_refused r e = rw e
 
   module _ (contents : Contents) (taken : load image ≡ Loaded.Image contents) where
     -- 15 where the text has more bytes than the buffer
-    pub room_refused : length buffer < length (text_of (policy_in image)) → refusal_in (decompiled image buffer).answer ≡ some (refusal Fault.BufferTooSmall 0)
+    pub room_refused : length buffer < length (text_of (policy_in image)) → (decompiled image buffer).answer ≡ Err (refusal Fault.BufferTooSmall 0)
     unfolding decompiled output_of
     room_refused h = rw (taken, lt-leb (length (text_of (policy_in image))) (length buffer) h)
 
     -- every other image is printed
-    pub image_printed : length (text_of (policy_in image)) ≤ length buffer → (decompiled image buffer).answer ≡ Decompiled.Text (length (text_of (policy_in image)))
+    pub image_printed : length (text_of (policy_in image)) ≤ length buffer → (decompiled image buffer).answer ≡ Ok (length (text_of (policy_in image)))
     unfolding decompiled output_of
     image_printed h = rw (taken, le-leb (length (text_of (policy_in image))) (length buffer) h)
 
     -- and so is every image, where the buffer has room for the longest text
-    pub never_short : Bytes image → longest_text ≤ length buffer → (decompiled image buffer).answer ≡ Decompiled.Text (length (text_of (policy_in image)))
+    pub never_short : Bytes image → longest_text ≤ length buffer → (decompiled image buffer).answer ≡ Ok (length (text_of (policy_in image)))
     never_short bounded h = image_printed (omega (arith, text_length (policy_in image) (held_acceptable image bounded contents taken)))
 
-  pub refused_unchanged : (r : Refusal) → refusal_in (decompiled image buffer).answer ≡ some r → (decompiled image buffer).buffer ≡ buffer
+  pub refused_unchanged : (r : Refusal) → (decompiled image buffer).answer ≡ Err r → (decompiled image buffer).buffer ≡ buffer
   unfolding decompiled output_of
   refused_unchanged r e = go (load image) e
     where
-      go : (l : Loaded) → refusal_in (output_of l (text_of (policy_in image)) buffer).answer ≡ some r → (output_of l (text_of (policy_in image)) buffer).buffer ≡ buffer
-      go (Loaded.Image c) k = fill_unchanged Decompiled.Refused Decompiled.Text refusal_in size_of (λ x. refl) (λ n. refl) (λ n. refl) (text_of (policy_in image)) buffer r k
+      go : (l : Loaded) → (output_of l (text_of (policy_in image)) buffer).answer ≡ Err r → (output_of l (text_of (policy_in image)) buffer).buffer ≡ buffer
+      go (Loaded.Image c) k = fill_unchanged (text_of (policy_in image)) buffer r k
       go (Loaded.Refused x) k = refl

@@ -1,5 +1,6 @@
 -- Images and what the decompiler makes of them, one row each: a worked example, a line with every kind of part,
 -- patterns, and the order of the faults. A buffer is full of dots at first.
+use Rattle.std.specs.Prelude.{Result, Ok, Err}
 use Prim.Native.Char.{code}
 use Rattle.std.specs.Prelude.{ℕ, List, [], ◌∷◌, replicate}
 use Prim.Native.String.{String}
@@ -8,19 +9,19 @@ use Rattle.policy.specs.Fault.{refusal}
 use Rattle.policy.specs.Fill.{Filled}
 use Rattle.policy.specs.Policy.{Policy}
 use Rattle.policy.specs.declared.fault.Fault.{Fault}
+use Rattle.policy.specs.declared.fault.Refusal.{Refusal}
 use Rattle.lexer.specs.Byte.{bytes}
 use Rattle.rule_text.specs.Text.{policy_of}
 use Rattle.word.specs.Word.{bytes_of}
 use Rattle.layout.specs.Layout.{image_of}
 use Rattle.decompile.specs.Decompile.{decompiled}
-use Rattle.decompile.specs.declared.Decompiled.{Decompiled}
 
 pub record Example : Type 0 where
   pub image : List ℕ
   pub room : ℕ
-  pub output : Filled Decompiled
+  pub output : Filled
 
-abbrev row : List ℕ → ℕ → Decompiled → String → Example
+abbrev row : List ℕ → ℕ → Result ℕ Refusal → String → Example
 row image room answer buffer = record { image = image; room = room; output = record { answer = answer; buffer = bytes buffer } }
 
 -- 01007003, 10400004, 20800003, 30008001, 00000028, 50C00000, 10C00001, 51000000, 60C00002, 61000001, 70000000, and the last word
@@ -38,20 +39,20 @@ image_from text = image_in (policy_of (bytes text))
 unfoldable pub examples : List Example
 examples =
     -- B9FF0FC9 brings the sum to 0
-    row (worked_with 3120500681) 60 (Decompiled.Text 57) "E1 & !E2 causes A3 if R0 > 40\nE3 causes A4\nnever A3 & A4\n..."
+    row (worked_with 3120500681) 60 (Ok 57) "E1 & !E2 causes A3 if R0 > 40\nE3 causes A4\nnever A3 & A4\n..."
     -- one byte short
-    ∷ row (worked_with 3120500681) 56 (Decompiled.Refused (refusal Fault.BufferTooSmall 0)) "........................................................"
+    ∷ row (worked_with 3120500681) 56 (Err (refusal Fault.BufferTooSmall 0)) "........................................................"
     -- a wrong sum comes before too little room
-    ∷ row (worked_with 3120500682) 4 (Decompiled.Refused (refusal Fault.ImageSum 0)) "...."
+    ∷ row (worked_with 3120500682) 4 (Err (refusal Fault.ImageSum 0)) "...."
     -- rules first; spaces, comments and blank lines are not held
     ∷ row (image_from "# start\n never  A63 & A0 if  R15 != R0 , R10 <= -1\n\n  !E63 & E9  causes A10 if R1 = 0 , R2 < 2147483647 , R3 > R4 , R5 >= -2147483648")
-    120 (Decompiled.Text 119)
+    120 (Ok 119)
     "!E63 & E9 causes A10 if R1 = 0 , R2 < 2147483647 , R3 > R4 , R5 >= -2147483648\nnever A63 & A0 if R15 != R0 , R10 <= -1\n."
     -- a pattern is written in decimal
-    ∷ row (image_from "E1 causes A1 if R0 = 0x8040 , R1 = 0xFFFFFFFF , R2 = 0x80000000 , R3 = 0x7fffffff") 75 (Decompiled.Text 74)
+    ∷ row (image_from "E1 causes A1 if R0 = 0x8040 , R1 = 0xFFFFFFFF , R2 = 0x80000000 , R3 = 0x7fffffff") 75 (Ok 74)
     "E1 causes A1 if R0 = 32832 , R1 = -1 , R2 = -2147483648 , R3 = 2147483647\n."
     -- the empty policy, 01000000 and FF000000, fits an empty buffer
-    ∷ row (bytes_of (16777216 ∷ 4278190080 ∷ [])) 0 (Decompiled.Text 0) ""
+    ∷ row (bytes_of (16777216 ∷ 4278190080 ∷ [])) 0 (Ok 0) ""
     ∷ []
 
 unfoldable pub computed : Example → Example

@@ -1,7 +1,7 @@
 //! The decompiler: from an image to the rule text of its policy, in a lent buffer. Start with specs/Decompile.antt.
 #![tactic(auto)]
 
-ghost use Rattle.std.specs.Prelude.{◌≡◌, ◌≤◌, ◌↔◌, IsTrue, min, length};
+ghost use Rattle.std.specs.Prelude.{◌≡◌, ◌≤◌, ◌↔◌, IsTrue, min, length, IfOk};
 ghost use Rattle.output.specs.Buffer.{appended};
 ghost use Rattle.output.specs.Sink.{fed};
 ghost use Rattle.printer.specs.Printed.{longest_text};
@@ -15,15 +15,6 @@ use printer::put_line;
 
 /// Bytes of the longest text: 128 rules of 150 bytes, and 64 constraints of 137.
 pub const TEXT_SIZE: usize = 27968;
-
-/// What came of an image.
-#[derive(Clone, Copy)]
-pub enum Decompiled {
-    /// A fault of the image, 7 to 11, or 15 where the buffer has too few bytes for the text.
-    Refused(Refusal),
-    /// How many bytes the text has.
-    Text(usize),
-}
 
 /// The texts of the lines, one after another.
 fn put_text<S: Sink>(sink: &mut S, lines: Walker<'_>)
@@ -64,20 +55,17 @@ fn write_text(out: &mut [u8], lines: Walker<'_>) -> usize
     page.end
 }
 
-/// Writes the text of an image from the start of the buffer on, or says why there is none. A refusal leaves the buffer as it
-/// is: where the text might have no room it is counted first.
-pub fn decompile(image: &[u8], out: &mut [u8]) -> Decompiled
+/// Writes the text of an image from the start of the buffer on, and answers how many bytes it has, or why there is none: a fault of the
+/// image, 7 to 11, or 15 where the buffer has too few bytes. A refusal leaves the buffer as it is: where the text might have no room it
+/// is counted first.
+pub fn decompile(image: &[u8], out: &mut [u8]) -> Result<usize, Refusal>
     ensures answer { result ≡ (decompiled image.now out.old).answer }
     ensures buffer { out.new ≡ (decompiled image.now out.old).buffer }
+    ensures within { IfOk result (λ size. size ≤ length out.new) }
 {
-    match lines(image) {
-        Err(refusal) => Decompiled::Refused(refusal),
-        Ok(lines) => {
-            if fits(lines, out.len()) {
-                Decompiled::Text(write_text(out, lines))
-            } else {
-                Decompiled::Refused(Fault::BufferTooSmall.at(0))
-            }
-        }
+    let lines = lines(image)?;
+    if !fits(lines, out.len()) {
+        return Err(Fault::BufferTooSmall.at(0));
     }
+    Ok(write_text(out, lines))
 }

@@ -1,4 +1,5 @@
 -- Laws of what is printed at the end of the input.
+use Rattle.std.specs.Prelude.{Result, Ok, Err}
 use Rattle.std.proofs.Common.{◌≡◌, ℕ, ◌*◌, ◌/◌, ◌≤◌, min, Bool, true, false, leb, List, ◌++◌, length, take, drop, sym, refl, ap, ◌∙◌, ap₂, arith, leb-true}
 use Rattle.policy.specs.Fault.{refusal}
 use Rattle.policy.specs.declared.fault.Fault.{Fault}
@@ -11,25 +12,24 @@ use Rattle.output.specs.Buffer.{behind}
 use Rattle.output.proofs.AppendLaws.{Put, put_same, append_start}
 use Rattle.report.specs.Report.{image_refusal_line, not_word_line, next_number}
 use Rattle.decompile.specs.Decompile.{output_of, decompiled}
-use Rattle.decompile.specs.declared.Decompiled.{Decompiled}
 use Rattle.dump.specs.Steps.Calls.{Held, answer_within, image_within, finished}
 use Rattle.dump.specs.declared.state.State.{State}
 
 -- ---- an image, by the loader's answer
 
 module _ (text out between : List ℕ) where
-  refused_same : (l : Loaded) (r : Refusal) → Decompiled.Refused r ≡ (output_of l text out).answer → between ≡ (output_of l text out).buffer
+  refused_same : (l : Loaded) (r : Refusal) → Err r ≡ (output_of l text out).answer → between ≡ (output_of l text out).buffer
       → (between ≡ out) × (image_refusal_line r ≡ answer_within (length out) l text)
   unfolding output_of answer_within
   refused_same (Loaded.Refused q) r e b = let p : r ≡ q = cc in (b, ap image_refusal_line p)
   refused_same (Loaded.Image contents) r e b = go (leb (length text) (length out)) refl e b
     where
       go : (t : Bool) → leb (length text) (length out) ≡ t
-          → Decompiled.Refused r ≡ (output_of (Loaded.Image contents) text out).answer → between ≡ (output_of (Loaded.Image contents) text out).buffer
+          → Err r ≡ (output_of (Loaded.Image contents) text out).answer → between ≡ (output_of (Loaded.Image contents) text out).buffer
           → (between ≡ out) × (image_refusal_line r ≡ answer_within (length out) (Loaded.Image contents) text)
-      go true t e b = let f : Decompiled.Refused r ≡ Decompiled.Text (length text) = rw t at e in let z : ◌≡◌ {A = ℕ} 0 1 = cc in absurd (omega arith)
+      go true t e b = let f : ◌≡◌ {A = Result ℕ Refusal} (Err r) (Ok (length text)) = rw t at e in let z : ⊥ = cc in absurd z
       go false t e b =
-          let f : Decompiled.Refused r ≡ Decompiled.Refused (refusal Fault.BufferTooSmall 0) = rw t at e in
+          let f : ◌≡◌ {A = Result ℕ Refusal} (Err r) (Err (refusal Fault.BufferTooSmall 0)) = rw t at e in
           let p : r ≡ refusal Fault.BufferTooSmall 0 = cc in
           let k : between ≡ out = rw t at b in
           rw t (k, ap image_refusal_line p)
@@ -38,34 +38,34 @@ module _ (text out between : List ℕ) where
   unfolding behind
   from_start h = (omega arith, sym (append_start out text h))
 
-  text_same : (l : Loaded) (n : ℕ) → Decompiled.Text n ≡ (output_of l text out).answer → between ≡ (output_of l text out).buffer
+  text_same : (l : Loaded) (n : ℕ) → Ok n ≡ (output_of l text out).answer → between ≡ (output_of l text out).buffer
       → Put out 0 (answer_within (length out) l text) between n
   unfolding output_of answer_within
-  text_same (Loaded.Refused q) n e b = let z : ◌≡◌ {A = ℕ} 0 1 = cc in absurd (omega arith)
+  text_same (Loaded.Refused q) n e b = let z : ⊥ = cc in absurd z
   text_same (Loaded.Image contents) n e b = go (leb (length text) (length out)) refl e b
     where
       go : (t : Bool) → leb (length text) (length out) ≡ t
-          → Decompiled.Text n ≡ (output_of (Loaded.Image contents) text out).answer → between ≡ (output_of (Loaded.Image contents) text out).buffer
+          → Ok n ≡ (output_of (Loaded.Image contents) text out).answer → between ≡ (output_of (Loaded.Image contents) text out).buffer
           → Put out 0 (answer_within (length out) (Loaded.Image contents) text) between n
       go true t e b =
-          let f : Decompiled.Text n ≡ Decompiled.Text (length text) = rw t at e in
+          let f : ◌≡◌ {A = Result ℕ Refusal} (Ok n) (Ok (length text)) = rw t at e in
           let p : n ≡ length text = cc in
           let k : between ≡ text ++ drop (length text) out = rw t at b in
           rw (t, p, k) (from_start (leb-true (length text) (length out) t))
       go false t e b =
-          let f : Decompiled.Text n ≡ Decompiled.Refused (refusal Fault.BufferTooSmall 0) = rw t at e in
-          let z : ◌≡◌ {A = ℕ} 0 1 = cc in
-          absurd (omega arith)
+          let f : ◌≡◌ {A = Result ℕ Refusal} (Ok n) (Err (refusal Fault.BufferTooSmall 0)) = rw t at e in
+          let z : ⊥ = cc in
+          absurd z
 
-module _ (image out : List ℕ) (answer : Decompiled) (between : List ℕ) (a : answer ≡ (decompiled image out).answer) (b : between ≡ (decompiled image out).buffer) where
-  pub image_refused : (r : Refusal) → answer ≡ Decompiled.Refused r → (after : List ℕ) (end : ℕ)
+module _ (image out : List ℕ) (answer : Result ℕ Refusal) (between : List ℕ) (a : answer ≡ (decompiled image out).answer) (b : between ≡ (decompiled image out).buffer) where
+  pub image_refused : (r : Refusal) → answer ≡ Err r → (after : List ℕ) (end : ℕ)
       → Put between 0 (image_refusal_line r) after end → Put out 0 (image_within (length out) image) after end
   unfolding decompiled image_within
   image_refused r e after end p =
       let q = refused_same (text_of (policy_in image)) out between (load image) r (sym e ∙ a) b in
       put_same out 0 (image_refusal_line r) (image_within (length out) image) after end q.1 (rw q.0 at p)
 
-  pub image_text : (n : ℕ) → answer ≡ Decompiled.Text n → Put out 0 (image_within (length out) image) between n
+  pub image_text : (n : ℕ) → answer ≡ Ok n → Put out 0 (image_within (length out) image) between n
   unfolding decompiled image_within
   image_text n e = text_same (text_of (policy_in image)) out between (load image) n (sym e ∙ a) b
 

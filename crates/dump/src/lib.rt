@@ -10,7 +10,7 @@ ghost use Rattle.output.specs.Buffer.{appended, behind};
 ghost use Rattle.io.specs.Counts.{IsPrefixLen};
 ghost use Rattle.dump.specs.Steps.Calls.{start_state, held, held_behind, closed, image_within, finished};
 
-use decompile::{Decompiled, decompile};
+use decompile::decompile;
 pub use decompiler::restore_input;
 use output::Page;
 use state::{State, close, step};
@@ -50,12 +50,12 @@ fn put_image(image: &[u8], out: &mut [u8]) -> usize
     ensures buffer { out.new ≡ appended out.old 0 (image_within (length out.old) image.now) }
 {
     match decompile(image, out) {
-        Decompiled::Refused(refusal) => {
+        Err(refusal) => {
             let mut page = Page { bytes: out, end: 0 };
             report::put_image_refusal(&mut page, refusal);
             page.end
         }
-        Decompiled::Text(size) => size,
+        Ok(size) => size,
     }
 }
 

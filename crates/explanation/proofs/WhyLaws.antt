@@ -19,7 +19,6 @@ use Rattle.acceptance.proofs.Accepted.{accepted_valid, texts_acceptable}
 use Rattle.codegen.proofs.AcceptedLaws.{newest_known}
 use Rattle.codegen.proofs.RoomLaws.{texts_stopped, texts_read_is}
 use Rattle.codegen.specs.Compile.{newest_form, compiled_texts}
-use Rattle.codegen.specs.declared.Compiled.{Compiled}
 use Rattle.epoch_line.specs.Answer.{answer_read, epoch_read, epoch_in}
 use Rattle.epoch_line.specs.Epoch as Epoch
 use Rattle.epoch_line.specs.Epoch.{EpochAnswer, read_epoch}
@@ -135,16 +134,13 @@ on_image_is maker site line n p ok = go (read_epoch line) refl
         ap (on_decision maker site line n) (image_decides newest_form newest_known p ok line e q)
         ∙ ap (λ (x : Epoch). on_action maker site (Yield.accepted p e) (Yield.cancelled p e) x (check_action n)) (epoch_accepted line e q)
 
-module _ (maker site line : List ℕ) (n : ℕ) (buffer written : List ℕ) (answer : Compiled) (made : answer ≡ (compiled_texts maker site buffer).answer)
+module _ (maker site line : List ℕ) (n : ℕ) (buffer written : List ℕ) (answer : Result ℕ Refusal) (made : answer ≡ (compiled_texts maker site buffer).answer)
     (wrote : written ≡ (compiled_texts maker site buffer).buffer) (long : length buffer ≡ 13064) where
-  pub explains_refusal : (r : Refusal) → answer ≡ Compiled.Refused r → Err r ≡ explained maker site line n
+  pub explains_refusal : (r : Refusal) → answer ≡ Err r → Err r ≡ explained maker site line n
   unfolding explained on_both_texts
   explains_refusal r e = rw (texts_stopped maker site buffer long r (sym made ∙ e))
 
-  pub explains_within : (size : ℕ) → answer ≡ Compiled.Image size → size ≤ 13064
-  explains_within size e = (texts_read_is maker site buffer long size (sym made ∙ e)).small
-
-  pub explains_image : (size : ℕ) → answer ≡ Compiled.Image size → (x : Result Explanation Refusal) → x ≡ explained_on maker site line n (take size written) → x ≡ explained maker site line n
+  pub explains_image : (size : ℕ) → answer ≡ Ok size → (x : Result Explanation Refusal) → x ≡ explained_on maker site line n (take size written) → x ≡ explained maker site line n
   unfolding explained on_both_texts
   explains_image size e x h =
       let r = texts_read_is maker site buffer long size (sym made ∙ e) in

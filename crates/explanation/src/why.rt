@@ -8,7 +8,7 @@ ghost use Rattle.explanation.specs.Steps.Sought.{sought_by};
 
 use crate::find::{Sought, find};
 use crate::part::Shown;
-use codegen::{Compiled, compile_texts};
+use codegen::compile_texts;
 use epoch_line::read_epoch;
 use image::IMAGE_SIZE;
 use monitor::{Decision, decide};
@@ -131,7 +131,7 @@ pub fn explain<'m, 's>(
 {
     let mut image = [0u8; IMAGE_SIZE];
     match compile_texts(maker, site, &mut image) {
-        Compiled::Refused(refusal) => Err(refusal),
-        Compiled::Image(size) => explain_on(&image[..size], maker, site, line, number),
+        Err(refusal) => Err(refusal),
+        Ok(size) => explain_on(&image[..size], maker, site, line, number),
     }
 }

@@ -20,7 +20,6 @@ use Rattle.layout.specs.Layout.{image_words, image_of}
 use Rattle.codegen.proofs.AcceptedLaws.{newest_known}
 use Rattle.codegen.proofs.Compilation.{image_written, texts_written}
 use Rattle.codegen.proofs.CompileLaws.{compiled_alone}
-use Rattle.codegen.specs.declared.Compiled.{Compiled}
 use Rattle.policy.specs.Fill.{Filled}
 use Rattle.codegen.specs.Compile.{newest_form}
 use Rattle.pdl.specs.Answer.{Answer}
@@ -58,12 +57,12 @@ alone_writes text image = (there, back)
     there : CompilesTo text image → TextsCompileTo text [] image
     there c =
         let e = compiled_alone text c.buffer in
-        record { buffer = c.buffer; size = c.size; accepted = ap (λ (o : Filled Compiled). o.answer) e ∙ c.accepted; written = ap (λ (o : Filled Compiled). take c.size o.buffer) e ∙ c.written }
+        record { buffer = c.buffer; size = c.size; accepted = ap (λ (o : Filled). o.answer) e ∙ c.accepted; written = ap (λ (o : Filled). take c.size o.buffer) e ∙ c.written }
 
     back : TextsCompileTo text [] image → CompilesTo text image
     back c =
         let e = sym (compiled_alone text c.buffer) in
-        record { buffer = c.buffer; size = c.size; accepted = ap (λ (o : Filled Compiled). o.answer) e ∙ c.accepted; written = ap (λ (o : Filled Compiled). take c.size o.buffer) e ∙ c.written }
+        record { buffer = c.buffer; size = c.size; accepted = ap (λ (o : Filled). o.answer) e ∙ c.accepted; written = ap (λ (o : Filled). take c.size o.buffer) e ∙ c.written }
 
 module _ (p : Policy) (ok : Acceptable p) where
   pub same_answer : (mode : Mode) (line : List ℕ) → answer_of (decision_in mode (image_of newest_form p) line) ≡ step mode p line

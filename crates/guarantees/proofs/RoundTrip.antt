@@ -1,4 +1,5 @@
 -- The text that is written from an image compiles to that image, and tells the policies apart.
+use Rattle.std.specs.Prelude.{Ok}
 use Rattle.std.proofs.Common.{ℕ, ◌≤◌, List, ◌++◌, ◌↔◌, ◌≡◌, sym, ap, ◌∙◌, arith, length, drop}
 use Rattle.std.proofs.Math.Option.{Option, some}
 use Rattle.policy.specs.Fill.{Filled, deliver}
@@ -16,7 +17,6 @@ use Rattle.printer.specs.Printed.{longest_text, text_of}
 use Rattle.codegen.proofs.AcceptedLaws.{newest_known}
 use Rattle.codegen.proofs.Compilation.{text_delivered}
 use Rattle.codegen.specs.Compile.{newest_form, compiled}
-use Rattle.codegen.specs.declared.Compiled.{Compiled}
 use Rattle.decompile.proofs.Decompilation.{text_written, never_short}
 use Rattle.guarantees.proofs.Agreement.{ImageOf, image_of_text, image_of_texts}
 use Rattle.guarantees.proofs.Exactness.{newest_only, printed_compiles}
@@ -41,14 +41,14 @@ text_of_image image text bounded d =
 
 -- compiling the written text yields the image, byte for byte and nothing else, in every buffer that has room for it
 pub text_recompiles : (image text : List ℕ) → Bytes image → DecompilesTo image text → (buffer : List ℕ) → length image ≤ length buffer
-    → ((compiled text buffer).answer ≡ Compiled.Image (length image)) × ((compiled text buffer).buffer ≡ image ++ drop (length image) buffer)
+    → ((compiled text buffer).answer ≡ Ok (length image)) × ((compiled text buffer).buffer ≡ image ++ drop (length image) buffer)
 text_recompiles image text bounded d buffer room =
     let t = text_of_image image text bounded d in
     let p : Policy = policy_in image in
-    let e : compiled (text_of p) buffer ≡ deliver Compiled.Refused Compiled.Image (image_of newest_form p) buffer =
+    let e : compiled (text_of p) buffer ≡ deliver (image_of newest_form p) buffer =
     text_delivered (text_of p) buffer _ p (text_read_is p t.acceptable) (rw t.again room) in
-    let k : compiled text buffer ≡ deliver Compiled.Refused Compiled.Image image buffer = rw t.same (e ∙ ap (λ (i : List ℕ). deliver Compiled.Refused Compiled.Image i buffer) t.again) in
-    (ap (λ (o : Filled Compiled). o.answer) k, ap (λ (o : Filled Compiled). o.buffer) k)
+    let k : compiled text buffer ≡ deliver image buffer = rw t.same (e ∙ ap (λ (i : List ℕ). deliver i buffer) t.again) in
+    (ap (λ (o : Filled). o.answer) k, ap (λ (o : Filled). o.buffer) k)
 
 -- the written text of the image of what has this policy is that policy's
 record TextOf (known : Option Policy) (written : List ℕ) : Type 0 where

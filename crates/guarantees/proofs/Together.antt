@@ -1,27 +1,18 @@
--- Each way through the function that compiles and decides.
-use Rattle.std.proofs.Common.{ℕ, ◌≤◌, List, ◌≡◌, sym, ap, ◌∙◌, length, take}
-use Rattle.policy.specs.declared.fault.Refusal.{Refusal}
-use Rattle.rule_text.specs.Text.{stopped, read_texts}
+-- What is decided by the function that compiles and decides.
+use Rattle.std.specs.Prelude.{Ok}
+use Rattle.std.proofs.Common.{ℕ, List, ◌≡◌, sym, ap, ◌∙◌, length, take}
 use Rattle.acceptance.proofs.Accepted.{texts_acceptable}
 use Rattle.codegen.specs.Compile.{compiled_texts}
-use Rattle.codegen.specs.declared.Compiled.{Compiled}
-use Rattle.codegen.proofs.RoomLaws.{texts_stopped, texts_read_is}
+use Rattle.codegen.proofs.RoomLaws.{texts_read_is}
 use Rattle.monitor.specs.declared.decision.Decision.{Decision}
 use Rattle.guarantees.specs.Together.{decided_lines, DecidedBy}
 use Rattle.guarantees.specs.declared.Told.{Told}
 use Rattle.guarantees.proofs.LineLaws.{decided_agree}
 
-module _ (maker site buffer written : List ℕ) (answer : Compiled) (made : answer ≡ (compiled_texts maker site buffer).answer)
+module _ (maker site buffer written : List ℕ) (size : ℕ) (made : Ok size ≡ (compiled_texts maker site buffer).answer)
     (wrote : written ≡ (compiled_texts maker site buffer).buffer) (long : length buffer ≡ 13064) where
-  pub together_refused : (r : Refusal) → answer ≡ Compiled.Refused r → read_texts maker site ≡ stopped r
-  together_refused r e = texts_stopped maker site buffer long r (sym made ∙ e)
-
-  module _ (size : ℕ) (e : answer ≡ Compiled.Image size) where
-    pub together_within : size ≤ 13064
-    together_within = (texts_read_is maker site buffer long size (sym made ∙ e)).small
-
-    pub together_decided : (lines : List Told) (old new : List Decision) → new ≡ decided_lines (take size written) lines old → DecidedBy maker site lines old new
-    together_decided lines old new q =
-        let t = texts_read_is maker site buffer long size (sym made ∙ e) in
-        let d = q ∙ ap (λ (i : List ℕ). decided_lines i lines old) (ap (take size) wrote ∙ t.image) in
-        record { count = t.lines; policy = t.policy; read = t.read; decided = d; agreed = rw d (decided_agree t.policy (texts_acceptable maker site t.lines t.policy t.read) lines old) }
+  pub together_decided : (lines : List Told) (old new : List Decision) → new ≡ decided_lines (take size written) lines old → DecidedBy maker site lines old new
+  together_decided lines old new q =
+      let t = texts_read_is maker site buffer long size (sym made) in
+      let d = q ∙ ap (λ (i : List ℕ). decided_lines i lines old) (ap (take size) wrote ∙ t.image) in
+      record { count = t.lines; policy = t.policy; read = t.read; decided = d; agreed = rw d (decided_agree t.policy (texts_acceptable maker site t.lines t.policy t.read) lines old) }

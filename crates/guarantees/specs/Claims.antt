@@ -1,21 +1,19 @@
 -- What the claims about the whole speak of, in terms of what the contracts of `compile`, `compile_texts`, `load_image`,
 -- `decide` and `decompile` say.
-use Rattle.std.specs.Prelude.{ℕ, List, map, ◌≡◌, take}
+use Rattle.std.specs.Prelude.{ℕ, List, map, ◌≡◌, take, Ok}
 use Rattle.policy.specs.Fill.{Filled}
 use Rattle.codegen.specs.Compile.{compiled, compiled_texts}
-use Rattle.codegen.specs.declared.Compiled.{Compiled}
 use Rattle.decompile.specs.Decompile.{decompiled}
-use Rattle.decompile.specs.declared.Decompiled.{Decompiled}
 use Rattle.monitor.specs.Decision.{decision_in, answer_of}
 use Rattle.pdl.specs.Answer.{Answer}
 use Rattle.word.specs.Word.{Bytes}
 use Rattle.guarantees.specs.Machine.{ToldLine}
 
 -- a call of the compiler was accepted, and the image is the bytes that it wrote, no more and no fewer
-pub record Writes (call : List ℕ → Filled Compiled) (image : List ℕ) : Type 0 where
+pub record Writes (call : List ℕ → Filled) (image : List ℕ) : Type 0 where
   pub buffer : List ℕ
   pub size : ℕ
-  pub accepted : (call buffer).answer ≡ Compiled.Image size
+  pub accepted : (call buffer).answer ≡ Ok size
   pub written : take size (call buffer).buffer ≡ image
 
 -- its call on the text
@@ -30,7 +28,7 @@ TextsCompileTo maker site image = Writes (compiled_texts maker site) image
 pub record DecompilesTo (image text : List ℕ) : Type 0 where
   pub buffer : List ℕ
   pub size : ℕ
-  pub accepted : (decompiled image buffer).answer ≡ Decompiled.Text size
+  pub accepted : (decompiled image buffer).answer ≡ Ok size
   pub written : take size (decompiled image buffer).buffer ≡ text
 
 -- the decisions on an image, line after line, each in its own mode and as an `Answer`

@@ -1,6 +1,6 @@
 //! Laws of images and of the texts written back from them.
 
-ghost use Rattle.std.specs.Prelude.{List, ℕ, ◌↔◌, ◌≡◌, ◌++◌, drop, length, ◌≤◌};
+ghost use Rattle.std.specs.Prelude.{List, ℕ, ◌↔◌, ◌≡◌, ◌++◌, drop, length, ◌≤◌, Ok};
 ghost use Rattle.word.specs.Word.{Bytes};
 ghost use Rattle.image.specs.declared.load.Contents.{Contents};
 ghost use Rattle.image.specs.declared.load.Loaded.{Loaded};
@@ -9,7 +9,6 @@ ghost use Rattle.image.specs.Load.{load};
 ghost use Rattle.exactness.specs.Exact.{Checked};
 ghost use Rattle.policy.specs.declared.fault.Fault.{Fault};
 ghost use Rattle.policy.specs.Fault.{refusal};
-ghost use Rattle.codegen.specs.declared.Compiled.{Compiled};
 ghost use Rattle.codegen.specs.Written.{ImageWritten, TextsImageWritten, written_in, written_by};
 ghost use Rattle.codegen.specs.Compile.{compiled, compiled_texts};
 ghost use Rattle.rule_text.specs.Text.{policy_of, policy_of_texts};
@@ -28,22 +27,22 @@ pub fn body_exactly()
 
 /// A compilation that answers a size has written just the image of the text's policy; loading it yields that policy, and compiling that yields the bytes again.
 pub fn image_written()
-    ensures { (text buffer : List ℕ) (size : ℕ) → (compiled text buffer).answer ≡ Compiled.Image size → ImageWritten text buffer size }
+    ensures { (text buffer : List ℕ) (size : ℕ) → (compiled text buffer).answer ≡ Ok size → ImageWritten text buffer size }
 {}
 
 /// Two texts give the same image exactly if they have the same rules in the same order and the same constraints in theirs.
 pub fn same_images()
-    ensures { (s t out out' : List ℕ) (m n : ℕ) → (compiled s out).answer ≡ Compiled.Image m → (compiled t out').answer ≡ Compiled.Image n → (written_in m s out ≡ written_in n t out') ↔ (policy_of s ≡ policy_of t) }
+    ensures { (s t out out' : List ℕ) (m n : ℕ) → (compiled s out).answer ≡ Ok m → (compiled t out').answer ≡ Ok n → (written_in m s out ≡ written_in n t out') ↔ (policy_of s ≡ policy_of t) }
 {}
 
 /// The same of a pair of texts compiled as one: a compilation that answers a size has written just the image of their policy.
 pub fn texts_written()
-    ensures { (maker site buffer : List ℕ) (size : ℕ) → (compiled_texts maker site buffer).answer ≡ Compiled.Image size → TextsImageWritten maker site buffer size }
+    ensures { (maker site buffer : List ℕ) (size : ℕ) → (compiled_texts maker site buffer).answer ≡ Ok size → TextsImageWritten maker site buffer size }
 {}
 
 /// Two pairs of texts give the same image exactly if each pair as one has the same rules in the same order and the same constraints in theirs.
 pub fn pairs_same_images()
-    ensures { (maker site maker' site' out out' : List ℕ) (m n : ℕ) → (compiled_texts maker site out).answer ≡ Compiled.Image m → (compiled_texts maker' site' out').answer ≡ Compiled.Image n → (written_by m (compiled_texts maker site out) ≡ written_by n (compiled_texts maker' site' out')) ↔ (policy_of_texts maker site ≡ policy_of_texts maker' site') }
+    ensures { (maker site maker' site' out out' : List ℕ) (m n : ℕ) → (compiled_texts maker site out).answer ≡ Ok m → (compiled_texts maker' site' out').answer ≡ Ok n → (written_by m (compiled_texts maker site out) ≡ written_by n (compiled_texts maker' site' out')) ↔ (policy_of_texts maker site ≡ policy_of_texts maker' site') }
 {}
 
 /// Compiling the text of what was loaded yields the bytes that were loaded.
@@ -53,7 +52,7 @@ pub fn loaded_compiles()
 
 /// Compiling the text that was written from an image yields the image, byte for byte, in any buffer that has room.
 pub fn text_recompiles()
-    ensures { (image text : List ℕ) → Bytes image → DecompilesTo image text → (buffer : List ℕ) → length image ≤ length buffer → ((compiled text buffer).answer ≡ Compiled.Image (length image)) × ((compiled text buffer).buffer ≡ image ++ drop (length image) buffer) }
+    ensures { (image text : List ℕ) → Bytes image → DecompilesTo image text → (buffer : List ℕ) → length image ≤ length buffer → ((compiled text buffer).answer ≡ Ok (length image)) × ((compiled text buffer).buffer ≡ image ++ drop (length image) buffer) }
 {}
 
 /// Two texts are written back as the same text exactly if they have the same rules in the same order and the same constraints in theirs.

@@ -17,7 +17,6 @@ ghost use Rattle.std.specs.Prelude.{◌≡◌, IfOk, IfErr};
 ghost use Rattle.rule_text.specs.Text.{read_texts, stopped};
 ghost use Rattle.guarantees.specs.Together.{decided_lines, DecidedBy};
 
-use codegen::Compiled;
 use image::IMAGE_SIZE;
 use monitor::{Decision, decide};
 use policy::{Mode, Refusal};
@@ -51,11 +50,7 @@ pub fn compile_and_decide(
     ensures err { IfErr result (λ refusal. (read_texts maker.now site.now ≡ stopped refusal) × (decisions.new ≡ decisions.old)) }
 {
     let mut image = [0u8; IMAGE_SIZE];
-    match codegen::compile_texts(maker, site, &mut image) {
-        Compiled::Refused(refusal) => Err(refusal),
-        Compiled::Image(size) => {
-            decide_lines(&image[..size], lines, decisions);
-            Ok(())
-        }
-    }
+    let size = codegen::compile_texts(maker, site, &mut image)?;
+    decide_lines(&image[..size], lines, decisions);
+    Ok(())
 }

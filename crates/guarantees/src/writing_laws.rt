@@ -1,6 +1,6 @@
 //! Laws of the text that is written from a policy and from an image.
 
-ghost use Rattle.std.specs.Prelude.{List, ℕ, map, length, ◌+◌, ◌≤◌, ◌≡◌, ◌↔◌};
+ghost use Rattle.std.specs.Prelude.{List, ℕ, map, length, ◌+◌, ◌≤◌, ◌≡◌, ◌↔◌, Ok};
 ghost use Rattle.std.proofs.Math.Option.{some};
 ghost use Rattle.policy.specs.Limits.{Acceptable};
 ghost use Rattle.policy.specs.Line.{PolicyLine};
@@ -14,7 +14,6 @@ ghost use Rattle.image.specs.Load.{load};
 ghost use Rattle.image.specs.declared.load.Contents.{Contents};
 ghost use Rattle.image.specs.declared.load.Loaded.{Loaded};
 ghost use Rattle.decompile.specs.Decompile.{decompiled};
-ghost use Rattle.decompile.specs.declared.Decompiled.{Decompiled};
 ghost use Rattle.guarantees.specs.Claims.{CompilesTo, DecompilesTo};
 
 /// A written line is its tokens with one space between each two, and no space else.
@@ -44,7 +43,7 @@ pub fn acceptable_texts()
 
 /// An image that the loader takes is never refused a buffer of 27,968 bytes or more.
 pub fn never_short()
-    ensures { (image buffer : List ℕ) → Bytes image → (contents : Contents) → load image ≡ Loaded.Image contents → longest_text ≤ length buffer → (decompiled image buffer).answer ≡ Decompiled.Text (length (text_of (policy_in image))) }
+    ensures { (image buffer : List ℕ) → Bytes image → (contents : Contents) → load image ≡ Loaded.Image contents → longest_text ≤ length buffer → (decompiled image buffer).answer ≡ Ok (length (text_of (policy_in image))) }
 {}
 
 /// Some accepted text compiles to an image whose written text has 27,968 bytes: no smaller buffer is enough for all.

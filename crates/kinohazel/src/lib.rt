@@ -12,8 +12,6 @@ ghost use Rattle.monitor.specs.Decision.{decision};
 ghost use Rattle.export.specs.Export.{decision_of};
 ghost use Rattle.kinohazel.specs.Export.{compilation_of, texts_compilation_of, text_written_of, check_of};
 
-use codegen::Compiled;
-use decompile::Decompiled;
 use export::{EpochDecision, epoch_decision, fault_number};
 use image::Loaded;
 use policy::{Mode, Source};
@@ -59,18 +57,19 @@ pub struct TextWritten {
 }
 
 /// Writes the image of a text from the start of `out` on. A refusal leaves `out` as it is.
+#[tactic(auto, unfolding(crate::specs::Export::compilation_of))]
 #[unsafe(no_mangle)]
 pub extern "C" fn kinohazel_compile_nonnull(text: &[u8], out: &mut [u8]) -> Compilation
     ensures answer { result ≡ compilation_of (compiled text.now out.old).answer }
     ensures buffer { out.new ≡ (compiled text.now out.old).buffer }
 {
     match codegen::compile(text, out) {
-        Compiled::Refused(refusal) => Compilation {
+        Err(refusal) => Compilation {
             fault: fault_number(refusal),
             line: refusal.location as u64,
             size: 0,
         },
-        Compiled::Image(size) => Compilation {
+        Ok(size) => Compilation {
             fault: 0,
             line: 0,
             size: size as u64,
@@ -85,6 +84,7 @@ fn source_number(source: Source) -> u64
 }
 
 /// The same for the maker's and the site's text as one.
+#[tactic(auto, unfolding(crate::specs::Export::texts_compilation_of))]
 #[unsafe(no_mangle)]
 pub extern "C" fn kinohazel_compile_texts_nonnull(
     maker: &[u8],
@@ -95,7 +95,7 @@ pub extern "C" fn kinohazel_compile_texts_nonnull(
     ensures buffer { out.new ≡ (compiled_texts maker.now site.now out.old).buffer }
 {
     match codegen::compile_texts(maker, site, out) {
-        Compiled::Refused(refusal) => {
+        Err(refusal) => {
             let source = refusal.source;
             TextsCompilation {
                 fault: fault_number(refusal),
@@ -104,7 +104,7 @@ pub extern "C" fn kinohazel_compile_texts_nonnull(
                 size: 0,
             }
         }
-        Compiled::Image(size) => TextsCompilation {
+        Ok(size) => TextsCompilation {
             fault: 0,
             text: 0,
             line: 0,
@@ -114,6 +114,7 @@ pub extern "C" fn kinohazel_compile_texts_nonnull(
 }
 
 /// Checks an image, and counts its lines.
+#[tactic(auto, unfolding(crate::specs::Export::check_of))]
 #[unsafe(no_mangle)]
 pub extern "C" fn kinohazel_check_nonnull(image: &[u8]) -> ImageCheck
     ensures { result ≡ check_of (load image.now) }
@@ -135,18 +136,19 @@ pub extern "C" fn kinohazel_check_nonnull(image: &[u8]) -> ImageCheck
 }
 
 /// Writes the text of an image from the start of `out` on. A refusal leaves `out` as it is; 27,968 bytes are enough for every text.
+#[tactic(auto, unfolding(crate::specs::Export::text_written_of))]
 #[unsafe(no_mangle)]
 pub extern "C" fn kinohazel_text_nonnull(image: &[u8], out: &mut [u8]) -> TextWritten
     ensures answer { result ≡ text_written_of (decompiled image.now out.old).answer }
     ensures buffer { out.new ≡ (decompiled image.now out.old).buffer }
 {
     match decompile::decompile(image, out) {
-        Decompiled::Refused(refusal) => TextWritten {
+        Err(refusal) => TextWritten {
             fault: fault_number(refusal),
             word: refusal.location as u64,
             size: 0,
         },
-        Decompiled::Text(size) => TextWritten {
+        Ok(size) => TextWritten {
             fault: 0,
             word: 0,
             size: size as u64,

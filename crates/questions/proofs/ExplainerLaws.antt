@@ -1,11 +1,11 @@
 -- Laws of an explainer.
+use Rattle.std.specs.Prelude.{Result, Ok, Err}
 use Rattle.std.proofs.Common.{◌≡◌, ℕ, ◌≤◌, Bool, true, false, cond, List, [], ◌++◌, length, take, refl, sym, ap, ◌∙◌, subst, append-nil, arith}
 use Rattle.policy.specs.Policy.{Policy}
 use Rattle.policy.specs.declared.fault.Refusal.{Refusal}
 use Rattle.rule_text.specs.Text.{reading, stopped, read_texts}
 use Rattle.layout.specs.Layout.{image_of}
 use Rattle.codegen.specs.Compile.{newest_form, compiled_texts}
-use Rattle.codegen.specs.declared.Compiled.{Compiled}
 use Rattle.codegen.proofs.RoomLaws.{Read, texts_read_is, texts_stopped}
 use Rattle.questions.specs.Answered.{answers_printed}
 use Rattle.questions.specs.Steps.Asked.{answer_held, last_answer}
@@ -103,10 +103,10 @@ start_empty e maker site image s =
     waits_alone e.maker.now e.site.now e.image.now e.number (open_line e) (take e.used e.out) ∙ ap (λ (k : ℕ). take k e.out) s.used
 
 -- what was compiled is what was read
-module _ (maker site buffer : List ℕ) (room : length buffer ≡ 13064) (answer : Compiled) (after : List ℕ)
+module _ (maker site buffer : List ℕ) (room : length buffer ≡ 13064) (answer : Result ℕ Refusal) (after : List ℕ)
     (a : answer ≡ (compiled_texts maker site buffer).answer) (b : after ≡ (compiled_texts maker site buffer).buffer) where
-  pub image_read : (size : ℕ) → answer ≡ Compiled.Image size → Read (read_texts maker site) after size
+  pub image_read : (size : ℕ) → answer ≡ Ok size → Read (read_texts maker site) after size
   image_read size e = subst (λ (l : List ℕ). Read (read_texts maker site) l size) (sym b) (texts_read_is maker site buffer room size (sym a ∙ e))
 
-  pub texts_refused : (x : Refusal) → answer ≡ Compiled.Refused x → read_texts maker site ≡ stopped x
+  pub texts_refused : (x : Refusal) → answer ≡ Err x → read_texts maker site ≡ stopped x
   texts_refused x e = texts_stopped maker site buffer room x (sym a ∙ e)

@@ -9,7 +9,6 @@ ghost use Rattle.questions.specs.Run.{AnswersTexts, QuestionsEndBy};
 
 use crate::answer::{ANSWER_SIZE, put_answer};
 use crate::line::{EPOCH_HELD, Question, begun, is_open, take_line};
-use codegen::Compiled;
 use image::IMAGE_SIZE;
 use output::Page;
 use policy::Refusal;
@@ -144,8 +143,8 @@ pub fn answer_questions<E: Ends>(maker: &[u8], site: &[u8], ends: &mut E) -> Res
 {
     let mut image = [0u8; IMAGE_SIZE];
     match codegen::compile_texts(maker, site, &mut image) {
-        Compiled::Refused(refusal) => refuse(refusal, ends),
-        Compiled::Image(size) => {
+        Err(refusal) => refuse(refusal, ends),
+        Ok(size) => {
             let mut explainer = Explainer::new(maker, site, &image[..size]);
             let mut chunk = [0u8; CHUNK_SIZE];
             converse(ends, &mut explainer, &mut chunk)

@@ -1,4 +1,6 @@
 -- Laws of the functions that end a text or an epoch line.
+use Rattle.std.specs.Prelude.{Result, Ok, Err, IfOk}
+use Rattle.std.proofs.lemmas.Result.{IfOk-at_ok}
 use Rattle.std.proofs.Common.{◌≡◌, ℕ, ◌+◌, ◌-◌, ◌<◌, ◌≤◌, List, [], ◌++◌, length, take, drop, sym, refl, ap, ◌∙◌, ap₂, append-nil, arith, length-take-le, take-add, drop_at}
 use Rattle.policy.specs.List.{any}
 use Rattle.policy.specs.declared.fault.Refusal.{Refusal}
@@ -6,7 +8,6 @@ use Rattle.policy.specs.declared.mode.Mode.{Mode}
 use Rattle.lexer.specs.Lines.{pieces, lines_of}
 use Rattle.rule_text.specs.Text.{Progress, read_text}
 use Rattle.codegen.specs.Compile.{compiled}
-use Rattle.codegen.specs.declared.Compiled.{Compiled}
 use Rattle.monitor.specs.Decision.{decision_in}
 use Rattle.monitor.specs.declared.decision.Decision.{Decision}
 use Rattle.report.specs.Report.{refusal_line, next_number}
@@ -31,24 +32,21 @@ part_from l start count h k =
 
 -- ---- the end of the text
 
-module _ (text : List ℕ) (mode : Mode) (s : State) (image out : List ℕ) (answer : Compiled) (image' : List ℕ)
+module _ (text : List ℕ) (mode : Mode) (s : State) (image out : List ℕ) (answer : Result ℕ Refusal) (image' : List ℕ)
     (made : answer ≡ (compiled text image).answer) (wrote : image' ≡ (compiled text image).buffer)
-    (kept : length image' ≡ length image) (long : length image ≡ 13064) (out_long : length out ≡ 65536) (room : Room s) where
-  prints_refusal : (x : Refusal) → answer ≡ Compiled.Refused x → (t : Session) → printed_for text t ≡ refusal_line x
+    (within : IfOk answer (λ size. size ≤ length image')) (kept : length image' ≡ length image) (long : length image ≡ 13064) (out_long : length out ≡ 65536) (room : Room s) where
+  prints_refusal : (x : Refusal) → answer ≡ Err x → (t : Session) → printed_for text t ≡ refusal_line x
   unfolding printed_for answers_to
   prints_refusal x e t = ap (λ (p : Progress). answers_to p t) (compiled_stopped text image long x (sym made ∙ e))
 
-  prints_epochs : (size : ℕ) → answer ≡ Compiled.Image size → (epochs : List (List ℕ)) → printed_for text (with_epochs [] mode epochs) ≡ epoch_lines mode (take size image') 0 epochs
+  prints_epochs : (size : ℕ) → answer ≡ Ok size → (epochs : List (List ℕ)) → printed_for text (with_epochs [] mode epochs) ≡ epoch_lines mode (take size image') 0 epochs
   unfolding printed_for answers_to
   prints_epochs size e epochs =
       let r : Read (read_text text) (compiled text image).buffer size = compiled_read text image long size (sym made ∙ e) in
       ap (λ (p : Progress). answers_to p (with_epochs [] mode epochs)) r.read
       ∙ ap (λ (bytes : List ℕ). epoch_lines mode bytes 0 epochs) (sym (ap (take size) wrote ∙ r.image))
 
-  size_small : (size : ℕ) → answer ≡ Compiled.Image size → size ≤ 13064
-  size_small size e = (compiled_read text image long size (sym made ∙ e)).small
-
-  pub text_refused : (x : Refusal) (out' : List ℕ) (end : ℕ) → answer ≡ Compiled.Refused x → x.location < 18446744073709551616
+  pub text_refused : (x : Refusal) (out' : List ℕ) (end : ℕ) → answer ≡ Err x → x.location < 18446744073709551616
       → Put out s.used (refusal_line x) out' end
       → TextEnded text mode s out (record { phase = Phase.Over; mode = mode; start = 0; count = 0; epochs = 0; size = 0; used = end }) image' out'
   unfolding owed left_in Fitting TracksIn any
@@ -76,11 +74,11 @@ module _ (text : List ℕ) (mode : Mode) (s : State) (image out : List ℕ) (ans
         quiet = λ held. refl;
       }
 
-  pub text_accepted : (size : ℕ) → answer ≡ Compiled.Image size
+  pub text_accepted : (size : ℕ) → answer ≡ Ok size
       → TextEnded text mode s out (record { phase = Phase.Epochs; mode = mode; start = 0; count = 0; epochs = 0; size = size; used = s.used }) image' out
   unfolding owed left_in Fitting TracksIn any epoch_lines lines_of pieces
   text_accepted size e =
-      let k : size ≤ 13064 = size_small size e in
+      let k : size ≤ length image' = IfOk-at_ok (λ n. n ≤ length image') e within in
       record {
         owes = λ held rest. ap (λ (x : List ℕ). take s.used out ++ x) (sym (prints_epochs size e (lines_of rest)));
         good = λ held h.
@@ -91,7 +89,7 @@ module _ (text : List ℕ) (mode : Mode) (s : State) (image out : List ℕ) (ans
               ordered = omega arith;
               fitting = (refl, omega arith);
               one_line = refl;
-              sized = k;
+              sized = omega arith;
               used = omega arith;
             };
         tracks = λ held x ran none. (ran, ap (take 1025) (sym none));

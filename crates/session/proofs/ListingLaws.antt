@@ -1,4 +1,5 @@
 -- Laws of the compiler's listing.
+use Rattle.std.specs.Prelude.{Result, Ok, Err}
 use Rattle.std.proofs.Common.{◌≡◌, ℕ, zero, suc, ◌+◌, ◌*◌, ◌<◌, ◌≤◌, List, [], ◌∷◌, length, get_or, take, drop, sym, refl, ap, ◌∙◌, add-one, arith, length-append, drop_of_length-le, drop-cons}
 use Rattle.policy.specs.Limits.{Acceptable}
 use Rattle.policy.specs.Policy.{Policy}
@@ -10,7 +11,6 @@ use Rattle.word.proofs.WordLaws.{words_length}
 use Rattle.acceptance.proofs.Accepted.{accepted_acceptable, texts_acceptable}
 use Rattle.rule_text.specs.Text.{Progress, reading, stopped, read_text, read_texts}
 use Rattle.codegen.specs.Compile.{newest_form, output_of, compiled, compiled_texts}
-use Rattle.codegen.specs.declared.Compiled.{Compiled}
 use Rattle.output.specs.Number.{hex_digits}
 use Rattle.report.specs.Report.{word_line, refusal_line, texts_refusal_line}
 use Rattle.output.specs.Sink.{fed, fed-none}
@@ -49,48 +49,37 @@ lines_length (w ∷ ws) = simp (length-append, hex_length 8 w, lines_length ws) 
 
 -- ---- what a compilation lists
 
-module _ (refused : Refusal → List ℕ) (s : Progress) (keeps : (n : ℕ) (p : Policy) → s ≡ reading n p → Acceptable p) (image : List ℕ) (answer : Compiled)
+module _ (refused : Refusal → List ℕ) (s : Progress) (keeps : (n : ℕ) (p : Policy) → s ≡ reading n p → Acceptable p) (image : List ℕ) (answer : Result ℕ Refusal)
     (image' : List ℕ) (made : answer ≡ (output_of s image).answer) (wrote : image' ≡ (output_of s image).buffer) (long : length image ≡ 13064) where
-  refusal_listed : (x : Refusal) → answer ≡ Compiled.Refused x → refused x ≡ listing_of refused s
+  refusal_listed : (x : Refusal) → answer ≡ Err x → refused x ≡ listing_of refused s
   unfolding listing_of
   refusal_listed x e = sym (ap (listing_of refused) (output_stopped s keeps image long x (sym made ∙ e)))
 
-  image_listed : (size : ℕ) → answer ≡ Compiled.Image size → word_lines (words_of (take size image')) ≡ listing_of refused s
+  image_listed : (size : ℕ) → answer ≡ Ok size → word_lines (words_of (take size image')) ≡ listing_of refused s
   unfolding listing_of
   image_listed size e =
       let r : Read s (output_of s image).buffer size = output_read s keeps image long size (sym made ∙ e) in
       ap (λ (b : List ℕ). word_lines (words_of b)) (ap (take size) wrote ∙ r.image) ∙ sym (ap (listing_of refused) r.read)
 
-  image_few : (size : ℕ) → answer ≡ Compiled.Image size → size ≤ 13064
-  image_few size e = (output_read s keeps image long size (sym made ∙ e)).small
-
-module _ (text image : List ℕ) (answer : Compiled) (image' : List ℕ) (made : answer ≡ (compiled text image).answer)
+module _ (text image : List ℕ) (answer : Result ℕ Refusal) (image' : List ℕ) (made : answer ≡ (compiled text image).answer)
     (wrote : image' ≡ (compiled text image).buffer) (long : length image ≡ 13064) where
-  pub lists_refusal : (x : Refusal) → answer ≡ Compiled.Refused x → refusal_line x ≡ listed text
+  pub lists_refusal : (x : Refusal) → answer ≡ Err x → refusal_line x ≡ listed text
   unfolding listed compiled
   lists_refusal = refusal_listed refusal_line (read_text text) (accepted_acceptable text) image answer image' made wrote long
 
-  pub lists_image : (size : ℕ) → answer ≡ Compiled.Image size → word_lines (words_of (take size image')) ≡ listed text
+  pub lists_image : (size : ℕ) → answer ≡ Ok size → word_lines (words_of (take size image')) ≡ listed text
   unfolding listed compiled
   lists_image = image_listed refusal_line (read_text text) (accepted_acceptable text) image answer image' made wrote long
 
-  pub image_within_is : (size : ℕ) → answer ≡ Compiled.Image size → size ≤ 13064
-  unfolding compiled
-  image_within_is = image_few refusal_line (read_text text) (accepted_acceptable text) image answer image' made wrote long
-
-module _ (maker site image : List ℕ) (answer : Compiled) (image' : List ℕ) (made : answer ≡ (compiled_texts maker site image).answer)
+module _ (maker site image : List ℕ) (answer : Result ℕ Refusal) (image' : List ℕ) (made : answer ≡ (compiled_texts maker site image).answer)
     (wrote : image' ≡ (compiled_texts maker site image).buffer) (long : length image ≡ 13064) where
-  pub lists_refusals : (x : Refusal) → answer ≡ Compiled.Refused x → texts_refusal_line x ≡ listed_texts maker site
+  pub lists_refusals : (x : Refusal) → answer ≡ Err x → texts_refusal_line x ≡ listed_texts maker site
   unfolding listed_texts compiled_texts
   lists_refusals = refusal_listed texts_refusal_line (read_texts maker site) (texts_acceptable maker site) image answer image' made wrote long
 
-  pub lists_images : (size : ℕ) → answer ≡ Compiled.Image size → word_lines (words_of (take size image')) ≡ listed_texts maker site
+  pub lists_images : (size : ℕ) → answer ≡ Ok size → word_lines (words_of (take size image')) ≡ listed_texts maker site
   unfolding listed_texts compiled_texts
   lists_images = image_listed texts_refusal_line (read_texts maker site) (texts_acceptable maker site) image answer image' made wrote long
-
-  pub images_within : (size : ℕ) → answer ≡ Compiled.Image size → size ≤ 13064
-  unfolding compiled_texts
-  images_within = image_few texts_refusal_line (read_texts maker site) (texts_acceptable maker site) image answer image' made wrote long
 
 -- ---- how long a listing is
 

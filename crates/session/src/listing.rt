@@ -6,7 +6,6 @@ ghost use Rattle.output.specs.Buffer.{appended, behind};
 ghost use Rattle.output.specs.Sink.{fed};
 ghost use Rattle.session.specs.Listed.{word_lines, listed, listed_texts};
 
-use codegen::Compiled;
 use image::IMAGE_SIZE;
 use output::{Page, Sink};
 use word::words;
@@ -26,8 +25,8 @@ fn put_listed<S: Sink>(sink: &mut S, text: &[u8])
 {
     let mut image = [0u8; IMAGE_SIZE];
     match codegen::compile(text, &mut image) {
-        Compiled::Refused(refusal) => report::put_refusal(sink, refusal),
-        Compiled::Image(size) => put_words(sink, words(&image[..size])),
+        Err(refusal) => report::put_refusal(sink, refusal),
+        Ok(size) => put_words(sink, words(&image[..size])),
     }
 }
 
@@ -37,8 +36,8 @@ fn put_texts_listed<S: Sink>(sink: &mut S, maker: &[u8], site: &[u8])
 {
     let mut image = [0u8; IMAGE_SIZE];
     match codegen::compile_texts(maker, site, &mut image) {
-        Compiled::Refused(refusal) => report::put_texts_refusal(sink, refusal),
-        Compiled::Image(size) => put_words(sink, words(&image[..size])),
+        Err(refusal) => report::put_texts_refusal(sink, refusal),
+        Ok(size) => put_words(sink, words(&image[..size])),
     }
 }
 

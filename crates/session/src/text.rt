@@ -9,7 +9,6 @@ ghost use Rattle.session.specs.declared.state.Phase.{Phase};
 
 use crate::mode::{Picked, pick_mode};
 use crate::state::{HELD_SIZE, OUT_SIZE, Phase, State, TEXT_HELD, push};
-use codegen::Compiled;
 use image::IMAGE_SIZE;
 use output::Page;
 use policy::Mode;
@@ -42,7 +41,7 @@ pub(crate) fn end_text(
     ensures { TextEnded (take end held.now) mode state out.old result image.new out.new }
 {
     match codegen::compile(&held[..end], image) {
-        Compiled::Refused(refusal) => {
+        Err(refusal) => {
             let mut page = Page {
                 bytes: out,
                 end: state.used,
@@ -58,7 +57,7 @@ pub(crate) fn end_text(
                 used: page.end,
             }
         }
-        Compiled::Image(size) => State {
+        Ok(size) => State {
             phase: Phase::Epochs,
             mode,
             start: 0,
