@@ -4,7 +4,7 @@ ghost use Rattle.questions.specs.Run.{ReadsAndAnswers, ExplainEndsBy};
 
 use crate::explainer::{CHUNK_SIZE, answer_questions};
 use std::io;
-use stream::{Ends, Failure, read_front};
+use stream::{Ends, Failure, Unread, read_both};
 
 /// Bytes of a text that are held: one over its limit, which tells that it is too long.
 const TEXT_HELD: usize = 32769;
@@ -34,14 +34,17 @@ pub fn explain_texts<M: Ends, S: Ends, E: Ends>(
 {
     let mut chunk = [0u8; CHUNK_SIZE];
     let mut first = [0u8; TEXT_HELD];
-    let maker_size = match read_front(maker, &mut first, &mut chunk) {
-        Ok(size) => size,
-        Err(e) => return Err(ExplainFailure::Maker(e)),
-    };
     let mut second = [0u8; TEXT_HELD];
-    let site_size = match read_front(site, &mut second, &mut chunk) {
-        Ok(size) => size,
-        Err(e) => return Err(ExplainFailure::Site(e)),
+    let (maker_size, site_size) = match read_both(
+        maker,
+        site,
+        &mut first,
+        &mut second,
+        &mut chunk,
+    ) {
+        Ok(sizes) => sizes,
+        Err(Unread::First(e)) => return Err(ExplainFailure::Maker(e)),
+        Err(Unread::Second(e)) => return Err(ExplainFailure::Site(e)),
     };
     match answer_questions(&first[..maker_size], &second[..site_size], ends) {
         Ok(()) => Ok(()),

@@ -7,7 +7,7 @@ ghost use Rattle.session.specs.Texts.{ListsTexts, TextsEndBy};
 use crate::listing::{LISTING_SIZE, put_listing, put_texts_listing};
 use crate::state::TEXT_HELD;
 use std::io;
-use stream::{Ends, Failure, Summary, keep, read_front, summarize, write_whole};
+use stream::{Ends, Failure, Summary, Unread, keep, read_both, summarize, write_whole};
 
 /// Bytes that are read at once.
 const CHUNK_SIZE: usize = 65536;
@@ -74,14 +74,17 @@ pub fn list_texts<M: Ends, S: Ends, E: Ends>(
 {
     let mut chunk = [0u8; CHUNK_SIZE];
     let mut first = [0u8; TEXT_HELD];
-    let maker_size = match read_front(maker, &mut first, &mut chunk) {
-        Ok(size) => size,
-        Err(e) => return Err(TextsFailure::Maker(e)),
-    };
     let mut second = [0u8; TEXT_HELD];
-    let site_size = match read_front(site, &mut second, &mut chunk) {
-        Ok(size) => size,
-        Err(e) => return Err(TextsFailure::Site(e)),
+    let (maker_size, site_size) = match read_both(
+        maker,
+        site,
+        &mut first,
+        &mut second,
+        &mut chunk,
+    ) {
+        Ok(sizes) => sizes,
+        Err(Unread::First(e)) => return Err(TextsFailure::Maker(e)),
+        Err(Unread::Second(e)) => return Err(TextsFailure::Site(e)),
     };
     let mut out = [0u8; LISTING_SIZE];
     let end = put_texts_listing(&first[..maker_size], &second[..site_size], &mut out);

@@ -1,4 +1,4 @@
-use Rattle.std.proofs.Common.{◌≡◌, ℕ, ◌≤◌, List, length, take, refl, ◌∙◌, ap₂, subst, arith, rules}
+use Rattle.std.proofs.Common.{◌≡◌, ℕ, ◌≤◌, List, length, take, ◌∙◌, ap₂, subst, arith, rules}
 use Rattle.stream.specs.declared.failure.Failure.{Failure}
 use Rattle.stream.specs.Event.{Fails}
 use Rattle.output.proofs.AppendLaws.{Put}
@@ -13,33 +13,23 @@ both_listed : (maker site first second out after : List ℕ) (end : ℕ) → mak
 both_listed maker site first second out after end m s put room =
     texts_listing_whole maker site out after end room put ∙ ap₂ listed_texts m s ∙ texts_listing_cut first second
 
-pub returns-in-Err-clause-err : goal.returns-in-Err-clause-err
-returns-in-Err-clause-err g c = (c.in-Err.ensures.err, refl, refl)
-
-pub returns-in-Err-read_front-clause-err : goal.returns-in-Err-read_front-clause-err
-returns-in-Err-read_front-clause-err g c =
-    let (first, read, end, kept) = c.in-Ok.ensures.ok in
-    ((first, (read, end)), c.in-Err-read_front.ensures.err, refl)
-
 pub returns-in-Ok-write_whole-clause-ok : goal.returns-in-Ok-write_whole-clause-ok
 returns-in-Ok-write_whole-clause-ok g c =
-    let (first, read, end, kept) = c.in-Ok.ensures.ok in
-    let (second, read', end', kept') = c.in-Ok-read_front.ensures.ok in
-    let maker : take c.in-Ok.size c.read_front.new.front ≡ take 32769 first = kept in
-    let site : take c.in-Ok-read_front.size c.read_front-2.new.front ≡ take 32769 second = kept' in
+    let (first, second, read, read', kept) = c.in-Ok.ensures.ok in
+    let maker : take c.in-Ok.sizes.0 c.read_both.new.first_front ≡ take 32769 first = kept.0 in
+    let site : take c.in-Ok.sizes.1 c.read_both.new.second_front ≡ take 32769 second = kept.1 in
     let put = c.put_texts_listing-end.ensures in
     let listed = both_listed _ _ first second _ _ _ maker site (put.answer, put.buffer) (search (rules, arith)) in
-    (first, second, (read, end), (read', end'), subst (Sends _ _ _) listed c.in-Ok-write_whole.ensures.ok)
+    (first, second, read, read', subst (Sends _ _ _) listed c.in-Ok-write_whole.ensures.ok)
 
-pub returns-in-Err-write_whole-clause-err : goal.returns-in-Err-write_whole-clause-err
-returns-in-Err-write_whole-clause-err g c =
-    let (first, read, end, kept) = c.in-Ok.ensures.ok in
-    let (second, read', end', kept') = c.in-Ok-read_front.ensures.ok in
-    let maker : take c.in-Ok.size c.read_front.new.front ≡ take 32769 first = kept in
-    let site : take c.in-Ok-read_front.size c.read_front-2.new.front ≡ take 32769 second = kept' in
+pub returns-in-Err-clause-err : goal.returns-in-Err-clause-err
+returns-in-Err-clause-err g c =
+    let (first, second, read, read', kept) = c.in-Ok.ensures.ok in
+    let maker : take c.in-Ok.sizes.0 c.read_both.new.first_front ≡ take 32769 first = kept.0 in
+    let site : take c.in-Ok.sizes.1 c.read_both.new.second_front ≡ take 32769 second = kept.1 in
     let put = c.put_texts_listing-end.ensures in
     let listed = both_listed _ _ first second _ _ _ maker site (put.answer, put.buffer) (search (rules, arith)) in
     let old = g.E.Ends.known c.args.ends.now in
     let new = g.E.Ends.known c.write_whole.new.ends in
-    let (n, sent) = c.in-Err-write_whole.ensures.err in
-    (first, second, (read, end), (read', end'), (n, subst (λ l. Sends (Fails (Failure.Write c.in-Err-write_whole.e)) old new (take n l)) listed sent))
+    let (n, sent) = c.in-Err.ensures.err in
+    (first, second, read, read', (n, subst (λ l. Sends (Fails (Failure.Write c.in-Err.e)) old new (take n l)) listed sent))
