@@ -1,6 +1,6 @@
 -- What a compilation into a buffer with room for every image says of the text, or of two.
 use Rattle.std.specs.Prelude.{Result, Ok, Err}
-use Rattle.std.proofs.Common.{ℕ, ◌≤◌, List, ◌++◌, ◌≡◌, refl, sym, ap, ◌∙◌, arith, le-leb, leb-true, length, take, drop}
+use Rattle.std.proofs.Common.{ℕ, ◌≤◌, List, ◌++◌, ◌≡◌, refl, sym, ap, ◌∙◌, le-leb, leb-true, length, take, drop}
 use Rattle.std.proofs.Math.Dec.{leb}
 use Rattle.std.proofs.Math.Seq.{take-append_seam}
 use Rattle.policy.proofs.ListLaws.{and_out}
