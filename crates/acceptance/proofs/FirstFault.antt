@@ -1,4 +1,6 @@
 -- A refused text has the first fault of its lines, a refused epoch line the first of its tests.
+use Rattle.policy.specs.declared.epoch.Epoch.{Epoch}
+use Rattle.std.specs.Prelude.{Result, Ok, Err}
 use Rattle.std.proofs.Common.{ℕ, suc, ◌+◌, ◌≤◌, ◌<◌, Bool, true, false, cond, not, List, [], ◌∷◌, ◌++◌, ◌⊎◌, inl, inr, ◌≡◌, refl, sym, ap, ap₂, ◌∙◌, arith, length, subst, ltb-true, ltb-false, le-ltb, lt-ltb, ◌↔◌, fold}
 use Rattle.std.proofs.lemmas.List.Sums.{fold-append}
 use Rattle.std.proofs.Math.Dec.{eqb, ltb}
@@ -14,8 +16,7 @@ use Rattle.policy.specs.declared.fault.Refusal.{Refusal}
 use Rattle.policy.specs.declared.fault.Source.{Source}
 use Rattle.lexer.specs.Lines.{lines_of, tokens_of}
 use Rattle.rule_text.specs.Text.{Progress, reading, stopped, advance, read_next_line, with_rule, with_constraint, empty_policy, text_limit, read_text_behind, in_text, read_text, read_site, read_texts, policy_read, policy_of}
-use Rattle.epoch_line.specs.Epoch as Epoch
-use Rattle.epoch_line.specs.Epoch.{Item, EpochAnswer, items_of, item_in_range, given_by, epoch_limit, judge_epoch, read_epoch}
+use Rattle.epoch_line.specs.Epoch.{Item, items_of, item_in_range, given_by, add_item, empty_epoch, epoch_limit, judge_epoch, read_epoch}
 use Rattle.acceptance.proofs.OneLine.{Kinds, kinds, skipped_answer, accepted_answer, refused_answer}
 use Rattle.acceptance.specs.FirstFault.{Takes, TakesAll, TextAccepted, LineFault, FirstFault, TextsFault, EpochFault}
 
@@ -220,47 +221,48 @@ module _ (maker site : List ℕ) where
 
 -- ---- an epoch line
 
-abbrev fault_or : Fault → EpochAnswer → Fault
-fault_or f (EpochAnswer.refused g) = g
-fault_or f (EpochAnswer.accepted e) = f
+abbrev refused_with : Refusal → Result Epoch Refusal
+refused_with r = Err r
 
-abbrev is_refused : EpochAnswer → Bool
-is_refused (EpochAnswer.refused f) = true
-is_refused (EpochAnswer.accepted e) = false
+abbrev refusal_or : Refusal → Result Epoch Refusal → Refusal
+refusal_or r (Err s) = s
+refusal_or r (Ok e) = r
+
+abbrev refuses : Fault → Result Epoch Refusal
+refuses f = Err (refusal f 0)
 
 module _ (line : List ℕ) where
-  epoch_there : (f : Fault) → read_epoch line ≡ EpochAnswer.refused f → EpochFault line f
+  epoch_there : (r : Refusal) → read_epoch line ≡ Err r → EpochFault line r
   unfolding read_epoch judge_epoch
-  epoch_there f h = go (ltb epoch_limit (length line)) refl (any (eqb 10) line) refl (items_of (tokens_of line)) refl h
+  epoch_there r h = go (ltb epoch_limit (length line)) refl (any (eqb 10) line) refl (items_of (tokens_of line)) refl h
     where
-      so : (g : Fault) → EpochFault line g → EpochAnswer.refused g ≡ EpochAnswer.refused f → EpochFault line f
-      so g t h = subst (EpochFault line) (ap (fault_or f) h) t
+      so : (s : Refusal) → EpochFault line s → refused_with s ≡ refused_with r → EpochFault line r
+      so s t h = subst (EpochFault line) (ap (refusal_or r) h) t
 
       go : (a : Bool) → ltb epoch_limit (length line) ≡ a → (b : Bool) → any (eqb 10) line ≡ b → (o : Option (List Item)) → items_of (tokens_of line) ≡ o
-          → cond a (EpochAnswer.refused Fault.TooLong) (cond b (EpochAnswer.refused Fault.EpochSyntax) (judge_epoch o)) ≡ EpochAnswer.refused f → EpochFault line f
-      go true p b q o i h = so Fault.TooLong (EpochFault.too_long (ltb-true _ _ p)) h
-      go false p true q o i h = so Fault.EpochSyntax (EpochFault.wrong_shape (ltb-false _ _ p) (inl q)) h
-      go false p false q none i h = so Fault.EpochSyntax (EpochFault.wrong_shape (ltb-false _ _ p) (inr i)) h
+          → cond a (refuses Fault.TooLong) (cond b (refuses Fault.EpochSyntax) (judge_epoch o)) ≡ Err r → EpochFault line r
+      go true p b q o i h = so _ (EpochFault.too_long (ltb-true _ _ p)) h
+      go false p true q o i h = so _ (EpochFault.wrong_shape (ltb-false _ _ p) (inl q)) h
+      go false p false q none i h = so _ (EpochFault.wrong_shape (ltb-false _ _ p) (inr i)) h
       go false p false q (some is) i h = judged (all item_in_range is) refl (repeats (given_by is)) refl h
         where
           judged : (c : Bool) → all item_in_range is ≡ c → (d : Bool) → repeats (given_by is) ≡ d
-              → cond (not c) (EpochAnswer.refused Fault.EpochRange) (cond d (EpochAnswer.refused Fault.DuplicateReading) (EpochAnswer.accepted (fold Epoch.add_item Epoch.empty_epoch is))) ≡ EpochAnswer.refused f
-              → EpochFault line f
-          judged false r d t h = so Fault.EpochRange (EpochFault.out_of_range (ltb-false _ _ p) q is i r) h
-          judged true r true t h = so Fault.DuplicateReading (EpochFault.given_twice (ltb-false _ _ p) q is i r t) h
-          judged true r false t h = absurd (true_false refl (sym (ap is_refused h)))
+              → cond (not c) (refuses Fault.EpochRange) (cond d (refuses Fault.DuplicateReading) (Ok (fold add_item empty_epoch is))) ≡ Err r → EpochFault line r
+          judged false r d t h = so _ (EpochFault.out_of_range (ltb-false _ _ p) q is i r) h
+          judged true r true t h = so _ (EpochFault.given_twice (ltb-false _ _ p) q is i r t) h
+          judged true r false t h = let z : ⊥ = cc in absurd z
 
-  epoch_back : (f : Fault) → EpochFault line f → read_epoch line ≡ EpochAnswer.refused f
+  epoch_back : (r : Refusal) → EpochFault line r → read_epoch line ≡ Err r
   unfolding read_epoch judge_epoch
-  epoch_back g (EpochFault.too_long h) = rw (lt-ltb _ _ h) refl
-  epoch_back g (EpochFault.wrong_shape h (inl q)) = rw (le-ltb _ _ h, q) refl
-  epoch_back g (EpochFault.wrong_shape h (inr i)) = rw (le-ltb _ _ h, i) (either (any (eqb 10) line))
+  epoch_back r (EpochFault.too_long h) = rw (lt-ltb _ _ h) refl
+  epoch_back r (EpochFault.wrong_shape h (inl q)) = rw (le-ltb _ _ h, q) refl
+  epoch_back r (EpochFault.wrong_shape h (inr i)) = rw (le-ltb _ _ h, i) (either (any (eqb 10) line))
     where
-      either : (b : Bool) → cond b (EpochAnswer.refused Fault.EpochSyntax) (EpochAnswer.refused Fault.EpochSyntax) ≡ EpochAnswer.refused Fault.EpochSyntax
+      either : (b : Bool) → cond b (refuses Fault.EpochSyntax) (refuses Fault.EpochSyntax) ≡ refuses Fault.EpochSyntax
       either true = refl
       either false = refl
-  epoch_back g (EpochFault.out_of_range h q is i r) = rw (le-ltb _ _ h, q, i, r) refl
-  epoch_back g (EpochFault.given_twice h q is i r t) = rw (le-ltb _ _ h, q, i, r, t) refl
+  epoch_back r (EpochFault.out_of_range h q is i u) = rw (le-ltb _ _ h, q, i, u) refl
+  epoch_back r (EpochFault.given_twice h q is i u t) = rw (le-ltb _ _ h, q, i, u, t) refl
 
-  pub epoch_refused_exactly : (f : Fault) → (read_epoch line ≡ EpochAnswer.refused f) ↔ EpochFault line f
-  epoch_refused_exactly f = (epoch_there f, epoch_back f)
+  pub epoch_refused_exactly : (r : Refusal) → (read_epoch line ≡ Err r) ↔ EpochFault line r
+  epoch_refused_exactly r = (epoch_there r, epoch_back r)

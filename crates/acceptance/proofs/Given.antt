@@ -1,4 +1,7 @@
 -- The readings of an accepted epoch line: one that it gives has the value that stands there, and no other is given.
+use Rattle.policy.specs.declared.fault.Refusal.{Refusal}
+use Rattle.policy.specs.Fault.{refusal}
+use Rattle.std.specs.Prelude.{Result, Ok, Err}
 use Rattle.std.proofs.Common.{ℕ, zero, suc, ◌<◌, Bool, true, false, not, cond, List, [], ◌∷◌, ◌≢◌, ◌≡◌, refl, sym, ap, ◌∙◌, subst, arith, ltb-true, ℤ, length, length-set, slice_get, lt-length-set, get_or-set_same, Some, fold}
 use Rattle.std.proofs.lemmas.Bool.{eqb-false}
 use Rattle.std.proofs.Math.Option.{some}
@@ -8,14 +11,15 @@ use Rattle.std.proofs.lemmas.Option.{slice_get-get_or}
 use mathlib.Core.List.{Memᴰ}
 use Rattle.policy.proofs.ListLaws.{true_false, and_out, or_out}
 use Rattle.policy.proofs.SetLaws.{has_empty, has_insert_same, has_insert_other}
-use Rattle.policy.specs.Epoch.{Epoch, reading_value}
+use Rattle.policy.specs.Epoch.{reading_value}
+use Rattle.policy.specs.declared.epoch.Epoch.{Epoch}
 use Rattle.policy.specs.Limits.{is_reading_value, repeats}
 use Rattle.policy.specs.List.{all, any}
 use Rattle.policy.specs.Number.{reading_limit}
 use Rattle.policy.specs.Set.{has_reading}
 use Rattle.policy.specs.declared.fault.Fault.{Fault}
 use Rattle.policy.specs.declared.number.Reading.{Reading}
-use Rattle.epoch_line.specs.Epoch.{Item, event, value, items_of, item_in_range, given_by, add_item, empty_epoch, EpochAnswer, refused, accepted, judge_epoch, epoch_limit, read_epoch}
+use Rattle.epoch_line.specs.Epoch.{Item, event, value, items_of, item_in_range, given_by, add_item, empty_epoch, judge_epoch, epoch_limit, read_epoch}
 use Rattle.lexer.specs.Lines.{tokens_of}
 
 -- ---- one place more
@@ -89,13 +93,13 @@ module _ (n : ℕ) where
 
 -- ---- an accepted line
 
-abbrev is_accepted : EpochAnswer → Bool
-is_accepted (refused f) = false
-is_accepted (accepted e) = true
+abbrev is_accepted : Result Epoch Refusal → Bool
+is_accepted (Err r) = false
+is_accepted (Ok e) = true
 
-abbrev epoch_of : EpochAnswer → Epoch
-epoch_of (refused f) = empty_epoch
-epoch_of (accepted e) = e
+abbrev epoch_of : Result Epoch Refusal → Epoch
+epoch_of (Err r) = empty_epoch
+epoch_of (Ok e) = e
 
 module _ (e : Epoch) where
   pub record Read (is : List Item) : Type 0 where
@@ -103,26 +107,26 @@ module _ (e : Epoch) where
     pub once : repeats (given_by is) ≡ false
     pub whole : fold add_item empty_epoch is ≡ e
 
-  judged : (is : List Item) → judge_epoch (some is) ≡ accepted e → Read is
+  judged : (is : List Item) → judge_epoch (some is) ≡ Ok e → Read is
   unfolding judge_epoch
   judged is = go (all item_in_range is) refl (repeats (given_by is)) refl
     where
       go : (a : Bool) → all item_in_range is ≡ a → (b : Bool) → repeats (given_by is) ≡ b
-          → cond (not a) (refused Fault.EpochRange) (cond b (refused Fault.DuplicateReading) (accepted (fold add_item empty_epoch is))) ≡ accepted e → Read is
+          → cond (not a) (Err (refusal Fault.EpochRange 0)) (cond b (Err (refusal Fault.DuplicateReading 0)) (Ok (fold add_item empty_epoch is))) ≡ Ok e → Read is
       go false p b q h = absurd (true_false (ap is_accepted h) refl)
       go true p true q h = absurd (true_false (ap is_accepted h) refl)
       go true p false q h = record { ranges = p; once = q; whole = ap epoch_of h }
 
-  pub items_read_is : (line : List ℕ) (is : List Item) → items_of (tokens_of line) ≡ some is → read_epoch line ≡ accepted e → Read is
+  pub items_read_is : (line : List ℕ) (is : List Item) → items_of (tokens_of line) ≡ some is → read_epoch line ≡ Ok e → Read is
   unfolding read_epoch
   items_read_is line is some_is = go (ltb epoch_limit (length line)) (any (eqb 10) line)
     where
-      go : (a b : Bool) → cond a (refused Fault.TooLong) (cond b (refused Fault.EpochSyntax) (judge_epoch (items_of (tokens_of line)))) ≡ accepted e → Read is
+      go : (a b : Bool) → cond a (Err (refusal Fault.TooLong 0)) (cond b (Err (refusal Fault.EpochSyntax 0)) (judge_epoch (items_of (tokens_of line)))) ≡ Ok e → Read is
       go true b h = absurd (true_false (ap is_accepted h) refl)
       go false true h = absurd (true_false (ap is_accepted h) refl)
       go false false h = judged is (ap judge_epoch (sym some_is) ∙ h)
 
-  module _ (line : List ℕ) (is : List Item) (shape : items_of (tokens_of line) ≡ some is) (taken : read_epoch line ≡ accepted e) where
+  module _ (line : List ℕ) (is : List Item) (shape : items_of (tokens_of line) ≡ some is) (taken : read_epoch line ≡ Ok e) where
     read : Read is
     read = items_read_is line is shape taken
 

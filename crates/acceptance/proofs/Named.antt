@@ -1,15 +1,16 @@
 -- The events of an accepted epoch line are those that it names.
+use Rattle.std.specs.Prelude.{Ok}
 use Rattle.std.proofs.Common.{ℕ, ◌<◌, Bool, true, false, ◌||◌, List, [], ◌∷◌, ◌≡◌, refl, sym, ap, ◌∙◌, eqb-true, ltb-true, fold}
 use Rattle.std.proofs.lemmas.Bool.{eqb-false}
 use Rattle.std.proofs.Math.Option.{some}
 use Rattle.std.proofs.Math.Dec.{eqb}
 use Rattle.policy.proofs.ListLaws.{and_out}
 use Rattle.policy.proofs.SetLaws.{has_empty, has_insert_same, has_insert_other}
-use Rattle.policy.specs.Epoch.{Epoch}
+use Rattle.policy.specs.declared.epoch.Epoch.{Epoch}
 use Rattle.policy.specs.List.{all, any}
 use Rattle.policy.specs.Number.{set_limit}
 use Rattle.policy.specs.Set.{has, insert, has_event}
-use Rattle.epoch_line.specs.Epoch.{Item, event, value, items_of, item_in_range, add_item, empty_epoch, accepted, read_epoch}
+use Rattle.epoch_line.specs.Epoch.{Item, event, value, items_of, item_in_range, add_item, empty_epoch, read_epoch}
 use Rattle.lexer.specs.Lines.{tokens_of}
 use Rattle.acceptance.specs.Named.{named_by}
 use Rattle.acceptance.proofs.Given.{Read, items_read_is}
@@ -40,7 +41,7 @@ module _ (n : ℕ) where
   names (value m k ∷ is) e r = names is (add_item e (value m k)) (and_out (item_in_range (value m k)) (all item_in_range is) r).1
 
 -- on an accepted line, an event has occurred exactly if an item of the line names it
-pub line_names : (e : Epoch) (line : List ℕ) (is : List Item) → items_of (tokens_of line) ≡ some is → read_epoch line ≡ accepted e
+pub line_names : (e : Epoch) (line : List ℕ) (is : List Item) → items_of (tokens_of line) ≡ some is → read_epoch line ≡ Ok e
     → (n : ℕ) → has_event e.events (record { 0 = n }) ≡ any (eqb n) (named_by is)
 line_names e line is shape taken n =
     let r : Read e is = items_read_is e line is shape taken in

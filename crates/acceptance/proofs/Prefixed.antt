@@ -1,5 +1,7 @@
 -- Tokens that begin with `0x`: in a line of a text they stand only on the right-hand side of a comparison, in an epoch line only as a value. So a line that
 -- has one with no digits, or with another byte behind it, has a wrong shape, and one with more than eight digits a constant out of range.
+use Rattle.policy.specs.Fault.{refusal}
+use Rattle.std.specs.Prelude.{Err}
 use Rattle.std.proofs.Common.{ℕ, ◌≤◌, ◌<◌, Bool, true, false, cond, List, [], ◌∷◌, ◌++◌, ◌⊎◌, inl, inr, ◌≡◌, refl, sym, ap, ◌∙◌, arith, subst, eqb-true, length}
 use mathlib.Core.List.{Memᴰ}
 use Rattle.std.proofs.Math.Bool.{and-false}
@@ -22,7 +24,6 @@ use Rattle.lexer.specs.Lines.{tokens_of}
 use Rattle.lexer.specs.Number.{number_of, pattern_digits, constant_of}
 use Rattle.lexer.specs.Token.{Token, named, both, literal_of, action_of, reading_of, relation_of, operand_of, comparison_by, comparison_of}
 use Rattle.syntax.specs.Judge.{refused, line_answer}
-use Rattle.epoch_line.specs.Epoch as Epoch
 use Rattle.epoch_line.specs.Epoch.{Item, Halves, event, value, to_left, at_equals, assignment_of, item_of, items_of, item_in_range, epoch_limit, read_epoch}
 use Rattle.acceptance.proofs.FirstFault.{epoch_refused_exactly}
 use Rattle.acceptance.proofs.OneLine.{refused_answer}
@@ -216,9 +217,9 @@ module _ (t : Token) (left ds : List ℕ) (halves : at_equals t ≡ some (record
           (r.0, subst (Memᴰ r.0) same (Memᴰ.tail r.1), r.2)
 
   module _ (line : List ℕ) (short : length line ≤ epoch_limit) (m : Memᴰ t (tokens_of line)) where
-    pub epoch_bare_prefix_refused : (ds ≡ []) ⊎ (all is_hex_digit ds ≡ false) → read_epoch line ≡ Epoch.refused Fault.EpochSyntax
+    pub epoch_bare_prefix_refused : (ds ≡ []) ⊎ (all is_hex_digit ds ≡ false) → read_epoch line ≡ Err (refusal Fault.EpochSyntax 0)
     unfolding assignment_of both
-    epoch_bare_prefix_refused b = (epoch_refused_exactly line Fault.EpochSyntax).1 (EpochFault.wrong_shape short (inr (go (items_of (tokens_of line)) refl)))
+    epoch_bare_prefix_refused b = (epoch_refused_exactly line (refusal Fault.EpochSyntax 0)).1 (EpochFault.wrong_shape short (inr (go (items_of (tokens_of line)) refl)))
       where
         no_item : item_of t ≡ none
         no_item = item_is ∙ ap (both value (named 82 left)) (broken ds b) ∙ none_of (named 82 left)
@@ -232,9 +233,9 @@ module _ (t : Token) (left ds : List ℕ) (halves : at_equals t ≡ some (record
         go (some is) e = none_some (sym no_item ∙ (item_there (tokens_of line) is e m).2)
 
     pub epoch_wide_constant_refused : all is_hex_digit ds ≡ true → pattern_digits < length ds → any (eqb 10) line ≡ false → (is : List Item) → items_of (tokens_of line) ≡ some is
-        → read_epoch line ≡ Epoch.refused Fault.EpochRange
+        → read_epoch line ≡ Err (refusal Fault.EpochRange 0)
     epoch_wide_constant_refused h k no_end is e =
         let r = item_there (tokens_of line) is e m in
         let f : item_in_range r.0 ≡ false = wide_value ds h k left r.0 (sym item_is ∙ r.2) in
         let a : all item_in_range is ≡ false = not_true_is (all item_in_range is) (λ q. true_false (all_out item_in_range is q r.0 r.1) f) in
-        (epoch_refused_exactly line Fault.EpochRange).1 (EpochFault.out_of_range short no_end is e a)
+        (epoch_refused_exactly line (refusal Fault.EpochRange 0)).1 (EpochFault.out_of_range short no_end is e a)

@@ -1,4 +1,5 @@
 -- For which faults, and where, a text and an epoch line are refused.
+use Rattle.std.specs.Prelude.{Result, Ok, Err}
 use Rattle.std.proofs.Common.{ℕ, suc, ◌+◌, ◌≤◌, ◌<◌, Bool, true, false, not, cond, List, [], ◌∷◌, ◌≡◌, refl, sym, ap, ◌∙◌, arith, length, fold}
 use Rattle.std.proofs.Math.Option.{Option, none, some}
 use Rattle.std.proofs.Math.Dec.{eqb, ltb}
@@ -7,14 +8,13 @@ use Rattle.policy.specs.Limits.{in_range, crowded, repeats, repeated, rule_limit
 use Rattle.policy.specs.Line.{PolicyLine, rule, constraint}
 use Rattle.policy.specs.List.{all, any}
 use Rattle.policy.specs.Policy.{Policy}
+use Rattle.policy.specs.declared.epoch.Epoch.{Epoch}
 use Rattle.policy.specs.declared.fault.Fault.{Fault}
 use Rattle.policy.specs.declared.fault.Refusal.{Refusal}
 use Rattle.policy.specs.declared.fault.Source.{Source}
 use Rattle.lexer.specs.Lines.{lines_of, tokens_of}
 use Rattle.rule_text.specs.Answer.{text_read_of, text_read, texts_read, refusal_in_text}
-use Rattle.epoch_line.specs.Answer.{answer_read, epoch_read, refusal_in_epoch}
-use Rattle.epoch_line.specs.Epoch as Epoch
-use Rattle.epoch_line.specs.Epoch.{Item, EpochAnswer, items_of, item_in_range, given_by, judge_epoch, epoch_limit, read_epoch}
+use Rattle.epoch_line.specs.Epoch.{Item, items_of, item_in_range, given_by, add_item, empty_epoch, judge_epoch, epoch_limit, read_epoch}
 use Rattle.syntax.specs.Grammar.{line_from}
 use Rattle.syntax.specs.Judge.{LineAnswer, skipped, refused, accepted, judge_line, is_comment, tokens_answer, line_answer}
 use Rattle.rule_text.specs.Text.{Progress, reading, stopped, with_rule, with_constraint, advance, read_next_line, empty_policy, text_limit, read_text_behind, in_text, read_text, read_site, read_texts, policy_read, policy_of}
@@ -135,19 +135,19 @@ texts_faults maker site r e = go (read_text maker) refl (of_progress (read_site 
 
 -- ---- an epoch line is refused under 1, 12, 13 or 14
 
-of_epoch : (f : Fault) (r : Refusal) → any (eqb (fault_number f)) (1 ∷ 12 ∷ 13 ∷ 14 ∷ []) ≡ true → some (refusal f 0) ≡ some r → OfEpoch r
+of_epoch : (f : Fault) (r : Refusal) → any (eqb (fault_number f)) (1 ∷ 12 ∷ 13 ∷ 14 ∷ []) ≡ true → ◌≡◌ {A = Result Epoch Refusal} (Err (refusal f 0)) (Err r) → OfEpoch r
 of_epoch f r h e = let s : refusal f 0 ≡ r = cc in rw (← s) (record { number = h; source = refl; location = refl })
 
-pub epoch_faults : (line : List ℕ) (r : Refusal) → refusal_in_epoch (epoch_read line) ≡ some r → OfEpoch r
-unfolding epoch_read answer_read read_epoch judge_epoch any
+pub epoch_faults : (line : List ℕ) (r : Refusal) → read_epoch line ≡ Err r → OfEpoch r
+unfolding read_epoch judge_epoch any
 epoch_faults line r e = go (ltb epoch_limit (length line)) (any (eqb 10) line) (items_of (tokens_of line)) e
   where
-    judged : (a b : Bool) (is : List Item) → refusal_in_epoch (answer_read (cond (not a) (EpochAnswer.refused Fault.EpochRange) (cond b (EpochAnswer.refused Fault.DuplicateReading) (EpochAnswer.accepted (fold Epoch.add_item Epoch.empty_epoch is))))) ≡ some r → OfEpoch r
+    judged : (a b : Bool) (is : List Item) → cond (not a) (Err (refusal Fault.EpochRange 0)) (cond b (Err (refusal Fault.DuplicateReading 0)) (Ok (fold add_item empty_epoch is))) ≡ Err r → OfEpoch r
     judged false b is k = of_epoch Fault.EpochRange r refl k
     judged true true is k = of_epoch Fault.DuplicateReading r refl k
     judged true false is k = let w : ◌≡◌ {A = ℕ} 0 1 = cc in absurd (omega arith)
 
-    go : (a b : Bool) (o : Option (List Item)) → refusal_in_epoch (answer_read (cond a (EpochAnswer.refused Fault.TooLong) (cond b (EpochAnswer.refused Fault.EpochSyntax) (judge_epoch o)))) ≡ some r → OfEpoch r
+    go : (a b : Bool) (o : Option (List Item)) → cond a (Err (refusal Fault.TooLong 0)) (cond b (Err (refusal Fault.EpochSyntax 0)) (judge_epoch o)) ≡ Err r → OfEpoch r
     go true b o k = of_epoch Fault.TooLong r refl k
     go false true o k = of_epoch Fault.EpochSyntax r refl k
     go false false none k = of_epoch Fault.EpochSyntax r refl k

@@ -1,5 +1,7 @@
 -- A comparison that is out of range makes its line out of range, whatever else the line has, and an item of an epoch line the epoch line: so
 -- do constants of more than eight hexadecimal digits.
+use Rattle.policy.specs.Fault.{refusal}
+use Rattle.std.specs.Prelude.{Err}
 use Rattle.std.proofs.Common.{ℕ, ◌≤◌, ◌<◌, Bool, true, false, List, [], ◌∷◌, ◌++◌, ◌≡◌, refl, ap, ◌∙◌, le-ltb, length}
 use Rattle.std.proofs.Math.Bool.{and-false}
 use Rattle.std.proofs.Math.Dec.{eqb, ltb}
@@ -16,7 +18,6 @@ use Rattle.lexer.specs.Number.{pattern_digits}
 use Rattle.lexer.specs.Token.{Token, comparison_of}
 use Rattle.lexer.specs.Lines.{tokens_of}
 use Rattle.syntax.specs.Judge.{refused, judge_line, line_answer}
-use Rattle.epoch_line.specs.Epoch as Epoch
 use Rattle.epoch_line.specs.Epoch.{Item, items_of, item_in_range, assignment_of, epoch_limit, judge_epoch, read_epoch}
 use Rattle.acceptance.proofs.Patterns.{wide_comparison}
 use Rattle.acceptance.proofs.OneLine.{written_answer}
@@ -47,6 +48,6 @@ module _ (line : List ℕ) (l : PolicyLine) (w : IsWritten line l) where
 
 module _ (line : List ℕ) (short : length line ≤ epoch_limit) (no_end : any (eqb 10) line ≡ false) where
   pub item_refused : (before after : List Item) (i : Item) → items_of (tokens_of line) ≡ some (before ++ i ∷ after) → item_in_range i ≡ false
-      → read_epoch line ≡ Epoch.refused Fault.EpochRange
+      → read_epoch line ≡ Err (refusal Fault.EpochRange 0)
   unfolding read_epoch judge_epoch
   item_refused before after i e f = rw (le-ltb _ _ short, no_end) (ap judge_epoch e ∙ rw (some_fails item_in_range i f before after) refl)

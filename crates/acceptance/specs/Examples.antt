@@ -1,5 +1,7 @@
 -- The worked texts and epoch lines, and lines that are easily read wrong, one row each.
-use Rattle.std.specs.Prelude.{ℕ, true, false, List, [], ◌∷◌, ℤ, pos, negsuc, set, replicate}
+use Rattle.policy.specs.declared.epoch.Epoch.{Epoch}
+use Rattle.policy.specs.declared.fault.Refusal.{Refusal}
+use Rattle.std.specs.Prelude.{ℕ, true, false, List, [], ◌∷◌, ℤ, pos, negsuc, set, replicate, Result, Ok, Err}
 use Prim.Native.String.{String}
 use Rattle.policy.specs.Fault.{refusal, within}
 use Rattle.policy.specs.Policy.{Policy}
@@ -10,8 +12,7 @@ use Rattle.policy.specs.declared.comparison.Relation.{Relation}
 use Rattle.policy.specs.declared.fault.Fault.{Fault}
 use Rattle.policy.specs.declared.fault.Source.{Source}
 use Rattle.lexer.specs.Byte.{bytes}
-use Rattle.epoch_line.specs.Epoch as Epoch
-use Rattle.epoch_line.specs.Epoch.{EpochAnswer, read_epoch, empty_epoch}
+use Rattle.epoch_line.specs.Epoch.{read_epoch, empty_epoch}
 use Rattle.lexer.specs.Token.{literal_as}
 use Rattle.rule_text.specs.Text.{Progress, reading, stopped, read_text, read_texts, empty_policy}
 
@@ -143,48 +144,48 @@ pair_rows =
 
 pub record LineExample : Type 0 where
   pub line : String
-  pub answer : EpochAnswer
+  pub answer : Result Epoch Refusal
 
-abbrev entry : String → EpochAnswer → LineExample
+abbrev entry : String → Result Epoch Refusal → LineExample
 entry line answer = record { line = line; answer = answer }
 
 unfoldable pub epoch_line_rows : List LineExample
 epoch_line_rows =
-    entry "" (Epoch.accepted empty_epoch)
-    ∷ entry " E1 E3 E1  R0=41 " (Epoch.accepted (record { events = set_of 10; readings = record { given = set_of 1; values = pos 41 ∷ replicate 15 (pos 0) } }))
-    ∷ entry "R15=-2147483648 E63" (Epoch.accepted (record { events = set_of 9223372036854775808; readings = record { given = set_of 32768; values = set (replicate 16 (pos 0)) 15 (negsuc 2147483647) } }))
+    entry "" (Ok empty_epoch)
+    ∷ entry " E1 E3 E1  R0=41 " (Ok (record { events = set_of 10; readings = record { given = set_of 1; values = pos 41 ∷ replicate 15 (pos 0) } }))
+    ∷ entry "R15=-2147483648 E63" (Ok (record { events = set_of 9223372036854775808; readings = record { given = set_of 32768; values = set (replicate 16 (pos 0)) 15 (negsuc 2147483647) } }))
     ∷ entry "R0=0x8040 R1=0xFFFFFFFF R2=0x00"
-    (Epoch.accepted (record { events = no_events; readings = record { given = set_of 7; values = pos 32832 ∷ negsuc 0 ∷ replicate 14 (pos 0) } }))
+    (Ok (record { events = no_events; readings = record { given = set_of 7; values = pos 32832 ∷ negsuc 0 ∷ replicate 14 (pos 0) } }))
     ∷ entry "R15=0x80000000 R0=0x7fffffff"
-    (Epoch.accepted (record { events = no_events; readings = record { given = set_of 32769; values = set (pos 2147483647 ∷ replicate 15 (pos 0)) 15 (negsuc 2147483647) } }))
-    ∷ entry "E1\nE2" (Epoch.refused Fault.EpochSyntax)
-    ∷ entry "E1 \n" (Epoch.refused Fault.EpochSyntax)
-    ∷ entry "E1=2" (Epoch.refused Fault.EpochSyntax)
-    ∷ entry "R0" (Epoch.refused Fault.EpochSyntax)
-    ∷ entry "R0=" (Epoch.refused Fault.EpochSyntax)
-    ∷ entry "R0=0x" (Epoch.refused Fault.EpochSyntax)
-    ∷ entry "R0=0X1" (Epoch.refused Fault.EpochSyntax)
-    ∷ entry "R0=-0x1" (Epoch.refused Fault.EpochSyntax)
-    ∷ entry "R0=0x1G" (Epoch.refused Fault.EpochSyntax)
-    ∷ entry "R0=0x000000001G" (Epoch.refused Fault.EpochSyntax)
-    ∷ entry "R0=0x 1" (Epoch.refused Fault.EpochSyntax)
-    ∷ entry "R0x0=1" (Epoch.refused Fault.EpochSyntax)
-    ∷ entry "E0x1" (Epoch.refused Fault.EpochSyntax)
-    ∷ entry "R0=0x000000001 R1=01" (Epoch.refused Fault.EpochSyntax)
-    ∷ entry "=1" (Epoch.refused Fault.EpochSyntax)
-    ∷ entry "R0=1=2" (Epoch.refused Fault.EpochSyntax)
-    ∷ entry "#" (Epoch.refused Fault.EpochSyntax)
-    ∷ entry "E64 E" (Epoch.refused Fault.EpochSyntax)
-    ∷ entry "E E64" (Epoch.refused Fault.EpochSyntax)
-    ∷ entry "R0=1 R0=1 E64" (Epoch.refused Fault.EpochRange)
-    ∷ entry "E64" (Epoch.refused Fault.EpochRange)
-    ∷ entry "R16=1" (Epoch.refused Fault.EpochRange)
-    ∷ entry "R0=2147483648" (Epoch.refused Fault.EpochRange)
-    ∷ entry "R0=0x000000001" (Epoch.refused Fault.EpochRange)
-    ∷ entry "R0=0x1 R0=0x000000001" (Epoch.refused Fault.EpochRange)
-    ∷ entry "R0=1 R0=0x1" (Epoch.refused Fault.DuplicateReading)
-    ∷ entry "R0=1 R0=1" (Epoch.refused Fault.DuplicateReading)
-    ∷ entry "R0=1 R0=2" (Epoch.refused Fault.DuplicateReading)
+    (Ok (record { events = no_events; readings = record { given = set_of 32769; values = set (pos 2147483647 ∷ replicate 15 (pos 0)) 15 (negsuc 2147483647) } }))
+    ∷ entry "E1\nE2" (Err (refusal Fault.EpochSyntax 0))
+    ∷ entry "E1 \n" (Err (refusal Fault.EpochSyntax 0))
+    ∷ entry "E1=2" (Err (refusal Fault.EpochSyntax 0))
+    ∷ entry "R0" (Err (refusal Fault.EpochSyntax 0))
+    ∷ entry "R0=" (Err (refusal Fault.EpochSyntax 0))
+    ∷ entry "R0=0x" (Err (refusal Fault.EpochSyntax 0))
+    ∷ entry "R0=0X1" (Err (refusal Fault.EpochSyntax 0))
+    ∷ entry "R0=-0x1" (Err (refusal Fault.EpochSyntax 0))
+    ∷ entry "R0=0x1G" (Err (refusal Fault.EpochSyntax 0))
+    ∷ entry "R0=0x000000001G" (Err (refusal Fault.EpochSyntax 0))
+    ∷ entry "R0=0x 1" (Err (refusal Fault.EpochSyntax 0))
+    ∷ entry "R0x0=1" (Err (refusal Fault.EpochSyntax 0))
+    ∷ entry "E0x1" (Err (refusal Fault.EpochSyntax 0))
+    ∷ entry "R0=0x000000001 R1=01" (Err (refusal Fault.EpochSyntax 0))
+    ∷ entry "=1" (Err (refusal Fault.EpochSyntax 0))
+    ∷ entry "R0=1=2" (Err (refusal Fault.EpochSyntax 0))
+    ∷ entry "#" (Err (refusal Fault.EpochSyntax 0))
+    ∷ entry "E64 E" (Err (refusal Fault.EpochSyntax 0))
+    ∷ entry "E E64" (Err (refusal Fault.EpochSyntax 0))
+    ∷ entry "R0=1 R0=1 E64" (Err (refusal Fault.EpochRange 0))
+    ∷ entry "E64" (Err (refusal Fault.EpochRange 0))
+    ∷ entry "R16=1" (Err (refusal Fault.EpochRange 0))
+    ∷ entry "R0=2147483648" (Err (refusal Fault.EpochRange 0))
+    ∷ entry "R0=0x000000001" (Err (refusal Fault.EpochRange 0))
+    ∷ entry "R0=0x1 R0=0x000000001" (Err (refusal Fault.EpochRange 0))
+    ∷ entry "R0=1 R0=0x1" (Err (refusal Fault.DuplicateReading 0))
+    ∷ entry "R0=1 R0=1" (Err (refusal Fault.DuplicateReading 0))
+    ∷ entry "R0=1 R0=2" (Err (refusal Fault.DuplicateReading 0))
     ∷ []
 
 -- ---- what the definitions say of each row
@@ -195,5 +196,5 @@ text_answer x = read_text (bytes x.text)
 unfoldable pub pair_answer : PairExample → Progress
 pair_answer x = read_texts (bytes x.maker) (bytes x.site)
 
-unfoldable pub epoch_answer : LineExample → EpochAnswer
+unfoldable pub epoch_answer : LineExample → Result Epoch Refusal
 epoch_answer x = read_epoch (bytes x.line)

@@ -59,10 +59,10 @@ pub data TextsFault (maker site : List ℕ) : Refusal → Type 0 where
       → TextsFault maker site (within Source.Site (refusal f n))
 
 -- the tests of an epoch line, one behind another
-pub data EpochFault (line : List ℕ) : Fault → Type 0 where
-  too_long : epoch_limit < length line → EpochFault line Fault.TooLong
-  wrong_shape : length line ≤ epoch_limit → (any (eqb 10) line ≡ true) ⊎ (items_of (tokens_of line) ≡ none) → EpochFault line Fault.EpochSyntax
+pub data EpochFault (line : List ℕ) : Refusal → Type 0 where
+  too_long : epoch_limit < length line → EpochFault line (refusal Fault.TooLong 0)
+  wrong_shape : length line ≤ epoch_limit → (any (eqb 10) line ≡ true) ⊎ (items_of (tokens_of line) ≡ none) → EpochFault line (refusal Fault.EpochSyntax 0)
   out_of_range : length line ≤ epoch_limit → any (eqb 10) line ≡ false → (is : List Item) → items_of (tokens_of line) ≡ some is → all item_in_range is ≡ false
-      → EpochFault line Fault.EpochRange
+      → EpochFault line (refusal Fault.EpochRange 0)
   given_twice : length line ≤ epoch_limit → any (eqb 10) line ≡ false → (is : List Item) → items_of (tokens_of line) ≡ some is → all item_in_range is ≡ true
-      → repeats (given_by is) ≡ true → EpochFault line Fault.DuplicateReading
+      → repeats (given_by is) ≡ true → EpochFault line (refusal Fault.DuplicateReading 0)

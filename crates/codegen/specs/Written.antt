@@ -1,5 +1,5 @@
 -- What a compilation that answers a size has done.
-use Rattle.std.specs.Prelude.{ℕ, ◌≤◌, List, ◌≡◌, length, take, drop}
+use Rattle.std.specs.Prelude.{ℕ, ◌≤◌, List, ◌≡◌, length, take, drop, Ok}
 use Rattle.std.proofs.Math.Option.{Option, some}
 use Rattle.policy.specs.Fill.{Filled}
 use Rattle.policy.specs.Limits.{Acceptable}
@@ -8,7 +8,6 @@ use Rattle.exactness.specs.Exact.{contents_of}
 use Rattle.layout.specs.Layout.{image_of, size_limit}
 use Rattle.image.specs.Load.{load}
 use Rattle.image.specs.Held.{policy_in}
-use Rattle.image.specs.declared.load.Loaded.{Loaded}
 use Rattle.rule_text.specs.Text.{policy_of, policy_of_texts}
 use Rattle.codegen.specs.Compile.{newest_form, compiled, compiled_texts}
 
@@ -28,7 +27,7 @@ pub record WrittenBy (known : Option Policy) (made : Filled) (buffer : List ℕ)
   pub behind : drop size made.buffer ≡ drop size buffer
   pub largest : size ≤ size_limit
   -- the loader takes the bytes and holds the policy, whose image they are
-  pub taken : load (written_by size made) ≡ Loaded.Image (contents_of newest_form policy)
+  pub taken : load (written_by size made) ≡ Ok (contents_of policy)
   pub holds : policy_in (written_by size made) ≡ policy
   pub again : image_of newest_form (policy_in (written_by size made)) ≡ written_by size made
 

@@ -147,6 +147,7 @@ struct Heads {
 }
 
 // Those of the words of a line before its ending.
+#[inline(always)]
 fn heads_of(part: Part, words: &[[u8; 4]]) -> Heads
     requires { length words.now < 32 }
     ensures count { result.count ≡ count_heads part (length words.now) (words_in words.now) }
@@ -184,6 +185,7 @@ fn behind_comparison(words: &[[u8; 4]]) -> Option<&[[u8; 4]]>
 }
 
 // Whether the words are comparisons, at most four.
+#[inline(always)]
 fn comparisons_sound(words: &[[u8; 4]]) -> bool
     requires { length words.now < 32 }
     ensures { result ≡ comparisons_fill 4 (length words.now) (words_in words.now) }
@@ -203,6 +205,7 @@ fn comparisons_sound(words: &[[u8; 4]]) -> bool
 
 /// How many words the line of the part has with which the words begin: 0 where they begin with none that an accepted text may have.
 // As many numbers as heads: none stands twice. Each test leaves at once.
+#[inline(always)]
 pub fn line_length(words: &[[u8; 4]], part: Part) -> usize
     ensures { result ≡ line_length (line_at part (words_in words.now)) }
 {

@@ -1,9 +1,7 @@
 -- What a decompilation that answers a size has done.
-use Rattle.std.specs.Prelude.{ℕ, ◌≤◌, List, ◌≡◌, length, take, drop}
+use Rattle.std.specs.Prelude.{ℕ, ◌≤◌, List, ◌≡◌, length, take, drop, Ok}
 use Rattle.image.specs.Held.{policy_in}
-use Rattle.image.specs.Load.{load}
-use Rattle.image.specs.declared.load.Contents.{Contents}
-use Rattle.image.specs.declared.load.Loaded.{Loaded}
+use Rattle.image.specs.Load.{load, Contents}
 use Rattle.printer.specs.Printed.{longest_text, text_of}
 use Rattle.decompile.specs.Decompile.{decompiled}
 
@@ -15,7 +13,7 @@ text_written_in size image buffer = take size (decompiled image buffer).buffer
 pub record TextWritten (image buffer : List ℕ) (size : ℕ) : Type 0 where
   -- the loader takes the image, and the bytes are the text of the policy that it holds
   pub contents : Contents
-  pub taken : load image ≡ Loaded.Image contents
+  pub taken : load image ≡ Ok contents
   pub text : text_written_in size image buffer ≡ text_of (policy_in image)
   pub long : length (text_written_in size image buffer) ≡ size
   -- what lies behind the text is as it was

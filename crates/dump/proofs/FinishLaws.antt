@@ -5,8 +5,7 @@ use Rattle.policy.specs.Fault.{refusal}
 use Rattle.policy.specs.declared.fault.Fault.{Fault}
 use Rattle.policy.specs.declared.fault.Refusal.{Refusal}
 use Rattle.image.specs.Held.{policy_in}
-use Rattle.image.specs.Load.{load}
-use Rattle.image.specs.declared.load.Loaded.{Loaded}
+use Rattle.image.specs.Load.{load, Contents}
 use Rattle.printer.specs.Printed.{text_of}
 use Rattle.output.specs.Buffer.{behind}
 use Rattle.output.proofs.AppendLaws.{Put, put_same, append_start}
@@ -18,15 +17,15 @@ use Rattle.dump.specs.declared.state.State.{State}
 -- ---- an image, by the loader's answer
 
 module _ (text out between : List ℕ) where
-  refused_same : (l : Loaded) (r : Refusal) → Err r ≡ (output_of l text out).answer → between ≡ (output_of l text out).buffer
+  refused_same : (l : Result Contents Refusal) (r : Refusal) → Err r ≡ (output_of l text out).answer → between ≡ (output_of l text out).buffer
       → (between ≡ out) × (image_refusal_line r ≡ answer_within (length out) l text)
   unfolding output_of answer_within
-  refused_same (Loaded.Refused q) r e b = let p : r ≡ q = cc in (b, ap image_refusal_line p)
-  refused_same (Loaded.Image contents) r e b = go (leb (length text) (length out)) refl e b
+  refused_same (Err q) r e b = let p : r ≡ q = cc in (b, ap image_refusal_line p)
+  refused_same (Ok contents) r e b = go (leb (length text) (length out)) refl e b
     where
       go : (t : Bool) → leb (length text) (length out) ≡ t
-          → Err r ≡ (output_of (Loaded.Image contents) text out).answer → between ≡ (output_of (Loaded.Image contents) text out).buffer
-          → (between ≡ out) × (image_refusal_line r ≡ answer_within (length out) (Loaded.Image contents) text)
+          → Err r ≡ (output_of (Ok contents) text out).answer → between ≡ (output_of (Ok contents) text out).buffer
+          → (between ≡ out) × (image_refusal_line r ≡ answer_within (length out) (Ok contents) text)
       go true t e b = let f : ◌≡◌ {A = Result ℕ Refusal} (Err r) (Ok (length text)) = rw t at e in let z : ⊥ = cc in absurd z
       go false t e b =
           let f : ◌≡◌ {A = Result ℕ Refusal} (Err r) (Err (refusal Fault.BufferTooSmall 0)) = rw t at e in
@@ -38,15 +37,15 @@ module _ (text out between : List ℕ) where
   unfolding behind
   from_start h = (omega arith, sym (append_start out text h))
 
-  text_same : (l : Loaded) (n : ℕ) → Ok n ≡ (output_of l text out).answer → between ≡ (output_of l text out).buffer
+  text_same : (l : Result Contents Refusal) (n : ℕ) → Ok n ≡ (output_of l text out).answer → between ≡ (output_of l text out).buffer
       → Put out 0 (answer_within (length out) l text) between n
   unfolding output_of answer_within
-  text_same (Loaded.Refused q) n e b = let z : ⊥ = cc in absurd z
-  text_same (Loaded.Image contents) n e b = go (leb (length text) (length out)) refl e b
+  text_same (Err q) n e b = let z : ⊥ = cc in absurd z
+  text_same (Ok contents) n e b = go (leb (length text) (length out)) refl e b
     where
       go : (t : Bool) → leb (length text) (length out) ≡ t
-          → Ok n ≡ (output_of (Loaded.Image contents) text out).answer → between ≡ (output_of (Loaded.Image contents) text out).buffer
-          → Put out 0 (answer_within (length out) (Loaded.Image contents) text) between n
+          → Ok n ≡ (output_of (Ok contents) text out).answer → between ≡ (output_of (Ok contents) text out).buffer
+          → Put out 0 (answer_within (length out) (Ok contents) text) between n
       go true t e b =
           let f : ◌≡◌ {A = Result ℕ Refusal} (Ok n) (Ok (length text)) = rw t at e in
           let p : n ≡ length text = cc in

@@ -1,5 +1,5 @@
 -- However the input is cut into chunks, what is printed at its end is what the definition says for all of it.
-use Rattle.std.proofs.Common.{◌≡◌, ℕ, ◌+◌, ◌*◌, ◌/◌, ◌%◌, ◌^◌, ◌<◌, ◌≤◌, min, Bool, true, false, cond, ◌&&◌, eqb, leb, List, [], ◌∷◌, ◌++◌, length, take, drop, sym, refl, ap, ◌∙◌, arith, length-append, length-take, take_all, take_at, le-leb, leb-false, leb-true, fold}
+use Rattle.std.proofs.Common.{◌≡◌, ℕ, ◌+◌, ◌*◌, ◌/◌, ◌%◌, ◌^◌, ◌<◌, ◌≤◌, min, Bool, true, false, cond, ◌&&◌, eqb, leb, List, [], ◌∷◌, ◌++◌, length, take, drop, sym, refl, ap, ◌∙◌, arith, length-append, length-take, take_all, take_at, le-leb, leb-false, leb-true, fold, Result, Ok, Err}
 use Rattle.std.proofs.lemmas.List.Sums.{fold-append}
 use Rattle.std.proofs.Math.Option.{Option, none, some}
 use mathlib.Core.List.{flatten}
@@ -15,8 +15,7 @@ use Rattle.word.proofs.WordLaws.{words_length, bytes_length, bytes_below}
 use Rattle.word.proofs.WriteLaws.{put_in, put_length}
 use Rattle.image.specs.Check.{well_sized}
 use Rattle.image.specs.Held.{policy_in}
-use Rattle.image.specs.Load.{load, refusal_in}
-use Rattle.image.specs.declared.load.Loaded.{Loaded}
+use Rattle.image.specs.Load.{load, Contents}
 use Rattle.image.proofs.LoadLaws.{size_large, load_size}
 use Rattle.exactness.specs.Exact.{RefusalOf, of_checks, of_body}
 use Rattle.exactness.proofs.Exact.{held_acceptable, refusals}
@@ -61,11 +60,11 @@ kept_answer buffer ws room = go (leb (length ws) (length buffer / 4)) refl
 
 -- ---- a text always has room
 
-text_short : (ws : List ℕ) → (l : Loaded) → load (bytes_of ws) ≡ l → (room : ℕ) → 27968 ≤ room
+text_short : (ws : List ℕ) → (l : Result Contents Refusal) → load (bytes_of ws) ≡ l → (room : ℕ) → 27968 ≤ room
     → answer_within room l (text_of (policy_in (bytes_of ws))) ≡ loaded_answer l (text_of (policy_in (bytes_of ws)))
 unfolding answer_within loaded_answer
-text_short ws (Loaded.Refused r) e room h = refl
-text_short ws (Loaded.Image contents) e room h =
+text_short ws (Err r) e room h = refl
+text_short ws (Ok contents) e room h =
     let image : List ℕ = bytes_of ws in
     let short = text_length (policy_in image) (held_acceptable image (bytes_below ws) contents e) in
     rw (le-leb (length (text_of (policy_in image))) room (omega arith))
@@ -99,13 +98,13 @@ location_small : (image : List ℕ) (r : Refusal) → length image ≤ 13064 →
 location_small image r h (of_checks s a b c) = (omega arith, omega arith)
 location_small image r h (of_body s a b c) = (omega arith, omega (arith, words_length image))
 
-refusal_small : (image : List ℕ) (r : Refusal) → load image ≡ Loaded.Refused r → (fault_number r.fault < 2 ^ 64) × (r.location < 2 ^ 64)
+refusal_small : (image : List ℕ) (r : Refusal) → load image ≡ Err r → (fault_number r.fault < 2 ^ 64) × (r.location < 2 ^ 64)
 refusal_small image r e = go (well_sized (length image)) refl
   where
     go : (b : Bool) → well_sized (length image) ≡ b → (fault_number r.fault < 2 ^ 64) × (r.location < 2 ^ 64)
-    go true q = location_small image r (sized_few (length image) q) (refusals image r (ap refusal_in e))
+    go true q = location_small image r (sized_few (length image) q) (refusals image r e)
     go false q =
-        let f : Loaded.Refused r ≡ Loaded.Refused (refusal Fault.ImageSize 0) = sym e ∙ sym (load_size image q) in
+        let f : Err r ≡ Err (refusal Fault.ImageSize 0) = sym e ∙ sym (load_size image q) in
         let p : r ≡ refusal Fault.ImageSize 0 = cc in
         rw p (omega arith, omega arith)
 
@@ -117,9 +116,9 @@ image_short : (ws : List ℕ) → length (image_answer (bytes_of ws)) ≤ 27968
 unfolding image_answer loaded_answer
 image_short ws = go (load (bytes_of ws)) refl
   where
-    go : (l : Loaded) → load (bytes_of ws) ≡ l → length (loaded_answer l (text_of (policy_in (bytes_of ws)))) ≤ 27968
-    go (Loaded.Refused r) e = let s = refusal_small (bytes_of ws) r e in refusal_short r s.0 s.1
-    go (Loaded.Image contents) e = text_length (policy_in (bytes_of ws)) (held_acceptable (bytes_of ws) (bytes_below ws) contents e)
+    go : (l : Result Contents Refusal) → load (bytes_of ws) ≡ l → length (loaded_answer l (text_of (policy_in (bytes_of ws)))) ≤ 27968
+    go (Err r) e = let s = refusal_small (bytes_of ws) r e in refusal_short r s.0 s.1
+    go (Ok contents) e = text_length (policy_in (bytes_of ws)) (held_acceptable (bytes_of ws) (bytes_below ws) contents e)
 
 number_small : (n : ℕ) (lines : List (List ℕ)) (m : ℕ) → read_dump n lines ≡ not_word m → m < 2 ^ 64
 unfolding read_dump read_word_line behind_words
@@ -170,9 +169,9 @@ within_short image = go (load image) refl
     text : List ℕ
     text = text_of (policy_in image)
 
-    go : (l : Loaded) → load image ≡ l → length (answer_within 27968 l text) ≤ 27968
-    go (Loaded.Refused r) e = let s = refusal_small image r e in refusal_short r s.0 s.1
-    go (Loaded.Image contents) e = fit (leb (length text) 27968) refl
+    go : (l : Result Contents Refusal) → load image ≡ l → length (answer_within 27968 l text) ≤ 27968
+    go (Err r) e = let s = refusal_small image r e in refusal_short r s.0 s.1
+    go (Ok contents) e = fit (leb (length text) 27968) refl
       where
         fit : (b : Bool) → leb (length text) 27968 ≡ b → length (cond b text (image_refusal_line (refusal Fault.BufferTooSmall 0))) ≤ 27968
         fit true t = leb-true (length text) 27968 t

@@ -1,6 +1,7 @@
 -- What the decompiler prints for all of its input: the words of an image as the compiler prints them, one a line in eight
 -- hexadecimal digits, here of either case.
-use Rattle.std.specs.Prelude.{ℕ, ◌+◌, ◌%◌, ◌^◌, cond, ◌&&◌, List, [], ◌∷◌, ◌++◌, length, ◌==◌}
+use Rattle.policy.specs.declared.fault.Refusal.{Refusal}
+use Rattle.std.specs.Prelude.{ℕ, ◌+◌, ◌%◌, ◌^◌, cond, ◌&&◌, List, [], ◌∷◌, ◌++◌, length, ◌==◌, Result, Ok, Err}
 use Rattle.std.proofs.Math.Option.{Option, none, some}
 use Rattle.policy.specs.List.{all}
 use Rattle.word.specs.Word.{bytes_of}
@@ -8,8 +9,7 @@ use Rattle.lexer.specs.Byte.{is_hex_digit}
 use Rattle.lexer.specs.Lines.{lines_of}
 use Rattle.lexer.specs.Number.{hex_number}
 use Rattle.image.specs.Held.{policy_in}
-use Rattle.image.specs.Load.{load}
-use Rattle.image.specs.declared.load.Loaded.{Loaded}
+use Rattle.image.specs.Load.{load, Contents}
 use Rattle.printer.specs.Printed.{text_of}
 use Rattle.report.specs.Report.{image_refusal_line, not_word_line, next_number}
 
@@ -43,9 +43,9 @@ read_dump n (line ∷ lines) = read_word_line n (word_in line) (read_dump (next_
 -- ---- what is printed
 
 -- the loader's answer, and the text of what the image holds where it takes it
-unfoldable pub loaded_answer : Loaded → List ℕ → List ℕ
-loaded_answer (Loaded.Refused r) text = image_refusal_line r
-loaded_answer (Loaded.Image contents) text = text
+unfoldable pub loaded_answer : Result Contents Refusal → List ℕ → List ℕ
+loaded_answer (Err r) text = image_refusal_line r
+loaded_answer (Ok contents) text = text
 
 unfoldable pub image_answer : List ℕ → List ℕ
 image_answer image = loaded_answer (load image) (text_of (policy_in image))

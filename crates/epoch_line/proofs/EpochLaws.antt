@@ -1,18 +1,20 @@
 -- Laws of scanning an epoch line, token by token, and of its judgement against the definition.
 use Rattle.std.specs.Prelude.{Option as Maybe, Some, None}
-use Rattle.std.proofs.Common.{ℕ, suc, ◌<◌, ◌≤◌, Bool, true, false, not, ◌&&◌, ◌||◌, cond, List, [], ◌∷◌, ◌≡◌, refl, sym, ap, ap₂, ◌∙◌, arith, eqb-true, eq-eqb, ne_eqb, ltb-true, lt-ltb, le-ltb, ℤ, pos, length, replicate, fold}
+use Rattle.std.proofs.Common.{ℕ, suc, ◌<◌, ◌≤◌, Bool, true, false, not, ◌&&◌, ◌||◌, cond, List, [], ◌∷◌, ◌≡◌, refl, sym, ap, ap₂, ◌∙◌, arith, eqb-true, eq-eqb, ne_eqb, ltb-true, lt-ltb, le-ltb, ℤ, pos, length, replicate, fold, Result, Ok, Err}
 use Rattle.std.proofs.Math.Bool.{or-true, or_assoc, or-false}
 use Rattle.std.proofs.Math.Option.{Option, none, some, or_else}
 use Rattle.std.proofs.Math.Dec.{eqb, ltb}
 use Rattle.policy.proofs.ListLaws.{true_false, and_in, and_out}
 use Rattle.policy.proofs.SeenLaws.{seen_repeats}
-use Rattle.policy.specs.Epoch.{Epoch}
+use Rattle.policy.specs.declared.epoch.Epoch.{Epoch}
 use Rattle.policy.specs.Limits.{is_reading_value, repeats}
 use Rattle.policy.specs.Steps.Seen.{seen_in}
 use Rattle.policy.specs.List.{all, any}
 use Rattle.policy.specs.Number.{set_limit}
 use Rattle.policy.specs.Set.{has_reading, insert_reading, no_events, no_readings}
+use Rattle.policy.specs.Fault.{refusal}
 use Rattle.policy.specs.declared.fault.Fault.{Fault}
+use Rattle.policy.specs.declared.fault.Refusal.{Refusal}
 use Rattle.lexer.proofs.LeadingLaws.{leading_ends, drop_shorter}
 use Rattle.lexer.proofs.TokenLaws.{tokens_after_spaces, tokens_first}
 use Rattle.lexer.specs.Byte.{is_space}
@@ -22,10 +24,8 @@ use Rattle.lexer.specs.Steps.Scan.{in_token, token_in, behind_token, without_spa
 use Rattle.lexer.specs.Token.{Token, named, both}
 use Rattle.token.proofs.PartLaws.{Parted, part_some}
 use Rattle.token.specs.Steps.PartIn.{part_before}
-use Rattle.epoch_line.specs.Answer.{refused_read, accepted_read, answer_read, epoch_read}
-use Rattle.epoch_line.specs.Epoch.{Item, event, value, item_of, items_of, item_in_range, given_by, add_item, empty_epoch, judge_epoch, refused, accepted, epoch_limit, read_epoch, at_equals, assignment_of}
+use Rattle.epoch_line.specs.Epoch.{Item, event, value, item_of, items_of, item_in_range, given_by, add_item, empty_epoch, judge_epoch, epoch_limit, read_epoch, at_equals, assignment_of}
 use Rattle.epoch_line.specs.Steps.EpochScan.{Found, item_in, Scanned, scanned, add_scanned, flagged, take_item, finish_read, items_read, epoch_from}
-use Rattle.epoch_line.specs.declared.EpochRead.{EpochRead}
 
 -- ---- a line end among bytes
 
@@ -69,11 +69,11 @@ no_end (b ∷ s) e = go (eqb b 10) refl e (no_end s)
 
 -- ---- the judgement of all items against collecting them one by one
 
-unfoldable closed : Bool → Bool → Epoch → EpochRead
-closed out_of_range twice e = cond out_of_range (refused_read Fault.EpochRange) (cond twice (refused_read Fault.DuplicateReading) (accepted_read e))
+unfoldable closed : Bool → Bool → Epoch → Result Epoch Refusal
+closed out_of_range twice e = cond out_of_range (Err (refusal Fault.EpochRange 0)) (cond twice (Err (refusal Fault.DuplicateReading 0)) (Ok e))
 
 module _ (s : Scanned) (is : List Item) where
-  abbrev after : Scanned → List Item → EpochRead
+  abbrev after : Scanned → List Item → Result Epoch Refusal
   after s is = closed (s.out_of_range || not (all item_in_range is)) (s.twice || seen_in s.epoch.readings.given.bits (given_by is)) (fold add_item s.epoch is)
 
   one_more : (i : Item) → after (take_item s i) is ≡ after s (i ∷ is)
@@ -102,30 +102,30 @@ given_small (value n k ∷ is) e =
 abbrev nothing : Scanned
 nothing = scanned false false no_events no_readings (replicate 16 (pos 0))
 
-judged : (o : Option (List Item)) → items_read nothing o ≡ answer_read (judge_epoch o)
-unfolding items_read judge_epoch answer_read closed
+judged : (o : Option (List Item)) → items_read nothing o ≡ judge_epoch o
+unfolding items_read judge_epoch closed
 judged none = refl
 judged (some is) = collected nothing is ∙ go (all item_in_range is) refl
   where
-    twice : (r : Bool) → cond r (refused_read Fault.DuplicateReading) (accepted_read (fold add_item empty_epoch is)) ≡ answer_read (cond r (refused Fault.DuplicateReading) (accepted (fold add_item empty_epoch is)))
+    twice : (r : Bool) → cond r (Err (refusal Fault.DuplicateReading 0)) (Ok (fold add_item empty_epoch is)) ≡ (cond r (Err (refusal Fault.DuplicateReading 0)) (Ok (fold add_item empty_epoch is)))
     twice true = refl
     twice false = refl
 
-    go : (a : Bool) → all item_in_range is ≡ a → closed (not a) (seen_in 0 (given_by is)) (fold add_item empty_epoch is) ≡ answer_read (cond (not a) (refused Fault.EpochRange) (cond (repeats (given_by is)) (refused Fault.DuplicateReading) (accepted (fold add_item empty_epoch is))))
+    go : (a : Bool) → all item_in_range is ≡ a → closed (not a) (seen_in 0 (given_by is)) (fold add_item empty_epoch is) ≡ (cond (not a) (Err (refusal Fault.EpochRange 0)) (cond (repeats (given_by is)) (Err (refusal Fault.DuplicateReading 0)) (Ok (fold add_item empty_epoch is))))
     go true e = rw (seen_repeats (given_by is) (given_small is e)) (twice (repeats (given_by is)))
     go false e = refl
 
 -- the whole line
-pub read_all : (line : List ℕ) → length line ≤ epoch_limit → epoch_from nothing line ≡ epoch_read line
-unfolding epoch_from epoch_read read_epoch answer_read has_end tokens_in
+pub read_all : (line : List ℕ) → length line ≤ epoch_limit → epoch_from nothing line ≡ read_epoch line
+unfolding epoch_from read_epoch has_end tokens_in
 read_all line h = rw (le-ltb 1024 (length line) h) (go (has_end line) refl)
   where
-    go : (b : Bool) → has_end line ≡ b → cond b (refused_read Fault.EpochSyntax) (items_read nothing (items_of (tokens_of (first_line line)))) ≡ answer_read (cond b (refused Fault.EpochSyntax) (judge_epoch (items_of (tokens_of line))))
+    go : (b : Bool) → has_end line ≡ b → cond b (Err (refusal Fault.EpochSyntax 0)) (items_read nothing (items_of (tokens_of (first_line line)))) ≡ (cond b (Err (refusal Fault.EpochSyntax 0)) (judge_epoch (items_of (tokens_of line))))
     go true e = refl
     go false e = rw (no_end line e) (judged (items_of (tokens_of line)))
 
-pub read_long : (line : List ℕ) → epoch_limit < length line → refused_read Fault.TooLong ≡ epoch_read line
-unfolding epoch_read read_epoch answer_read
+pub read_long : (line : List ℕ) → epoch_limit < length line → Err (refusal Fault.TooLong 0) ≡ read_epoch line
+unfolding read_epoch
 read_long line h = rw (lt-ltb 1024 (length line) h)
 
 -- ---- one token
@@ -143,8 +143,8 @@ item_first s i (some is) = refl
 -- ---- a turn of scanning
 
 -- the answer behind the token in front
-abbrev pub epoch_behind : Scanned → Found → EpochRead
-epoch_behind s None = refused_read Fault.EpochSyntax
+abbrev pub epoch_behind : Scanned → Found → Result Epoch Refusal
+epoch_behind s None = Err (refusal Fault.EpochSyntax 0)
 epoch_behind s (Some (None, rest)) = epoch_from (flagged s) rest
 epoch_behind s (Some (Some i, rest)) = epoch_from (add_scanned s i) rest
 
@@ -155,27 +155,27 @@ module _ (s : Scanned) (line : List ℕ) where
   read_skipped : epoch_from s line ≡ epoch_from s next
   unfolding epoch_from has_end
   read_skipped =
-      ap₂ (λ (b : Bool) (ts : List Token). cond b (refused_read Fault.EpochSyntax) (items_read s (items_of ts)))
+      ap₂ (λ (b : Bool) (ts : List Token). cond b (Err (refusal Fault.EpochSyntax 0)) (items_read s (items_of ts)))
       (end_past is_space space_no_end line) (sym (tokens_after_spaces line))
 
   read_taken : (i : Item) → item_of (token_in next) ≡ some i → epoch_from s next ≡ epoch_from (take_item s i) (behind_token next)
   unfolding epoch_from has_end items_of
   read_taken i q =
-      ap₂ (λ (b : Bool) (x : EpochRead). cond b (refused_read Fault.EpochSyntax) x)
+      ap₂ (λ (b : Bool) (x : Result Epoch Refusal). cond b (Err (refusal Fault.EpochSyntax 0)) x)
       (end_past in_token inside_no_end next)
       (ap (λ (ts : List Token). items_read s (items_of ts)) (tokens_first next (item_token (token_in next) i q))
       ∙ ap (λ (o : Option Item). items_read s (both ◌∷◌ o (items_of (tokens_in (behind_token next))))) q
       ∙ item_first s i (items_of (tokens_in (behind_token next))))
 
-  read_malformed : is_empty next ≡ false → item_of (token_in next) ≡ none → epoch_from s next ≡ refused_read Fault.EpochSyntax
+  read_malformed : is_empty next ≡ false → item_of (token_in next) ≡ none → epoch_from s next ≡ Err (refusal Fault.EpochSyntax 0)
   unfolding epoch_from items_of items_read both has_end
   read_malformed h q = go (is_empty (token_in next)) refl
     where
-      same : (b : Bool) → ◌≡◌ {A = EpochRead} (cond b (refused_read Fault.EpochSyntax) (refused_read Fault.EpochSyntax)) (refused_read Fault.EpochSyntax)
+      same : (b : Bool) → ◌≡◌ {A = Result Epoch Refusal} (cond b (Err (refusal Fault.EpochSyntax 0)) (Err (refusal Fault.EpochSyntax 0))) (Err (refusal Fault.EpochSyntax 0))
       same true = refl
       same false = refl
 
-      go : (b : Bool) → is_empty (token_in next) ≡ b → epoch_from s next ≡ refused_read Fault.EpochSyntax
+      go : (b : Bool) → is_empty (token_in next) ≡ b → epoch_from s next ≡ Err (refusal Fault.EpochSyntax 0)
       go true e = rw (end_here next (leading_ends is_space line) h e)
       go false e = rw (tokens_first next e, q) (same (any (eqb 10) next))
 

@@ -1,14 +1,16 @@
 -- The epoch line: its tokens `E5` and `R0=41`, what it is refused for (1, 12, 13, 14, each over the whole
 -- line), and the epoch that an accepted one has.
 use Prim.Native.Char.{code}
-use Rattle.std.specs.Prelude.{ℕ, Bool, not, ◌&&◌, cond, eqb, ltb, ℤ, pos, length, set, replicate, List, [], ◌∷◌, fold}
+use Rattle.std.specs.Prelude.{ℕ, Bool, not, ◌&&◌, cond, eqb, ltb, ℤ, pos, length, set, replicate, List, [], ◌∷◌, fold, if◌then◌else◌, Result, Ok, Err}
 use Rattle.std.proofs.Math.Option.{Option, none, some, map, or_else}
-use Rattle.policy.specs.Epoch.{Epoch}
+use Rattle.policy.specs.declared.epoch.Epoch.{Epoch}
 use Rattle.policy.specs.Limits.{is_reading_value, repeats}
 use Rattle.policy.specs.List.{all, any}
 use Rattle.policy.specs.Number.{set_limit, reading_limit}
 use Rattle.policy.specs.Set.{no_events, insert_event, no_readings, insert_reading}
+use Rattle.policy.specs.Fault.{refusal}
 use Rattle.policy.specs.declared.fault.Fault.{Fault}
+use Rattle.policy.specs.declared.fault.Refusal.{Refusal}
 use Rattle.lexer.specs.Token.{Token, named, both}
 use Rattle.lexer.specs.Lines.{tokens_of}
 use Rattle.lexer.specs.Number.{constant_of}
@@ -63,22 +65,18 @@ add_item e (value n k) =
 abbrev pub empty_epoch : Epoch
 empty_epoch = record { events = no_events; readings = record { given = no_readings; values = replicate reading_limit (pos 0) } }
 
-pub data EpochAnswer : Type 0 where
-  refused : Fault → EpochAnswer
-  accepted : Epoch → EpochAnswer
-
--- the faults of a line in their order: 12, 13, 14
-unfoldable pub judge_epoch : Option (List Item) → EpochAnswer
-judge_epoch none = refused Fault.EpochSyntax
+-- the faults of a line in their order: 12, 13, 14, at no line
+unfoldable pub judge_epoch : Option (List Item) → Result Epoch Refusal
+judge_epoch none = Err (refusal Fault.EpochSyntax 0)
 judge_epoch (some is) =
-    cond (not (all item_in_range is)) (refused Fault.EpochRange)
-    (cond (repeats (given_by is)) (refused Fault.DuplicateReading) (accepted (fold add_item empty_epoch is)))
+    if not (all item_in_range is) then Err (refusal Fault.EpochRange 0)
+    else (if repeats (given_by is) then Err (refusal Fault.DuplicateReading 0) else Ok (fold add_item empty_epoch is))
 
 abbrev pub epoch_limit : ℕ
 epoch_limit = 1024
 
 -- a byte 10 inside the line is a wrong shape (12)
-unfoldable pub read_epoch : List ℕ → EpochAnswer
+unfoldable pub read_epoch : List ℕ → Result Epoch Refusal
 read_epoch line =
-    cond (ltb epoch_limit (length line)) (refused Fault.TooLong)
-    (cond (any (eqb 10) line) (refused Fault.EpochSyntax) (judge_epoch (items_of (tokens_of line))))
+    if ltb epoch_limit (length line) then Err (refusal Fault.TooLong 0)
+    else (if any (eqb 10) line then Err (refusal Fault.EpochSyntax 0) else judge_epoch (items_of (tokens_of line)))

@@ -5,27 +5,13 @@
 ghost use Rattle.std.specs.Prelude.{◌≡◌, false, pos, replicate, Some};
 ghost use Rattle.policy.specs.Set.{no_events, no_readings};
 ghost use Rattle.epoch_line.specs.Steps.EpochScan.{found, event_with, value_with, assigned_in, value_in, item_in, scanned, finish_read, epoch_from};
-ghost use Rattle.epoch_line.specs.Answer.{refused_read, epoch_read};
+ghost use Rattle.epoch_line.specs.Epoch.{read_epoch};
 
 use lexer::{digits, event, skip_spaces};
-use policy::{Event, EventSet, Fault, READING_LIMIT, Reading, ReadingSet};
+use policy::{
+    Epoch, Event, EventSet, Fault, READING_LIMIT, Reading, ReadingSet, Readings, Refusal,
+};
 use token::constant;
-
-#[derive(Clone, Copy)]
-pub enum EpochStatus {
-    Refused(Fault),
-    Accepted,
-}
-
-/// The answer to an epoch line. Where the line is refused, the sets are empty and all values are 0.
-#[derive(Clone, Copy)]
-pub struct EpochRead {
-    pub status: EpochStatus,
-    pub events: EventSet,
-    // Which readings the line gives, and the value of each by its number.
-    pub given: ReadingSet,
-    pub values: [i32; READING_LIMIT],
-}
 
 // What the token in front of a line gives, with what stands behind it.
 #[derive(Clone, Copy)]
@@ -103,67 +89,53 @@ fn item(line: &[u8]) -> Entry<'_>
     }
 }
 
-fn refused(fault: Fault) -> EpochRead
-    ensures { result ≡ refused_read fault }
-{
-    EpochRead {
-        status: EpochStatus::Refused(fault),
-        events: EventSet::EMPTY,
-        given: ReadingSet::EMPTY,
-        values: [0; READING_LIMIT],
-    }
-}
-
 // The answer at the end of the line, from what was read. A number out of range comes before a reading given twice.
 #[inline(always)]
 #[tactic(auto, unfolding(crate::specs::Steps::EpochScan::finish_read))]
-fn finished(out_of_range: bool, twice: bool, read: EpochRead) -> EpochRead
-    requires { read.status ≡ EpochStatus.Accepted }
-    ensures { result ≡ finish_read (scanned out_of_range twice read.events read.given read.values) }
+fn finished(out_of_range: bool, twice: bool, epoch: Epoch) -> Result<Epoch, Refusal>
+    ensures { result ≡ finish_read (record { out_of_range = out_of_range; twice = twice; epoch = epoch }) }
 {
     if out_of_range {
-        return refused(Fault::EpochRange);
+        return Err(Fault::EpochRange.at(0));
     }
     if twice {
-        return refused(Fault::DuplicateReading);
+        return Err(Fault::DuplicateReading.at(0));
     }
-    read
+    Ok(epoch)
 }
 
 // The tokens of the line, one after another. At a byte 10 no token stands: that is malformed too.
-fn read_items(line: &[u8]) -> EpochRead
+fn read_items(line: &[u8]) -> Result<Epoch, Refusal>
     ensures { result ≡ epoch_from (scanned false false no_events no_readings (replicate 16 (pos 0))) line.now }
 {
     let mut out_of_range = false;
     let mut twice = false;
-    let mut read = EpochRead {
-        status: EpochStatus::Accepted,
-        events: EventSet::EMPTY,
-        given: ReadingSet::EMPTY,
-        values: [0; READING_LIMIT],
-    };
+    let mut events = EventSet::EMPTY;
+    let mut given = ReadingSet::EMPTY;
+    let mut values = [0; READING_LIMIT];
     let mut rest = line;
     loop {
         let front = skip_spaces(rest);
         if front.is_empty() {
-            return finished(out_of_range, twice, read);
+            let readings = Readings { given, values };
+            return finished(out_of_range, twice, Epoch { events, readings });
         }
         match item(front) {
             Entry::Event(event, behind) => {
-                read.events = read.events.insert(event);
+                events = events.insert(event);
                 rest = behind;
             }
             Entry::Value(reading, value, behind) => {
-                twice |= read.given.has(reading);
-                read.given = read.given.insert(reading);
-                read.values[reading.0 as usize] = value;
+                twice |= given.has(reading);
+                given = given.insert(reading);
+                values[reading.0 as usize] = value;
                 rest = behind;
             }
             Entry::OutOfRange(behind) => {
                 out_of_range = true;
                 rest = behind;
             }
-            Entry::Malformed => return refused(Fault::EpochSyntax),
+            Entry::Malformed => return Err(Fault::EpochSyntax.at(0)),
         }
     }
 }
@@ -173,11 +145,11 @@ const EPOCH_LIMIT: usize = 1024;
 
 /// An epoch line, without its line end.
 #[tactic(auto, using(crate::proofs::EpochLaws::read_all, crate::proofs::EpochLaws::read_long))]
-pub fn read_epoch(line: &[u8]) -> EpochRead
-    ensures { result ≡ epoch_read line.now }
+pub fn read_epoch(line: &[u8]) -> Result<Epoch, Refusal>
+    ensures { result ≡ read_epoch line.now }
 {
     if EPOCH_LIMIT < line.len() {
-        refused(Fault::TooLong)
+        Err(Fault::TooLong.at(0))
     } else {
         read_items(line)
     }

@@ -1,11 +1,10 @@
 -- The loader takes exactly the images of policies that an accepted text may have, refuses others at the right location, and
 -- refuses every image in which one word was changed.
-use Rattle.std.proofs.Common.{ℕ, zero, suc, ◌+◌, ◌*◌, ◌%◌, ◌≤◌, ◌<◌, Bool, true, false, ◌&&◌, List, [], ◌∷◌, ◌++◌, map, ◌↔◌, ◌≡◌, refl, sym, ap, ap₂, ◌∙◌, subst, arith, le-leb, eq-eqb, eqb-true, length, length-set, length-append}
-use Rattle.std.proofs.Math.Option.{some}
+use Rattle.std.proofs.Common.{ℕ, zero, suc, ◌+◌, ◌*◌, ◌%◌, ◌≤◌, ◌<◌, Bool, true, false, ◌&&◌, List, [], ◌∷◌, ◌++◌, map, ◌↔◌, ◌≡◌, refl, sym, ap, ap₂, ◌∙◌, subst, arith, le-leb, eq-eqb, eqb-true, length, length-set, length-append, Result, Ok, Err}
 use Rattle.std.proofs.Math.Dec.{leb, eqb}
 use Rattle.std.proofs.Math.ListN.{get_or, set, length-map}
 use Rattle.policy.proofs.ListLaws.{and_in, and_out}
-use Rattle.policy.specs.Fault.{refusal, refusal_number, refusal_location}
+use Rattle.policy.specs.Fault.{fault_number, refusal}
 use Rattle.policy.specs.Limits.{Acceptable}
 use Rattle.policy.specs.Line.{PolicyLine, rule, constraint}
 use Rattle.policy.specs.Policy.{Policy}
@@ -24,13 +23,11 @@ use Rattle.layout.specs.Header.{pack_header, form_of, rule_count_of, constraint_
 use Rattle.image.specs.Check.{rule_count, constraint_count, form_byte, well_sized, counts_fit, sums_to_zero}
 use Rattle.image.specs.Held.{lines_in, policy_in}
 use Rattle.layout.specs.Layout.{known_form, check_count, sum, check_word, check_words, header_word, rule_part_words, constraint_part_words, content_words, image_words, image_of}
-use Rattle.image.specs.Lines.{Lines, whole, fault, lines_from, part_lines, rule_lines, constraint_lines}
-use Rattle.image.specs.Load.{body_answer, load_words, load, refusal_in}
+use Rattle.image.specs.Lines.{lines_from, part_lines, rule_part, constraint_part, rule_lines, constraint_lines}
+use Rattle.image.specs.Load.{Contents, body_answer, load_words, load}
 use Rattle.exactness.specs.Exact.{IsImage, contents_of, changed, Checked, RefusedEarly, RefusalOf, of_checks, of_body}
-use Rattle.exactness.specs.ImageFault.{rule_part, constraint_part, NoLineAt, ImageFault, wrong_size, unknown_form, wrong_count, wrong_sum, no_rule, no_constraint}
+use Rattle.exactness.specs.ImageFault.{NoLineAt, ImageFault, wrong_size, unknown_form, wrong_count, wrong_sum, no_rule, no_constraint}
 use Rattle.policy.specs.declared.line.Part.{Part}
-use Rattle.image.specs.declared.load.Loaded.{Loaded}
-use Rattle.image.specs.declared.load.Contents.{Contents}
 
 known_one : (form : ℕ) → known_form form ≡ true → form ≡ 1
 unfolding known_form
@@ -114,30 +111,30 @@ module _ (form : ℕ) (known : known_form form ≡ true) (p : Policy) (ok : Acce
   unfolding image_words content_words check_words
   image_constraints = constraints_between (header_word form (rule_part_words p) (constraint_part_words p)) (rule_part_words p) (constraint_part_words p) (check_word (content_words form p) ∷ []) P N refl refl
 
-  rules_found : lines_from Part.Rules 128 1 (rule_part_words p) ≡ whole (map rule p.rules)
+  rules_found : lines_from Part.Rules 128 1 (rule_part_words p) ≡ Ok (map rule p.rules)
   unfolding rule_part_words
   rules_found = lines_found Part.Rules (map rule p.rules) 128 1 (rules_kind p.rules) ok.rules_valid (omega (arith, length-map p.rules rule, ok.few_rules))
 
-  constraints_found : (at : ℕ) → lines_from Part.Constraints 64 at (constraint_part_words p) ≡ whole (map constraint p.constraints)
+  constraints_found : (at : ℕ) → lines_from Part.Constraints 64 at (constraint_part_words p) ≡ Ok (map constraint p.constraints)
   unfolding constraint_part_words
   constraints_found at = lines_found Part.Constraints (map constraint p.constraints) 64 at (constraints_kind p.constraints) ok.constraints_valid (omega (arith, length-map p.constraints constraint, ok.few_constraints))
 
-  rule_lines_is : rule_lines (image_words form p) ≡ whole (map rule p.rules)
+  rule_lines_is : rule_lines (image_words form p) ≡ Ok (map rule p.rules)
   unfolding part_lines
   rule_lines_is =
       ap (λ (k : ℕ). lines_from Part.Rules 128 1 (between 1 (1 + k) (image_words form p))) rules_are ∙ ap (lines_from Part.Rules 128 1) image_rules ∙ rules_found
 
-  constraint_lines_is : constraint_lines (image_words form p) ≡ whole (map constraint p.constraints)
+  constraint_lines_is : constraint_lines (image_words form p) ≡ Ok (map constraint p.constraints)
   unfolding part_lines
   constraint_lines_is =
       ap₂ (λ (k m : ℕ). lines_from Part.Constraints 64 (1 + k) (between (1 + k) (1 + k + m) (image_words form p))) rules_are constraints_are
       ∙ ap (lines_from Part.Constraints 64 (1 + P)) image_constraints ∙ constraints_found (1 + P)
 
   -- the loader takes the image of every acceptable policy, and says how many words and lines it has
-  pub image_taken : load (image_of form p) ≡ Loaded.Image (contents_of form p)
+  pub image_taken : load (image_of form p) ≡ Ok (contents_of p)
   unfolding load load_words body_answer
   image_taken =
-      rw (image_size, image_words_is, rule_lines_is, constraint_lines_is, form_is, known, counts, sums, rules_are, constraints_are, length-map p.rules rule, length-map p.constraints constraint)
+      rw (image_size, image_words_is, rule_lines_is, constraint_lines_is, form_is, known, counts, sums, rules_are, constraints_are, image_rules, image_constraints, length-map p.rules rule, length-map p.constraints constraint)
 
   -- the policy that it then holds is that policy
   pub image_holds : policy_in (image_of form p) ≡ p
@@ -148,10 +145,13 @@ module _ (form : ℕ) (known : known_form form ≡ true) (p : Policy) (ok : Acce
 
 -- ---- what the loader answers, taken apart
 
+abbrev pub refused_with : Refusal → Result Contents Refusal
+refused_with r = Err r
+
 -- which check it stopped at
 pub data Answered (bytes : List ℕ) : Type 0 where
   early : RefusedEarly (load bytes) → Answered bytes
-  late : Checked bytes → load bytes ≡ body_answer (form_byte (words_of bytes)) (rule_count (words_of bytes)) (constraint_count (words_of bytes)) (rule_lines (words_of bytes)) (constraint_lines (words_of bytes)) → Answered bytes
+  late : Checked bytes → load bytes ≡ body_answer (rule_part (words_of bytes)) (constraint_part (words_of bytes)) (rule_lines (words_of bytes)) (constraint_lines (words_of bytes)) → Answered bytes
 
 pub answered : (bytes : List ℕ) → Answered bytes
 unfolding load load_words
@@ -176,22 +176,17 @@ answered bytes = size (well_sized (length bytes)) refl
     size true q = form q (known_form (form_byte ws)) refl
     size false q = early (record { fault = Fault.ImageSize; refused = rw q; from = omega arith; upto = omega arith })
 
-pub refused_as : (x : Loaded) (r : Refusal) → refusal_in x ≡ some r → x ≡ Loaded.Refused r
-refused_as (Loaded.Refused q) r e = let p : q ≡ r = cc in ap Loaded.Refused p
-refused_as (Loaded.Image c) r e = let z : ◌≡◌ {A = ℕ} 0 1 = cc in absurd (omega arith)
-
 -- an image that is taken passed all checks, and both parts are lines
 pub record Took (bytes : List ℕ) (contents : Contents) : Type 0 where
   pub checked : Checked bytes
   pub rules : List PolicyLine
   pub constraints : List PolicyLine
-  pub rules_whole : rule_lines (words_of bytes) ≡ whole rules
-  pub constraints_whole : constraint_lines (words_of bytes) ≡ whole constraints
-  pub form_is : contents.form ≡ form_byte (words_of bytes)
-  pub rule_words_are : contents.rule_words ≡ rule_count (words_of bytes)
-  pub constraint_words_are : contents.constraint_words ≡ constraint_count (words_of bytes)
+  pub rules_whole : rule_lines (words_of bytes) ≡ Ok rules
+  pub constraints_whole : constraint_lines (words_of bytes) ≡ Ok constraints
+  pub rules_are : contents.rules ≡ rule_part (words_of bytes)
+  pub constraints_are : contents.constraints ≡ constraint_part (words_of bytes)
 
-pub took : (bytes : List ℕ) (contents : Contents) → load bytes ≡ Loaded.Image contents → Took bytes contents
+pub took : (bytes : List ℕ) (contents : Contents) → load bytes ≡ Ok contents → Took bytes contents
 took bytes contents e =
     let t = taken_parts bytes contents e in
     record {
@@ -200,14 +195,13 @@ took bytes contents e =
       constraints = t.constraints;
       rules_whole = t.rules_whole;
       constraints_whole = t.constraints_whole;
-      form_is = t.form_is;
-      rule_words_are = t.rule_words_are;
-      constraint_words_are = t.constraint_words_are;
+      rules_are = ap (λ (k : Contents). k.rules) t.same;
+      constraints_are = ap (λ (k : Contents). k.constraints) t.same;
     }
 
 -- ---- whatever is taken is the image of the policy that it holds
 
-module _ (bytes : List ℕ) (bounded : Bytes bytes) (contents : Contents) (taken : load bytes ≡ Loaded.Image contents) where
+module _ (bytes : List ℕ) (bounded : Bytes bytes) (contents : Contents) (taken : load bytes ≡ Ok contents) where
   t : Took bytes contents
   t = took bytes contents taken
 
@@ -228,10 +222,10 @@ module _ (bytes : List ℕ) (bounded : Bytes bytes) (contents : Contents) (taken
       }
 
   rule_size : ℕ
-  rule_size = contents.rule_words
+  rule_size = rule_count (words_of bytes)
 
   constraint_size : ℕ
-  constraint_size = contents.constraint_words
+  constraint_size = constraint_count (words_of bytes)
 
   R : List ℕ
   R = between 1 (1 + rule_size) ws
@@ -248,24 +242,23 @@ module _ (bytes : List ℕ) (bounded : Bytes bytes) (contents : Contents) (taken
 
   rules_same : rule_part_words (policy_in bytes) ≡ R
   unfolding rule_part_words R rule_size ws
-  rules_same = sym h.rule_part_is.words
+  rules_same = sym h.rule_part_is.words ∙ h.rules_are
 
   constraints_same : constraint_part_words (policy_in bytes) ≡ C
   unfolding constraint_part_words C rule_size constraint_size ws
-  constraints_same = sym h.constraint_part_is.words
+  constraints_same = sym h.constraint_part_is.words ∙ h.constraints_are
 
   words_small : Below word_limit ws
   unfolding ws
   words_small = words_below bytes bounded
 
-  header_same : pack_header contents.form (length R) (length C) ≡ get_or ws 0 0
+  header_same : pack_header (form_byte (words_of bytes)) (length R) (length C) ≡ get_or ws 0 0
   unfolding R C rule_size constraint_size ws
   header_same =
-      ap₂ (λ (a b : ℕ). pack_header contents.form a b) (rules_size (words_of bytes) contents.rule_words contents.constraint_words h.size ∙ t.rule_words_are) (constraints_size (words_of bytes) contents.rule_words contents.constraint_words h.size ∙ t.constraint_words_are)
-      ∙ ap (λ (f : ℕ). pack_header f (rule_count (words_of bytes)) (constraint_count (words_of bytes))) t.form_is
+      ap₂ (λ (a b : ℕ). pack_header (form_byte (words_of bytes)) a b) (rules_size (words_of bytes) (rule_count (words_of bytes)) (constraint_count (words_of bytes)) h.size) (constraints_size (words_of bytes) (rule_count (words_of bytes)) (constraint_count (words_of bytes)) h.size)
       ∙ header_fields (get_or (words_of bytes) 0 0) (words_small 0)
 
-  content_same : content_words contents.form (policy_in bytes) ≡ get_or ws 0 0 ∷ R ++ C
+  content_same : content_words (form_byte (words_of bytes)) (policy_in bytes) ≡ get_or ws 0 0 ∷ R ++ C
   unfolding content_words header_word
   content_same = rw (rules_same, constraints_same) (ap (λ (h : ℕ). h ∷ R ++ C) header_same)
 
@@ -301,55 +294,55 @@ module _ (bytes : List ℕ) (bounded : Bytes bytes) (contents : Contents) (taken
           let c = zero_sum in
           omega arith
 
-  whole_same : image_words contents.form (policy_in bytes) ≡ ws
+  whole_same : image_words (form_byte (words_of bytes)) (policy_in bytes) ≡ ws
   unfolding image_words check_words
   whole_same = rw content_same (ap (λ (x : ℕ). (get_or ws 0 0 ∷ R ++ C) ++ x ∷ []) (sym last_same) ∙ sym split)
 
   -- it is the image of the policy that it holds, byte for byte
-  pub held_image : image_of contents.form (policy_in bytes) ≡ bytes
+  pub held_image : image_of (form_byte (words_of bytes)) (policy_in bytes) ≡ bytes
   unfolding image_of well_sized ws
   held_image =
       ap bytes_of whole_same
       ∙ bytes_of_words bytes bounded (eqb-true (length bytes % 4) 0 (and_out (leb 8 (length bytes) && leb (length bytes) 13064) (eqb (length bytes % 4) 0) t.checked.size).1)
 
   -- and of a form that is known
-  pub held_form : known_form contents.form ≡ true
-  held_form = ap known_form t.form_is ∙ t.checked.form
+  pub held_form : known_form (form_byte (words_of bytes)) ≡ true
+  held_form = t.checked.form
 
   -- the parts of a taken image are the words of its policy
-  pub taken_rules : between 1 (1 + contents.rule_words) (words_of bytes) ≡ rule_part_words (policy_in bytes)
+  pub taken_rules : contents.rules ≡ rule_part_words (policy_in bytes)
   unfolding rule_part_words
   taken_rules = h.rule_part_is.words
 
-  pub taken_constraints : between (1 + contents.rule_words) (1 + contents.rule_words + contents.constraint_words) (words_of bytes) ≡ constraint_part_words (policy_in bytes)
+  pub taken_constraints : contents.constraints ≡ constraint_part_words (policy_in bytes)
   unfolding constraint_part_words
   taken_constraints = h.constraint_part_is.words
 
 -- both ways together: the loader takes exactly the images of acceptable policies
-pub exactly_images : (bytes : List ℕ) → Bytes bytes → ((contents : Contents) × (load bytes ≡ Loaded.Image contents)) ↔ IsImage bytes
+pub exactly_images : (bytes : List ℕ) → Bytes bytes → ((contents : Contents) × (load bytes ≡ Ok contents)) ↔ IsImage bytes
 exactly_images bytes bounded = (
-  λ x. record { form = x.0.form; policy = policy_in bytes; known = held_form bytes bounded x.0 x.1; acceptable = held_acceptable bytes bounded x.0 x.1; same = held_image bytes bounded x.0 x.1 },
-  λ x. (contents_of x.form x.policy, ap load (sym x.same) ∙ image_taken x.form x.known x.policy x.acceptable),
+  λ x. record { form = form_byte (words_of bytes); policy = policy_in bytes; known = held_form bytes bounded x.0 x.1; acceptable = held_acceptable bytes bounded x.0 x.1; same = held_image bytes bounded x.0 x.1 },
+  λ x. (contents_of x.policy, ap load (sym x.same) ∙ image_taken x.form x.known x.policy x.acceptable),
 )
 
 -- ---- why and where bytes are refused
 
 module _ (ws : List ℕ) where
-  rules_whole : (rs : List PolicyLine) → (rule_lines ws ≡ whole rs) ↔ AreLines Part.Rules 128 (rule_part ws) rs
+  rules_whole : (rs : List PolicyLine) → (rule_lines ws ≡ Ok rs) ↔ AreLines Part.Rules 128 (rule_part ws) rs
   unfolding part_lines
   rules_whole rs = part_whole_exactly Part.Rules 128 1 (rule_part ws) rs
 
-  rules_refused : (location : ℕ) → (rule_lines ws ≡ fault location) ↔ NoLineAt Part.Rules 128 1 (rule_part ws) location
+  rules_refused : (location : ℕ) → (rule_lines ws ≡ Err location) ↔ NoLineAt Part.Rules 128 1 (rule_part ws) location
   unfolding part_lines
   rules_refused location = part_fault_exactly Part.Rules 128 1 (rule_part ws) location
 
-  constraints_refused : (location : ℕ) → (constraint_lines ws ≡ fault location) ↔ NoLineAt Part.Constraints 64 (1 + rule_count ws) (constraint_part ws) location
+  constraints_refused : (location : ℕ) → (constraint_lines ws ≡ Err location) ↔ NoLineAt Part.Constraints 64 (1 + rule_count ws) (constraint_part ws) location
   unfolding part_lines
   constraints_refused location = part_fault_exactly Part.Constraints 64 (1 + rule_count ws) (constraint_part ws) location
 
 module _ (bytes : List ℕ) where
   -- each fault is told
-  fault_given : (r : Refusal) → ImageFault bytes r → load bytes ≡ Loaded.Refused r
+  fault_given : (r : Refusal) → ImageFault bytes r → load bytes ≡ Err r
   unfolding load load_words body_answer
   fault_given r (wrong_size s) = rw s
   fault_given r (unknown_form s f) = rw (s, f)
@@ -359,23 +352,23 @@ module _ (bytes : List ℕ) where
   fault_given r (no_constraint c rs w n h) = rw (c.size, c.form, c.count, c.check, (rules_whole (words_of bytes) rs).1 w, (constraints_refused (words_of bytes) n).1 h)
 
   -- and there is one wherever the loader refuses
-  module _ (r : Refusal) (refused : load bytes ≡ Loaded.Refused r) where
+  module _ (r : Refusal) (refused : load bytes ≡ Err r) where
     abbrev held : List ℕ
     held = words_of bytes
 
     told : (s : Refusal) → ImageFault bytes s → ImageFault bytes r
     told s f =
-        let e : Loaded.Refused s ≡ Loaded.Refused r = sym (fault_given s f) ∙ refused in
+        let e : refused_with s ≡ refused_with r = sym (fault_given s f) ∙ refused in
         let same : s ≡ r = cc in
         subst (ImageFault bytes) same f
 
-    in_lines : Checked bytes → (x y : Lines) → rule_lines held ≡ x → constraint_lines held ≡ y → ImageFault bytes r
+    in_lines : Checked bytes → (x y : Result (List PolicyLine) ℕ) → rule_lines held ≡ x → constraint_lines held ≡ y → ImageFault bytes r
     unfolding load load_words body_answer
-    in_lines c (fault n) y p q = told _ (no_rule c n ((rules_refused held n).0 p))
-    in_lines c (whole rs) (fault n) p q = told _ (no_constraint c rs ((rules_whole held rs).0 p) n ((constraints_refused held n).0 q))
-    in_lines c (whole rs) (whole cs) p q =
-        let taken : load bytes ≡ body_answer (form_byte held) (rule_count held) (constraint_count held) (whole rs) (whole cs) = rw (c.size, c.form, c.count, c.check, p, q) in
-        let e : body_answer (form_byte held) (rule_count held) (constraint_count held) (whole rs) (whole cs) ≡ Loaded.Refused r = sym taken ∙ refused in
+    in_lines c (Err n) y p q = told _ (no_rule c n ((rules_refused held n).0 p))
+    in_lines c (Ok rs) (Err n) p q = told _ (no_constraint c rs ((rules_whole held rs).0 p) n ((constraints_refused held n).0 q))
+    in_lines c (Ok rs) (Ok cs) p q =
+        let taken : load bytes ≡ body_answer (rule_part held) (constraint_part held) (Ok rs) (Ok cs) = rw (c.size, c.form, c.count, c.check, p, q) in
+        let e : body_answer (rule_part held) (constraint_part held) (Ok rs) (Ok cs) ≡ Err r = sym taken ∙ refused in
         let z : ◌≡◌ {A = ℕ} 0 1 = cc in
         absurd (omega arith)
 
@@ -395,49 +388,54 @@ module _ (bytes : List ℕ) where
     fault_found true q = in_form q (known_form (form_byte held)) refl
     fault_found false q = told _ (wrong_size q)
 
-  pub image_refused_exactly : (r : Refusal) → (load bytes ≡ Loaded.Refused r) ↔ ImageFault bytes r
+  pub image_refused_exactly : (r : Refusal) → (load bytes ≡ Err r) ↔ ImageFault bytes r
   image_refused_exactly r = (λ e. fault_found r e (well_sized (length bytes)) refl, fault_given r)
 
   -- and no other fault
   pub one_image_fault : (r s : Refusal) → ImageFault bytes r → ImageFault bytes s → r ≡ s
-  one_image_fault r s a b = let e : Loaded.Refused r ≡ Loaded.Refused s = sym (fault_given r a) ∙ fault_given s b in cc
+  one_image_fault r s a b = let e : refused_with r ≡ refused_with s = sym (fault_given r a) ∙ fault_given s b in cc
 
 -- ---- which refusals there are
 
-pub refusals : (bytes : List ℕ) (r : Refusal) → refusal_in (load bytes) ≡ some r → RefusalOf (length (words_of bytes)) r
+pub refusals : (bytes : List ℕ) (r : Refusal) → load bytes ≡ Err r → RefusalOf (length (words_of bytes)) r
 unfolding body_answer
 refusals bytes r e = go (answered bytes)
   where
     ws' : List ℕ
     ws' = words_of bytes
 
+    number : Refusal → ℕ
+    number x = fault_number x.fault
+
     -- a location in words that begin at the index `from` lies among them
     among : (part : Part) (room from location : ℕ) (ws : List ℕ) → NoLineAt part room from ws location → (from ≤ location) × (location < from + length ws)
     among part room from location ws h = (omega (arith, h.located), omega (arith, h.located, h.more, ap length h.words, length-append h.front h.rest))
 
-    source_of : (n : ℕ) → some (refusal Fault.ImageBody n) ≡ some r → r.source ≡ Source.Neither
+    source_of : (n : ℕ) → refused_with (refusal Fault.ImageBody n) ≡ refused_with r → r.source ≡ Source.Neither
     source_of n q = let k : refusal Fault.ImageBody n ≡ r = cc in ap (λ (x : Refusal). x.source) (sym k)
 
-    given : (n : ℕ) → some (refusal Fault.ImageBody n) ≡ some r → 1 ≤ n → n < length ws' → RefusalOf (length ws') r
-    given n q a b = of_body (source_of n q) (sym (ap refusal_number q)) (omega (arith, ap refusal_location q)) (omega (arith, ap refusal_location q))
+    given : (n : ℕ) → refused_with (refusal Fault.ImageBody n) ≡ refused_with r → 1 ≤ n → n < length ws' → RefusalOf (length ws') r
+    given n q a b =
+        let k : refusal Fault.ImageBody n ≡ r = cc in
+        of_body (source_of n q) (sym (ap number k)) (omega (arith, ap (λ (x : Refusal). x.location) k)) (omega (arith, ap (λ (x : Refusal). x.location) k))
 
-    body : Checked bytes → (x y : Lines) → rule_lines ws' ≡ x → constraint_lines ws' ≡ y → refusal_in (body_answer (form_byte ws') (rule_count ws') (constraint_count ws') x y) ≡ some r → RefusalOf (length ws') r
-    body c (fault n) y p q s =
+    body : Checked bytes → (x y : Result (List PolicyLine) ℕ) → rule_lines ws' ≡ x → constraint_lines ws' ≡ y → body_answer (rule_part ws') (constraint_part ws') x y ≡ Err r → RefusalOf (length ws') r
+    body c (Err n) y p q s =
         let k = counts_add ws' c.count in
         let a = among Part.Rules 128 1 n (rule_part ws') ((rules_refused ws' n).0 p) in
         given n s a.0 (omega (arith, a.1, rules_size ws' (rule_count ws') (constraint_count ws') k))
-    body c (whole rs) (fault n) p q s =
+    body c (Ok rs) (Err n) p q s =
         let k = counts_add ws' c.count in
         let a = among Part.Constraints 64 (1 + rule_count ws') n (constraint_part ws') ((constraints_refused ws' n).0 q) in
         given n s (omega (arith, a.0)) (omega (arith, a.1, constraints_size ws' (rule_count ws') (constraint_count ws') k))
-    body c (whole rs) (whole cs) p q s = let z : ◌≡◌ {A = ℕ} 0 1 = cc in absurd (omega arith)
+    body c (Ok rs) (Ok cs) p q s = let z : ◌≡◌ {A = ℕ} 0 1 = cc in absurd (omega arith)
 
     go : Answered bytes → RefusalOf (length ws') r
     go (early x) =
-        let a : some r ≡ some (refusal x.fault 0) = sym e ∙ x.refused in
+        let a : refused_with r ≡ refused_with (refusal x.fault 0) = sym e ∙ x.refused in
         let k : r ≡ refusal x.fault 0 = cc in
-        of_checks (ap (λ (y : Refusal). y.source) k) (omega (arith, ap refusal_number a, x.from)) (omega (arith, ap refusal_number a, x.upto)) (ap refusal_location a)
-    go (late c q) = body c (rule_lines ws') (constraint_lines ws') refl refl (sym (ap refusal_in q) ∙ e)
+        of_checks (ap (λ (y : Refusal). y.source) k) (omega (arith, ap number k, x.from)) (omega (arith, ap number k, x.upto)) (ap (λ (y : Refusal). y.location) k)
+    go (late c q) = body c (rule_lines ws') (constraint_lines ws') refl refl (sym q ∙ e)
 
 -- ---- one word changed
 

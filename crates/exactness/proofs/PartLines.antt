@@ -1,5 +1,5 @@
 -- The lines of a part: all that are written are found, and what is found was written.
-use Rattle.std.proofs.Common.{ℕ, zero, suc, ◌+◌, ◌*◌, ◌≤◌, ◌<◌, true, List, [], ◌∷◌, ◌++◌, map, append_assoc, ◌⊎◌, inl, inr, ◌↔◌, ◌≡◌, refl, sym, ap, ◌∙◌, add_assoc, add-zero, arith, length, drop, length-append, drop_at}
+use Rattle.std.proofs.Common.{ℕ, zero, suc, ◌+◌, ◌*◌, ◌≤◌, ◌<◌, true, List, [], ◌∷◌, ◌++◌, map, append_assoc, ◌⊎◌, inl, inr, ◌↔◌, ◌≡◌, refl, sym, ap, ◌∙◌, add_assoc, add-zero, arith, length, drop, length-append, drop_at, Result, Ok, Err}
 use Rattle.std.proofs.Math.Option.{Option, none, some}
 use Rattle.policy.proofs.ListLaws.{and_in, and_out}
 use Rattle.policy.specs.Limits.{valid}
@@ -14,7 +14,7 @@ use Rattle.image.specs.Held.{rules_in, constraints_in}
 use Rattle.layout.specs.Layout.{line_words, lines_words}
 use Rattle.decode.specs.Decode.{line_at}
 use Rattle.decode.specs.Stands.{in_part, Stands, AreLines}
-use Rattle.image.specs.Lines.{Lines, whole, fault, add_line, after_line, lines_from}
+use Rattle.image.specs.Lines.{add_line, after_line, lines_from}
 use Rattle.image.proofs.HeldLaws.{lines_written}
 use Rattle.exactness.specs.ImageFault.{NoLineAt}
 use Rattle.policy.specs.declared.line.Part.{Part}
@@ -47,15 +47,15 @@ not_empty part room at l rest = go (line_words l ++ rest) (omega (arith, length-
     go [] h = absurd (omega arith)
     go (w ∷ ws) h = refl
 
-line_step : (part : Part) (room at : ℕ) (l : PolicyLine) (ls : List PolicyLine) → in_part part l ≡ true → valid l ≡ true → lines_from part room (at + length (line_words l)) (lines_words ls) ≡ whole ls
-    → lines_from part (suc room) at (line_words l ++ lines_words ls) ≡ whole (l ∷ ls)
+line_step : (part : Part) (room at : ℕ) (l : PolicyLine) (ls : List PolicyLine) → in_part part l ≡ true → valid l ≡ true → lines_from part room (at + length (line_words l)) (lines_words ls) ≡ Ok ls
+    → lines_from part (suc room) at (line_words l ++ lines_words ls) ≡ Ok (l ∷ ls)
 unfolding after_line add_line
 line_step part room at l ls k v later =
     not_empty part room at l (lines_words ls)
     ∙ ap (λ (o : Option PolicyLine). after_line at o (λ (x : PolicyLine). lines_from part room (at + length (line_words x)) (drop (length (line_words x)) (line_words l ++ lines_words ls)))) (line_in_is part l (lines_words ls) k v)
     ∙ ap (add_line l) (ap (lines_from part room (at + length (line_words l))) (drop_at (line_words l) (lines_words ls) (length (line_words l)) refl) ∙ later)
 
-pub lines_found : (part : Part) (ls : List PolicyLine) (room at : ℕ) → all (in_part part) ls ≡ true → all valid ls ≡ true → length ls ≤ room → lines_from part room at (lines_words ls) ≡ whole ls
+pub lines_found : (part : Part) (ls : List PolicyLine) (room at : ℕ) → all (in_part part) ls ≡ true → all valid ls ≡ true → length ls ≤ room → lines_from part room at (lines_words ls) ≡ Ok ls
 unfolding lines_words all lines_from
 lines_found part [] zero at k v h = refl
 lines_found part [] (suc room) at k v h = refl
@@ -68,7 +68,7 @@ lines_found part (l ∷ ls) (suc room) at k v h =
 -- ---- where none fits
 
 module _ (part : Part) where
-  fault_here : (room at location : ℕ) (ws : List ℕ) → fault at ≡ fault location → 0 < length ws → (0 ≡ room) ⊎ ((l : PolicyLine) → ¬ Stands part ws l) → NoLineAt part room at ws location
+  fault_here : (room at location : ℕ) (ws : List ℕ) → ◌≡◌ {A = Result (List PolicyLine) ℕ} (Err at) (Err location) → 0 < length ws → (0 ≡ room) ⊎ ((l : PolicyLine) → ¬ Stands part ws l) → NoLineAt part room at ws location
   unfolding all lines_words
   fault_here room at location ws e h n =
       let p : location ≡ at = cc in
@@ -114,17 +114,17 @@ module _ (part : Part) where
       omega arith
 
   line_fault : (room at location : ℕ) (ws : List ℕ) → 0 < length ws
-      → ((l : PolicyLine) → lines_from part room (at + length (line_words l)) (drop (length (line_words l)) ws) ≡ fault location → NoLineAt part room (at + length (line_words l)) (drop (length (line_words l)) ws) location)
-      → (o : Option PolicyLine) → line_at part ws ≡ o → after_line at o (λ (l : PolicyLine). lines_from part room (at + length (line_words l)) (drop (length (line_words l)) ws)) ≡ fault location → NoLineAt part (suc room) at ws location
+      → ((l : PolicyLine) → lines_from part room (at + length (line_words l)) (drop (length (line_words l)) ws) ≡ Err location → NoLineAt part room (at + length (line_words l)) (drop (length (line_words l)) ws) location)
+      → (o : Option PolicyLine) → line_at part ws ≡ o → after_line at o (λ (l : PolicyLine). lines_from part room (at + length (line_words l)) (drop (length (line_words l)) ws)) ≡ Err location → NoLineAt part (suc room) at ws location
   unfolding after_line add_line
   line_fault room at location ws h later none q e = fault_here (suc room) at location ws e h (inr (λ l s. none_stands ws l q s))
   line_fault room at location ws h later (some l) q e = fault_later room at location ws l (line_out part ws l q) (later l (passed (lines_from part room (at + length (line_words l)) (drop (length (line_words l)) ws)) e))
     where
-      passed : (x : Lines) → add_line l x ≡ fault location → x ≡ fault location
-      passed (whole ls) r = let z : ◌≡◌ {A = ℕ} 0 1 = cc in absurd (omega arith)
-      passed (fault n) r = r
+      passed : (x : Result (List PolicyLine) ℕ) → add_line l x ≡ Err location → x ≡ Err location
+      passed (Ok ls) r = let z : ◌≡◌ {A = ℕ} 0 1 = cc in absurd (omega arith)
+      passed (Err n) r = r
 
-  pub lines_fault : (room at location : ℕ) (ws : List ℕ) → lines_from part room at ws ≡ fault location → NoLineAt part room at ws location
+  pub lines_fault : (room at location : ℕ) (ws : List ℕ) → lines_from part room at ws ≡ Err location → NoLineAt part room at ws location
   unfolding lines_from
   lines_fault zero at location [] e = let z : ◌≡◌ {A = ℕ} 0 1 = cc in absurd (omega arith)
   lines_fault zero at location (w ∷ ws) e = fault_here zero at location (w ∷ ws) e (omega arith) (inl refl)
@@ -152,15 +152,15 @@ module _ (part : Part) (rest : List ℕ) (more : 0 < length rest) where
       go none q = q
       go (some l) q = absurd (n l (line_out part rest l q))
 
-  no_room : (at : ℕ) → lines_from part zero at rest ≡ fault at
+  no_room : (at : ℕ) → lines_from part zero at rest ≡ Err at
   unfolding lines_from
   no_room at = go rest more
     where
-      go : (ws : List ℕ) → 0 < length ws → lines_from part zero at ws ≡ fault at
+      go : (ws : List ℕ) → 0 < length ws → lines_from part zero at ws ≡ Err at
       go [] h = absurd (omega arith)
       go (w ∷ ws) h = refl
 
-  no_line : (room at : ℕ) → (0 ≡ room) ⊎ Unfit → lines_from part room at rest ≡ fault at
+  no_line : (room at : ℕ) → (0 ≡ room) ⊎ Unfit → lines_from part room at rest ≡ Err at
   unfolding after_line
   no_line zero at n = no_room at
   no_line (suc room) at (inl q) = absurd (omega arith)
@@ -173,9 +173,9 @@ module _ (part : Part) (rest : List ℕ) (more : 0 < length rest) where
   one_fewer k room (inr q) = inr q
 
   behind_lines : (before : List PolicyLine) (room at : ℕ) → all (in_part part) before ≡ true → all valid before ≡ true → length before ≤ room → (length before ≡ room) ⊎ Unfit
-      → lines_from part room at (lines_words before ++ rest) ≡ fault (at + length (lines_words before))
+      → lines_from part room at (lines_words before ++ rest) ≡ Err (at + length (lines_words before))
   unfolding lines_words all after_line add_line
-  behind_lines [] room at k v f n = no_line room at n ∙ ap fault (sym (add-zero at))
+  behind_lines [] room at k v f n = no_line room at n ∙ ap Err (sym (add-zero at))
   behind_lines (l ∷ ls) zero at k v f n = absurd (omega arith)
   behind_lines (l ∷ ls) (suc room) at k v f n =
       let p = and_out (in_part part l) (all (in_part part) ls) k in
@@ -186,20 +186,20 @@ module _ (part : Part) (rest : List ℕ) (more : 0 < length rest) where
       ∙ ap (λ (o : Option PolicyLine). after_line at o (λ (x : PolicyLine). lines_from part room (at + length (line_words x)) (drop (length (line_words x)) (line_words l ++ tail)))) (line_in_is part l tail p.0 q.0)
       ∙ ap (λ (ws : List ℕ). add_line l (lines_from part room (at + length (line_words l)) ws)) (drop_at (line_words l) tail (length (line_words l)) refl)
       ∙ ap (add_line l) (behind_lines ls room (at + length (line_words l)) p.1 q.1 (omega arith) (one_fewer (length ls) room n))
-      ∙ ap fault (add_assoc at (length (line_words l)) (length (lines_words ls)) ∙ ap (λ (n : ℕ). at + n) (sym (length-append (line_words l) (lines_words ls))))
+      ∙ ap Err (add_assoc at (length (line_words l)) (length (lines_words ls)) ∙ ap (λ (n : ℕ). at + n) (sym (length-append (line_words l) (lines_words ls))))
 
-pub no_line_fault : (part : Part) (room at location : ℕ) (ws : List ℕ) → NoLineAt part room at ws location → lines_from part room at ws ≡ fault location
+pub no_line_fault : (part : Part) (room at location : ℕ) (ws : List ℕ) → NoLineAt part room at ws location → lines_from part room at ws ≡ Err location
 no_line_fault part room at location ws h =
     ap (lines_from part room at) (h.words ∙ ap (λ (ws : List ℕ). ws ++ h.rest) h.lines.words)
     ∙ behind_lines part h.rest h.more h.before room at h.lines.kind h.lines.sound h.lines.few h.none_fits
-    ∙ ap fault (sym (h.located ∙ ap (λ (ws : List ℕ). at + length ws) h.lines.words))
+    ∙ ap Err (sym (h.located ∙ ap (λ (ws : List ℕ). at + length ws) h.lines.words))
 
 -- both answers, exactly
-pub part_whole_exactly : (part : Part) (room at : ℕ) (ws : List ℕ) (ls : List PolicyLine) → (lines_from part room at ws ≡ whole ls) ↔ AreLines part room ws ls
+pub part_whole_exactly : (part : Part) (room at : ℕ) (ws : List ℕ) (ls : List PolicyLine) → (lines_from part room at ws ≡ Ok ls) ↔ AreLines part room ws ls
 part_whole_exactly part room at ws ls =
     (lines_written part room at ws ls, λ h. ap (lines_from part room at) h.words ∙ lines_found part ls room at h.kind h.sound h.few)
 
-pub part_fault_exactly : (part : Part) (room at : ℕ) (ws : List ℕ) (location : ℕ) → (lines_from part room at ws ≡ fault location) ↔ NoLineAt part room at ws location
+pub part_fault_exactly : (part : Part) (room at : ℕ) (ws : List ℕ) (location : ℕ) → (lines_from part room at ws ≡ Err location) ↔ NoLineAt part room at ws location
 part_fault_exactly part room at ws location = (lines_fault part room at location ws, no_line_fault part room at location ws)
 
 -- ---- rules and constraints as lines, both ways

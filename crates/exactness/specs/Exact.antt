@@ -1,6 +1,5 @@
 -- The notions of the statements about images: what is an image, what the loader says of it, and how it refuses.
-use Rattle.std.specs.Prelude.{ℕ, ◌≤◌, ◌<◌, true, List, ◌≡◌, length, set}
-use Rattle.std.proofs.Math.Option.{some}
+use Rattle.std.specs.Prelude.{ℕ, ◌≤◌, ◌<◌, true, List, ◌≡◌, length, set, Result, Err}
 use Rattle.policy.specs.Fault.{fault_number, refusal}
 use Rattle.policy.specs.Limits.{Acceptable}
 use Rattle.policy.specs.Policy.{Policy}
@@ -10,9 +9,7 @@ use Rattle.policy.specs.declared.fault.Source.{Source}
 use Rattle.word.specs.Word.{words_of, bytes_of}
 use Rattle.image.specs.Check.{form_byte, well_sized, counts_fit, sums_to_zero}
 use Rattle.layout.specs.Layout.{known_form, rule_part_words, constraint_part_words, image_of}
-use Rattle.image.specs.Load.{refusal_in}
-use Rattle.image.specs.declared.load.Contents.{Contents}
-use Rattle.image.specs.declared.load.Loaded.{Loaded}
+use Rattle.image.specs.Load.{Contents}
 
 -- ---- images
 
@@ -25,8 +22,8 @@ pub record IsImage (bytes : List ℕ) : Type 0 where
   pub same : image_of form policy ≡ bytes
 
 -- what stands in the image of a policy
-abbrev pub contents_of : ℕ → Policy → Contents
-contents_of form p = record { form = form; rule_words = length (rule_part_words p); constraint_words = length (constraint_part_words p); rules = length p.rules; constraints = length p.constraints }
+abbrev pub contents_of : Policy → Contents
+contents_of p = record { rules = rule_part_words p; constraints = constraint_part_words p; rule_count = length p.rules; constraint_count = length p.constraints }
 
 -- the bytes with the value v for the word i
 abbrev pub changed : List ℕ → ℕ → ℕ → List ℕ
@@ -42,9 +39,9 @@ pub record Checked (bytes : List ℕ) : Type 0 where
   pub check : sums_to_zero (words_of bytes) ≡ true
 
 -- refused under one of the faults 7 to 10, at location 0
-pub record RefusedEarly (answer : Loaded) : Type 0 where
+pub record RefusedEarly (answer : Result Contents Refusal) : Type 0 where
   pub fault : Fault
-  pub refused : refusal_in answer ≡ some (refusal fault 0)
+  pub refused : answer ≡ Err (refusal fault 0)
   pub from : 7 ≤ fault_number fault
   pub upto : fault_number fault ≤ 10
 

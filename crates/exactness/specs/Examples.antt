@@ -1,15 +1,15 @@
 -- A worked example (docs/REFERENCE.md, "The image") and the empty policy, one row each: the words of the image, what the loader
 -- answers for its bytes and the policy that it then holds.
-use Rattle.std.specs.Prelude.{ℕ, Bool, true, false, List, [], ◌∷◌, pos}
+use Rattle.std.specs.Prelude.{ℕ, Bool, true, false, List, [], ◌∷◌, pos, Result, Ok}
 use Rattle.policy.specs.Policy.{Policy}
 use Rattle.policy.specs.declared.comparison.Literal.{Literal}
 use Rattle.policy.specs.declared.comparison.Operand.{Operand}
 use Rattle.policy.specs.declared.comparison.Relation.{Relation}
+use Rattle.policy.specs.declared.fault.Refusal.{Refusal}
 use Rattle.word.specs.Word.{words_of}
 use Rattle.layout.specs.Layout.{image_of}
 use Rattle.image.specs.Held.{policy_in}
-use Rattle.image.specs.Load.{load}
-use Rattle.image.specs.declared.load.Loaded.{Loaded}
+use Rattle.image.specs.Load.{Contents, load}
 
 abbrev event : ℕ → Bool → Literal
 event n negated = record { event = record { 0 = n }; negated = negated }
@@ -33,7 +33,7 @@ empty_policy = record { rules = []; constraints = [] }
 
 pub record Image : Type 0 where
   pub words : List ℕ
-  pub answer : Loaded
+  pub answer : Result Contents Refusal
   pub holds : Policy
 
 unfoldable pub policies : List Policy
@@ -47,12 +47,18 @@ images =
       words =
           16805891 ∷ 272629764 ∷ 545259523 ∷ 805339137 ∷ 40 ∷ 1354760192 ∷ 281018369 ∷ 1358954496 ∷ 1623195650 ∷ 1627389953 ∷ 1879048192
           ∷ 3120500681 ∷ [];
-      answer = Loaded.Image (record { form = 1; rule_words = 7; constraint_words = 3; rules = 2; constraints = 1 });
+      answer =
+          Ok (record {
+            rules = 272629764 ∷ 545259523 ∷ 805339137 ∷ 40 ∷ 1354760192 ∷ 281018369 ∷ 1358954496 ∷ [];
+            constraints = 1623195650 ∷ 1627389953 ∷ 1879048192 ∷ [];
+            rule_count = 2;
+            constraint_count = 1;
+          });
       holds = worked;
     }
     ∷ record {
       words = 16777216 ∷ 4278190080 ∷ [];
-      answer = Loaded.Image (record { form = 1; rule_words = 0; constraint_words = 0; rules = 0; constraints = 0 });
+      answer = Ok (record { rules = []; constraints = []; rule_count = 0; constraint_count = 0 });
       holds = empty_policy;
     }
     ∷ []

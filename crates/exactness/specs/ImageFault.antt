@@ -6,18 +6,12 @@ use Rattle.policy.specs.Line.{PolicyLine}
 use Rattle.policy.specs.declared.fault.Fault.{Fault}
 use Rattle.policy.specs.declared.fault.Refusal.{Refusal}
 use Rattle.policy.specs.declared.line.Part.{Part}
-use Rattle.word.specs.Word.{words_of, between}
+use Rattle.word.specs.Word.{words_of}
 use Rattle.layout.specs.Layout.{known_form}
 use Rattle.decode.specs.Stands.{Stands, AreLines}
-use Rattle.image.specs.Check.{form_byte, rule_count, constraint_count, well_sized, counts_fit, sums_to_zero}
+use Rattle.image.specs.Check.{form_byte, rule_count, well_sized, counts_fit, sums_to_zero}
+use Rattle.image.specs.Lines.{rule_part, constraint_part}
 use Rattle.exactness.specs.Exact.{Checked}
-
--- the words of each part
-abbrev pub rule_part : List ℕ → List ℕ
-rule_part ws = between 1 (1 + rule_count ws) ws
-
-abbrev pub constraint_part : List ℕ → List ℕ
-constraint_part ws = between (1 + rule_count ws) (1 + rule_count ws + constraint_count ws) ws
 
 -- a location in a part up to which there are whole lines, and at which none fits: `ws` are the words of the part, of which the first has
 -- the index `from`, and there is room for so many lines

@@ -1,6 +1,6 @@
 -- The first line of a text that is sought: what one turn of the search does, and what is shown of a line.
 use Rattle.std.specs.Prelude.{Option, Some, None, Ok, Err}
-use Rattle.std.proofs.Common.{ℕ, ◌+◌, ◌-◌, ◌≤◌, ◌<◌, Bool, true, false, cond, List, [], ◌∷◌, ◌≡◌, refl, sym, ap, ap₂, ◌∙◌, arith, eqb-true, ℤ, length, take}
+use Rattle.std.proofs.Common.{ℕ, ◌+◌, ◌-◌, ◌≤◌, ◌<◌, Bool, true, false, cond, List, [], ◌∷◌, ◌≡◌, refl, sym, ap, ap₂, ◌∙◌, arith, eqb-true, length, take}
 use Rattle.policy.proofs.ValidLaws.{valid_out}
 use Rattle.policy.specs.Limits.{valid}
 use Rattle.policy.specs.Line.{PolicyLine, ending_of}
@@ -25,6 +25,7 @@ use Rattle.explanation.proofs.TrimLaws.{trimmed_front}
 use Rattle.explanation.specs.Part.{trim_start, trim_end, trim, Stretch, shown_at, or_later, first_from}
 use Rattle.explanation.specs.Steps.Sought.{tells, sought_by, Writable}
 use Rattle.explanation.specs.declared.find.Sought.{Sought}
+use Rattle.policy.specs.declared.epoch.Epoch.{Epoch}
 
 -- ---- what is shown of a line
 
@@ -61,32 +62,32 @@ shown_is at n text part e p =
 
 -- ---- one turn of the search
 
-module _ (text : List ℕ) (q : Sought) (values : List ℤ) where
+module _ (text : List ℕ) (q : Sought) (epoch : Epoch) where
   -- what is found in the rest of the text
   abbrev found : List ℕ → Option Stretch
-  found rest = first_from (sought_by q values) (length text - length rest) (lines_of rest)
+  found rest = first_from (sought_by q epoch) (length text - length rest) (lines_of rest)
 
   -- nothing has been found before the rest
   pub record Seeking (rest : List ℕ) : Type 0 where
     pub inside : length rest ≤ length text
-    pub same : first_from (sought_by q values) 0 (lines_of text) ≡ found rest
+    pub same : first_from (sought_by q epoch) 0 (lines_of text) ≡ found rest
 
   pub seeking_none : Seeking text
   seeking_none = let z : length text - length text ≡ 0 = omega arith in record { inside = omega arith; same = rw z }
 
   -- the lines behind the first, wherever a line behind a text without a line end would start
-  lines_behind : (rest : List ℕ) → length rest ≤ length text → first_from (sought_by q values) (length text - length rest + length (first_line rest) + 1) (lines_of (next_line rest)) ≡ found (next_line rest)
+  lines_behind : (rest : List ℕ) → length rest ≤ length text → first_from (sought_by q epoch) (length text - length rest + length (first_line rest) + 1) (lines_of (next_line rest)) ≡ found (next_line rest)
   unfolding first_from lines_of pieces
   lines_behind rest h = go (behind_line rest) (leading_length in_line rest)
     where
-      go : (t : List ℕ) → length (first_line rest) + length t ≡ length rest → first_from (sought_by q values) (length text - length rest + length (first_line rest) + 1) (lines_of (without_end t)) ≡ found (without_end t)
+      go : (t : List ℕ) → length (first_line rest) + length t ≡ length rest → first_from (sought_by q epoch) (length text - length rest + length (first_line rest) + 1) (lines_of (without_end t)) ≡ found (without_end t)
       go [] e = refl
       go (b ∷ t) e =
           let k : length text - length rest + length (first_line rest) + 1 ≡ length text - length t = omega arith in
-          ap (λ (n : ℕ). first_from (sought_by q values) n (lines_of t)) k
+          ap (λ (n : ℕ). first_from (sought_by q epoch) n (lines_of t)) k
 
   module _ (rest : List ℕ) (s : Seeking rest) where
-    pub seeking_all : length rest ≡ 0 → None ≡ first_from (sought_by q values) 0 (lines_of text)
+    pub seeking_all : length rest ≡ 0 → None ≡ first_from (sought_by q epoch) 0 (lines_of text)
     unfolding first_from lines_of pieces
     seeking_all h = sym (s.same ∙ nothing rest h)
       where
@@ -98,18 +99,18 @@ module _ (text : List ℕ) (q : Sought) (values : List ℤ) where
       abbrev at : ℕ
       at = length text - length rest
 
-      turned : (a : LineAnswer) → line_answer (first_line rest) ≡ a → first_from (sought_by q values) 0 (lines_of text) ≡ or_later (sought_by q values) a at (first_line rest) (found (next_line rest))
+      turned : (a : LineAnswer) → line_answer (first_line rest) ≡ a → first_from (sought_by q epoch) 0 (lines_of text) ≡ or_later (sought_by q epoch) a at (first_line rest) (found (next_line rest))
       unfolding first_from
       turned a k =
-          s.same ∙ ap (first_from (sought_by q values) at) (lines_here rest h)
-          ∙ ap₂ (λ (x : LineAnswer) (later : Option Stretch). or_later (sought_by q values) x at (first_line rest) later) k (lines_behind rest s.inside)
+          s.same ∙ ap (first_from (sought_by q epoch) at) (lines_here rest h)
+          ∙ ap₂ (λ (x : LineAnswer) (later : Option Stretch). or_later (sought_by q epoch) x at (first_line rest) later) k (lines_behind rest s.inside)
 
-      pub seeking_stop : (f : Fault) → Err f ≡ line_read rest → None ≡ first_from (sought_by q values) 0 (lines_of text)
+      pub seeking_stop : (f : Fault) → Err f ≡ line_read rest → None ≡ first_from (sought_by q epoch) 0 (lines_of text)
       unfolding or_later
       seeking_stop f e = sym (turned (refused f) (read_refused rest f e))
 
       module _ (behind : List ℕ) where
-        onward : behind ≡ next_line rest → first_from (sought_by q values) 0 (lines_of text) ≡ found (next_line rest) → Seeking behind
+        onward : behind ≡ next_line rest → first_from (sought_by q epoch) 0 (lines_of text) ≡ found (next_line rest) → Seeking behind
         onward n m = rw n (record { inside = omega (arith, next_shorter rest h, s.inside); same = m })
 
         shorter : behind ≡ next_line rest → length behind < length rest
@@ -123,9 +124,9 @@ module _ (text : List ℕ) (q : Sought) (values : List ℤ) where
         pub record Judging (l : Line) : Type 0 where
           pub writable : Writable (value_words l)
           pub later : length behind < length rest
-          pub hit : (b : Bool) → b ≡ tells q.part l.ending q values (value_words l) → b ≡ true → (x : Stretch) → x ≡ shown_at at (first_line rest)
-              → Some x ≡ first_from (sought_by q values) 0 (lines_of text)
-          pub miss : (b : Bool) → b ≡ tells q.part l.ending q values (value_words l) → b ≡ false → Seeking behind
+          pub hit : (b : Bool) → b ≡ tells q epoch l.ending (value_words l) → b ≡ true → (x : Stretch) → x ≡ shown_at at (first_line rest)
+              → Some x ≡ first_from (sought_by q epoch) 0 (lines_of text)
+          pub miss : (b : Bool) → b ≡ tells q epoch l.ending (value_words l) → b ≡ false → Seeking behind
 
         pub seeking_judge : (l : Line) → Ok (Some l, behind) ≡ line_read rest → Judging l
         unfolding line_value line_of sought_by or_later
@@ -136,7 +137,7 @@ module _ (text : List ℕ) (q : Sought) (values : List ℤ) where
             let p = valid_out k v in
             let words : value_words l ≡ line_words k = ap value_words r.value ∙ value_words_is k p.few_tests p.few_comparisons in
             let ends : l.ending ≡ ending_of k = ap (λ (x : Line). x.ending) r.value in
-            let same : tells q.part l.ending q values (value_words l) ≡ sought_by q values k = ap₂ (λ (x : Ending) (ws : List ℕ). tells q.part x q values ws) ends words in
+            let same : tells q epoch l.ending (value_words l) ≡ sought_by q epoch k = ap₂ (λ (x : Ending) (ws : List ℕ). tells q epoch x ws) ends words in
             record {
               writable = rw words (record { few = line_limit_is k v; small = line_below k v });
               later = shorter r.behind;

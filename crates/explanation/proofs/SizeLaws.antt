@@ -3,7 +3,7 @@ use Rattle.std.specs.Prelude.{Option, Some, None, option_map, Result, Ok, Err}
 use Rattle.std.specs.Option.{option_or, option_map_or}
 use Rattle.std.proofs.Common.{ℕ, suc, ◌+◌, ◌≤◌, Bool, true, false, cond, List, [], ◌∷◌, ◌≡◌, refl, arith, length}
 use Rattle.std.proofs.Math.Dec.{eqb}
-use Rattle.policy.specs.Epoch.{Epoch}
+use Rattle.policy.specs.declared.epoch.Epoch.{Epoch}
 use Rattle.policy.specs.Line.{PolicyLine}
 use Rattle.policy.specs.Number.{check_action}
 use Rattle.policy.specs.Set.{ActionSet, has_action}
@@ -14,10 +14,11 @@ use Rattle.lexer.specs.Byte.{is_space}
 use Rattle.lexer.specs.Lines.{prepend, pieces, lines_of}
 use Rattle.syntax.specs.Judge.{LineAnswer, skipped, refused, accepted, line_answer}
 use Rattle.monitor.specs.Decision.{decision}
-use Rattle.monitor.specs.declared.decision.Decision.{Decision}
+use Rattle.monitor.specs.declared.decision.Actions.{Actions}
+use Rattle.epoch_line.specs.Epoch.{read_epoch}
 use Rattle.explanation.specs.Part.{trim_start, add_to_trimmed, trim_end, trim, Stretch, Quote, of_maker, of_site, shown_at, or_later, first_from, first_shown}
 use Rattle.explanation.specs.Why.{is_proposing_rule, is_cancelling_constraint, Explanation, not_proposed, accepted_by, cancelled_by, explanation_for, on_action}
-use Rattle.explanation.specs.Steps.On.{epoch_on, on_decision, explained_on}
+use Rattle.explanation.specs.Steps.On.{on_decision, explained_on}
 
 least : (n : ℕ) → 0 ≤ n
 least n = omega arith
@@ -115,12 +116,13 @@ module _ (maker site : List ℕ) (m : ℕ) (makers : length maker ≤ m) (sites 
 
   pub said_size_on : (line : List ℕ) (n : ℕ) (image : List ℕ) → said_size (explained_on maker site line n image) ≤ m
   unfolding explained_on on_decision on_action
-  said_size_on line n image = go (decision image line)
+  said_size_on line n image = go (decision image line) (read_epoch line)
     where
-      asked : (accepts cancels : ActionSet) (c : Option Action) → said_size (on_action maker site accepts cancels (epoch_on line) c) ≤ m
-      asked accepts cancels None = least m
-      asked accepts cancels (Some a) = said_within accepts cancels (epoch_on line) a
+      asked : (accepts cancels : ActionSet) (e : Epoch) (c : Option Action) → said_size (on_action maker site accepts cancels e c) ≤ m
+      asked accepts cancels e None = least m
+      asked accepts cancels e (Some a) = said_within accepts cancels e a
 
-      go : (d : Decision) → said_size (on_decision maker site line n d) ≤ m
-      go (Decision.Refused r) = least m
-      go (Decision.Issued actions) = asked actions.accepted actions.cancelled (check_action n)
+      go : (d : Result Actions Refusal) (a : Result Epoch Refusal) → said_size (on_decision maker site n d a) ≤ m
+      go (Err r) a = least m
+      go (Ok actions) (Err r) = least m
+      go (Ok actions) (Ok e) = asked actions.accepted actions.cancelled e (check_action n)

@@ -6,14 +6,14 @@ use Rattle.std.proofs.Math.Dec.{eqb}
 use Rattle.policy.proofs.ListLaws.{and_in}
 use Rattle.policy.proofs.SetLaws.{has_empty, has_insert_same, has_insert_other}
 use Rattle.policy.proofs.ValidLaws.{valid_out}
-use Rattle.policy.specs.Epoch.{Epoch, Readings}
+use Rattle.policy.specs.declared.epoch.Epoch.{Epoch}
+use Rattle.policy.specs.declared.epoch.Readings.{Readings}
 use Rattle.policy.specs.Limits.{valid, ending_in_range}
 use Rattle.policy.specs.Line.{PolicyLine, rule, constraint, ending_of}
 use Rattle.policy.specs.List.{all, any}
 use Rattle.policy.specs.Policy.{Policy, Rule, Constraint}
 use Rattle.policy.specs.Set.{ActionSet, has, insert, all_events, no_actions, has_action, insert_action, actions_below}
 use Rattle.policy.specs.declared.line.Ending.{Ending}
-use Rattle.policy.specs.declared.line.Part.{Part}
 use Rattle.policy.specs.declared.number.Action.{Action}
 use Rattle.policy.specs.declared.set.Events.{Events}
 use Rattle.pdl.specs.Yield.{rule_holds, propose, proposals, constraint_holds, conflict}
@@ -26,7 +26,7 @@ use Rattle.exactness.proofs.ImageLaws.{lines_below}
 use Rattle.run.specs.Run.{run_rules, run_constraints}
 use Rattle.meaning.proofs.Meaning.{rules_run, constraints_run}
 use Rattle.explanation.specs.Why.{is_proposing_rule, is_cancelling_constraint}
-use Rattle.explanation.specs.Steps.Sought.{readings_sought, tells, sought_by, Writable}
+use Rattle.explanation.specs.Steps.Sought.{tells, sought_by, Writable}
 use Rattle.explanation.specs.declared.find.Sought.{Sought}
 
 -- ---- the small buffer
@@ -42,24 +42,17 @@ words_back ws buffer after count w long c e =
 
 -- ---- each way through the function that judges a line
 
-module _ (q : Sought) (values : List ℤ) (ws : List ℕ) (part : Part) (ending : Ending) where
-  pub told_rule : (a : Action) (words : List ℕ) (events : Events) (set : ActionSet) (b : Bool) → part ≡ Part.Rules → ending ≡ Ending.Causes a → words ≡ ws
-      → events ≡ all_events q.events → set ≡ run_rules events (readings_sought q values) words → b ≡ has_action set q.action → b ≡ tells part ending q values ws
+module _ (q : Sought) (e : Epoch) (ending : Ending) (ws : List ℕ) where
+  pub told_rule : (a b : Action) → q ≡ Sought.Proposing a → ending ≡ Ending.Causes b → (words : List ℕ) (events : Events) (set : ActionSet) (answer : Bool) → words ≡ ws
+      → events ≡ all_events e.events → set ≡ run_rules events e.readings words → answer ≡ has_action set a → answer ≡ tells q e ending ws
   unfolding tells
-  told_rule a words events set b p e w v r h = rw (p, e) (h ∙ ap (λ (s : ActionSet). has_action s q.action) (r ∙ ap₂ (λ (x : Events) (y : List ℕ). run_rules x (readings_sought q values) y) v w))
+  told_rule a b p d words events set answer w v r h =
+      rw (p, d) (h ∙ ap (λ (s : ActionSet). has_action s a) (r ∙ ap₂ (λ (x : Events) (y : List ℕ). run_rules x e.readings y) v w))
 
-  pub told_constraint : (words : List ℕ) (b : Bool) → part ≡ Part.Constraints → ending ≡ Ending.Never → words ≡ ws
-      → b ≡ run_constraints (readings_sought q values) q.set words → b ≡ tells part ending q values ws
+  pub told_constraint : (s : ActionSet) → q ≡ Sought.Violated s → ending ≡ Ending.Never → (words : List ℕ) (answer : Bool) → words ≡ ws
+      → answer ≡ run_constraints e.readings s words → answer ≡ tells q e ending ws
   unfolding tells
-  told_constraint words b p e w r = rw (p, e) (r ∙ ap (run_constraints (readings_sought q values) q.set) w)
-
-  pub told_other_rule : (a : Action) → part ≡ Part.Constraints → ending ≡ Ending.Causes a → false ≡ tells part ending q values ws
-  unfolding tells
-  told_other_rule a p e = rw (p, e)
-
-  pub told_other_constraint : part ≡ Part.Rules → ending ≡ Ending.Never → false ≡ tells part ending q values ws
-  unfolding tells
-  told_other_constraint p e = rw (p, e)
+  told_constraint s p d words answer w r = rw (p, d) (r ∙ ap (run_constraints e.readings s) w)
 
 -- ---- one line alone
 
@@ -94,11 +87,10 @@ constraint_alone c v rs s =
 -- ---- what is sought
 
 -- the rules that propose an action
-pub rules_sought : (e : Epoch) (a : Action) (set : ActionSet) (l : PolicyLine) → valid l ≡ true
-    → sought_by (record { part = Part.Rules; action = a; set = set; events = e.events; given = e.readings.given }) e.readings.values l ≡ is_proposing_rule e a l
+pub rules_sought : (e : Epoch) (a : Action) (l : PolicyLine) → valid l ≡ true → sought_by (Sought.Proposing a) e l ≡ is_proposing_rule e a l
 unfolding sought_by tells is_proposing_rule ending_of propose ending_in_range
-rules_sought e a set (constraint c) v = refl
-rules_sought e a set (rule r) v =
+rules_sought e a (constraint c) v = refl
+rules_sought e a (rule r) v =
     ap (λ (s : ActionSet). has_action s a) (rule_alone r v (all_events e.events) e.readings) ∙ proposes (rule_holds (all_events e.events) e.readings r)
   where
     below : r.action.0 < 64
@@ -114,8 +106,7 @@ rules_sought e a set (rule r) v =
 
 -- the constraints that hold on a set
 pub constraints_sought : (e : Epoch) (accepts : ActionSet) (a : Action) (l : PolicyLine) → valid l ≡ true
-    → sought_by (record { part = Part.Constraints; action = a; set = insert_action (actions_below accepts a) a; events = e.events; given = e.readings.given }) e.readings.values l
-    ≡ is_cancelling_constraint e.readings accepts a l
+    → sought_by (Sought.Violated (insert_action (actions_below accepts a) a)) e l ≡ is_cancelling_constraint e.readings accepts a l
 unfolding sought_by tells is_cancelling_constraint ending_of
 constraints_sought e accepts a (rule r) v = refl
 constraints_sought e accepts a (constraint c) v = constraint_alone c v e.readings (insert_action (actions_below accepts a) a)

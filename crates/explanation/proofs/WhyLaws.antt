@@ -2,7 +2,7 @@
 use Rattle.std.specs.Prelude.{Option, Some, None, option_map, Result, Ok, Err}
 use Rattle.std.specs.Option.{option_or, option_map_or}
 use Rattle.std.proofs.Common.{ℕ, ◌+◌, ◌≤◌, Bool, true, false, cond, List, [], ◌∷◌, ◌≡◌, refl, sym, ap, ap₂, ◌∙◌, length, take}
-use Rattle.policy.specs.Epoch.{Epoch}
+use Rattle.policy.specs.declared.epoch.Epoch.{Epoch}
 use Rattle.policy.specs.Fault.{refusal}
 use Rattle.policy.specs.Limits.{valid, Acceptable}
 use Rattle.policy.specs.Line.{PolicyLine}
@@ -11,7 +11,6 @@ use Rattle.policy.specs.Policy.{Policy}
 use Rattle.policy.specs.Set.{ActionSet, has_action, insert_action, actions_below}
 use Rattle.policy.specs.declared.fault.Fault.{Fault}
 use Rattle.policy.specs.declared.fault.Refusal.{Refusal}
-use Rattle.policy.specs.declared.line.Part.{Part}
 use Rattle.policy.specs.declared.number.Action.{Action}
 use Rattle.lexer.specs.Lines.{lines_of}
 use Rattle.syntax.specs.Judge.{LineAnswer, skipped, refused, accepted, line_answer}
@@ -19,22 +18,19 @@ use Rattle.acceptance.proofs.Accepted.{accepted_valid, texts_acceptable}
 use Rattle.codegen.proofs.AcceptedLaws.{newest_known}
 use Rattle.codegen.proofs.RoomLaws.{texts_stopped, texts_read_is}
 use Rattle.codegen.specs.Compile.{newest_form, compiled_texts}
-use Rattle.epoch_line.specs.Answer.{answer_read, epoch_read, epoch_in}
-use Rattle.epoch_line.specs.Epoch as Epoch
-use Rattle.epoch_line.specs.Epoch.{EpochAnswer, read_epoch}
+use Rattle.epoch_line.specs.Epoch.{read_epoch}
 use Rattle.layout.specs.Layout.{image_of}
 use Rattle.meaning.proofs.Decided.{image_refuses, image_decides}
 use Rattle.pdl.specs.Yield as Yield
-use Rattle.epoch_line.specs.declared.EpochRead.{EpochRead}
 use Rattle.monitor.specs.Decision.{decision}
 use Rattle.monitor.specs.declared.decision.Actions.{Actions}
-use Rattle.monitor.specs.declared.decision.Decision.{Decision}
 use Rattle.rule_text.specs.Text.{Progress, reading, stopped, read_texts}
 use Rattle.explanation.proofs.TellLaws.{rules_sought, constraints_sought}
 use Rattle.explanation.specs.Part.{Stretch, Quote, of_maker, of_site, shown_at, or_later, first_from, first_shown}
 use Rattle.explanation.specs.Why.{is_proposing_rule, is_cancelling_constraint, Explanation, not_proposed, accepted_by, cancelled_by, explanation_for, on_action, on_epoch, on_both_texts, explained}
-use Rattle.explanation.specs.Steps.On.{epoch_on, on_decision, explained_on}
+use Rattle.explanation.specs.Steps.On.{on_decision, explained_on}
 use Rattle.explanation.specs.Steps.Sought.{sought_by}
+use Rattle.explanation.specs.declared.find.Sought.{Sought}
 
 -- ---- the first line of both texts
 
@@ -70,69 +66,59 @@ module _ (s t : PolicyLine → Bool) (agree : (l : PolicyLine) → valid l ≡ t
 
 -- ---- what is said of an action
 
-module _ (maker site : List ℕ) (accepts cancels : ActionSet) (line : List ℕ) (a : Action) (read : EpochRead) (r : read ≡ epoch_read line) where
-  epoch_is : epoch_in read ≡ epoch_on line
-  epoch_is = ap epoch_in r
-
-  pub says_accepted : (b : Bool) → b ≡ has_action accepts a → b ≡ true → (set : ActionSet) (x : Option Quote)
-      → x ≡ first_shown (sought_by (record { part = Part.Rules; action = a; set = set; events = read.events; given = read.given }) read.values) maker site
-      → option_map_or accepted_by x not_proposed ≡ explanation_for maker site accepts cancels (epoch_on line) a
+module _ (maker site : List ℕ) (accepts cancels : ActionSet) (e : Epoch) (a : Action) where
+  pub says_accepted : (b : Bool) → b ≡ has_action accepts a → b ≡ true → (x : Option Quote) → x ≡ first_shown (sought_by (Sought.Proposing a) e) maker site
+      → option_map_or accepted_by x not_proposed ≡ explanation_for maker site accepts cancels e a
   unfolding explanation_for
-  says_accepted b h t set x e =
-      rw (sym h ∙ t)
-      (ap (λ (y : Option Quote). option_map_or accepted_by y not_proposed)
-      (e ∙ shown_same _ (is_proposing_rule (epoch_in read) a) (rules_sought (epoch_in read) a set) maker site ∙ ap (λ (y : Epoch). first_shown (is_proposing_rule y a) maker site) epoch_is))
+  says_accepted b h t x s =
+      rw (sym h ∙ t) (ap (λ (y : Option Quote). option_map_or accepted_by y not_proposed) (s ∙ shown_same _ (is_proposing_rule e a) (rules_sought e a) maker site))
 
   module _ (b : Bool) (h : b ≡ has_action accepts a) (t : b ≡ false) where
     pub says_cancelled : (c : Bool) → c ≡ has_action cancels a → c ≡ true → (below set : ActionSet) → below ≡ actions_below accepts a → set ≡ insert_action below a → (x : Option Quote)
-        → x ≡ first_shown (sought_by (record { part = Part.Constraints; action = a; set = set; events = read.events; given = read.given }) read.values) maker site
-        → option_map_or cancelled_by x not_proposed ≡ explanation_for maker site accepts cancels (epoch_on line) a
+        → x ≡ first_shown (sought_by (Sought.Violated set) e) maker site → option_map_or cancelled_by x not_proposed ≡ explanation_for maker site accepts cancels e a
     unfolding explanation_for
-    says_cancelled c k u below set l m x e =
+    says_cancelled c k u below set l m x s =
         let same : set ≡ insert_action (actions_below accepts a) a = m ∙ ap (λ (y : ActionSet). insert_action y a) l in
         rw (sym h ∙ t, sym k ∙ u)
         (ap (λ (y : Option Quote). option_map_or cancelled_by y not_proposed)
-        (e
-        ∙ ap (λ (y : ActionSet). first_shown (sought_by (record { part = Part.Constraints; action = a; set = y; events = read.events; given = read.given }) read.values) maker site) same
-        ∙ shown_same _ (is_cancelling_constraint (epoch_in read).readings accepts a) (constraints_sought (epoch_in read) accepts a) maker site
-        ∙ ap (λ (y : Epoch). first_shown (is_cancelling_constraint y.readings accepts a) maker site) epoch_is))
+        (s ∙ ap (λ (y : ActionSet). first_shown (sought_by (Sought.Violated y) e) maker site) same
+        ∙ shown_same _ (is_cancelling_constraint e.readings accepts a) (constraints_sought e accepts a) maker site))
 
-    pub says_neither : (c : Bool) → c ≡ has_action cancels a → c ≡ false → not_proposed ≡ explanation_for maker site accepts cancels (epoch_on line) a
+    pub says_neither : (c : Bool) → c ≡ has_action cancels a → c ≡ false → not_proposed ≡ explanation_for maker site accepts cancels e a
     unfolding explanation_for
     says_neither c k u = rw (sym h ∙ t, sym k ∙ u)
 
 -- ---- the answer on an image
 
-module _ (maker site line : List ℕ) (n : ℕ) (image : List ℕ) (d : Decision) (made : d ≡ decision image line) where
-  pub on_refused : (r : Refusal) → d ≡ Decision.Refused r → Err r ≡ explained_on maker site line n image
+module _ (maker site line : List ℕ) (n : ℕ) (image : List ℕ) where
+  pub on_refused : (r : Refusal) → Err r ≡ decision image line → Err r ≡ explained_on maker site line n image
   unfolding explained_on on_decision
-  on_refused r e = rw (sym made ∙ e)
+  on_refused r d = rw (← d)
 
-  module _ (actions : Actions) (e : d ≡ Decision.Issued actions) (check : Option Action) (c : check ≡ check_action n) where
-    pub on_over : check ≡ None → (r : Refusal) → r ≡ refusal Fault.EpochRange 0 → Err r ≡ explained_on maker site line n image
-    unfolding explained_on on_decision on_action
-    on_over k r h = rw (sym made ∙ e, sym c ∙ k) (ap Err h)
+  module _ (actions : Actions) (d : Ok actions ≡ decision image line) where
+    pub on_line_refused : (r : Refusal) → Err r ≡ read_epoch line → Err r ≡ explained_on maker site line n image
+    unfolding explained_on on_decision
+    on_line_refused r q = rw (← d, ← q)
 
-    pub on_action_is : (a : Action) → check ≡ Some a → (x : Explanation) → x ≡ explanation_for maker site actions.accepted actions.cancelled (epoch_on line) a
-        → Ok x ≡ explained_on maker site line n image
-    unfolding explained_on on_decision on_action
-    on_action_is a k x h = rw (sym made ∙ e, sym c ∙ k) (ap Ok h)
+    module _ (e : Epoch) (q : Ok e ≡ read_epoch line) (check : Option Action) (c : check ≡ check_action n) where
+      pub on_over : check ≡ None → (r : Refusal) → r ≡ refusal Fault.EpochRange 0 → Err r ≡ explained_on maker site line n image
+      unfolding explained_on on_decision on_action
+      on_over k r h = rw (← d, ← q, sym c ∙ k) (ap Err h)
+
+      pub on_action_is : (a : Action) → check ≡ Some a → (x : Explanation) → x ≡ explanation_for maker site actions.accepted actions.cancelled e a
+          → Ok x ≡ explained_on maker site line n image
+      unfolding explained_on on_decision on_action
+      on_action_is a k x h = rw (← d, ← q, sym c ∙ k) (ap Ok h)
 
 -- ---- on the image of the texts
-
-epoch_accepted : (line : List ℕ) (e : Epoch) → read_epoch line ≡ Epoch.accepted e → epoch_on line ≡ e
-unfolding epoch_read answer_read
-epoch_accepted line e q = ap (λ (a : EpochAnswer). epoch_in (answer_read a)) q
 
 pub on_image_is : (maker site line : List ℕ) (n : ℕ) (p : Policy) → Acceptable p → explained_on maker site line n (image_of newest_form p) ≡ on_epoch maker site p n (read_epoch line)
 unfolding explained_on on_decision on_epoch Yield.cancelled
 on_image_is maker site line n p ok = go (read_epoch line) refl
   where
-    go : (a : EpochAnswer) → read_epoch line ≡ a → on_decision maker site line n (decision (image_of newest_form p) line) ≡ on_epoch maker site p n a
-    go (Epoch.refused f) q = ap (on_decision maker site line n) (image_refuses newest_form newest_known p ok line f q)
-    go (Epoch.accepted e) q =
-        ap (on_decision maker site line n) (image_decides newest_form newest_known p ok line e q)
-        ∙ ap (λ (x : Epoch). on_action maker site (Yield.accepted p e) (Yield.cancelled p e) x (check_action n)) (epoch_accepted line e q)
+    go : (a : Result Epoch Refusal) → read_epoch line ≡ a → on_decision maker site n (decision (image_of newest_form p) line) a ≡ on_epoch maker site p n a
+    go (Err r) q = ap (λ (d : Result Actions Refusal). on_decision maker site n d (Err r)) (image_refuses newest_form newest_known p ok line r q)
+    go (Ok e) q = ap (λ (d : Result Actions Refusal). on_decision maker site n d (Ok e)) (image_decides newest_form newest_known p ok line e q)
 
 module _ (maker site line : List ℕ) (n : ℕ) (buffer written : List ℕ) (answer : Result ℕ Refusal) (made : answer ≡ (compiled_texts maker site buffer).answer)
     (wrote : written ≡ (compiled_texts maker site buffer).buffer) (long : length buffer ≡ 13064) where
@@ -153,9 +139,9 @@ pub same_action : (maker site line : List ℕ) (m n : ℕ) → check_action m �
 unfolding explained on_both_texts on_epoch
 same_action maker site line m n h = go (read_texts maker site)
   where
-    on : (p : Policy) (a : EpochAnswer) → on_epoch maker site p m a ≡ on_epoch maker site p n a
-    on p (Epoch.refused f) = refl
-    on p (Epoch.accepted e) = ap (on_action maker site (Yield.accepted p e) (Yield.cancelled p e) e) h
+    on : (p : Policy) (a : Result Epoch Refusal) → on_epoch maker site p m a ≡ on_epoch maker site p n a
+    on p (Err r) = refl
+    on p (Ok e) = ap (on_action maker site (Yield.accepted p e) (Yield.cancelled p e) e) h
 
     go : (s : Progress) → on_both_texts maker site line m s ≡ on_both_texts maker site line n s
     go (stopped r) = refl

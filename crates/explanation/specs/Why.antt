@@ -1,7 +1,8 @@
 -- For an epoch and an action: whether the action is not proposed, accepted, or cancelled, and which line is shown for it.
 use Rattle.std.specs.Prelude.{ℕ, Bool, false, cond, ◌&&◌, List, eqb, Option, Some, None, Result, Ok, Err}
 use Rattle.std.specs.Option.{option_map_or}
-use Rattle.policy.specs.Epoch.{Epoch, Readings}
+use Rattle.policy.specs.declared.epoch.Epoch.{Epoch}
+use Rattle.policy.specs.declared.epoch.Readings.{Readings}
 use Rattle.policy.specs.Fault.{refusal}
 use Rattle.policy.specs.Line.{PolicyLine, rule, constraint}
 use Rattle.policy.specs.Number.{check_action}
@@ -12,7 +13,7 @@ use Rattle.policy.specs.declared.fault.Refusal.{Refusal}
 use Rattle.policy.specs.declared.number.Action.{Action}
 use Rattle.pdl.specs.Yield as Yield
 use Rattle.pdl.specs.Yield.{rule_holds, constraint_holds}
-use Rattle.epoch_line.specs.Epoch.{EpochAnswer, refused, accepted, read_epoch}
+use Rattle.epoch_line.specs.Epoch.{read_epoch}
 use Rattle.rule_text.specs.Text.{Progress, reading, stopped, read_texts}
 use Rattle.explanation.specs.Part.{Quote, first_shown, quote_of}
 use Rattle.explanation.specs.declared.why.Outcome.{Outcome}
@@ -51,9 +52,9 @@ module _ (maker site : List ℕ) where
   on_action accepts cancels e (Some a) = Ok (explanation_for accepts cancels e a)
 
   -- the epoch's faults, in no text and at no line
-  unfoldable pub on_epoch : Policy → ℕ → EpochAnswer → Result Explanation Refusal
-  on_epoch p n (refused f) = Err (refusal f 0)
-  on_epoch p n (accepted e) = on_action (Yield.accepted p e) (Yield.cancelled p e) e (check_action n)
+  unfoldable pub on_epoch : Policy → ℕ → Result Epoch Refusal → Result Explanation Refusal
+  on_epoch p n (Err r) = Err r
+  on_epoch p n (Ok e) = on_action (Yield.accepted p e) (Yield.cancelled p e) e (check_action n)
 
   -- the texts' faults come first
   unfoldable pub on_both_texts : List ℕ → ℕ → Progress → Result Explanation Refusal

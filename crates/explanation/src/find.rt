@@ -9,50 +9,39 @@ use crate::part::Excerpt;
 use layout::put_line;
 use lexer::skip_spaces;
 use line_value::Line;
-use policy::{Action, ActionSet, Ending, EventSet, Part, READING_LIMIT, ReadingSet};
+use policy::{Action, ActionSet, Ending, Epoch};
 use run::{run_constraints, run_rules};
 use syntax::read_line;
 use word::{part, words};
 
-/// Which lines are sought: rules that propose the action on these events, or constraints that hold on the set.
+/// Which lines are sought: rules that propose an action, or constraints that hold on a set.
 #[derive(Clone, Copy)]
-pub struct Sought {
-    pub part: Part,
-    pub action: Action,
-    pub set: ActionSet,
-    pub events: EventSet,
-    pub given: ReadingSet,
+pub enum Sought {
+    Proposing(Action),
+    Violated(ActionSet),
 }
 
 /// Bytes of the longest line's words.
 const LINE_SIZE: usize = 68;
 
-/// Whether a line is sought.
-fn told(line: &Line, sought: Sought, values: &[i32; READING_LIMIT]) -> bool
+/// Whether a line is sought in an epoch.
+fn told(line: &Line, sought: Sought, epoch: &Epoch) -> bool
     requires { Writable (value_words line.now) }
-    ensures { result ≡ tells sought.part line.now.ending sought values.now (value_words line.now) }
+    ensures { result ≡ tells sought epoch.now line.now.ending (value_words line.now) }
 {
     let mut bytes = [0u8; LINE_SIZE];
     let count = put_line(&mut bytes, 0, line);
     let words = part(words(&bytes), 0, count);
-    let place = sought.part;
-    let ending = line.ending;
-    match place {
-        Part::Rules => match ending {
-            Ending::Causes(_) => {
-                let events = sought.events.all();
-                let run = run_rules(words, events, sought.given, values);
-                run.actions.has(sought.action)
-            }
-            Ending::Never => false,
-        },
-        Part::Constraints => match ending {
-            Ending::Causes(_) => false,
-            Ending::Never => {
-                let run = run_constraints(words, sought.set, sought.given, values);
-                run.conflict
-            }
-        },
+    match (sought, line.ending) {
+        (Sought::Proposing(action), Ending::Causes(_)) => {
+            let run = run_rules(words, epoch.events.all(), &epoch.readings);
+            run.actions.has(action)
+        }
+        (Sought::Violated(set), Ending::Never) => {
+            let run = run_constraints(words, set, &epoch.readings);
+            run.conflict
+        }
+        _ => false,
     }
 }
 
@@ -90,12 +79,8 @@ fn excerpt_at<'t>(at: usize, text: &'t [u8]) -> Excerpt<'t>
 }
 
 /// The first line that is sought. A text that is refused at a line has none from there on.
-pub(crate) fn find<'t>(
-    text: &'t [u8],
-    sought: Sought,
-    values: &[i32; READING_LIMIT],
-) -> Option<Excerpt<'t>>
-    ensures { option_map stretch_of result ≡ first_from (sought_by sought values.now) 0 (lines_of text.now) }
+pub(crate) fn find<'t>(text: &'t [u8], sought: Sought, epoch: &Epoch) -> Option<Excerpt<'t>>
+    ensures { option_map stretch_of result ≡ first_from (sought_by sought epoch.now) 0 (lines_of text.now) }
 {
     let mut rest = text;
     while !rest.is_empty() {
@@ -103,7 +88,7 @@ pub(crate) fn find<'t>(
             return None;
         };
         if let Some(line) = line {
-            if told(&line, sought, values) {
+            if told(&line, sought, epoch) {
                 return Some(excerpt_at(text.len() - rest.len(), rest));
             }
         }

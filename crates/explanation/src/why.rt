@@ -3,7 +3,7 @@ ghost use Rattle.std.specs.Prelude.{◌≡◌, length, option_map};
 ghost use Rattle.std.specs.Result.{result_map_both};
 ghost use Rattle.explanation.specs.Part.{quote_of, first_shown};
 ghost use Rattle.explanation.specs.Why.{said_by, explanation_for, explained};
-ghost use Rattle.explanation.specs.Steps.On.{epoch_on, explained_on};
+ghost use Rattle.explanation.specs.Steps.On.{explained_on};
 ghost use Rattle.explanation.specs.Steps.Sought.{sought_by};
 
 use crate::find::{Sought, find};
@@ -11,8 +11,8 @@ use crate::part::Shown;
 use codegen::compile_texts;
 use epoch_line::read_epoch;
 use image::IMAGE_SIZE;
-use monitor::{Decision, decide};
-use policy::{Action, ActionSet, Fault, Mode, Part, READING_LIMIT, Refusal};
+use monitor::{Actions, decide};
+use policy::{Action, Epoch, Fault, Mode, Refusal};
 
 /// What became of an action, and what is shown for it: of an accepted one the first rule that proposed it, of a cancelled one the first
 /// constraint that held on the accepted actions with lower numbers together with it.
@@ -28,13 +28,13 @@ fn first_shown<'m, 's>(
     maker: &'m [u8],
     site: &'s [u8],
     sought: Sought,
-    values: &[i32; READING_LIMIT],
+    epoch: &Epoch,
 ) -> Option<Shown<'m, 's>>
-    ensures { option_map quote_of result ≡ first_shown (sought_by sought values.now) maker.now site.now }
+    ensures { option_map quote_of result ≡ first_shown (sought_by sought epoch.now) maker.now site.now }
 {
-    match find(maker, sought, values) {
+    match find(maker, sought, epoch) {
         Some(excerpt) => Some(Shown::Maker(excerpt)),
-        None => match find(site, sought, values) {
+        None => match find(site, sought, epoch) {
             Some(excerpt) => Some(Shown::Site(excerpt)),
             None => None,
         },
@@ -45,39 +45,22 @@ fn first_shown<'m, 's>(
 fn outcome_for<'m, 's>(
     maker: &'m [u8],
     site: &'s [u8],
-    accepted: ActionSet,
-    cancelled: ActionSet,
-    line: &[u8],
+    decided: Actions,
+    epoch: &Epoch,
     action: Action,
 ) -> Outcome<'m, 's>
-    ensures { said_by result ≡ explanation_for maker.now site.now accepted cancelled (epoch_on line.now) action }
+    ensures { said_by result ≡ explanation_for maker.now site.now decided.accepted decided.cancelled epoch.now action }
 {
-    let epoch = read_epoch(line);
-    let events = epoch.events;
-    let given = epoch.given;
-    let values = epoch.values;
+    let accepted = decided.accepted;
     if accepted.has(action) {
-        let rules = Sought {
-            part: Part::Rules,
-            action,
-            set: ActionSet::EMPTY,
-            events,
-            given,
-        };
-        return match first_shown(maker, site, rules, &values) {
+        return match first_shown(maker, site, Sought::Proposing(action), epoch) {
             Some(shown) => Outcome::Accepted(shown),
             None => Outcome::NotProposed,
         };
     }
-    if cancelled.has(action) {
-        let constraints = Sought {
-            part: Part::Constraints,
-            action,
-            set: accepted.below(action).insert(action),
-            events,
-            given,
-        };
-        return match first_shown(maker, site, constraints, &values) {
+    if decided.cancelled.has(action) {
+        let tried = accepted.below(action).insert(action);
+        return match first_shown(maker, site, Sought::Violated(tried), epoch) {
             Some(shown) => Outcome::Cancelled(shown),
             None => Outcome::NotProposed,
         };
@@ -96,23 +79,12 @@ pub fn explain_on<'m, 's>(
 ) -> Result<Outcome<'m, 's>, Refusal>
     ensures { result_map_both said_by (λ refusal. refusal) result ≡ explained_on maker.now site.now line.now number image.now }
 {
-    match decide(image, line, Mode::Actions) {
-        Decision::Refused(refusal) => Err(refusal),
-        Decision::Issued(actions) => match Action::new(number) {
-            None => Err(Fault::EpochRange.at(0)),
-            Some(action) => {
-                let outcome = outcome_for(
-                    maker,
-                    site,
-                    actions.accepted,
-                    actions.cancelled,
-                    line,
-                    action,
-                );
-                Ok(outcome)
-            }
-        },
-    }
+    let decided = decide(image, line, Mode::Actions)?;
+    let epoch = read_epoch(line)?;
+    let Some(action) = Action::new(number) else {
+        return Err(Fault::EpochRange.at(0));
+    };
+    Ok(outcome_for(maker, site, decided, &epoch, action))
 }
 
 /// The explanation of the action of a number on an epoch line, without its line end, by the maker's and the site's text. What is decided
@@ -130,8 +102,6 @@ pub fn explain<'m, 's>(
     ensures { result_map_both said_by (λ refusal. refusal) result ≡ explained maker.now site.now line.now number }
 {
     let mut image = [0u8; IMAGE_SIZE];
-    match compile_texts(maker, site, &mut image) {
-        Err(refusal) => Err(refusal),
-        Ok(size) => explain_on(&image[..size], maker, site, line, number),
-    }
+    let size = compile_texts(maker, site, &mut image)?;
+    explain_on(&image[..size], maker, site, line, number)
 }

@@ -5,7 +5,7 @@ ghost use Rattle.std.specs.Prelude.{◌≡◌};
 ghost use Rattle.policy.specs.Fault.{fault_number};
 ghost use Rattle.export.specs.Export.{decision_of};
 
-use monitor::Decision;
+use monitor::Actions;
 use policy::Refusal;
 
 /// What is decided of an epoch. On a refusal the sets are empty and `visited` is 0; otherwise `fault` and `word` are 0.
@@ -33,18 +33,19 @@ pub fn fault_number(refusal: Refusal) -> u64
 }
 
 /// What is decided of an epoch, as numbers, in either mode.
-pub fn epoch_decision(answer: Decision) -> EpochDecision
+#[tactic(auto, unfolding(crate::specs::Export::decision_of))]
+pub fn epoch_decision(answer: Result<Actions, Refusal>) -> EpochDecision
     ensures { result ≡ decision_of answer }
 {
     match answer {
-        Decision::Refused(refusal) => EpochDecision {
+        Err(refusal) => EpochDecision {
             fault: fault_number(refusal),
             word: refusal.location as u64,
             accepted: 0,
             cancelled: 0,
             visited: 0,
         },
-        Decision::Issued(actions) => EpochDecision {
+        Ok(actions) => EpochDecision {
             fault: 0,
             word: 0,
             accepted: actions.accepted.bits,

@@ -1,16 +1,17 @@
 -- On the image of a text, or of two as one, the decisions are those of the reference machine on the text, and an image with
 -- one word changed is refused.
-use Rattle.std.proofs.Common.{ℕ, ◌%◌, ◌<◌, List, [], ◌∷◌, ◌↔◌, ◌≡◌, refl, sym, ap, ap₂, ◌∙◌, arith, length, take}
+use Rattle.policy.specs.declared.fault.Refusal.{Refusal}
+use Rattle.std.proofs.Common.{ℕ, ◌%◌, ◌<◌, List, [], ◌∷◌, ◌↔◌, ◌≡◌, refl, sym, ap, ap₂, ◌∙◌, arith, length, take, Result, Ok, Err}
 use Rattle.std.proofs.Math.Option.{Option, some, map}
 use Rattle.std.proofs.Math.Path.{subst⁻¹}
 use Rattle.std.proofs.Math.ListN.{set}
-use Rattle.policy.specs.Epoch.{Epoch}
+use Rattle.policy.specs.declared.epoch.Epoch.{Epoch}
 use Rattle.policy.specs.Fault.{refusal}
 use Rattle.policy.specs.Limits.{Acceptable}
 use Rattle.policy.specs.Policy.{Policy}
 use Rattle.policy.specs.declared.fault.Fault.{Fault}
 use Rattle.policy.specs.declared.mode.Mode.{Mode}
-use Rattle.epoch_line.specs.Epoch.{EpochAnswer, refused, accepted, read_epoch}
+use Rattle.epoch_line.specs.Epoch.{read_epoch}
 use Rattle.rule_text.specs.Text.{policy_of, policy_of_texts}
 use Rattle.exactness.proofs.Exact.{changed_words, changed_length}
 use Rattle.exactness.specs.Exact.{changed}
@@ -28,7 +29,7 @@ use Rattle.pdl.specs.Reduction.{proposed_with, kept_events}
 use Rattle.guarantees.proofs.Decisions.{written_refuses, written_yields, written_obeys, written_best, written_changed}
 use Rattle.guarantees.proofs.Reductions.{written_reduces, written_conflict, written_obeys_events}
 use Rattle.monitor.specs.Decision.{decision_in, decision, answer_of}
-use Rattle.monitor.specs.declared.decision.Decision.{Decision}
+use Rattle.monitor.specs.declared.decision.Actions.{Actions}
 use Rattle.guarantees.specs.Decisions.{CheckFailed, Obeys, IsBest, ObeysEvents}
 use Rattle.guarantees.specs.Claims.{CompilesTo, TextsCompileTo, answers}
 use Rattle.guarantees.specs.Machine.{yield_in, answer, step, steps, ToldLine, machine_of, machine, machine_of_texts}
@@ -69,10 +70,10 @@ module _ (p : Policy) (ok : Acceptable p) where
   unfolding step answer yield_in
   same_answer mode line = go mode (read_epoch line) refl
     where
-      go : (m : Mode) (a : EpochAnswer) → read_epoch line ≡ a → answer_of (decision_in m (image_of newest_form p) line) ≡ answer m p a
-      go m (refused f) q = written_refuses newest_form newest_known p ok m line f q
-      go Mode.Actions (accepted e) q = written_yields newest_form newest_known p ok line e q
-      go Mode.Events (accepted e) q = written_reduces newest_form newest_known p ok line e q
+      go : (m : Mode) (a : Result Epoch Refusal) → read_epoch line ≡ a → answer_of (decision_in m (image_of newest_form p) line) ≡ answer m p a
+      go m (Err r) q = written_refuses newest_form newest_known p ok m line r q
+      go Mode.Actions (Ok e) q = written_yields newest_form newest_known p ok line e q
+      go Mode.Events (Ok e) q = written_reduces newest_form newest_known p ok line e q
 
   same_answers : (lines : List ToldLine) → answers (image_of newest_form p) lines ≡ steps p lines
   unfolding answers steps
@@ -98,14 +99,14 @@ module _ (known : Option Policy) (image : List ℕ) (t : ImageOf known image) wh
       let whole : length (bytes_of words) % 4 ≡ 0 = omega (arith, bytes_length words) in
       rw t.same (changed_length (bytes_of words) i v whole, changed_words (bytes_of words) (bytes_below words) i v h)
 
-  obeys : (p : Policy) → known ≡ some p → (line : List ℕ) (e : Epoch) → read_epoch line ≡ accepted e → Obeys p e (answer_of (decision image line))
+  obeys : (p : Policy) → known ≡ some p → (line : List ℕ) (e : Epoch) → read_epoch line ≡ Ok e → Obeys p e (answer_of (decision image line))
   obeys p q line e r =
       let k : some p ≡ some t.policy = sym q ∙ t.read in
       let same : p ≡ t.policy = cc in
       subst⁻¹ (λ (x : List ℕ). Obeys p e (answer_of (decision x line))) t.same
       (subst⁻¹ (λ (x : Policy). Obeys x e (answer_of (decision (image_of newest_form t.policy) line))) same (written_obeys newest_form newest_known t.policy t.acceptable line e r))
 
-  module _ (p : Policy) (q : known ≡ some p) (line : List ℕ) (e : Epoch) (r : read_epoch line ≡ accepted e) where
+  module _ (p : Policy) (q : known ≡ some p) (line : List ℕ) (e : Epoch) (r : read_epoch line ≡ Ok e) where
     same_policy : p ≡ t.policy
     same_policy = let k : some p ≡ some t.policy = sym q ∙ t.read in cc
 
@@ -113,7 +114,7 @@ module _ (known : Option Policy) (image : List ℕ) (t : ImageOf known image) wh
     accepts_best =
         rw (t.same, same_policy) (written_best newest_form newest_known t.policy t.acceptable line e r)
 
-    conflict_refused : (decision_in Mode.Events image line ≡ Decision.Refused (refusal Fault.Unavoidable 0)) ↔ ¬ Reducible p.constraints (proposed_with p.rules) e
+    conflict_refused : (decision_in Mode.Events image line ≡ Err (refusal Fault.Unavoidable 0)) ↔ ¬ Reducible p.constraints (proposed_with p.rules) e
     conflict_refused =
         rw (t.same, same_policy) (written_conflict newest_form newest_known t.policy t.acceptable line e r)
 
@@ -155,19 +156,19 @@ texts_change_only maker site image c = changes_one (policy_of_texts maker site) 
 
 module _ (maker site image : List ℕ) (c : TextsCompileTo maker site image) where
   -- a decision that is not refused is a maximal action cancellation of what the texts' rules propose
-  pub decision_obeys : (p : Policy) → policy_of_texts maker site ≡ some p → (line : List ℕ) (e : Epoch) → read_epoch line ≡ accepted e → Obeys p e (answer_of (decision image line))
+  pub decision_obeys : (p : Policy) → policy_of_texts maker site ≡ some p → (line : List ℕ) (e : Epoch) → read_epoch line ≡ Ok e → Obeys p e (answer_of (decision image line))
   decision_obeys = obeys (policy_of_texts maker site) image (image_of_texts maker site image c)
 
   -- and it accepts the best of all sets of proposed actions on which no constraint holds
-  pub decision_best : (p : Policy) → policy_of_texts maker site ≡ some p → (line : List ℕ) (e : Epoch) → read_epoch line ≡ accepted e → IsBest p e (answer_of (decision image line)).accepted
+  pub decision_best : (p : Policy) → policy_of_texts maker site ≡ some p → (line : List ℕ) (e : Epoch) → read_epoch line ≡ Ok e → IsBest p e (answer_of (decision image line)).accepted
   decision_best = accepts_best (policy_of_texts maker site) image (image_of_texts maker site image c)
 
   -- in the second mode a decision is refused under 17 exactly if no reduction of the epoch is free of conflict
-  pub events_conflict_refused : (p : Policy) → policy_of_texts maker site ≡ some p → (line : List ℕ) (e : Epoch) → read_epoch line ≡ accepted e
-      → (decision_in Mode.Events image line ≡ Decision.Refused (refusal Fault.Unavoidable 0)) ↔ ¬ Reducible p.constraints (proposed_with p.rules) e
+  pub events_conflict_refused : (p : Policy) → policy_of_texts maker site ≡ some p → (line : List ℕ) (e : Epoch) → read_epoch line ≡ Ok e
+      → (decision_in Mode.Events image line ≡ Err (refusal Fault.Unavoidable 0)) ↔ ¬ Reducible p.constraints (proposed_with p.rules) e
   events_conflict_refused = conflict_refused (policy_of_texts maker site) image (image_of_texts maker site image c)
 
   -- otherwise the kept events are a maximal such reduction, and what they propose is issued
-  pub events_decision_obeys : (p : Policy) → policy_of_texts maker site ≡ some p → (line : List ℕ) (e : Epoch) → read_epoch line ≡ accepted e
+  pub events_decision_obeys : (p : Policy) → policy_of_texts maker site ≡ some p → (line : List ℕ) (e : Epoch) → read_epoch line ≡ Ok e
       → Reducible p.constraints (proposed_with p.rules) e → ObeysEvents p e (kept_events p e) (answer_of (decision_in Mode.Events image line))
   events_decision_obeys = obeys_events (policy_of_texts maker site) image (image_of_texts maker site image c)

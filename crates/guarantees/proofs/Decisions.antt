@@ -1,11 +1,10 @@
 -- What holds of every decision: when it is refused and what it then carries, that it is what the image's policy yields in the first
 -- mode, and that an image in which one word was changed is refused. Of the second mode speaks Reductions.
-use Rattle.std.proofs.Common.{ℕ, ◌<◌, true, List, [], ◌∷◌, map, ◌⊎◌, inl, inr, ◌≡◌, refl, sym, ap, ◌∙◌, subst, arith, length}
-use Rattle.std.proofs.Math.Option.{some}
+use Rattle.std.proofs.Common.{ℕ, ◌<◌, true, List, [], ◌∷◌, map, ◌⊎◌, inl, inr, ◌≡◌, refl, sym, ap, ◌∙◌, subst, arith, length, Result, Ok, Err}
 use mathlib.Core.List.Memᴰ
 use Rattle.policy.proofs.ListLaws.{and_out}
 use Rattle.policy.proofs.ValidLaws.{valid_out}
-use Rattle.policy.specs.Epoch.{Epoch}
+use Rattle.policy.specs.declared.epoch.Epoch.{Epoch}
 use Rattle.policy.specs.Fault.{refusal}
 use Rattle.policy.specs.Limits.{valid, Acceptable}
 use Rattle.policy.specs.Line.{constraint, heads_of}
@@ -24,61 +23,57 @@ use Rattle.pdl.specs.Pdl.{NameActions}
 use Rattle.pdl.specs.Yield as Yield
 use Rattle.pdl.specs.Yield.{cancelled}
 use Rattle.acceptance.proofs.Refusals.{epoch_faults}
-use Rattle.epoch_line.specs.Answer.{answer_read, epoch_read, refusal_in_epoch}
-use Rattle.epoch_line.specs.Epoch.{EpochAnswer, refused, accepted, read_epoch}
+use Rattle.epoch_line.specs.Epoch.{read_epoch}
 use Rattle.word.specs.Word.{Bytes, word_limit, words_of, word_at}
 use Rattle.image.specs.Held.{policy_in}
 use Rattle.layout.specs.Layout.{known_form, image_of}
-use Rattle.image.specs.Load.{refusal_in, load}
-use Rattle.image.specs.declared.load.Contents.{Contents}
-use Rattle.image.specs.declared.load.Loaded.{Loaded}
+use Rattle.image.specs.Load.{load, Contents}
 use Rattle.exactness.proofs.Exact.{refusals, took, image_taken, image_holds, held_acceptable, one_word_changed}
 use Rattle.exactness.specs.Exact.{contents_of, changed, Checked, RefusedEarly}
 use Rattle.meaning.proofs.Decided.{decided_is, image_bounded, image_refuses_in, image_decides}
 use Rattle.monitor.proofs.DecideLaws.{image_refused, line_refused}
-use Rattle.monitor.specs.Decision.{decided_by, on_epoch_line, on_image, decision_in, decision, answer_of}
-use Rattle.monitor.specs.declared.decision.Decision.{Decision}
+use Rattle.monitor.specs.Decision.{decided_by, on_image, decision_in, decision, answer_of}
+use Rattle.monitor.specs.declared.decision.Actions.{Actions}
 use Rattle.guarantees.specs.Decisions.{RefusedFor, the_image, the_line, OfDecision, of_image, of_line, CheckFailed, NotRefused, yield_of, Obeys, IsBest}
 
 -- ---- refusals
 
 -- what is refused for the image or the line, in either mode
-pub refused_for : (mode : Mode) (image line : List ℕ) (r : Refusal) → RefusedFor image line r → decision_in mode image line ≡ Decision.Refused r
+pub refused_for : (mode : Mode) (image line : List ℕ) (r : Refusal) → RefusedFor image line r → decision_in mode image line ≡ Err r
 refused_for mode image line r (the_image q) = sym (image_refused mode image line r q)
-refused_for mode image line r (the_line contents t f q w) = sym (line_refused mode image line contents t f q) ∙ ap Decision.Refused (sym w)
+refused_for mode image line r (the_line contents t q) = sym (line_refused mode image line contents t r q)
 
 -- a refusal has no other reason, or it is that of an epoch
-pub refused_cases : (mode : Mode) (image line : List ℕ) (r : Refusal) → decision_in mode image line ≡ Decision.Refused r
-    → RefusedFor image line r ⊎ ((contents : Contents) × (load image ≡ Loaded.Image contents) × (e : Epoch) × (read_epoch line ≡ accepted e) × (decided_by mode contents (words_of image) e ≡ Decision.Refused r))
-unfolding decision_in on_image on_epoch_line
+pub refused_cases : (mode : Mode) (image line : List ℕ) (r : Refusal) → decision_in mode image line ≡ Err r
+    → RefusedFor image line r ⊎ ((contents : Contents) × (load image ≡ Ok contents) × (e : Epoch) × (read_epoch line ≡ Ok e) × (decided_by mode contents e ≡ Err r))
+unfolding decision_in on_image
 refused_cases mode image line r = image_case (load image) refl
   where
     Cases : Type 0
-    Cases = RefusedFor image line r ⊎ ((contents : Contents) × (load image ≡ Loaded.Image contents) × (e : Epoch) × (read_epoch line ≡ accepted e) × (decided_by mode contents (words_of image) e ≡ Decision.Refused r))
+    Cases = RefusedFor image line r ⊎ ((contents : Contents) × (load image ≡ Ok contents) × (e : Epoch) × (read_epoch line ≡ Ok e) × (decided_by mode contents e ≡ Err r))
 
-    line_case : (contents : Contents) → load image ≡ Loaded.Image contents → (a : EpochAnswer) → read_epoch line ≡ a
-        → on_epoch_line mode contents (words_of image) a ≡ Decision.Refused r → Cases
-    line_case contents t (refused f) q h = let w : r ≡ refusal f 0 = cc in inl (the_line contents t f q w)
-    line_case contents t (accepted e) q h = inr (contents, t, e, q, h)
+    line_case : (contents : Contents) → load image ≡ Ok contents → (a : Result Epoch Refusal) → read_epoch line ≡ a
+        → on_image mode (Ok contents) a ≡ Err r → Cases
+    line_case contents t (Err s) q h = let w : s ≡ r = cc in inl (the_line contents t (q ∙ ap Err w))
+    line_case contents t (Ok e) q h = inr (contents, t, e, q, h)
 
-    image_case : (l : Loaded) → load image ≡ l → on_image mode l (words_of image) (read_epoch line) ≡ Decision.Refused r → Cases
-    image_case (Loaded.Refused s) q h = let w : s ≡ r = cc in inl (the_image (q ∙ ap Loaded.Refused w))
-    image_case (Loaded.Image contents) q h = line_case contents q (read_epoch line) refl h
+    image_case : (l : Result Contents Refusal) → load image ≡ l → on_image mode l (read_epoch line) ≡ Err r → Cases
+    image_case (Err s) q h = let w : s ≡ r = cc in inl (the_image (q ∙ ap Err w))
+    image_case (Ok contents) q h = line_case contents q (read_epoch line) refl h
 
 -- under which faults, at which locations
 pub either_faults : (image line : List ℕ) (r : Refusal) → RefusedFor image line r → OfDecision (length (words_of image)) r
-unfolding epoch_read answer_read
-either_faults image line r (the_image q) = of_image (refusals image r (ap refusal_in q))
-either_faults image line r (the_line contents t f q w) = of_line (epoch_faults line r (ap (λ (a : EpochAnswer). refusal_in_epoch (answer_read a)) q ∙ ap some (sym w)))
+either_faults image line r (the_image q) = of_image (refusals image r q)
+either_faults image line r (the_line contents t q) = of_line (epoch_faults line r q)
 
 -- whatever was handed over, the sets of a refusal are empty, in either mode
 pub refused_empty : (mode : Mode) (image line : List ℕ) → (answer_of (decision_in mode image line)).is_refused ≡ true
     → ((answer_of (decision_in mode image line)).accepted ≡ no_actions) × ((answer_of (decision_in mode image line)).cancelled ≡ no_actions)
 refused_empty mode image line = go (decision_in mode image line)
   where
-    go : (d : Decision) → (answer_of d).is_refused ≡ true → ((answer_of d).accepted ≡ no_actions) × ((answer_of d).cancelled ≡ no_actions)
-    go (Decision.Refused r) h = (refl, refl)
-    go (Decision.Issued actions) h = let z : ◌≡◌ {A = ℕ} 0 1 = cc in absurd (omega arith)
+    go : (d : Result Actions Refusal) → (answer_of d).is_refused ≡ true → ((answer_of d).accepted ≡ no_actions) × ((answer_of d).cancelled ≡ no_actions)
+    go (Err r) h = (refl, refl)
+    go (Ok actions) h = let z : ◌≡◌ {A = ℕ} 0 1 = cc in absurd (omega arith)
 
 -- ---- what the image's policy yields
 
@@ -103,11 +98,11 @@ accepted_is_best : (p : Policy) (e : Epoch) → NameActions p.constraints → Is
 accepted_is_best p e named =
     record { lowest = accepted_best p e; best = (accepted_only_best p e named (Yield.accepted p e)).1 refl; only = λ s. (accepted_only_best p e named s).0 }
 
-module _ (image : List ℕ) (bounded : Bytes image) (contents : Contents) (taken : load image ≡ Loaded.Image contents) where
+module _ (image : List ℕ) (bounded : Bytes image) (contents : Contents) (taken : load image ≡ Ok contents) where
   abbrev P : Policy
   P = policy_in image
 
-  module _ (line : List ℕ) (e : Epoch) (read : read_epoch line ≡ accepted e) where
+  module _ (line : List ℕ) (e : Epoch) (read : read_epoch line ≡ Ok e) where
     -- the decision is what the policy that the image holds yields
     pub holds_policy : answer_of (decision image line) ≡ yield_of P e
     unfolding cancelled
@@ -138,39 +133,35 @@ pub image_changed : (image : List ℕ) → Bytes image → Checked image
     → (mode : Mode) (line : List ℕ) → CheckFailed (answer_of (decision_in mode (changed image i v) line))
 image_changed image bounded ok i v l small other mode line = go (one_word_changed image bounded ok i v l small other)
   where
-    refused_load : (x : Loaded) (r : Refusal) → refusal_in x ≡ some r → x ≡ Loaded.Refused r
-    refused_load (Loaded.Refused s) r e = let w : s ≡ r = cc in ap Loaded.Refused w
-    refused_load (Loaded.Image c) r e = let z : ◌≡◌ {A = ℕ} 0 1 = cc in absurd (omega arith)
-
     go : RefusedEarly (load (changed image i v)) → CheckFailed (answer_of (decision_in mode (changed image i v) line))
     go r =
-        subst (λ (d : Decision). CheckFailed (answer_of d))
-        (image_refused mode (changed image i v) line (refusal r.fault 0) (refused_load (load (changed image i v)) (refusal r.fault 0) r.refused))
+        subst (λ (d : Result Actions Refusal). CheckFailed (answer_of d))
+        (image_refused mode (changed image i v) line (refusal r.fault 0) r.refused)
         (record { is_refused = refl; from = r.from; upto = r.upto; text = refl; location = refl; accepts = refl; cancels = refl })
 
 -- ---- the image of a policy that an accepted text may have
 
 module _ (form : ℕ) (known : known_form form ≡ true) (p : Policy) (ok : Acceptable p) where
   -- on a line that is refused, in either mode
-  pub written_refuses : (mode : Mode) (line : List ℕ) (f : Fault) → read_epoch line ≡ refused f → answer_of (decision_in mode (image_of form p) line) ≡ refuses (refusal f 0)
-  written_refuses mode line f q = ap answer_of (image_refuses_in form known p ok mode line f q)
+  pub written_refuses : (mode : Mode) (line : List ℕ) (r : Refusal) → read_epoch line ≡ Err r → answer_of (decision_in mode (image_of form p) line) ≡ refuses r
+  written_refuses mode line r q = ap answer_of (image_refuses_in form known p ok mode line r q)
 
   -- on a line that is an epoch it decides what the policy yields
-  pub written_yields : (line : List ℕ) (e : Epoch) → read_epoch line ≡ accepted e → answer_of (decision (image_of form p) line) ≡ yield_of p e
+  pub written_yields : (line : List ℕ) (e : Epoch) → read_epoch line ≡ Ok e → answer_of (decision (image_of form p) line) ≡ yield_of p e
   unfolding cancelled
   written_yields line e q = ap answer_of (image_decides form known p ok line e q)
 
-  pub written_obeys : (line : List ℕ) (e : Epoch) → read_epoch line ≡ accepted e → Obeys p e (answer_of (decision (image_of form p) line))
+  pub written_obeys : (line : List ℕ) (e : Epoch) → read_epoch line ≡ Ok e → Obeys p e (answer_of (decision (image_of form p) line))
   written_obeys line e q =
       subst (λ (x : Policy). Obeys x e (answer_of (decision (image_of form p) line))) (image_holds form known p ok)
-      (obeys_policy (image_of form p) (image_bounded form known p ok) (contents_of form p) (image_taken form known p ok) line e q)
+      (obeys_policy (image_of form p) (image_bounded form known p ok) (contents_of p) (image_taken form known p ok) line e q)
 
-  pub written_best : (line : List ℕ) (e : Epoch) → read_epoch line ≡ accepted e → IsBest p e (answer_of (decision (image_of form p) line)).accepted
+  pub written_best : (line : List ℕ) (e : Epoch) → read_epoch line ≡ Ok e → IsBest p e (answer_of (decision (image_of form p) line)).accepted
   written_best line e q =
       subst (λ (x : Policy). IsBest x e (answer_of (decision (image_of form p) line)).accepted) (image_holds form known p ok)
-      (best_policy (image_of form p) (image_bounded form known p ok) (contents_of form p) (image_taken form known p ok) line e q)
+      (best_policy (image_of form p) (image_bounded form known p ok) (contents_of p) (image_taken form known p ok) line e q)
 
   -- with any other value in the place of one word it is refused whatever the line and its mode
   pub written_changed : (i v : ℕ) → i < length (words_of (image_of form p)) → v < word_limit → ¬ (v ≡ word_at (image_of form p) i)
       → (mode : Mode) (line : List ℕ) → CheckFailed (answer_of (decision_in mode (changed (image_of form p) i v) line))
-  written_changed = image_changed (image_of form p) (image_bounded form known p ok) (took (image_of form p) (contents_of form p) (image_taken form known p ok)).checked
+  written_changed = image_changed (image_of form p) (image_bounded form known p ok) (took (image_of form p) (contents_of p) (image_taken form known p ok)).checked

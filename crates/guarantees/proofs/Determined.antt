@@ -3,7 +3,8 @@ use Rattle.std.proofs.Common.{ℕ, List, ◌<◌, ◌≡◌, ⊎_elim, Bool, tru
 use Rattle.std.proofs.Math.Dec.{ltb}
 use Rattle.policy.proofs.ListLaws.{bool_ext, true_false, not_false_is}
 use Rattle.policy.proofs.SetLaws.{has_union, has_insert_cases, has_below, has_below_past, set_ext}
-use Rattle.policy.specs.Epoch.{Epoch, Readings}
+use Rattle.policy.specs.declared.epoch.Epoch.{Epoch}
+use Rattle.policy.specs.declared.epoch.Readings.{Readings}
 use Rattle.policy.specs.Policy.{Policy, Constraint}
 use Rattle.policy.specs.Set.{ActionSet, EventSet, has, has_action, below, insert, union_actions, set_of}
 use Rattle.policy.specs.declared.number.Action.{Action}

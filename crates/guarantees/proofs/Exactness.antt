@@ -1,5 +1,6 @@
 -- The loader takes exactly the images that some accepted text compiles to, and when it refuses under 11.
-use Rattle.std.proofs.Common.{ℕ, true, List, [], ◌∷◌, ◌↔◌, ◌≡◌, refl, sym, ap, ◌∙◌, subst, arith, ltb-true, eqb-true, length}
+use Rattle.policy.specs.Line.{PolicyLine}
+use Rattle.std.proofs.Common.{ℕ, true, List, [], ◌∷◌, ◌↔◌, ◌≡◌, refl, sym, ap, ◌∙◌, subst, arith, ltb-true, eqb-true, length, Result, Ok, Err}
 use Rattle.std.proofs.Math.Option.{some}
 use Rattle.policy.proofs.ListLaws.{and_out}
 use Rattle.policy.specs.Fault.{fault_number, refusal}
@@ -8,17 +9,15 @@ use Rattle.policy.specs.List.{all}
 use Rattle.policy.specs.Policy.{Policy}
 use Rattle.policy.specs.declared.fault.Fault.{Fault}
 use Rattle.policy.specs.declared.fault.Refusal.{Refusal}
-use Rattle.exactness.proofs.Exact.{exactly_images, image_refused_exactly, image_taken, held_acceptable, held_image, held_form, Answered, early, late, answered}
+use Rattle.exactness.proofs.Exact.{exactly_images, image_refused_exactly, image_taken, held_acceptable, held_image, held_form, refused_with, Answered, early, late, answered}
 use Rattle.exactness.specs.Exact.{contents_of, Checked}
 use Rattle.exactness.specs.ImageFault.{ImageFault}
 use Rattle.layout.specs.Layout.{known_form, image_of}
-use Rattle.image.specs.Check.{form_byte, rule_count, constraint_count}
+use Rattle.image.specs.Check.{form_byte}
 use Rattle.image.specs.Held.{policy_in}
-use Rattle.image.specs.Lines.{Lines, whole, fault, rule_lines, constraint_lines}
-use Rattle.image.specs.Load.{body_answer, load_words, load, refusal_in}
+use Rattle.image.specs.Lines.{rule_part, constraint_part, rule_lines, constraint_lines}
+use Rattle.image.specs.Load.{body_answer, load_words, load, Contents}
 use Rattle.word.specs.Word.{Bytes, words_of}
-use Rattle.image.specs.declared.load.Loaded.{Loaded}
-use Rattle.image.specs.declared.load.Contents.{Contents}
 use Rattle.codegen.proofs.AcceptedLaws.{newest_known}
 use Rattle.codegen.proofs.Compilation.{text_compiled, image_written}
 use Rattle.codegen.specs.Compile.{newest_form}
@@ -49,53 +48,53 @@ unfolding known_form
 newest_only form k = eqb-true form newest_form k
 
 -- the loader takes a byte sequence exactly if some accepted text compiles to it
-pub taken_exactly : (bytes : List ℕ) → Bytes bytes → ((contents : Contents) × (load bytes ≡ Loaded.Image contents)) ↔ SomeText bytes
+pub taken_exactly : (bytes : List ℕ) → Bytes bytes → ((contents : Contents) × (load bytes ≡ Ok contents)) ↔ SomeText bytes
 taken_exactly bytes bounded = (there, back)
   where
-    there : (contents : Contents) × (load bytes ≡ Loaded.Image contents) → SomeText bytes
+    there : (contents : Contents) × (load bytes ≡ Ok contents) → SomeText bytes
     there x =
         let i = (exactly_images bytes bounded).0 x in
         let same : image_of newest_form i.policy ≡ bytes = ap (λ (f : ℕ). image_of f i.policy) (sym (newest_only i.form i.known)) ∙ i.same in
         record { text = text_of i.policy; bytes = ascii_bytes (text_of i.policy) (text_ascii i.policy); compiles = subst (CompilesTo (text_of i.policy)) same (printed_compiles i.policy i.acceptable) }
 
-    back : SomeText bytes → (contents : Contents) × (load bytes ≡ Loaded.Image contents)
+    back : SomeText bytes → (contents : Contents) × (load bytes ≡ Ok contents)
     back x =
         let t = image_of_text x.text bytes x.compiles in
-        (contents_of newest_form t.policy, ap load t.same ∙ image_taken newest_form newest_known t.policy t.acceptable)
+        (contents_of t.policy, ap load t.same ∙ image_taken newest_form newest_known t.policy t.acceptable)
 
 -- compiling what was loaded: the text printed from the policy that a taken image holds compiles to that image
-pub loaded_compiles : (bytes : List ℕ) → Bytes bytes → (contents : Contents) → load bytes ≡ Loaded.Image contents → CompilesTo (text_of (policy_in bytes)) bytes
+pub loaded_compiles : (bytes : List ℕ) → Bytes bytes → (contents : Contents) → load bytes ≡ Ok contents → CompilesTo (text_of (policy_in bytes)) bytes
 loaded_compiles bytes bounded contents taken =
     subst (CompilesTo (text_of (policy_in bytes)))
-    (ap (λ (f : ℕ). image_of f (policy_in bytes)) (sym (newest_only contents.form (held_form bytes bounded contents taken))) ∙ held_image bytes bounded contents taken)
+    (ap (λ (f : ℕ). image_of f (policy_in bytes)) (sym (newest_only _ (held_form bytes bounded contents taken))) ∙ held_image bytes bounded contents taken)
     (printed_compiles (policy_in bytes) (held_acceptable bytes bounded contents taken))
 
 -- fault 11 is given exactly if the checks 7 to 10 pass and no accepted text compiles to the bytes
-pub body_exactly : (bytes : List ℕ) → Bytes bytes → ((location : ℕ) × (load bytes ≡ Loaded.Refused (refusal Fault.ImageBody location))) ↔ (Checked bytes × ¬ SomeText bytes)
+pub body_exactly : (bytes : List ℕ) → Bytes bytes → ((location : ℕ) × (load bytes ≡ Err (refusal Fault.ImageBody location))) ↔ (Checked bytes × ¬ SomeText bytes)
 unfolding body_answer load load_words
 body_exactly bytes bounded = (there, back)
   where
-    image_not : (location : ℕ) (contents : Contents) → load bytes ≡ Loaded.Refused (refusal Fault.ImageBody location) → load bytes ≡ Loaded.Image contents → ⊥
-    image_not location contents p q = let e : Loaded.Image contents ≡ Loaded.Refused (refusal Fault.ImageBody location) = sym q ∙ p in let z : ◌≡◌ {A = ℕ} 0 1 = cc in omega arith
+    image_not : (location : ℕ) (contents : Contents) → load bytes ≡ Err (refusal Fault.ImageBody location) → load bytes ≡ Ok contents → ⊥
+    image_not location contents p q = let e : Ok contents ≡ Err (refusal Fault.ImageBody location) = sym q ∙ p in let z : ◌≡◌ {A = ℕ} 0 1 = cc in omega arith
 
-    checked : (location : ℕ) → load bytes ≡ Loaded.Refused (refusal Fault.ImageBody location) → Answered bytes → Checked bytes
+    checked : (location : ℕ) → load bytes ≡ Err (refusal Fault.ImageBody location) → Answered bytes → Checked bytes
     checked location e (late c q) = c
     checked location e (early r) =
-        let a : some (refusal Fault.ImageBody location) ≡ some (refusal r.fault 0) = sym (ap refusal_in e) ∙ r.refused in
+        let a : refused_with (refusal Fault.ImageBody location) ≡ refused_with (refusal r.fault 0) = sym e ∙ r.refused in
         let same : refusal Fault.ImageBody location ≡ refusal r.fault 0 = cc in
         let b : Fault.ImageBody ≡ r.fault = ap (λ (x : Refusal). x.fault) same in
         absurd (omega (arith, ap fault_number b, r.upto))
 
-    body : (rs cs : Lines) → load bytes ≡ body_answer (form_byte (words_of bytes)) (rule_count (words_of bytes)) (constraint_count (words_of bytes)) rs cs → ¬ SomeText bytes
-        → (location : ℕ) × (load bytes ≡ Loaded.Refused (refusal Fault.ImageBody location))
-    body (whole rs) (whole cs) e n = absurd (n ((taken_exactly bytes bounded).0 (_, e)))
-    body (whole rs) (fault at) e n = (at, e)
-    body (fault at) cs e n = (at, e)
+    body : (rs cs : Result (List PolicyLine) ℕ) → load bytes ≡ body_answer (rule_part (words_of bytes)) (constraint_part (words_of bytes)) rs cs → ¬ SomeText bytes
+        → (location : ℕ) × (load bytes ≡ Err (refusal Fault.ImageBody location))
+    body (Ok rs) (Ok cs) e n = absurd (n ((taken_exactly bytes bounded).0 (_, e)))
+    body (Ok rs) (Err at) e n = (at, e)
+    body (Err at) cs e n = (at, e)
 
-    there : (location : ℕ) × (load bytes ≡ Loaded.Refused (refusal Fault.ImageBody location)) → Checked bytes × ¬ SomeText bytes
+    there : (location : ℕ) × (load bytes ≡ Err (refusal Fault.ImageBody location)) → Checked bytes × ¬ SomeText bytes
     there x = (checked x.0 x.1 (answered bytes), λ s. let t = (taken_exactly bytes bounded).1 s in image_not x.0 t.0 x.1 t.1)
 
-    back : Checked bytes × ¬ SomeText bytes → (location : ℕ) × (load bytes ≡ Loaded.Refused (refusal Fault.ImageBody location))
+    back : Checked bytes × ¬ SomeText bytes → (location : ℕ) × (load bytes ≡ Err (refusal Fault.ImageBody location))
     back x = body (rule_lines (words_of bytes)) (constraint_lines (words_of bytes)) (rw (x.0.size, x.0.form, x.0.count, x.0.check)) x.1
 
 -- what has no fault is taken, and so some text compiles to it
@@ -105,10 +104,10 @@ faulty_exactly bytes bounded = (there, λ n. back n (load bytes) refl)
     there : (r : Refusal) × ImageFault bytes r → ¬ SomeText bytes
     there x s =
         let t = (taken_exactly bytes bounded).1 s in
-        let e : Loaded.Refused x.0 ≡ Loaded.Image t.0 = sym ((image_refused_exactly bytes x.0).1 x.1) ∙ t.1 in
+        let e : Err x.0 ≡ Ok t.0 = sym ((image_refused_exactly bytes x.0).1 x.1) ∙ t.1 in
         let z : ◌≡◌ {A = ℕ} 0 1 = cc in
         omega arith
 
-    back : ¬ SomeText bytes → (l : Loaded) → load bytes ≡ l → (r : Refusal) × ImageFault bytes r
-    back n (Loaded.Refused r) e = (r, (image_refused_exactly bytes r).0 e)
-    back n (Loaded.Image c) e = absurd (n ((taken_exactly bytes bounded).0 (c, e)))
+    back : ¬ SomeText bytes → (l : Result Contents Refusal) → load bytes ≡ l → (r : Refusal) × ImageFault bytes r
+    back n (Err r) e = (r, (image_refused_exactly bytes r).0 e)
+    back n (Ok c) e = absurd (n ((taken_exactly bytes bounded).0 (c, e)))

@@ -1,5 +1,5 @@
 -- When an action is explained, what is told of it, and which part of which text is shown.
-use Rattle.std.proofs.Common.{ℕ, ◌<◌, Bool, true, false, cond, ◌&&◌, List, [], ◌∷◌, ◌++◌, ◌↔◌, ◌≡◌, refl, sym, ap, ◌∙◌, subst, arith, lt-ltb, le-ltb, ltb-true, ltb-false, eqb-true, eq-eqb}
+use Rattle.std.proofs.Common.{ℕ, ◌<◌, Bool, true, false, cond, ◌&&◌, List, [], ◌∷◌, ◌++◌, ◌↔◌, ◌≡◌, refl, sym, ap, ◌∙◌, subst, arith, lt-ltb, le-ltb, ltb-true, ltb-false, eqb-true, eq-eqb, Result}
 use Rattle.std.proofs.Math.Option.{some}
 use Rattle.std.specs.Prelude.{Option, Some, None, Ok, Err}
 use Rattle.std.specs.Option.{option_map_or}
@@ -8,7 +8,7 @@ use Rattle.std.proofs.Math.Dec.{ltb, eqb}
 use mathlib.Core.List.{Memᴰ}
 use Rattle.policy.proofs.ListLaws.{true_false, and_in, and_out}
 use Rattle.policy.proofs.SetLaws.{has_insert_same}
-use Rattle.policy.specs.Epoch.{Epoch}
+use Rattle.policy.specs.declared.epoch.Epoch.{Epoch}
 use Rattle.policy.specs.Fault.{refusal}
 use Rattle.policy.specs.Line.{PolicyLine, rule, constraint}
 use Rattle.policy.specs.Number.{check_action}
@@ -25,7 +25,7 @@ use Rattle.pdl.specs.Answer.{Answer}
 use Rattle.pdl.specs.Pdl.{Derives}
 use Rattle.pdl.specs.Yield as Yield
 use Rattle.pdl.specs.Yield.{rule_holds, propose, proposals}
-use Rattle.epoch_line.specs.Epoch.{EpochAnswer, refused, accepted, read_epoch}
+use Rattle.epoch_line.specs.Epoch.{read_epoch}
 use Rattle.acceptance.proofs.Texts.{restarted, site_empty}
 use Rattle.rule_text.specs.Text.{Progress, reading, stopped, read_text, read_texts, policy_read, policy_of_texts}
 use Rattle.codegen.proofs.AcceptedLaws.{newest_known}
@@ -67,7 +67,7 @@ module _ (maker site line : List ℕ) (n : ℕ) where
   unfolding explained on_both_texts
   on_texts p e = ap (on_both_texts maker site line n) (texts_known maker site p e).1
 
-  on_line : (p : Policy) → policy_of_texts maker site ≡ some p → (e : Epoch) → read_epoch line ≡ accepted e
+  on_line : (p : Policy) → policy_of_texts maker site ≡ some p → (e : Epoch) → read_epoch line ≡ Ok e
       → explained maker site line n ≡ on_action maker site (Yield.accepted p e) (Yield.cancelled p e) e (check_action n)
   unfolding on_epoch
   on_line p q e r = on_texts p q ∙ ap (on_epoch maker site p n) r
@@ -79,7 +79,7 @@ module _ (maker site line : List ℕ) (n : ℕ) where
   unexplained : (r : Refusal) → Unexplained maker site line n r → explained maker site line n ≡ Err r
   unfolding explained on_both_texts on_epoch on_action
   unexplained r (the_texts q) = ap (on_both_texts maker site line n) q
-  unexplained r (the_line p q f k w) = on_texts p q ∙ ap (on_epoch maker site p n) k ∙ ap Err (sym w)
+  unexplained r (the_line p q k) = on_texts p q ∙ ap (on_epoch maker site p n) k
   unexplained r (the_action p q e k over w) = on_line p q e k ∙ rw (le-ltb n 64 over, w)
 
   data Explaining : Type 0 where
@@ -89,13 +89,13 @@ module _ (maker site line : List ℕ) (n : ℕ) where
   explaining : Explaining
   explaining = texts (read_texts maker site) refl
     where
-      number : (p : Policy) → policy_of_texts maker site ≡ some p → (e : Epoch) → read_epoch line ≡ accepted e → (b : Bool) → ltb n 64 ≡ b → Explaining
+      number : (p : Policy) → policy_of_texts maker site ≡ some p → (e : Epoch) → read_epoch line ≡ Ok e → (b : Bool) → ltb n 64 ≡ b → Explaining
       number p q e k true l = explains (record { policy = p; both = q; epoch = e; read = k; number = ltb-true n 64 l })
       number p q e k false l = refuses (refusal Fault.EpochRange 0) (the_action p q e k (ltb-false n 64 l) refl)
 
-      epoch : (p : Policy) → policy_of_texts maker site ≡ some p → (a : EpochAnswer) → read_epoch line ≡ a → Explaining
-      epoch p q (refused f) k = refuses (refusal f 0) (the_line p q f k refl)
-      epoch p q (accepted e) k = number p q e k (ltb n 64) refl
+      epoch : (p : Policy) → policy_of_texts maker site ≡ some p → (a : Result Epoch Refusal) → read_epoch line ≡ a → Explaining
+      epoch p q (Err r) k = refuses r (the_line p q k)
+      epoch p q (Ok e) k = number p q e k (ltb n 64) refl
 
       texts : (s : Progress) → read_texts maker site ≡ s → Explaining
       texts (stopped r) k = refuses r (the_texts k)

@@ -1,12 +1,13 @@
 -- A constraint with one action and no comparison keeps that action out of every decision.
-use Rattle.std.proofs.Common.{ℕ, Bool, true, false, cond, List, ◌≡◌, refl, sym, ap, ◌∙◌, arith}
+use Rattle.monitor.specs.declared.decision.Actions.{Actions}
+use Rattle.std.proofs.Common.{ℕ, Bool, true, false, cond, List, ◌≡◌, refl, sym, ap, ◌∙◌, arith, Ok}
 use Rattle.std.proofs.Math.Option.{some}
 use Rattle.std.proofs.Math.Path.{subst⁻¹}
 use mathlib.Core.List.Memᴰ
 use mathlib.Core.List.{Memᴰ}
 use Rattle.policy.proofs.ListLaws.{not_true_is}
 use Rattle.policy.proofs.SetLaws.{has_empty}
-use Rattle.policy.specs.Epoch.{Epoch}
+use Rattle.policy.specs.declared.epoch.Epoch.{Epoch}
 use Rattle.policy.specs.Fault.{refusal}
 use Rattle.policy.specs.Policy.{Policy}
 use Rattle.policy.specs.Set.{ActionSet, has_action}
@@ -19,7 +20,7 @@ use Rattle.pdl.specs.Answer.{refuses, issues}
 use Rattle.pdl.specs.Pdl.{Satisfies, lone}
 use Rattle.pdl.specs.Reduction.{issued, withheld, unavoidable}
 use Rattle.pdl.specs.Yield.{proposed}
-use Rattle.epoch_line.specs.Epoch.{accepted, read_epoch}
+use Rattle.epoch_line.specs.Epoch.{read_epoch}
 use Rattle.rule_text.specs.Text.{policy_of_texts}
 use Rattle.monitor.specs.Decision.{decision_in, answer_of}
 use Rattle.guarantees.proofs.Agreement.{image_of_texts, same_answer}
@@ -49,7 +50,7 @@ module _ (p : Policy) (e : Epoch) (a : Action) (listed : Memᴰ (lone a) p.const
           }
 
 pub lone_constraint_cancels : (maker site image : List ℕ) → TextsCompileTo maker site image → (p : Policy) → policy_of_texts maker site ≡ some p
-    → (x : Action) → Memᴰ (lone x) p.constraints → (mode : Mode) (line : List ℕ) (e : Epoch) → read_epoch line ≡ accepted e
+    → (x : Action) → Memᴰ (lone x) p.constraints → (mode : Mode) (line : List ℕ) (e : Epoch) → read_epoch line ≡ Ok e
     → KeptOut p e x (answer_of (decision_in mode image line))
 unfolding step answer
 lone_constraint_cancels maker site image c p q x listed mode line e r =

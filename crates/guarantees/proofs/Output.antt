@@ -1,5 +1,6 @@
 -- What the engine's program prints is what the reference machine says.
-use Rattle.std.proofs.Common.{ℕ, List, [], ◌∷◌, ◌++◌, ◌≡◌, refl, ap, ap₂, ◌∙◌}
+use Rattle.policy.specs.declared.fault.Refusal.{Refusal}
+use Rattle.std.proofs.Common.{ℕ, List, [], ◌∷◌, ◌++◌, ◌≡◌, refl, ap, ap₂, ◌∙◌, Result, Ok, Err}
 use Rattle.policy.specs.Limits.{Acceptable}
 use Rattle.policy.specs.Policy.{Policy}
 use Rattle.policy.specs.declared.mode.Mode.{Mode}
@@ -10,16 +11,16 @@ use Rattle.rule_text.specs.Text.{Progress, reading, stopped, read_text}
 use Rattle.layout.specs.Layout.{image_of}
 use Rattle.codegen.specs.Compile.{newest_form}
 use Rattle.monitor.specs.Decision.{decision_in, answer_of, visited_in}
-use Rattle.monitor.specs.declared.decision.Decision.{Decision}
+use Rattle.monitor.specs.declared.decision.Actions.{Actions}
 use Rattle.report.specs.Report.{refused_line, next_number}
 use Rattle.session.specs.Printed.{Session, text_only, with_epochs, split_at_run, text_part, decision_line, epoch_lines, answers_to, printed_for, printed}
 use Rattle.guarantees.specs.Output.{answer_line, machine_answer_lines, machine_lines, machine_prints, fetched}
 use Rattle.guarantees.proofs.Agreement.{same_answer}
 
-decision_line_is : (n : ℕ) (d : Decision) → decision_line n d ≡ answer_line n (answer_of d) (visited_in d)
+decision_line_is : (n : ℕ) (d : Result Actions Refusal) → decision_line n d ≡ answer_line n (answer_of d) (visited_in d)
 unfolding decision_line answer_line refused_line
-decision_line_is n (Decision.Refused r) = refl
-decision_line_is n (Decision.Issued actions) = refl
+decision_line_is n (Err r) = refl
+decision_line_is n (Ok actions) = refl
 
 epoch_lines_is : (p : Policy) → Acceptable p → (mode : Mode) (n : ℕ) (lines : List (List ℕ)) → epoch_lines mode (image_of newest_form p) n lines ≡ machine_answer_lines fetched mode p n lines
 unfolding epoch_lines machine_answer_lines fetched

@@ -1,7 +1,7 @@
 -- What holds of every decision in the second mode, that of event cancellation. It is what the image's policy yields, the kept events
 -- are a maximal reduction free of conflict, and it is refused for a conflict exactly where there is none.
-use Rattle.std.proofs.Common.{ℕ, Bool, true, false, cond, List, ◌↔◌, ⊎_elim, ◌≡◌, refl, sym, ap, ◌∙◌, subst, arith, length}
-use Rattle.policy.specs.Epoch.{Epoch}
+use Rattle.std.proofs.Common.{ℕ, Bool, true, false, cond, List, ◌↔◌, ⊎_elim, ◌≡◌, refl, sym, ap, ◌∙◌, subst, arith, length, Ok, Err}
+use Rattle.policy.specs.declared.epoch.Epoch.{Epoch}
 use Rattle.policy.specs.Fault.{refusal}
 use Rattle.policy.specs.Limits.{Acceptable}
 use Rattle.policy.specs.Policy.{Policy}
@@ -15,18 +15,16 @@ use Rattle.pdl.specs.Pdl.{Reducible}
 use Rattle.pdl.specs.Reduction.{proposed_with, kept_events, issued, withheld, unavoidable}
 use Rattle.pdl.specs.Yield.{proposed}
 use Rattle.acceptance.proofs.Alphabet.{line_inside}
-use Rattle.epoch_line.specs.Epoch.{accepted, read_epoch}
+use Rattle.epoch_line.specs.Epoch.{read_epoch}
 use Rattle.word.specs.Word.{Bytes, words_of}
 use Rattle.image.specs.Held.{policy_in}
-use Rattle.image.specs.Load.{load}
-use Rattle.image.specs.declared.load.Contents.{Contents}
-use Rattle.image.specs.declared.load.Loaded.{Loaded}
+use Rattle.image.specs.Load.{load, Contents}
 use Rattle.layout.specs.Layout.{known_form, image_of}
 use Rattle.exactness.proofs.Exact.{image_taken, image_holds}
 use Rattle.exactness.specs.Exact.{contents_of}
 use Rattle.meaning.proofs.Decided.{reduction_of, events_decided_are, image_bounded}
-use Rattle.monitor.specs.Decision.{actions_of, tried_event_words, rule_words_in, constraint_words_in, decided_by, decision_in, answer_of}
-use Rattle.monitor.specs.declared.decision.Decision.{Decision}
+use Rattle.monitor.specs.Decision.{actions_of, tried_event_words, decided_by, decision_in, answer_of}
+use Rattle.monitor.specs.declared.decision.Actions.{Actions}
 use Rattle.guarantees.proofs.Decisions.{refused_for, refused_cases, either_faults, not_refused}
 use Rattle.guarantees.specs.Machine.{yield_in}
 use Rattle.guarantees.specs.Decisions.{RefusedIn, as_first, for_conflict, OfDecisionIn, of_either, of_conflict, ObeysEvents}
@@ -39,20 +37,20 @@ module _ (p : Policy) (e : Epoch) (words : ℕ) where
   answer_is = go (unavoidable p e)
     where
       go : (b : Bool)
-          → answer_of (cond b (Decision.Refused (refusal Fault.Unavoidable 0)) (Decision.Issued (actions_of (proposed p.rules e) (issued p e) words)))
+          → answer_of (cond b (Err (refusal Fault.Unavoidable 0)) (Ok (actions_of (proposed p.rules e) (issued p e) words)))
           ≡ cond b (refuses (refusal Fault.Unavoidable 0)) (issues (issued p e) (actions_without (proposed p.rules e) (issued p e)))
       go true = refl
       go false = refl
 
-  refuses_out : (r : Refusal) → reduction_of p e words ≡ Decision.Refused r → (unavoidable p e ≡ true) × (r ≡ refusal Fault.Unavoidable 0)
+  refuses_out : (r : Refusal) → reduction_of p e words ≡ Err r → (unavoidable p e ≡ true) × (r ≡ refusal Fault.Unavoidable 0)
   refuses_out r = go (unavoidable p e)
     where
-      go : (b : Bool) → cond b (Decision.Refused (refusal Fault.Unavoidable 0)) (Decision.Issued (actions_of (proposed p.rules e) (issued p e) words)) ≡ Decision.Refused r
+      go : (b : Bool) → cond b (Err (refusal Fault.Unavoidable 0)) (Ok (actions_of (proposed p.rules e) (issued p e) words)) ≡ Err r
           → (b ≡ true) × (r ≡ refusal Fault.Unavoidable 0)
       go true h = let w : r ≡ refusal Fault.Unavoidable 0 = cc in (refl, w)
       go false h = let z : ◌≡◌ {A = ℕ} 0 1 = cc in absurd (omega arith)
 
-  refuses_in_is : unavoidable p e ≡ true → reduction_of p e words ≡ Decision.Refused (refusal Fault.Unavoidable 0)
+  refuses_in_is : unavoidable p e ≡ true → reduction_of p e words ≡ Err (refusal Fault.Unavoidable 0)
   refuses_in_is h = rw h
 
   issued_is : unavoidable p e ≡ false → yield_in Mode.Events p e ≡ issues (issued p e) (withheld p e)
@@ -61,13 +59,13 @@ module _ (p : Policy) (e : Epoch) (words : ℕ) where
 
 -- ---- an image that is taken
 
-module _ (image : List ℕ) (bounded : Bytes image) (contents : Contents) (taken : load image ≡ Loaded.Image contents) where
+module _ (image : List ℕ) (bounded : Bytes image) (contents : Contents) (taken : load image ≡ Ok contents) where
   abbrev P : Policy
   P = policy_in image
 
-  module _ (line : List ℕ) (e : Epoch) (read : read_epoch line ≡ accepted e) where
+  module _ (line : List ℕ) (e : Epoch) (read : read_epoch line ≡ Ok e) where
     abbrev words : ℕ
-    words = tried_event_words (rule_words_in contents (words_of image)) (constraint_words_in contents (words_of image)) e
+    words = tried_event_words contents.rules contents.constraints e
 
     decided : decision_in Mode.Events image line ≡ reduction_of P e words
     decided = events_decided_are image bounded contents taken line e read
@@ -77,7 +75,7 @@ module _ (image : List ℕ) (bounded : Bytes image) (contents : Contents) (taken
     reduces_policy = ap answer_of decided ∙ answer_is P e words
 
     -- it is refused for a conflict exactly if no reduction of the epoch is free of conflict
-    pub conflict_exactly : (decision_in Mode.Events image line ≡ Decision.Refused (refusal Fault.Unavoidable 0)) ↔ ¬ Reducible P.constraints (proposed_with P.rules) e
+    pub conflict_exactly : (decision_in Mode.Events image line ≡ Err (refusal Fault.Unavoidable 0)) ↔ ¬ Reducible P.constraints (proposed_with P.rules) e
     conflict_exactly = (
       (λ h. (unavoidable_exactly P e).0 (refuses_out P e words (refusal Fault.Unavoidable 0) (sym decided ∙ h)).0),
       λ h. decided ∙ refuses_in_is P e words ((unavoidable_exactly P e).1 h),
@@ -105,24 +103,24 @@ module _ (image : List ℕ) (bounded : Bytes image) (contents : Contents) (taken
 -- ---- refusals in either mode
 
 -- a decision is refused exactly for what it is refused for in the first mode or, in the second, where no reduction is free of conflict
-pub refused_exactly : (mode : Mode) (image line : List ℕ) → Bytes image → (r : Refusal) → (decision_in mode image line ≡ Decision.Refused r) ↔ RefusedIn mode image line r
+pub refused_exactly : (mode : Mode) (image line : List ℕ) → Bytes image → (r : Refusal) → (decision_in mode image line ≡ Err r) ↔ RefusedIn mode image line r
 unfolding decided_by
 refused_exactly mode image line bounded r = (λ h. ⊎_elim as_first (λ x. epoch_case mode h x.0 x.1 x.2 x.3 x.4) (refused_cases mode image line r h), back)
   where
-    epoch_case : (m : Mode) → decision_in m image line ≡ Decision.Refused r → (contents : Contents) → load image ≡ Loaded.Image contents → (e : Epoch) → read_epoch line ≡ accepted e
-        → decided_by m contents (words_of image) e ≡ Decision.Refused r → RefusedIn m image line r
+    epoch_case : (m : Mode) → decision_in m image line ≡ Err r → (contents : Contents) → load image ≡ Ok contents → (e : Epoch) → read_epoch line ≡ Ok e
+        → decided_by m contents e ≡ Err r → RefusedIn m image line r
     epoch_case Mode.Actions h contents t e q d = let z : ◌≡◌ {A = ℕ} 0 1 = cc in absurd (omega arith)
     epoch_case Mode.Events h contents t e q d =
         let w = refuses_out (policy_in image) e (words image bounded contents t line e q) r (sym (decided image bounded contents t line e q) ∙ h) in
         for_conflict refl contents t e q ((unavoidable_exactly (policy_in image) e).0 w.0) w.1
 
-    back : RefusedIn mode image line r → decision_in mode image line ≡ Decision.Refused r
+    back : RefusedIn mode image line r → decision_in mode image line ≡ Err r
     back (as_first f) = refused_for mode image line r f
     back (for_conflict m contents t e q none w) =
-        ap (λ (x : Mode). decision_in x image line) m ∙ (conflict_exactly image bounded contents t line e q).1 none ∙ ap Decision.Refused (sym w)
+        ap (λ (x : Mode). decision_in x image line) m ∙ (conflict_exactly image bounded contents t line e q).1 none ∙ ap Err (sym w)
 
 -- and under which faults, at which locations
-pub decision_faults : (mode : Mode) (image line : List ℕ) → Bytes image → (r : Refusal) → decision_in mode image line ≡ Decision.Refused r → OfDecisionIn mode (length (words_of image)) r
+pub decision_faults : (mode : Mode) (image line : List ℕ) → Bytes image → (r : Refusal) → decision_in mode image line ≡ Err r → OfDecisionIn mode (length (words_of image)) r
 decision_faults mode image line bounded r h = go ((refused_exactly mode image line bounded r).0 h)
   where
     go : RefusedIn mode image line r → OfDecisionIn mode (length (words_of image)) r
@@ -131,7 +129,7 @@ decision_faults mode image line bounded r h = go ((refused_exactly mode image li
 
 -- ---- the image of a policy that an accepted text may have
 
-module _ (form : ℕ) (known : known_form form ≡ true) (p : Policy) (ok : Acceptable p) (line : List ℕ) (e : Epoch) (read : read_epoch line ≡ accepted e) where
+module _ (form : ℕ) (known : known_form form ≡ true) (p : Policy) (ok : Acceptable p) (line : List ℕ) (e : Epoch) (read : read_epoch line ≡ Ok e) where
   abbrev image : List ℕ
   image = image_of form p
 
@@ -140,15 +138,15 @@ module _ (form : ℕ) (known : known_form form ≡ true) (p : Policy) (ok : Acce
 
   pub written_reduces : answer_of (decision_in Mode.Events image line) ≡ yield_in Mode.Events p e
   written_reduces =
-      reduces_policy image (image_bounded form known p ok) (contents_of form p) (image_taken form known p ok) line e read
+      reduces_policy image (image_bounded form known p ok) (contents_of p) (image_taken form known p ok) line e read
       ∙ ap (λ (x : Policy). yield_in Mode.Events x e) holds
 
-  pub written_conflict : (decision_in Mode.Events image line ≡ Decision.Refused (refusal Fault.Unavoidable 0)) ↔ ¬ Reducible p.constraints (proposed_with p.rules) e
+  pub written_conflict : (decision_in Mode.Events image line ≡ Err (refusal Fault.Unavoidable 0)) ↔ ¬ Reducible p.constraints (proposed_with p.rules) e
   written_conflict =
-      subst (λ (x : Policy). (decision_in Mode.Events image line ≡ Decision.Refused (refusal Fault.Unavoidable 0)) ↔ ¬ Reducible x.constraints (proposed_with x.rules) e) holds
-      (conflict_exactly image (image_bounded form known p ok) (contents_of form p) (image_taken form known p ok) line e read)
+      subst (λ (x : Policy). (decision_in Mode.Events image line ≡ Err (refusal Fault.Unavoidable 0)) ↔ ¬ Reducible x.constraints (proposed_with x.rules) e) holds
+      (conflict_exactly image (image_bounded form known p ok) (contents_of p) (image_taken form known p ok) line e read)
 
   pub written_obeys_events : Reducible p.constraints (proposed_with p.rules) e → ObeysEvents p e (kept_events p e) (answer_of (decision_in Mode.Events image line))
   written_obeys_events =
       subst (λ (x : Policy). Reducible x.constraints (proposed_with x.rules) e → ObeysEvents x e (kept_events x e) (answer_of (decision_in Mode.Events image line))) holds
-      (obeys_events image (image_bounded form known p ok) (contents_of form p) (image_taken form known p ok) line e read)
+      (obeys_events image (image_bounded form known p ok) (contents_of p) (image_taken form known p ok) line e read)

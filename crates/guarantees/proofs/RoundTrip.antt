@@ -35,7 +35,7 @@ text_of_image image text bounded d =
       same = sym d.written ∙ w.text;
       acceptable = held_acceptable image bounded w.contents w.taken;
       again =
-          ap (λ (f : ℕ). image_of f (policy_in image)) (sym (newest_only w.contents.form (held_form image bounded w.contents w.taken)))
+          ap (λ (f : ℕ). image_of f (policy_in image)) (sym (newest_only _ (held_form image bounded w.contents w.taken)))
           ∙ held_image image bounded w.contents w.taken;
     }
 

@@ -1,28 +1,29 @@
 -- How many words of its image a decision fetches, in each mode.
-use Rattle.std.proofs.Common.{ℕ, ◌+◌, ◌*◌, ◌≤◌, Bool, true, false, cond, ◌&&◌, List, ◌≡◌, refl, sym, ap, ◌∙◌, mul-le-mul_right, arith, leb-true, length}
+use Rattle.policy.specs.declared.fault.Refusal.{Refusal}
+use Rattle.std.proofs.Common.{ℕ, ◌+◌, ◌*◌, ◌≤◌, Bool, true, false, cond, ◌&&◌, List, ◌≡◌, refl, sym, ap, ◌∙◌, mul-le-mul_right, arith, leb-true, length, Result, Ok, Err}
 use Rattle.std.proofs.Math.Dec.{leb, eqb}
 use Rattle.policy.proofs.ListLaws.{and_out}
-use Rattle.policy.specs.Epoch.{Epoch}
+use Rattle.policy.specs.declared.epoch.Epoch.{Epoch}
 use Rattle.policy.specs.Fault.{refusal}
 use Rattle.policy.specs.Set.{ActionSet, size, all_events, keeping, set_of}
 use Rattle.policy.specs.declared.fault.Fault.{Fault}
 use Rattle.policy.specs.declared.mode.Mode.{Mode}
 use Rattle.pdl.proofs.CostLaws.{trials_cost_is, size_limit_is}
 use Rattle.pdl.proofs.Monitor.{accepted_with_cancelled}
-use Rattle.epoch_line.specs.Epoch.{EpochAnswer, refused, accepted, read_epoch}
-use Rattle.word.specs.Word.{Bytes, words_of, between}
+use Rattle.epoch_line.specs.Epoch.{read_epoch}
+use Rattle.word.specs.Word.{Bytes, words_of}
 use Rattle.image.specs.Held.{policy_in}
 use Rattle.layout.specs.Layout.{check_count}
 use Rattle.image.specs.Check.{form_byte, rule_count, constraint_count, counts_fit}
-use Rattle.image.specs.Load.{load}
-use Rattle.image.specs.declared.load.Contents.{Contents}
-use Rattle.image.specs.declared.load.Loaded.{Loaded}
+use Rattle.image.specs.Load.{load, Contents}
 use Rattle.exactness.proofs.Exact.{took}
 use Rattle.meaning.proofs.Fetched.{taken_rules_fetch, taken_trial_fetch}
 use Rattle.meaning.proofs.Taken.{taken_rules_run}
-use Rattle.monitor.proofs.DecideLaws.{on_line}
-use Rattle.monitor.specs.Decision.{proposed_by, conflict_by, trial_words, tried_words, proposed_with_by, clash_by, clash_words, tried_event_words, yielded_by, reduced_by, reduction_by, rule_words_in, constraint_words_in, issued_by, decided_by, on_epoch_line, on_image, decision_in, decision, answer_of, visited_in}
-use Rattle.monitor.specs.declared.decision.Decision.{Decision}
+use Rattle.exactness.proofs.ImageLaws.{rules_size, constraints_size}
+use Rattle.image.proofs.HeldLaws.{counts_add}
+use Rattle.monitor.proofs.DecideLaws.{line_refused, line_accepted}
+use Rattle.monitor.specs.Decision.{visited_by, proposed_by, conflict_by, trial_words, tried_words, proposed_with_by, clash_by, clash_words, tried_event_words, yielded_by, reduced_by, reduction_by, decided_by, on_image, decision_in, decision, answer_of, visited_in}
+use Rattle.monitor.specs.declared.decision.Actions.{Actions}
 use Rattle.guarantees.specs.Decisions.{decided_actions}
 use Rattle.guarantees.proofs.Decisions.{holds_policy}
 
@@ -30,45 +31,39 @@ use Rattle.guarantees.proofs.Decisions.{holds_policy}
 pub refused_fetches_none : (mode : Mode) (image line : List ℕ) → (answer_of (decision_in mode image line)).is_refused ≡ true → visited_in (decision_in mode image line) ≡ 0
 refused_fetches_none mode image line = go (decision_in mode image line)
   where
-    go : (d : Decision) → (answer_of d).is_refused ≡ true → visited_in d ≡ 0
-    go (Decision.Refused r) h = refl
-    go (Decision.Issued actions) h = let z : ◌≡◌ {A = ℕ} 0 1 = cc in absurd (omega arith)
+    go : (d : Result Actions Refusal) → (answer_of d).is_refused ≡ true → visited_in d ≡ 0
+    go (Err r) h = refl
+    go (Ok actions) h = let z : ◌≡◌ {A = ℕ} 0 1 = cc in absurd (omega arith)
 
-module _ (image : List ℕ) (bounded : Bytes image) (contents : Contents) (taken : load image ≡ Loaded.Image contents) where
+module _ (image : List ℕ) (bounded : Bytes image) (contents : Contents) (taken : load image ≡ Ok contents) where
   abbrev P : ℕ
-  P = contents.rule_words
+  P = length contents.rules
 
   abbrev N : ℕ
-  N = contents.constraint_words
+  N = length contents.constraints
 
   module _ (e : Epoch) where
-    abbrev rules : List ℕ
-    rules = between 1 (1 + P) (words_of image)
-
-    abbrev constraints : List ℕ
-    constraints = between (1 + P) (1 + P + N) (words_of image)
-
-    issued_words : (issued_by contents (words_of image) e).visited ≤ P + size (proposed_by rules e).bits * N
-    unfolding issued_by yielded_by tried_words
+    issued_words : visited_by contents.rules contents.constraints e ≤ P + size (proposed_by contents.rules e).bits * N
+    unfolding tried_words
     issued_words =
         omega (
           arith,
           taken_rules_fetch image bounded contents taken e.readings (all_events e.events),
-          trials_cost_is (conflict_by constraints e.readings) (trial_words constraints e.readings) (proposed_by rules e).bits N
+          trials_cost_is (conflict_by contents.constraints e.readings) (trial_words contents.constraints e.readings) (proposed_by contents.rules e).bits N
               (λ s. taken_trial_fetch image bounded contents taken e.readings (set_of s)),
         )
 
   module _ (line : List ℕ) where
     -- at most the rule words, and the constraint words once for each action that was accepted or cancelled
     pub words_by_actions : visited_in (decision image line) ≤ P + size (decided_actions (answer_of (decision image line))).bits * N
-    unfolding on_epoch_line decided_by
+    unfolding decided_by yielded_by
     words_by_actions = go (read_epoch line) refl
       where
-        go : (a : EpochAnswer) → read_epoch line ≡ a → visited_in (decision image line) ≤ P + size (decided_actions (answer_of (decision image line))).bits * N
-        go (refused f) q = rw (on_line Mode.Actions image line contents taken, q) (omega arith)
-        go (accepted e) q =
-            let v : visited_in (decision image line) ≡ (issued_by contents (words_of image) e).visited = rw (on_line Mode.Actions image line contents taken, q) in
-            let s : decided_actions (answer_of (decision image line)) ≡ proposed_by (rules e) e =
+        go : (a : Result Epoch Refusal) → read_epoch line ≡ a → visited_in (decision image line) ≤ P + size (decided_actions (answer_of (decision image line))).bits * N
+        go (Err r) q = rw (← line_refused Mode.Actions image line contents taken r q) (omega arith)
+        go (Ok e) q =
+            let v : visited_in (decision image line) ≡ visited_by contents.rules contents.constraints e = ap visited_in (sym (line_accepted Mode.Actions image line contents taken e q)) in
+            let s : decided_actions (answer_of (decision image line)) ≡ proposed_by contents.rules e =
             ap decided_actions (holds_policy image bounded contents taken line e q) ∙ accepted_with_cancelled (policy_in image) e
             ∙ sym (taken_rules_run image bounded contents taken (all_events e.events) e.readings) in
             omega (arith, v, issued_words e, ap (λ (x : ActionSet). size x.bits * N) s)
@@ -80,63 +75,59 @@ module _ (image : List ℕ) (bounded : Bytes image) (contents : Contents) (taken
 
     -- ---- the second mode
 
-    abbrev rule_part : List ℕ
-    rule_part = rule_words_in contents (words_of image)
-
-    abbrev constraint_part : List ℕ
-    constraint_part = constraint_words_in contents (words_of image)
-
     -- a trial fetches at most the rule words and the constraint words
-    trial_words_is : (e : Epoch) (kept : ℕ) → clash_words rule_part constraint_part e kept ≤ P + N
+    trial_words_is : (e : Epoch) (kept : ℕ) → clash_words contents.rules contents.constraints e kept ≤ P + N
     trial_words_is e kept =
         omega (
           arith,
           taken_rules_fetch image bounded contents taken e.readings (keeping e.events (set_of kept)),
-          taken_trial_fetch image bounded contents taken e.readings (proposed_with_by rule_part e (set_of kept)),
+          taken_trial_fetch image bounded contents taken e.readings (proposed_with_by contents.rules e (set_of kept)),
         )
 
     -- one trial with no event, and one for each event of the epoch
-    pub words_by_events : (e : Epoch) → read_epoch line ≡ accepted e → visited_in (decision_in Mode.Events image line) ≤ (P + N) + size e.events.bits * (P + N)
-    unfolding on_epoch_line decided_by reduction_by reduced_by tried_event_words
-    words_by_events e q = rw (on_line Mode.Events image line contents taken, q) (go (clash_by rule_part constraint_part e 0))
+    pub words_by_events : (e : Epoch) → read_epoch line ≡ Ok e → visited_in (decision_in Mode.Events image line) ≤ (P + N) + size e.events.bits * (P + N)
+    unfolding decided_by reduction_by reduced_by tried_event_words
+    words_by_events e q = rw (← line_accepted Mode.Events image line contents taken e q) (go (clash_by contents.rules contents.constraints e 0))
       where
-        go : (b : Bool) → visited_in (cond b (Decision.Refused (refusal Fault.Unavoidable 0)) (Decision.Issued (reduced_by rule_part constraint_part e))) ≤ (P + N) + size e.events.bits * (P + N)
+        go : (b : Bool) → visited_in (cond b (Err (refusal Fault.Unavoidable 0)) (Ok (reduced_by contents.rules contents.constraints e))) ≤ (P + N) + size e.events.bits * (P + N)
         go true = omega arith
-        go false = omega (arith, trial_words_is e 0, trials_cost_is (clash_by rule_part constraint_part e) (clash_words rule_part constraint_part e) e.events.bits (P + N) (trial_words_is e))
+        go false = omega (arith, trial_words_is e 0, trials_cost_is (clash_by contents.rules contents.constraints e) (clash_words contents.rules contents.constraints e) e.events.bits (P + N) (trial_words_is e))
 
     -- so it is at most 65 × (P + N)
     pub events_words_bounded : visited_in (decision_in Mode.Events image line) ≤ 65 * (P + N)
-    unfolding on_epoch_line
     events_words_bounded = go (read_epoch line) refl
       where
-        go : (a : EpochAnswer) → read_epoch line ≡ a → visited_in (decision_in Mode.Events image line) ≤ 65 * (P + N)
-        go (refused f) q = rw (on_line Mode.Events image line contents taken, q) (omega arith)
-        go (accepted e) q = omega (arith, words_by_events e q, mul-le-mul_right (P + N) (size_limit_is e.events.bits))
+        go : (a : Result Epoch Refusal) → read_epoch line ≡ a → visited_in (decision_in Mode.Events image line) ≤ 65 * (P + N)
+        go (Err r) q = rw (← line_refused Mode.Events image line contents taken r q) (omega arith)
+        go (Ok e) q = omega (arith, words_by_events e q, mul-le-mul_right (P + N) (size_limit_is e.events.bits))
 
 -- ---- whatever the bytes and the line
 
 -- the counts of an image that is taken
-counts : (image : List ℕ) (contents : Contents) → load image ≡ Loaded.Image contents → (contents.rule_words ≤ 2176) × (contents.constraint_words ≤ 1088)
+counts : (image : List ℕ) (contents : Contents) → load image ≡ Ok contents → (length contents.rules ≤ 2176) × (length contents.constraints ≤ 1088)
 unfolding counts_fit
 counts image contents q =
     let t = took image contents q in
     let ws = words_of image in
     let fits = and_out (leb (rule_count ws) 2176 && leb (constraint_count ws) 1088) (eqb (length ws) (1 + rule_count ws + constraint_count ws + check_count (form_byte ws))) t.checked.count in
     let few = and_out (leb (rule_count ws) 2176) (leb (constraint_count ws) 1088) fits.0 in
-    (omega (arith, t.rule_words_are, leb-true (rule_count ws) 2176 few.0), omega (arith, t.constraint_words_are, leb-true (constraint_count ws) 1088 few.1))
+    let all = counts_add ws t.checked.count in (
+      omega (arith, ap length t.rules_are, rules_size ws (rule_count ws) (constraint_count ws) all, leb-true (rule_count ws) 2176 few.0),
+      omega (arith, ap length t.constraints_are, constraints_size ws (rule_count ws) (constraint_count ws) all, leb-true (constraint_count ws) 1088 few.1),
+    )
 
 pub words_limit : (image line : List ℕ) → Bytes image → visited_in (decision image line) ≤ 71808
 unfolding decision_in on_image
 words_limit image line bounded = go (load image) refl
   where
-    go : (l : Loaded) → load image ≡ l → visited_in (decision image line) ≤ 71808
-    go (Loaded.Refused r) q = rw q (omega arith)
-    go (Loaded.Image contents) q = let few = counts image contents q in omega (arith, words_bounded image bounded contents q line, few.0, few.1)
+    go : (l : Result Contents Refusal) → load image ≡ l → visited_in (decision image line) ≤ 71808
+    go (Err r) q = rw q (omega arith)
+    go (Ok contents) q = let few = counts image contents q in omega (arith, words_bounded image bounded contents q line, few.0, few.1)
 
 pub events_words_limit : (image line : List ℕ) → Bytes image → visited_in (decision_in Mode.Events image line) ≤ 212160
 unfolding decision_in on_image
 events_words_limit image line bounded = go (load image) refl
   where
-    go : (l : Loaded) → load image ≡ l → visited_in (decision_in Mode.Events image line) ≤ 212160
-    go (Loaded.Refused r) q = rw q (omega arith)
-    go (Loaded.Image contents) q = let few = counts image contents q in omega (arith, events_words_bounded image bounded contents q line, few.0, few.1)
+    go : (l : Result Contents Refusal) → load image ≡ l → visited_in (decision_in Mode.Events image line) ≤ 212160
+    go (Err r) q = rw q (omega arith)
+    go (Ok contents) q = let few = counts image contents q in omega (arith, events_words_bounded image bounded contents q line, few.0, few.1)

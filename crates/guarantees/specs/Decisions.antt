@@ -1,6 +1,6 @@
 -- What is claimed of decisions: for what one is refused, and what a policy asks of one.
-use Rattle.std.specs.Prelude.{ℕ, ◌≤◌, true, false, List, ◌≡◌}
-use Rattle.policy.specs.Epoch.{Epoch}
+use Rattle.std.specs.Prelude.{ℕ, ◌≤◌, true, false, List, ◌≡◌, Ok, Err}
+use Rattle.policy.specs.declared.epoch.Epoch.{Epoch}
 use Rattle.policy.specs.Fault.{refusal}
 use Rattle.policy.specs.Policy.{Policy}
 use Rattle.policy.specs.Set.{ActionSet, EventSet, has_event, insert_event, events_below, no_actions, has_action, insert_action, union_actions, actions_below}
@@ -15,26 +15,23 @@ use Rattle.pdl.specs.Pdl.{Satisfies, Violated, MaximalIn, MaximalReduction, Redu
 use Rattle.pdl.specs.Reduction.{proposed_with}
 use Rattle.pdl.specs.Yield as Yield
 use Rattle.pdl.specs.Yield.{proposed}
-use Rattle.epoch_line.specs.Epoch.{refused, accepted, read_epoch}
+use Rattle.epoch_line.specs.Epoch.{read_epoch}
 use Rattle.acceptance.specs.Refusals.{OfEpoch}
 use Rattle.image.specs.Held.{policy_in}
-use Rattle.image.specs.Load.{load}
-use Rattle.image.specs.declared.load.Contents.{Contents}
-use Rattle.image.specs.declared.load.Loaded.{Loaded}
+use Rattle.image.specs.Load.{load, Contents}
 use Rattle.exactness.specs.Exact.{RefusalOf}
 
 -- ---- when a decision is refused
 
 -- for what a decision is refused: the image's fault comes first, and nothing else counts
 pub data RefusedFor (image line : List ℕ) (r : Refusal) : Type 0 where
-  the_image : load image ≡ Loaded.Refused r → RefusedFor image line r
-  the_line : (contents : Contents) → load image ≡ Loaded.Image contents → (fault : Fault) → read_epoch line ≡ refused fault → r ≡ refusal fault 0
-      → RefusedFor image line r
+  the_image : load image ≡ Err r → RefusedFor image line r
+  the_line : (contents : Contents) → load image ≡ Ok contents → read_epoch line ≡ Err r → RefusedFor image line r
 
 -- the same in either mode: in the second also where no reduction of the epoch is free of conflict
 pub data RefusedIn (mode : Mode) (image line : List ℕ) (r : Refusal) : Type 0 where
   as_first : RefusedFor image line r → RefusedIn mode image line r
-  for_conflict : mode ≡ Mode.Events → (contents : Contents) → load image ≡ Loaded.Image contents → (e : Epoch) → read_epoch line ≡ accepted e
+  for_conflict : mode ≡ Mode.Events → (contents : Contents) → load image ≡ Ok contents → (e : Epoch) → read_epoch line ≡ Ok e
       → ¬ Reducible (policy_in image).constraints (proposed_with (policy_in image).rules) e → r ≡ refusal Fault.Unavoidable 0
       → RefusedIn mode image line r
 

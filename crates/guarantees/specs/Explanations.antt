@@ -1,9 +1,9 @@
 -- What is claimed of explanations: when there is one, what it says became of an action, which line it shows, and that
 -- what it shows stands in the text.
-use Rattle.std.specs.Prelude.{ℕ, ◌+◌, ◌<◌, ◌≤◌, true, false, ◌≡◌, length, List, [], ◌∷◌, ◌++◌}
+use Rattle.std.specs.Prelude.{ℕ, ◌+◌, ◌<◌, ◌≤◌, true, false, ◌≡◌, length, List, [], ◌∷◌, ◌++◌, Ok, Err}
 use mathlib.Core.List.{Memᴰ}
 use Rattle.std.proofs.Math.Option.{some}
-use Rattle.policy.specs.Epoch.{Epoch}
+use Rattle.policy.specs.declared.epoch.Epoch.{Epoch}
 use Rattle.policy.specs.Fault.{refusal}
 use Rattle.policy.specs.Line.{PolicyLine, rule, constraint}
 use Rattle.policy.specs.Number.{set_limit}
@@ -18,7 +18,7 @@ use Rattle.lexer.specs.Lines.{lines_of}
 use Rattle.syntax.specs.Judge as Judge
 use Rattle.syntax.specs.Judge.{line_answer}
 use Rattle.rule_text.specs.Text.{stopped, read_texts, policy_of_texts}
-use Rattle.epoch_line.specs.Epoch.{refused, accepted, read_epoch}
+use Rattle.epoch_line.specs.Epoch.{read_epoch}
 use Rattle.explanation.specs.Part.{Stretch, Quote, of_maker, of_site}
 use Rattle.explanation.specs.Why.{Explanation, not_proposed, accepted_by, cancelled_by}
 
@@ -32,15 +32,15 @@ pub record IsExplainable (maker site line : List ℕ) (n : ℕ) : Type 0 where
   pub policy : Policy
   pub both : policy_of_texts maker site ≡ some policy
   pub epoch : Epoch
-  pub read : read_epoch line ≡ accepted epoch
+  pub read : read_epoch line ≡ Ok epoch
   pub number : n < set_limit
 
 -- for what one is refused: each only where those before it pass
 pub data Unexplained (maker site line : List ℕ) (n : ℕ) (r : Refusal) : Type 0 where
   the_texts : read_texts maker site ≡ stopped r → Unexplained maker site line n r
-  the_line : (p : Policy) → policy_of_texts maker site ≡ some p → (f : Fault) → read_epoch line ≡ refused f → r ≡ refusal f 0
+  the_line : (p : Policy) → policy_of_texts maker site ≡ some p → read_epoch line ≡ Err r
       → Unexplained maker site line n r
-  the_action : (p : Policy) → policy_of_texts maker site ≡ some p → (e : Epoch) → read_epoch line ≡ accepted e → set_limit ≤ n
+  the_action : (p : Policy) → policy_of_texts maker site ≡ some p → (e : Epoch) → read_epoch line ≡ Ok e → set_limit ≤ n
       → r ≡ refusal Fault.EpochRange 0 → Unexplained maker site line n r
 
 -- ---- what became of an action

@@ -1,9 +1,11 @@
 -- The reference machine. It sees a rule text and epoch lines, each with its mode, and no image. For each line it answers the line's
 -- fault, or what the text's rules and never lines yield on it (docs/REFERENCE.md, "What an epoch yields").
-use Rattle.std.specs.Prelude.{ℕ, cond, List, map}
+use Rattle.monitor.specs.declared.decision.Actions.{Actions}
+use Rattle.policy.specs.declared.fault.Refusal.{Refusal}
+use Rattle.std.specs.Prelude.{ℕ, cond, List, map, Result, Ok, Err}
 use Rattle.std.proofs.Math.Option
 use Rattle.std.proofs.Math.Option.{Option}
-use Rattle.policy.specs.Epoch.{Epoch}
+use Rattle.policy.specs.declared.epoch.Epoch.{Epoch}
 use Rattle.policy.specs.Fault.{refusal}
 use Rattle.policy.specs.Policy.{Policy}
 use Rattle.policy.specs.declared.fault.Fault.{Fault}
@@ -11,7 +13,7 @@ use Rattle.policy.specs.declared.mode.Mode.{Mode}
 use Rattle.pdl.specs.Answer.{Answer, refuses, issues}
 use Rattle.pdl.specs.Reduction.{issued, withheld, unavoidable}
 use Rattle.pdl.specs.Yield as Yield
-use Rattle.epoch_line.specs.Epoch.{EpochAnswer, refused, accepted, read_epoch}
+use Rattle.epoch_line.specs.Epoch.{read_epoch}
 use Rattle.rule_text.specs.Text.{policy_of, policy_of_texts}
 
 -- what a policy yields on an epoch, in each mode; in the second it may be a refusal
@@ -19,9 +21,9 @@ unfoldable pub yield_in : Mode → Policy → Epoch → Answer
 yield_in Mode.Actions p e = issues (Yield.accepted p e) (Yield.cancelled p e)
 yield_in Mode.Events p e = cond (unavoidable p e) (refuses (refusal Fault.Unavoidable 0)) (issues (issued p e) (withheld p e))
 
-unfoldable pub answer : Mode → Policy → EpochAnswer → Answer
-answer mode p (refused f) = refuses (refusal f 0)
-answer mode p (accepted e) = yield_in mode p e
+unfoldable pub answer : Mode → Policy → Result Epoch Refusal → Answer
+answer mode p (Err r) = refuses r
+answer mode p (Ok e) = yield_in mode p e
 
 -- its step for an epoch line
 unfoldable pub step : Mode → Policy → List ℕ → Answer

@@ -1,11 +1,12 @@
 -- What the function that compiles and decides leaves, against the reference machine.
-use Rattle.std.specs.Prelude.{ℕ, List, [], ◌∷◌, ◌≡◌, map, take, length, min}
+use Rattle.policy.specs.declared.fault.Refusal.{Refusal}
+use Rattle.std.specs.Prelude.{ℕ, List, [], ◌∷◌, ◌≡◌, map, take, length, min, Result}
 use Rattle.policy.specs.Policy.{Policy}
 use Rattle.rule_text.specs.Text.{reading, read_texts}
 use Rattle.layout.specs.Layout.{image_of}
 use Rattle.codegen.specs.Compile.{newest_form}
 use Rattle.monitor.specs.Decision.{decision_in, answer_of}
-use Rattle.monitor.specs.declared.decision.Decision.{Decision}
+use Rattle.monitor.specs.declared.decision.Actions.{Actions}
 use Rattle.guarantees.specs.Machine.{ToldLine, steps}
 use Rattle.guarantees.specs.declared.Told.{Told}
 
@@ -14,14 +15,14 @@ unfoldable pub told : List Told → List ToldLine
 told lines = map (λ (x : Told). record { mode = x.mode; line = x.line.now }) lines
 
 -- the decisions after the lines were decided on an image, one after another, as many as there is room for
-unfoldable pub decided_lines : List ℕ → List Told → List Decision → List Decision
+unfoldable pub decided_lines : List ℕ → List Told → List (Result Actions Refusal) → List (Result Actions Refusal)
 decided_lines image [] ds = ds
 decided_lines image (x ∷ lines) [] = []
 decided_lines image (x ∷ lines) (d ∷ ds) = decision_in x.mode image x.line.now ∷ decided_lines image lines ds
 
 -- two texts were accepted, and each line for which there was room was decided on the image of their policy: as the reference
 -- machine answers it, which sees the policy and no image
-pub record DecidedBy (maker site : List ℕ) (lines : List Told) (old new : List Decision) : Type 0 where
+pub record DecidedBy (maker site : List ℕ) (lines : List Told) (old new : List (Result Actions Refusal)) : Type 0 where
   pub count : ℕ
   pub policy : Policy
   pub read : read_texts maker site ≡ reading count policy

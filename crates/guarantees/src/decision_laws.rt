@@ -1,6 +1,6 @@
 //! Laws of decisions. A law is a function with no parameters and an empty body, whose contract is the statement.
 
-ghost use Rattle.std.specs.Prelude.{List, ℕ, ◌≡◌, ◌<◌, length, set, ◌↔◌, true, ◌*◌, ◌+◌, ◌≤◌};
+ghost use Rattle.std.specs.Prelude.{List, ℕ, ◌≡◌, ◌<◌, length, set, ◌↔◌, true, ◌*◌, ◌+◌, ◌≤◌, Ok, Err};
 ghost use Rattle.guarantees.specs.Claims.{CompilesTo, answers, TextsCompileTo};
 ghost use Rattle.guarantees.specs.Machine.{ToldLine, machine, machine_of_texts};
 ghost use Rattle.std.proofs.Math.Option.{some};
@@ -11,22 +11,20 @@ ghost use mathlib.Core.List.{Memᴰ};
 ghost use Rattle.monitor.specs.Decision.{answer_of, decision_in, decision, visited_in};
 ghost use Rattle.exactness.specs.Exact.{changed};
 ghost use Rattle.word.specs.Word.{word_at, word_limit, words_of, Bytes};
-ghost use Rattle.monitor.specs.declared.decision.Decision.{Decision};
+ghost use Rattle.monitor.specs.declared.decision.Actions.{Actions};
 ghost use Rattle.policy.specs.declared.fault.Refusal.{Refusal};
 ghost use Rattle.policy.specs.Set.{EventSet, no_actions};
-ghost use Rattle.policy.specs.Epoch.{Epoch};
+ghost use Rattle.policy.specs.declared.epoch.Epoch.{Epoch};
 ghost use Rattle.policy.specs.Policy.{Policy};
-ghost use Rattle.epoch_line.specs.Epoch.{accepted, read_epoch};
+ghost use Rattle.epoch_line.specs.Epoch.{read_epoch};
 ghost use Rattle.rule_text.specs.Text.{policy_of_texts};
 ghost use Rattle.pdl.specs.Answer.{Answer};
 ghost use Rattle.pdl.specs.Pdl.{Reducible, lone};
 ghost use Rattle.pdl.specs.Reduction.{kept_events, proposed_with};
 ghost use Rattle.policy.specs.declared.fault.Fault.{Fault};
 ghost use Rattle.policy.specs.Fault.{refusal};
-ghost use Rattle.image.specs.declared.load.Contents.{Contents};
-ghost use Rattle.image.specs.declared.load.Loaded.{Loaded};
 ghost use Rattle.image.specs.Held.{policy_in};
-ghost use Rattle.image.specs.Load.{load};
+ghost use Rattle.image.specs.Load.{load, Contents};
 
 /// For every text, the bytes that the compiler wrote for it and every list of epoch lines with the mode of each, refused ones included: the list of
 /// decisions on those bytes is that of the reference machine, which sees the text and no image.
@@ -61,13 +59,13 @@ pub fn texts_change_only()
 
 /// A decision is refused exactly for a fault of the image, then of the line, and then, by events, where no reduction of the epoch is free of conflict.
 pub fn refused_exactly()
-    ensures { (mode : Mode) (image line : List ℕ) → Bytes image → (r : Refusal) → (decision_in mode image line ≡ Decision.Refused r) ↔ RefusedIn mode image line r }
+    ensures { (mode : Mode) (image line : List ℕ) → Bytes image → (r : Refusal) → (decision_in mode image line ≡ Err r) ↔ RefusedIn mode image line r }
 {}
 
 /// A decision is refused under 7 to 10 at the place 0, under 11 at the place of a word, under 1 or 12 to 14 at the place 0 or, by events, under 17 at the place 0, and it
 /// names no text.
 pub fn decision_faults()
-    ensures { (mode : Mode) (image line : List ℕ) → Bytes image → (r : Refusal) → decision_in mode image line ≡ Decision.Refused r → OfDecisionIn mode (length (words_of image)) r }
+    ensures { (mode : Mode) (image line : List ℕ) → Bytes image → (r : Refusal) → decision_in mode image line ≡ Err r → OfDecisionIn mode (length (words_of image)) r }
 {}
 
 /// A refused decision has empty sets.
@@ -77,7 +75,7 @@ pub fn refused_empty()
 
 /// On the image of a text, the decision by actions on an accepted line is a maximal action cancellation of what the text's rules propose, lower numbers kept first.
 pub fn decision_obeys()
-    ensures { (maker site image : List ℕ) → TextsCompileTo maker site image → (p : Policy) → policy_of_texts maker site ≡ some p → (line : List ℕ) (e : Epoch) → read_epoch line ≡ accepted e → Obeys p e (answer_of (decision image line)) }
+    ensures { (maker site image : List ℕ) → TextsCompileTo maker site image → (p : Policy) → policy_of_texts maker site ≡ some p → (line : List ℕ) (e : Epoch) → read_epoch line ≡ Ok e → Obeys p e (answer_of (decision image line)) }
 {}
 
 /// What a policy asks of a decision by actions is met by one answer alone.
@@ -88,17 +86,17 @@ pub fn answer_determined()
 /// On the image of two texts, a decision by actions accepts the best choice: take any other set of proposed actions on which no constraint holds; the lowest
 /// action in which it differs from what is accepted is accepted.
 pub fn decision_best()
-    ensures { (maker site image : List ℕ) → TextsCompileTo maker site image → (p : Policy) → policy_of_texts maker site ≡ some p → (line : List ℕ) (e : Epoch) → read_epoch line ≡ accepted e → IsBest p e (answer_of (decision image line)).accepted }
+    ensures { (maker site image : List ℕ) → TextsCompileTo maker site image → (p : Policy) → policy_of_texts maker site ≡ some p → (line : List ℕ) (e : Epoch) → read_epoch line ≡ Ok e → IsBest p e (answer_of (decision image line)).accepted }
 {}
 
 /// The same on every image that the loader takes, by the policy that it holds.
 pub fn image_decision_best()
-    ensures { (image : List ℕ) → Bytes image → (contents : Contents) → load image ≡ Loaded.Image contents → (line : List ℕ) (e : Epoch) → read_epoch line ≡ accepted e → IsBest (policy_in image) e (answer_of (decision image line)).accepted }
+    ensures { (image : List ℕ) → Bytes image → (contents : Contents) → load image ≡ Ok contents → (line : List ℕ) (e : Epoch) → read_epoch line ≡ Ok e → IsBest (policy_in image) e (answer_of (decision image line)).accepted }
 {}
 
 /// By events: where some reduction of the epoch is free of conflict, the kept events are a maximal one and what they propose is issued.
 pub fn events_decision_obeys()
-    ensures { (maker site image : List ℕ) → TextsCompileTo maker site image → (p : Policy) → policy_of_texts maker site ≡ some p → (line : List ℕ) (e : Epoch) → read_epoch line ≡ accepted e → Reducible p.constraints (proposed_with p.rules) e → ObeysEvents p e (kept_events p e) (answer_of (decision_in Mode.Events image line)) }
+    ensures { (maker site image : List ℕ) → TextsCompileTo maker site image → (p : Policy) → policy_of_texts maker site ≡ some p → (line : List ℕ) (e : Epoch) → read_epoch line ≡ Ok e → Reducible p.constraints (proposed_with p.rules) e → ObeysEvents p e (kept_events p e) (answer_of (decision_in Mode.Events image line)) }
 {}
 
 /// What a policy asks of a decision by events is met by one set of kept events and one answer alone.
@@ -108,22 +106,22 @@ pub fn events_answer_determined()
 
 /// By events: the epoch is refused exactly where no reduction of it is free of conflict.
 pub fn events_conflict_refused()
-    ensures { (maker site image : List ℕ) → TextsCompileTo maker site image → (p : Policy) → policy_of_texts maker site ≡ some p → (line : List ℕ) (e : Epoch) → read_epoch line ≡ accepted e → (decision_in Mode.Events image line ≡ Decision.Refused (refusal Fault.Unavoidable 0)) ↔ ¬ Reducible p.constraints (proposed_with p.rules) e }
+    ensures { (maker site image : List ℕ) → TextsCompileTo maker site image → (p : Policy) → policy_of_texts maker site ≡ some p → (line : List ℕ) (e : Epoch) → read_epoch line ≡ Ok e → (decision_in Mode.Events image line ≡ Err (refusal Fault.Unavoidable 0)) ↔ ¬ Reducible p.constraints (proposed_with p.rules) e }
 {}
 
 /// A constraint with one action and no comparison keeps that action out of every decision, in either mode.
 pub fn lone_constraint_cancels()
-    ensures { (maker site image : List ℕ) → TextsCompileTo maker site image → (p : Policy) → policy_of_texts maker site ≡ some p → (x : Action) → Memᴰ (lone x) p.constraints → (mode : Mode) (line : List ℕ) (e : Epoch) → read_epoch line ≡ accepted e → KeptOut p e x (answer_of (decision_in mode image line)) }
+    ensures { (maker site image : List ℕ) → TextsCompileTo maker site image → (p : Policy) → policy_of_texts maker site ≡ some p → (x : Action) → Memᴰ (lone x) p.constraints → (mode : Mode) (line : List ℕ) (e : Epoch) → read_epoch line ≡ Ok e → KeptOut p e x (answer_of (decision_in mode image line)) }
 {}
 
 /// A decision by actions fetches at most P + 64 x N words, P and N the words of the rules and of the constraints.
 pub fn words_bounded()
-    ensures { (image : List ℕ) → Bytes image → (contents : Contents) → load image ≡ Loaded.Image contents → (line : List ℕ) → visited_in (decision image line) ≤ contents.rule_words + 64 * contents.constraint_words }
+    ensures { (image : List ℕ) → Bytes image → (contents : Contents) → load image ≡ Ok contents → (line : List ℕ) → visited_in (decision image line) ≤ length contents.rules + 64 * length contents.constraints }
 {}
 
 /// A decision by events fetches at most 65 x (P + N) words.
 pub fn events_words_bounded()
-    ensures { (image : List ℕ) → Bytes image → (contents : Contents) → load image ≡ Loaded.Image contents → (line : List ℕ) → visited_in (decision_in Mode.Events image line) ≤ 65 * (contents.rule_words + contents.constraint_words) }
+    ensures { (image : List ℕ) → Bytes image → (contents : Contents) → load image ≡ Ok contents → (line : List ℕ) → visited_in (decision_in Mode.Events image line) ≤ 65 * (length contents.rules + length contents.constraints) }
 {}
 
 /// Whatever the bytes and the line, a decision by actions fetches at most 71,808 words.

@@ -1,11 +1,9 @@
 //! Laws of images and of the texts written back from them.
 
-ghost use Rattle.std.specs.Prelude.{List, ℕ, ◌↔◌, ◌≡◌, ◌++◌, drop, length, ◌≤◌, Ok};
+ghost use Rattle.std.specs.Prelude.{List, ℕ, ◌↔◌, ◌≡◌, ◌++◌, drop, length, ◌≤◌, Ok, Err};
 ghost use Rattle.word.specs.Word.{Bytes};
-ghost use Rattle.image.specs.declared.load.Contents.{Contents};
-ghost use Rattle.image.specs.declared.load.Loaded.{Loaded};
 ghost use Rattle.guarantees.specs.Claims.{SomeText, CompilesTo, TextsCompileTo, DecompilesTo};
-ghost use Rattle.image.specs.Load.{load};
+ghost use Rattle.image.specs.Load.{load, Contents};
 ghost use Rattle.exactness.specs.Exact.{Checked};
 ghost use Rattle.policy.specs.declared.fault.Fault.{Fault};
 ghost use Rattle.policy.specs.Fault.{refusal};
@@ -17,12 +15,12 @@ ghost use Rattle.printer.specs.Printed.{text_of};
 
 /// The loader takes exactly the images that some accepted text compiles to.
 pub fn taken_exactly()
-    ensures { (bytes : List ℕ) → Bytes bytes → ((contents : Contents) × (load bytes ≡ Loaded.Image contents)) ↔ SomeText bytes }
+    ensures { (bytes : List ℕ) → Bytes bytes → ((contents : Contents) × (load bytes ≡ Ok contents)) ↔ SomeText bytes }
 {}
 
 /// Fault 11 is given exactly where the checks before it pass and no accepted text compiles to the bytes.
 pub fn body_exactly()
-    ensures { (bytes : List ℕ) → Bytes bytes → ((location : ℕ) × (load bytes ≡ Loaded.Refused (refusal Fault.ImageBody location))) ↔ (Checked bytes × ¬ SomeText bytes) }
+    ensures { (bytes : List ℕ) → Bytes bytes → ((location : ℕ) × (load bytes ≡ Err (refusal Fault.ImageBody location))) ↔ (Checked bytes × ¬ SomeText bytes) }
 {}
 
 /// A compilation that answers a size has written just the image of the text's policy; loading it yields that policy, and compiling that yields the bytes again.
@@ -47,7 +45,7 @@ pub fn pairs_same_images()
 
 /// Compiling the text of what was loaded yields the bytes that were loaded.
 pub fn loaded_compiles()
-    ensures { (bytes : List ℕ) → Bytes bytes → (contents : Contents) → load bytes ≡ Loaded.Image contents → CompilesTo (text_of (policy_in bytes)) bytes }
+    ensures { (bytes : List ℕ) → Bytes bytes → (contents : Contents) → load bytes ≡ Ok contents → CompilesTo (text_of (policy_in bytes)) bytes }
 {}
 
 /// Compiling the text that was written from an image yields the image, byte for byte, in any buffer that has room.

@@ -18,7 +18,7 @@ ghost use Rattle.rule_text.specs.Text.{read_texts, stopped};
 ghost use Rattle.guarantees.specs.Together.{decided_lines, DecidedBy};
 
 use image::IMAGE_SIZE;
-use monitor::{Decision, decide};
+use monitor::{Actions, decide};
 use policy::{Mode, Refusal};
 
 /// An epoch line, without its line end, and the mode in which it is decided.
@@ -30,7 +30,7 @@ pub struct Told<'a> {
 
 /// Decides the lines on an image, one after another, as many as there is room for.
 #[tactic(auto, using(crate::proofs::LineLaws::one_more, crate::proofs::LineLaws::all_done), unfolding(crate::specs::Together::decided_lines))]
-pub fn decide_lines(image: &[u8], lines: &[Told], decisions: &mut [Decision])
+pub fn decide_lines(image: &[u8], lines: &[Told], decisions: &mut [Result<Actions, Refusal>])
     ensures { decisions.new ≡ decided_lines image.now lines.now decisions.old }
 {
     for i in 0..lines.len().min(decisions.len()) {
@@ -44,7 +44,7 @@ pub fn compile_and_decide(
     maker: &[u8],
     site: &[u8],
     lines: &[Told],
-    decisions: &mut [Decision],
+    decisions: &mut [Result<Actions, Refusal>],
 ) -> Result<(), Refusal>
     ensures ok { IfOk result (λ u. DecidedBy maker.now site.now lines.now decisions.old decisions.new) }
     ensures err { IfErr result (λ refusal. (read_texts maker.now site.now ≡ stopped refusal) × (decisions.new ≡ decisions.old)) }

@@ -1,25 +1,26 @@
 //! Laws of what the loader takes and refuses, by the lines whose words stand in the bytes.
 
-ghost use Rattle.std.specs.Prelude.{List, ℕ, ◌+◌, ◌∷◌, ◌↔◌, ◌≡◌, length, drop};
+ghost use Rattle.policy.specs.Fault.{refusal};
+ghost use Rattle.std.specs.Prelude.{List, ℕ, ◌+◌, ◌∷◌, ◌↔◌, ◌≡◌, length, drop, map, Err, Ok};
 ghost use Rattle.std.proofs.Math.Option.{some};
 ghost use Rattle.word.specs.Word.{Bytes};
-ghost use Rattle.policy.specs.Line.{PolicyLine};
+ghost use Rattle.policy.specs.Line.{PolicyLine, rule, constraint};
 ghost use Rattle.policy.specs.declared.fault.Refusal.{Refusal};
 ghost use Rattle.policy.specs.declared.line.Part.{Part};
 ghost use Rattle.line_value.specs.Value.{line_value};
 ghost use Rattle.layout.specs.Layout.{line_words};
 ghost use Rattle.decode.specs.Stands.{Stands, AreLines};
 ghost use Rattle.decode.specs.Decode.{line_at};
-ghost use Rattle.image.specs.Lines.{whole, fault, lines_from};
-ghost use Rattle.image.specs.Load.{load};
-ghost use Rattle.image.specs.Walk.{lines_left};
-ghost use Rattle.image.specs.declared.load.Loaded.{Loaded};
+ghost use Rattle.image.specs.Lines.{lines_from};
+ghost use Rattle.image.specs.Held.{policy_in};
+ghost use Rattle.image.specs.Load.{Contents, load};
+ghost use Rattle.image.specs.Walk.{lines_left, values_behind};
 ghost use Rattle.exactness.specs.ImageFault.{ImageFault, NoLineAt};
 ghost use Rattle.guarantees.specs.Claims.{SomeText};
 
 /// Bytes are refused as an image exactly for the first of the faults 7 to 11 that they have, at its location.
 pub fn image_refused_exactly()
-    ensures { (bytes : List ℕ) (refusal : Refusal) → (load bytes ≡ Loaded.Refused refusal) ↔ ImageFault bytes refusal }
+    ensures { (bytes : List ℕ) (refusal : Refusal) → (load bytes ≡ Err refusal) ↔ ImageFault bytes refusal }
 {}
 
 /// No bytes have two such faults, or one at two locations.
@@ -44,15 +45,20 @@ pub fn one_line_stands()
 
 /// The lines of a part are found exactly if its words are theirs, from end to end, and there is room for so many.
 pub fn part_whole_exactly()
-    ensures { (part : Part) (room from : ℕ) (words : List ℕ) (lines : List PolicyLine) → (lines_from part room from words ≡ whole lines) ↔ AreLines part room words lines }
+    ensures { (part : Part) (room from : ℕ) (words : List ℕ) (lines : List PolicyLine) → (lines_from part room from words ≡ Ok lines) ↔ AreLines part room words lines }
 {}
 
 /// A location in a part is told exactly if there are whole lines up to it and none fits there.
 pub fn part_fault_exactly()
-    ensures { (part : Part) (room from : ℕ) (words : List ℕ) (location : ℕ) → (lines_from part room from words ≡ fault location) ↔ NoLineAt part room from words location }
+    ensures { (part : Part) (room from : ℕ) (words : List ℕ) (location : ℕ) → (lines_from part room from words ≡ Err location) ↔ NoLineAt part room from words location }
 {}
 
 /// Going over words, where a line of either part stands its value comes first, and then what comes from behind its words on.
 pub fn standing_given()
     ensures { (part : Part) (words : List ℕ) (at : ℕ) (line : PolicyLine) → Stands part (drop at words) line → lines_left words at ≡ line_value line ∷ lines_left words (at + length (line_words line)) }
+{}
+
+/// Going over the parts of an image that the loader takes, exactly the values of the rules, and of the constraints, of the policy that it holds come, in order.
+pub fn held_given()
+    ensures { (bytes : List ℕ) (contents : Contents) → load bytes ≡ Ok contents → (values_behind 0 contents.rules ≡ map line_value (map rule (policy_in bytes).rules)) × (values_behind 0 contents.constraints ≡ map line_value (map constraint (policy_in bytes).constraints)) }
 {}

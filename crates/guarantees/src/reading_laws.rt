@@ -1,11 +1,13 @@
 //! Laws of reading texts and epoch lines.
 
-ghost use Rattle.std.specs.Prelude.{List, [], ◌∷◌, ◌++◌, length, ℕ, ◌<◌, ◌≤◌, ℤ, ◌≡◌, ◌⊎◌, ◌↔◌, true, false, eqb, Some};
+ghost use Rattle.policy.specs.Fault.{refusal};
+ghost use Rattle.std.specs.Prelude.{List, [], ◌∷◌, ◌++◌, length, ℕ, ◌<◌, ◌≤◌, ℤ, ◌≡◌, ◌⊎◌, ◌↔◌, true, false, eqb, Some, Ok, Err};
 ghost use mathlib.Core.List.{Memᴰ};
 ghost use Rattle.std.proofs.Math.Option.{some};
 ghost use Rattle.policy.specs.declared.fault.Fault.{Fault};
 ghost use Rattle.policy.specs.declared.fault.Refusal.{Refusal};
-ghost use Rattle.policy.specs.Epoch.{Epoch, reading_value};
+ghost use Rattle.policy.specs.Epoch.{reading_value};
+ghost use Rattle.policy.specs.declared.epoch.Epoch.{Epoch};
 ghost use Rattle.policy.specs.List.{all, any};
 ghost use Rattle.policy.specs.Policy.{Policy};
 ghost use Rattle.policy.specs.Set.{has_event, has_reading};
@@ -20,7 +22,7 @@ ghost use Rattle.syntax.specs.Judge as Judge;
 ghost use Rattle.syntax.specs.Judge.{line_answer};
 ghost use Rattle.rule_text.specs.Answer.{text_read, texts_read};
 ghost use Rattle.rule_text.specs.Text.{stopped, read_texts, policy_of, policy_of_texts};
-ghost use Rattle.epoch_line.specs.Epoch.{Item, value, at_equals, items_of, given_by, epoch_limit, refused, accepted, read_epoch};
+ghost use Rattle.epoch_line.specs.Epoch.{Item, value, at_equals, items_of, given_by, epoch_limit, read_epoch};
 ghost use Rattle.acceptance.specs.FirstFault.{TextAccepted, TextsFault, EpochFault};
 ghost use Rattle.acceptance.specs.Named.{named_by};
 ghost use Rattle.acceptance.specs.OneLine.{is_skipped, LineSkipped, LineAccepted, LineRefused};
@@ -92,18 +94,18 @@ pub fn texts_refused_exactly()
 
 /// An epoch line is refused exactly for the first test that it fails: its length, its shape, its ranges, a reading that is given twice.
 pub fn epoch_refused_exactly()
-    ensures { (line : List ℕ) (f : Fault) → (read_epoch line ≡ refused f) ↔ EpochFault line f }
+    ensures { (line : List ℕ) (refusal : Refusal) → (read_epoch line ≡ Err refusal) ↔ EpochFault line refusal }
 {}
 
 /// An epoch line has a wrong shape where a value in it, behind the first `=` of a token, is `0x` alone, or `0x` and bytes of which some one is no
 /// hexadecimal digit, whatever else the line has.
 pub fn epoch_bare_prefix_refused()
-    ensures { (t : Token) (left ds : List ℕ) → at_equals t ≡ some (record { left = left; right = prefixed ds }) → (line : List ℕ) → length line ≤ epoch_limit → Memᴰ t (tokens_of line) → (ds ≡ []) ⊎ (all is_hex_digit ds ≡ false) → read_epoch line ≡ refused Fault.EpochSyntax }
+    ensures { (t : Token) (left ds : List ℕ) → at_equals t ≡ some (record { left = left; right = prefixed ds }) → (line : List ℕ) → length line ≤ epoch_limit → Memᴰ t (tokens_of line) → (ds ≡ []) ⊎ (all is_hex_digit ds ≡ false) → read_epoch line ≡ Err (refusal Fault.EpochSyntax 0) }
 {}
 
 /// An epoch line of items, in which a value is `0x` and more than eight hexadecimal digits, is out of range, whatever else it has.
 pub fn epoch_wide_constant_refused()
-    ensures { (t : Token) (left ds : List ℕ) → at_equals t ≡ some (record { left = left; right = prefixed ds }) → (line : List ℕ) → length line ≤ epoch_limit → Memᴰ t (tokens_of line) → all is_hex_digit ds ≡ true → pattern_digits < length ds → any (eqb 10) line ≡ false → (is : List Item) → items_of (tokens_of line) ≡ some is → read_epoch line ≡ refused Fault.EpochRange }
+    ensures { (t : Token) (left ds : List ℕ) → at_equals t ≡ some (record { left = left; right = prefixed ds }) → (line : List ℕ) → length line ≤ epoch_limit → Memᴰ t (tokens_of line) → all is_hex_digit ds ≡ true → pattern_digits < length ds → any (eqb 10) line ≡ false → (is : List Item) → items_of (tokens_of line) ≡ some is → read_epoch line ≡ Err (refusal Fault.EpochRange 0) }
 {}
 
 /// With an empty site's text two texts have the answer of the maker's alone.
@@ -118,15 +120,15 @@ pub fn texts_joint()
 
 /// On an accepted line an event has occurred exactly if the line names it.
 pub fn line_names()
-    ensures { (e : Epoch) (line : List ℕ) (is : List Item) → items_of (tokens_of line) ≡ some is → read_epoch line ≡ accepted e → (n : ℕ) → has_event e.events (record { 0 = n }) ≡ any (eqb n) (named_by is) }
+    ensures { (e : Epoch) (line : List ℕ) (is : List Item) → items_of (tokens_of line) ≡ some is → read_epoch line ≡ Ok e → (n : ℕ) → has_event e.events (record { 0 = n }) ≡ any (eqb n) (named_by is) }
 {}
 
 /// On an accepted line a reading that is given has the value that stands there.
 pub fn line_gives()
-    ensures { (e : Epoch) (line : List ℕ) (is : List Item) → items_of (tokens_of line) ≡ some is → read_epoch line ≡ accepted e → (n : ℕ) (k : ℤ) → Memᴰ (value n k) is → reading_value e.readings (record { 0 = n }) ≡ Some k }
+    ensures { (e : Epoch) (line : List ℕ) (is : List Item) → items_of (tokens_of line) ≡ some is → read_epoch line ≡ Ok e → (n : ℕ) (k : ℤ) → Memᴰ (value n k) is → reading_value e.readings (record { 0 = n }) ≡ Some k }
 {}
 
 /// On an accepted line a reading that the line does not give is missing.
 pub fn line_lacks()
-    ensures { (e : Epoch) (line : List ℕ) (is : List Item) → items_of (tokens_of line) ≡ some is → read_epoch line ≡ accepted e → (n : ℕ) → any (eqb n) (given_by is) ≡ false → has_reading e.readings.given (record { 0 = n }) ≡ false }
+    ensures { (e : Epoch) (line : List ℕ) (is : List Item) → items_of (tokens_of line) ≡ some is → read_epoch line ≡ Ok e → (n : ℕ) → any (eqb n) (given_by is) ≡ false → has_reading e.readings.given (record { 0 = n }) ≡ false }
 {}

@@ -10,9 +10,7 @@ ghost use Rattle.rule_text.specs.Text.{reading, read_text, policy_of};
 ghost use Rattle.printer.specs.Printed.{joined_by, line_bytes, lines_text, longest_text, text_of};
 ghost use Rattle.word.specs.Word.{Bytes};
 ghost use Rattle.image.specs.Held.{policy_in};
-ghost use Rattle.image.specs.Load.{load};
-ghost use Rattle.image.specs.declared.load.Contents.{Contents};
-ghost use Rattle.image.specs.declared.load.Loaded.{Loaded};
+ghost use Rattle.image.specs.Load.{load, Contents};
 ghost use Rattle.decompile.specs.Decompile.{decompiled};
 ghost use Rattle.guarantees.specs.Claims.{CompilesTo, DecompilesTo};
 
@@ -43,7 +41,7 @@ pub fn acceptable_texts()
 
 /// An image that the loader takes is never refused a buffer of 27,968 bytes or more.
 pub fn never_short()
-    ensures { (image buffer : List ℕ) → Bytes image → (contents : Contents) → load image ≡ Loaded.Image contents → longest_text ≤ length buffer → (decompiled image buffer).answer ≡ Ok (length (text_of (policy_in image))) }
+    ensures { (image buffer : List ℕ) → Bytes image → (contents : Contents) → load image ≡ Ok contents → longest_text ≤ length buffer → (decompiled image buffer).answer ≡ Ok (length (text_of (policy_in image))) }
 {}
 
 /// Some accepted text compiles to an image whose written text has 27,968 bytes: no smaller buffer is enough for all.

@@ -1,4 +1,5 @@
 -- The loader's answer, fault by fault, as the code goes through them.
+use Rattle.policy.specs.Line.{PolicyLine}
 use Rattle.std.proofs.Common.{ℕ, ◌+◌, ◌%◌, ◌≤◌, ◌<◌, true, false, List, ◌≡◌, refl, sym, ap, ap₂, ◌∙◌, zero-add, arith, le-leb, eq-eqb, ne_eqb, length, Result, Ok, Err}
 use Rattle.std.proofs.lemmas.Bool.{lt-leb}
 use Rattle.std.specs.Result.{IsErr, IsErrAnd}
@@ -6,45 +7,47 @@ use Rattle.std.proofs.Math.Dec.{eqb}
 use Rattle.policy.proofs.ListLaws.{true_false}
 use Rattle.policy.specs.Fault.{refusal}
 use Rattle.policy.specs.declared.fault.Fault.{Fault}
-use Rattle.word.specs.Word.{word_limit, words_of, word_at}
+use Rattle.word.specs.Word.{word_limit, words_of, word_at, between}
 use Rattle.layout.specs.Header.{form_of, rule_count_of, constraint_count_of}
 use Rattle.image.specs.Check.{rule_count, constraint_count, form_byte, well_sized, counts_fit, sums_to_zero}
 use Rattle.layout.specs.Layout.{known_form, check_count, sum}
-use Rattle.image.specs.Lines.{Lines, whole, fault, part_lines}
-use Rattle.image.specs.Load.{body_answer, load_words, load}
+use Rattle.image.specs.Lines.{part_lines}
+use Rattle.image.specs.Load.{Contents, body_answer, load_words, load}
 use Rattle.image.specs.Steps.Part.{part_answer}
 use Rattle.policy.specs.declared.line.Part.{Part}
-use Rattle.image.specs.declared.load.Contents.{Contents}
-use Rattle.image.specs.declared.load.Loaded.{Loaded}
+use Rattle.policy.specs.declared.fault.Refusal.{Refusal}
 
 -- ---- the answers for the parts
 
+pub ok_err : {T E : Type 0} {x : T} {e : E} → Ok x ≡ Err e → ⊥
+ok_err q = let z : ◌≡◌ {A = ℕ} 0 1 = cc in absurd (omega arith)
+
 -- what a `?` passes on
-pub passed_on : (r : Result Contents ℕ) (at : ℕ) → IsErr r → IsErrAnd r (λ (e : ℕ). e ≡ at) → r ≡ Err at
-passed_on (Ok x) at h a = absurd (true_false h refl)
-passed_on (Err e) at h a = ap Err a
+pub passed_on : {T : Type 0} (r : Result T Refusal) (refused : Refusal) → IsErr r → IsErrAnd r (λ (e : Refusal). e ≡ refused) → r ≡ Err refused
+passed_on (Ok x) refused h a = absurd (true_false h refl)
+passed_on (Err e) refused h a = ap Err a
 
-module _ (form rule_part_words constraint_part_words : ℕ) where
-  pub rules_fault : (x y : Lines) (at : ℕ) → part_answer 0 x ≡ Err at → Loaded.Refused (refusal Fault.ImageBody at) ≡ body_answer form rule_part_words constraint_part_words x y
+module _ (rules constraints : List ℕ) where
+  pub rules_fault : (x y : Result (List PolicyLine) ℕ) (r : Refusal) → part_answer 0 x ≡ Err r → Err r ≡ body_answer rules constraints x y
   unfolding part_answer body_answer
-  rules_fault (whole rs) y at e = let z : ◌≡◌ {A = ℕ} 0 1 = cc in absurd (omega arith)
-  rules_fault (fault n) y at e = let z : at ≡ n = cc in ap (λ (k : ℕ). Loaded.Refused (refusal Fault.ImageBody k)) z
+  rules_fault (Ok rs) y r e = absurd (ok_err e)
+  rules_fault (Err n) y r e = let z : refusal Fault.ImageBody n ≡ r = cc in ap Err (sym z)
 
-  pub constraints_fault : (x y : Lines) (n at : ℕ) → part_answer 0 x ≡ Ok n → part_answer 0 y ≡ Err at → Loaded.Refused (refusal Fault.ImageBody at) ≡ body_answer form rule_part_words constraint_part_words x y
+  pub constraints_fault : (x y : Result (List PolicyLine) ℕ) (n : ℕ) (r : Refusal) → part_answer 0 x ≡ Ok n → part_answer 0 y ≡ Err r → Err r ≡ body_answer rules constraints x y
   unfolding part_answer body_answer
-  constraints_fault (fault m) y n at e q = let z : ◌≡◌ {A = ℕ} 0 1 = cc in absurd (omega arith)
-  constraints_fault (whole rs) (whole cs) n at e q = let z : ◌≡◌ {A = ℕ} 0 1 = cc in absurd (omega arith)
-  constraints_fault (whole rs) (fault m) n at e q = let z : at ≡ m = cc in ap (λ (k : ℕ). Loaded.Refused (refusal Fault.ImageBody k)) z
+  constraints_fault (Err m) y n r e q = absurd (ok_err (sym e))
+  constraints_fault (Ok rs) (Ok cs) n r e q = absurd (ok_err q)
+  constraints_fault (Ok rs) (Err m) n r e q = let z : refusal Fault.ImageBody m ≡ r = cc in ap Err (sym z)
 
-  pub both_whole : (x y : Lines) (n m : ℕ) → part_answer 0 x ≡ Ok n → part_answer 0 y ≡ Ok m
-      → Loaded.Image (record { form = form; rule_words = rule_part_words; constraint_words = constraint_part_words; rules = n; constraints = m }) ≡ body_answer form rule_part_words constraint_part_words x y
+  pub both_whole : (x y : Result (List PolicyLine) ℕ) (n m : ℕ) → part_answer 0 x ≡ Ok n → part_answer 0 y ≡ Ok m
+      → Ok (record { rules = rules; constraints = constraints; rule_count = n; constraint_count = m }) ≡ body_answer rules constraints x y
   unfolding part_answer body_answer
-  both_whole (fault k) y n m e q = let z : ◌≡◌ {A = ℕ} 0 1 = cc in absurd (omega arith)
-  both_whole (whole rs) (fault k) n m e q = let z : ◌≡◌ {A = ℕ} 0 1 = cc in absurd (omega arith)
-  both_whole (whole rs) (whole cs) n m e q =
+  both_whole (Err k) y n m e q = absurd (ok_err (sym e))
+  both_whole (Ok rs) (Err k) n m e q = absurd (ok_err (sym q))
+  both_whole (Ok rs) (Ok cs) n m e q =
       let a : n ≡ 0 + length rs = cc in
       let b : m ≡ 0 + length cs = cc in
-      ap₂ (λ (i j : ℕ). Loaded.Image (record { form = form; rule_words = rule_part_words; constraint_words = constraint_part_words; rules = i; constraints = j })) (a ∙ zero-add (length rs)) (b ∙ zero-add (length cs))
+      ap₂ (λ (i j : ℕ). Ok (record { rules = rules; constraints = constraints; rule_count = i; constraint_count = j })) (a ∙ zero-add (length rs)) (b ∙ zero-add (length cs))
 
 -- ---- sizes
 
@@ -82,7 +85,7 @@ module _ (ws : List ℕ) where
 -- ---- fault by fault
 
 module _ (bytes : List ℕ) where
-  pub load_size : well_sized (length bytes) ≡ false → Loaded.Refused (refusal Fault.ImageSize 0) ≡ load bytes
+  pub load_size : well_sized (length bytes) ≡ false → Err (refusal Fault.ImageSize 0) ≡ load bytes
   unfolding load
   load_size e = rw e
 
@@ -94,7 +97,7 @@ module _ (bytes : List ℕ) where
     pub load_form : form_of header ≡ form_byte (words_of bytes)
     load_form = ap form_of is-header
 
-    pub load_unknown : (form : ℕ) → form ≡ form_of header → (form ≡ 1 → ⊥) → Loaded.Refused (refusal Fault.ImageForm 0) ≡ load bytes
+    pub load_unknown : (form : ℕ) → form ≡ form_of header → (form ≡ 1 → ⊥) → Err (refusal Fault.ImageForm 0) ≡ load bytes
     unfolding load_words known_form
     load_unknown form e n = sym (by_words ∙ rw (ne_eqb (form_byte (words_of bytes)) 1 (λ q. n (e ∙ load_form ∙ q))))
 
@@ -109,20 +112,20 @@ module _ (bytes : List ℕ) where
       constraints_are : constraints ≡ constraint_count (words_of bytes)
       constraints_are = is-constraints ∙ ap constraint_count_of is-header
 
-      uncounted : counts_fit (words_of bytes) ≡ false → Loaded.Refused (refusal Fault.ImageCount 0) ≡ load bytes
+      uncounted : counts_fit (words_of bytes) ≡ false → Err (refusal Fault.ImageCount 0) ≡ load bytes
       unfolding load_words
       uncounted e = sym (by_words ∙ rw (known, e))
 
-      pub load_rules : 2176 < rules → Loaded.Refused (refusal Fault.ImageCount 0) ≡ load bytes
+      pub load_rules : 2176 < rules → Err (refusal Fault.ImageCount 0) ≡ load bytes
       load_rules h = uncounted over
         where
           over : counts_fit (words_of bytes) ≡ false
           over = too_many_rules (words_of bytes) (omega (arith, rules_are))
 
-      pub load_constraints : rules ≤ 2176 → 1088 < constraints → Loaded.Refused (refusal Fault.ImageCount 0) ≡ load bytes
+      pub load_constraints : rules ≤ 2176 → 1088 < constraints → Err (refusal Fault.ImageCount 0) ≡ load bytes
       load_constraints r h = uncounted (too_many_constraints (words_of bytes) (omega (arith, rules_are)) (omega (arith, constraints_are)))
 
-      pub load_count : rules ≤ 2176 → constraints ≤ 1088 → (length (words_of bytes) ≡ 1 + rules + constraints + 1 → ⊥) → Loaded.Refused (refusal Fault.ImageCount 0) ≡ load bytes
+      pub load_count : rules ≤ 2176 → constraints ≤ 1088 → (length (words_of bytes) ≡ 1 + rules + constraints + 1 → ⊥) → Err (refusal Fault.ImageCount 0) ≡ load bytes
       load_count r c h =
           uncounted (wrong_count (words_of bytes) (omega (arith, rules_are)) (omega (arith, constraints_are)) (λ q. h (omega (arith, rules_are, constraints_are))))
 
@@ -130,15 +133,14 @@ module _ (bytes : List ℕ) where
         counted : counts_fit (words_of bytes) ≡ true
         counted = right_count (words_of bytes) (omega (arith, rules_are)) (omega (arith, constraints_are)) (omega (arith, rules_are, constraints_are))
 
-        pub load_sum : (total : ℕ) → total ≡ sum (words_of bytes) % word_limit → (total ≡ 0 → ⊥) → Loaded.Refused (refusal Fault.ImageSum 0) ≡ load bytes
+        pub load_sum : (total : ℕ) → total ≡ sum (words_of bytes) % word_limit → (total ≡ 0 → ⊥) → Err (refusal Fault.ImageSum 0) ≡ load bytes
         unfolding load_words sums_to_zero
         load_sum total e z =
             sym (by_words ∙ rw (known, counted, ne_eqb (sum (words_of bytes) % word_limit) 0 (λ q. z (e ∙ q))))
 
-        pub load_lines : (total : ℕ) → total ≡ sum (words_of bytes) % word_limit → total ≡ 0 → (answer : Loaded)
-            → answer ≡ body_answer form rules constraints (part_lines Part.Rules 1 (1 + rules) (words_of bytes)) (part_lines Part.Constraints (1 + rules) (1 + rules + constraints) (words_of bytes)) → answer ≡ load bytes
+        pub load_lines : (total : ℕ) → total ≡ sum (words_of bytes) % word_limit → total ≡ 0 → (answer : Result Contents Refusal)
+            → answer ≡ body_answer (between 1 (1 + rules) (words_of bytes)) (between (1 + rules) (1 + rules + constraints) (words_of bytes)) (part_lines Part.Rules 1 (1 + rules) (words_of bytes)) (part_lines Part.Constraints (1 + rules) (1 + rules + constraints) (words_of bytes)) → answer ≡ load bytes
         unfolding load_words sums_to_zero
         load_lines total e z answer q =
-            q ∙ ap (λ (f : ℕ). body_answer f rules constraints (part_lines Part.Rules 1 (1 + rules) (words_of bytes)) (part_lines Part.Constraints (1 + rules) (1 + rules + constraints) (words_of bytes))) (is-form ∙ load_form)
-            ∙ ap₂ (λ (x y : ℕ). body_answer (form_byte (words_of bytes)) x y (part_lines Part.Rules 1 (1 + x) (words_of bytes)) (part_lines Part.Constraints (1 + x) (1 + x + y) (words_of bytes))) rules_are constraints_are
+            q ∙ ap₂ (λ (x y : ℕ). body_answer (between 1 (1 + x) (words_of bytes)) (between (1 + x) (1 + x + y) (words_of bytes)) (part_lines Part.Rules 1 (1 + x) (words_of bytes)) (part_lines Part.Constraints (1 + x) (1 + x + y) (words_of bytes))) rules_are constraints_are
             ∙ sym (by_words ∙ rw (known, counted, eq-eqb (sum (words_of bytes) % word_limit) 0 (sym e ∙ z)))

@@ -1,19 +1,21 @@
 -- The lines of a part, one after the other, as the code counts them.
-use Rattle.std.proofs.Common.{ℕ, zero, suc, ◌+◌, ◌-◌, ◌≤◌, ◌<◌, List, [], ◌∷◌, ◌≡◌, refl, sym, ap, ap₂, ◌∙◌, add-zero, add_assoc, arith, length, drop, length-drop, drop-drop, Ok, Err}
+use Rattle.std.proofs.Common.{ℕ, zero, suc, ◌+◌, ◌-◌, ◌≤◌, ◌<◌, List, [], ◌∷◌, ◌≡◌, refl, sym, ap, ap₂, ◌∙◌, add-zero, add_assoc, arith, length, drop, length-drop, drop-drop, Ok, Err, Result}
 use Rattle.std.proofs.Math.Option.{Option}
 use Rattle.std.proofs.Math.Nat.{sub-zero}
 use Rattle.policy.specs.Line.{PolicyLine}
 use Rattle.layout.specs.Layout.{line_words}
 use Rattle.decode.proofs.FoundLaws.{Found, is_none, is_line, found}
 use Rattle.decode.specs.Decode.{line_at, line_length}
-use Rattle.image.specs.Lines.{Lines, whole, fault, add_line, after_line, lines_from}
+use Rattle.image.specs.Lines.{add_line, after_line, lines_from}
 use Rattle.image.specs.Steps.Part.{part_answer}
+use Rattle.policy.specs.Fault.{refusal}
+use Rattle.policy.specs.declared.fault.Fault.{Fault}
 use Rattle.policy.specs.declared.line.Part.{Part}
 
-count_line_is : (n : ℕ) (l : PolicyLine) (x : Lines) → part_answer n (add_line l x) ≡ part_answer (n + 1) x
+count_line_is : (n : ℕ) (l : PolicyLine) (x : Result (List PolicyLine) ℕ) → part_answer n (add_line l x) ≡ part_answer (n + 1) x
 unfolding part_answer add_line
-count_line_is n l (whole ls) = let e : n + suc (length ls) ≡ n + 1 + length ls = omega arith in ap Ok e
-count_line_is n l (fault at) = refl
+count_line_is n l (Ok ls) = let e : n + suc (length ls) ≡ n + 1 + length ls = omega arith in ap Ok e
+count_line_is n l (Err at) = refl
 
 -- a line has no more words than there are
 pub line_inside : (part : Part) (ws : List ℕ) (n : ℕ) → n ≡ line_length (line_at part ws) → n ≤ length ws
@@ -27,20 +29,20 @@ line_inside part ws n e = go (found part ws n e)
 
 module _ (part : Part) (room at : ℕ) (ws : List ℕ) where
   -- the same, by cases on the room and the words
-  lines_none : length ws ≤ 0 → lines_from part room at ws ≡ whole []
+  lines_none : length ws ≤ 0 → lines_from part room at ws ≡ Ok []
   unfolding lines_from
   lines_none h = go room ws h
     where
-      go : (n : ℕ) (xs : List ℕ) → length xs ≤ 0 → lines_from part n at xs ≡ whole []
+      go : (n : ℕ) (xs : List ℕ) → length xs ≤ 0 → lines_from part n at xs ≡ Ok []
       go zero [] l = refl
       go (suc n) [] l = refl
       go n (x ∷ xs) l = absurd (omega arith)
 
-  lines_full : 0 < length ws → room ≡ 0 → lines_from part room at ws ≡ fault at
+  lines_full : 0 < length ws → room ≡ 0 → lines_from part room at ws ≡ Err at
   unfolding lines_from
   lines_full h e = go ws h ∙ refl
     where
-      go : (xs : List ℕ) → 0 < length xs → lines_from part room at xs ≡ fault at
+      go : (xs : List ℕ) → 0 < length xs → lines_from part room at xs ≡ Err at
       go [] l = absurd (omega arith)
       go (x ∷ xs) l = ap (λ (n : ℕ). lines_from part n at (x ∷ xs)) e
 
@@ -89,14 +91,14 @@ module _ (part : Part) (ws : List ℕ) (first limit : ℕ) where
             }
 
     -- no line
-    pub counted_fault : at < length ws → count < limit → line_length (line_at part (drop at ws)) ≡ 0 → Err (first + at) ≡ part_answer 0 (lines_from part limit first ws)
+    pub counted_fault : at < length ws → count < limit → line_length (line_at part (drop at ws)) ≡ 0 → Err (refusal Fault.ImageBody (first + at)) ≡ part_answer 0 (lines_from part limit first ws)
     unfolding part_answer after_line
     counted_fault l f e = go (found part (drop at ws) 0 (sym e))
       where
         room : limit - count ≡ suc (limit - (count + 1))
         room = omega arith
 
-        go : Found part (drop at ws) 0 → Err (first + at) ≡ part_answer 0 (lines_from part limit first ws)
+        go : Found part (drop at ws) 0 → Err (refusal Fault.ImageBody (first + at)) ≡ part_answer 0 (lines_from part limit first ws)
         go (is_line x q r p b) = absurd (omega arith)
         go (is_none q r) =
             ap (λ (o : Option PolicyLine). part_answer count (after_line (first + at) o (λ (y : PolicyLine). lines_from part (limit - (count + 1)) (first + at + length (line_words y)) (drop (length (line_words y)) (drop at ws))))) (sym q)
@@ -104,7 +106,7 @@ module _ (part : Part) (ws : List ℕ) (first limit : ℕ) where
             ∙ ap (λ (k : ℕ). part_answer count (lines_from part k (first + at) (drop at ws))) (sym room) ∙ h.same
 
     -- no room for another line
-    pub counted_full : at < length ws → count ≡ limit → Err (first + at) ≡ part_answer 0 (lines_from part limit first ws)
+    pub counted_full : at < length ws → count ≡ limit → Err (refusal Fault.ImageBody (first + at)) ≡ part_answer 0 (lines_from part limit first ws)
     unfolding part_answer
     counted_full l e = ap (part_answer count) (sym (lines_full part (limit - count) (first + at) (drop at ws) (omega (arith, left at)) (omega arith))) ∙ h.same
 

@@ -1,9 +1,9 @@
 -- The policy that a taken image holds.
-use Rattle.std.specs.Prelude.{ℕ, List, [], ◌∷◌, ◌++◌, map}
+use Rattle.std.specs.Prelude.{ℕ, List, [], ◌∷◌, Result, Ok, Err}
 use Rattle.policy.specs.Line.{PolicyLine, rule, constraint}
 use Rattle.policy.specs.Policy.{Policy, Rule, Constraint}
 use Rattle.word.specs.Word.{words_of}
-use Rattle.image.specs.Lines.{Lines, whole, fault, rule_lines, constraint_lines}
+use Rattle.image.specs.Lines.{rule_lines, constraint_lines}
 
 unfoldable pub rules_in : List PolicyLine → List Rule
 rules_in [] = []
@@ -15,14 +15,10 @@ constraints_in [] = []
 constraints_in (rule r ∷ ls) = constraints_in ls
 constraints_in (constraint c ∷ ls) = c ∷ constraints_in ls
 
-unfoldable pub lines_in : Lines → List PolicyLine
-lines_in (whole ls) = ls
-lines_in (fault at) = []
+unfoldable pub lines_in : Result (List PolicyLine) ℕ → List PolicyLine
+lines_in (Ok ls) = ls
+lines_in (Err at) = []
 
 unfoldable pub policy_in : List ℕ → Policy
 policy_in bytes =
     record { rules = rules_in (lines_in (rule_lines (words_of bytes))); constraints = constraints_in (lines_in (constraint_lines (words_of bytes))) }
-
--- its lines: the rules, and then the constraints
-abbrev pub lines_held : List ℕ → List PolicyLine
-lines_held bytes = map rule (policy_in bytes).rules ++ map constraint (policy_in bytes).constraints

@@ -6,10 +6,8 @@ use Rattle.std.specs.Iterator.{YieldsFirst}
 use Rattle.std.specs.declared.option.Option.{Option}
 use Rattle.line_value.specs.declared.Line.{Line}
 use Rattle.word.specs.Chunk.{words_in}
-use Rattle.word.specs.Word.{words_of, between}
 use Rattle.operation.specs.Fields.{skip_of}
 use Rattle.decode.specs.Steps.Scan.{value_from}
-use Rattle.image.specs.Check.{rule_count, constraint_count}
 use Rattle.image.specs.declared.walker.Walker.{Walker}
 
 -- the values of the lines, the first k words left out
@@ -38,7 +36,7 @@ line_passed walker = record { words = walker.words; at = walker.at + told_length
 abbrev pub GivesLine : Walker → Option Line → Walker → Type 0
 GivesLine before line after = YieldsFirst lines_ahead before line after × MatchOption line (after ≡ before) (λ l. after ≡ line_passed before)
 
--- the walker before the first line of an image: over all of its words but the check words, behind word 0
-pub record IsAtFirstLine (image : List ℕ) (walker : Walker) : Type 0 where
-  pub words : words_in walker.words.now ≡ between 0 (1 + rule_count (words_of image) + constraint_count (words_of image)) (words_of image)
-  pub start : walker.at ≡ 1
+-- a walker before the first line of these words
+pub record IsAtFirstLine (ws : List ℕ) (walker : Walker) : Type 0 where
+  pub words : words_in walker.words.now ≡ ws
+  pub start : walker.at ≡ 0

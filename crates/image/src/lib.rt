@@ -2,7 +2,9 @@
 #![tactic(auto)]
 
 mod load;
+mod taken;
 mod walker;
 
-pub use load::{Contents, IMAGE_SIZE, Loaded, lines, load_image};
+pub use load::{IMAGE_SIZE, load_image};
+pub use taken::Image;
 pub use walker::Walker;

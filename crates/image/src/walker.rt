@@ -19,7 +19,7 @@ pub struct Walker<'a> {
 }
 
 impl<'a> Walker<'a> {
-    pub fn new(words: &'a [[u8; 4]], at: usize) -> Walker<'a>
+    pub(crate) fn new(words: &'a [[u8; 4]], at: usize) -> Walker<'a>
         ensures { result ≡ record { words = words.entry; at = at } }
     {
         Walker { words, at }
@@ -43,6 +43,7 @@ impl<'a> Walker<'a> {
     }
 
     /// The walker behind the line of the part that starts here; none where no line that an accepted text may have does.
+    #[inline(always)]
     pub(crate) fn past_line(self, part: Part) -> Option<Walker<'a>>
         ensures { MatchOption result (line_length (line_at part (drop self.entry.at (words_in self.entry.words.now))) ≡ 0) (λ behind. IsPast (line_length (line_at part (drop self.entry.at (words_in self.entry.words.now)))) self.entry behind) }
     {

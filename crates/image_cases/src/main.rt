@@ -2,50 +2,47 @@
 //! taken image from line to line. A case is its size in two bytes, the more significant first, and then its bytes.
 #![tactic(auto)]
 
-use image::{Contents, Loaded, Walker};
+use image::{Image, Walker};
+use policy::Part;
 use std::io;
 use std::io::{BufWriter, Read, Write};
-use word::{part, words};
 
-/// How many lines a walker meets from one word up to another.
-fn count_lines(words: &[[u8; 4]], start: usize, end: usize) -> usize {
-    if start <= end && end <= words.len() {
-        Walker::new(part(words, start, end), 0).count()
-    } else {
-        0
+/// How many lines are met.
+fn count(lines: Walker<'_>) -> usize {
+    let mut count = 0usize;
+    for _line in lines {
+        count = count.wrapping_add(1);
     }
+    count
 }
 
-fn show_image<W: Write>(out: &mut W, image: &[u8], contents: Contents) -> io::Result<()> {
-    let Contents {
+fn show_image<W: Write>(out: &mut W, image: Image<'_>) -> io::Result<()> {
+    let Image {
         rules,
         constraints,
-        rule_words,
-        constraint_words,
+        rule_count,
+        constraint_count,
         ..
-    } = contents;
+    } = image;
+    let rule_words = rules.len();
+    let constraint_words = constraints.len();
     write!(
         out,
-        "image rules {rules} constraints {constraints} words {rule_words} {constraint_words}"
+        "image rules {rule_count} constraints {constraint_count} words {rule_words} {constraint_words}"
     )?;
-    if rule_words < 4096 && constraint_words < 4096 {
-        let middle = 1 + rule_words;
-        let words = words(image);
-        let first = count_lines(words, 1, middle);
-        let second = count_lines(words, middle, middle + constraint_words);
-        write!(out, " lines {first} {second}")?;
-    }
-    writeln!(out)
+    let first = count(image.lines(Part::Rules));
+    let second = count(image.lines(Part::Constraints));
+    writeln!(out, " lines {first} {second}")
 }
 
 fn show_case<W: Write>(out: &mut W, case: &[u8]) -> io::Result<()> {
     match image::load_image(case) {
-        Loaded::Refused(refusal) => {
+        Err(refusal) => {
             let number = refusal.fault.number();
             let place = refusal.location;
             writeln!(out, "refused {number} place {place}")
         }
-        Loaded::Image(contents) => show_image(out, case, contents),
+        Ok(image) => show_image(out, image),
     }
 }
 

@@ -2,7 +2,7 @@
 use Rattle.std.specs.Prelude.{ℕ, Result, Ok, Err}
 use Rattle.policy.specs.Fault.{fault_number, source_number}
 use Rattle.policy.specs.declared.fault.Refusal.{Refusal}
-use Rattle.image.specs.declared.load.Loaded.{Loaded}
+use Rattle.image.specs.Load.{Contents}
 use Rattle.kinohazel.specs.declared.Compilation.{Compilation}
 use Rattle.kinohazel.specs.declared.TextsCompilation.{TextsCompilation}
 use Rattle.kinohazel.specs.declared.TextWritten.{TextWritten}
@@ -21,6 +21,6 @@ unfoldable pub text_written_of : Result ℕ Refusal → TextWritten
 text_written_of (Err r) = record { fault = fault_number r.fault; word = r.location; size = 0 }
 text_written_of (Ok size) = record { fault = 0; word = 0; size = size }
 
-unfoldable pub check_of : Loaded → ImageCheck
-check_of (Loaded.Refused r) = record { fault = fault_number r.fault; word = r.location; rules = 0; constraints = 0 }
-check_of (Loaded.Image contents) = record { fault = 0; word = 0; rules = contents.rules; constraints = contents.constraints }
+unfoldable pub check_of : Result Contents Refusal → ImageCheck
+check_of (Err r) = record { fault = fault_number r.fault; word = r.location; rules = 0; constraints = 0 }
+check_of (Ok contents) = record { fault = 0; word = 0; rules = contents.rule_count; constraints = contents.constraint_count }

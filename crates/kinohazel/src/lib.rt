@@ -13,7 +13,6 @@ ghost use Rattle.export.specs.Export.{decision_of};
 ghost use Rattle.kinohazel.specs.Export.{compilation_of, texts_compilation_of, text_written_of, check_of};
 
 use export::{EpochDecision, epoch_decision, fault_number};
-use image::Loaded;
 use policy::{Mode, Source};
 
 /// What came of a text: the fault's number, or 0; its line, counted from 1; how many bytes of an image were written.
@@ -120,17 +119,17 @@ pub extern "C" fn kinohazel_check_nonnull(image: &[u8]) -> ImageCheck
     ensures { result ≡ check_of (load image.now) }
 {
     match image::load_image(image) {
-        Loaded::Refused(refusal) => ImageCheck {
+        Err(refusal) => ImageCheck {
             fault: fault_number(refusal),
             word: refusal.location as u64,
             rules: 0,
             constraints: 0,
         },
-        Loaded::Image(contents) => ImageCheck {
+        Ok(image) => ImageCheck {
             fault: 0,
             word: 0,
-            rules: contents.rules as u64,
-            constraints: contents.constraints as u64,
+            rules: image.rule_count as u64,
+            constraints: image.constraint_count as u64,
         },
     }
 }

@@ -1,72 +1,67 @@
 -- What is decided on an image that the loader took is what the policy that it holds yields, in each mode.
-use Rattle.std.proofs.Common.{ℕ, true, cond, List, ◌≡◌, sym, ap, ◌∙◌}
-use Rattle.policy.specs.Epoch.{Epoch, Readings}
+use Rattle.std.specs.Prelude.{if◌then◌else◌}
+use Rattle.std.proofs.Common.{ℕ, true, List, ◌≡◌, sym, ap, ◌∙◌, Result, Ok, Err}
+use Rattle.policy.specs.declared.epoch.Epoch.{Epoch}
+use Rattle.policy.specs.declared.epoch.Readings.{Readings}
 use Rattle.policy.specs.Fault.{refusal}
 use Rattle.policy.specs.Limits.{Acceptable}
 use Rattle.policy.specs.Policy.{Policy}
 use Rattle.policy.specs.Set.{ActionSet, all_events, keeping, set_of}
 use Rattle.policy.specs.declared.fault.Fault.{Fault}
+use Rattle.policy.specs.declared.fault.Refusal.{Refusal}
 use Rattle.policy.specs.declared.mode.Mode.{Mode}
 use Rattle.pdl.specs.Greedy.{greedy}
 use Rattle.pdl.specs.Yield as Yield
 use Rattle.pdl.specs.Reduction.{clashes, kept_events, issued, unavoidable}
 use Rattle.pdl.specs.Yield.{proposed, conflict, resolve}
-use Rattle.epoch_line.specs.Epoch.{refused, accepted, read_epoch}
+use Rattle.epoch_line.specs.Epoch.{read_epoch}
 use Rattle.word.proofs.WordLaws.{bytes_below}
-use Rattle.word.specs.Word.{Bytes, words_of}
-use Rattle.layout.specs.Layout.{known_form, image_words, image_of}
+use Rattle.word.specs.Word.{Bytes}
+use Rattle.layout.specs.Layout.{known_form, rule_part_words, constraint_part_words, image_words, image_of}
 use Rattle.image.specs.Held.{policy_in}
-use Rattle.image.specs.Load.{load}
-use Rattle.image.specs.declared.load.Contents.{Contents}
-use Rattle.image.specs.declared.load.Loaded.{Loaded}
+use Rattle.image.specs.Load.{Contents, load}
 use Rattle.exactness.proofs.Exact.{image_taken, image_holds}
 use Rattle.exactness.specs.Exact.{contents_of}
 use Rattle.monitor.proofs.DecideLaws.{line_refused, line_accepted}
-use Rattle.monitor.specs.Decision.{kept_by, actions_of, yielded_by, proposed_with_by, clash_by, kept_events_by, tried_event_words, reduced_by, reduction_by, rule_words_in, constraint_words_in, issued_by, decided_by, decision_in, decision}
-use Rattle.monitor.specs.declared.decision.Decision.{Decision}
+use Rattle.monitor.specs.Decision.{kept_by, visited_by, actions_of, yielded_by, proposed_with_by, clash_by, kept_events_by, tried_event_words, reduced_by, reduction_by, decided_by, decision_in, decision}
+use Rattle.monitor.specs.declared.decision.Actions.{Actions}
 use Rattle.meaning.proofs.Taken.{taken_rules_run, taken_constraints_run}
 
 -- what the second mode decides by a policy, with so many words
-abbrev pub reduction_of : Policy → Epoch → ℕ → Decision
-reduction_of p e words = cond (unavoidable p e) (Decision.Refused (refusal Fault.Unavoidable 0)) (Decision.Issued (actions_of (proposed p.rules e) (issued p e) words))
+abbrev pub reduction_of : Policy → Epoch → ℕ → Result Actions Refusal
+reduction_of p e words = if unavoidable p e then Err (refusal Fault.Unavoidable 0) else Ok (actions_of (proposed p.rules e) (issued p e) words)
 
-module _ (image : List ℕ) (bounded : Bytes image) (contents : Contents) (taken : load image ≡ Loaded.Image contents) where
+module _ (image : List ℕ) (bounded : Bytes image) (contents : Contents) (taken : load image ≡ Ok contents) where
   abbrev P : Policy
   P = policy_in image
 
-  abbrev constraint_part : List ℕ
-  constraint_part = constraint_words_in contents (words_of image)
-
-  kept_is : (rs : Readings) (s : ActionSet) → kept_by constraint_part rs s ≡ resolve P.constraints rs s
+  kept_is : (rs : Readings) (s : ActionSet) → kept_by contents.constraints rs s ≡ resolve P.constraints rs s
   unfolding kept_by resolve
   kept_is rs s =
       λ i. set_of (greedy (λ (kept : ℕ). taken_constraints_run image bounded contents taken rs (set_of kept) i) s.bits)
 
-  issued_is : (e : Epoch) → issued_by contents (words_of image) e ≡ actions_of (proposed P.rules e) (Yield.accepted P e) (issued_by contents (words_of image) e).visited
-  unfolding issued_by yielded_by Yield.accepted
+  issued_is : (e : Epoch) → yielded_by contents.rules contents.constraints e ≡ actions_of (proposed P.rules e) (Yield.accepted P e) (visited_by contents.rules contents.constraints e)
+  unfolding yielded_by Yield.accepted
   issued_is e = rw (taken_rules_run image bounded contents taken (all_events e.events) e.readings, kept_is e.readings (proposed P.rules e))
 
-  pub decided_is : (line : List ℕ) (e : Epoch) → read_epoch line ≡ accepted e
-      → decision image line ≡ Decision.Issued (actions_of (proposed P.rules e) (Yield.accepted P e) (issued_by contents (words_of image) e).visited)
+  pub decided_is : (line : List ℕ) (e : Epoch) → read_epoch line ≡ Ok e
+      → decision image line ≡ Ok (actions_of (proposed P.rules e) (Yield.accepted P e) (visited_by contents.rules contents.constraints e))
   unfolding decided_by
-  decided_is line e read = sym (line_accepted Mode.Actions image line contents taken e read) ∙ ap Decision.Issued (issued_is e)
+  decided_is line e read = sym (line_accepted Mode.Actions image line contents taken e read) ∙ ap Ok (issued_is e)
 
   -- ---- the same in the second mode
 
-  abbrev rule_part : List ℕ
-  rule_part = rule_words_in contents (words_of image)
-
-  clash_is : (e : Epoch) (kept : ℕ) → clash_by rule_part constraint_part e kept ≡ clashes P e (set_of kept)
+  clash_is : (e : Epoch) (kept : ℕ) → clash_by contents.rules contents.constraints e kept ≡ clashes P e (set_of kept)
   unfolding clashes
   clash_is e kept =
-      taken_constraints_run image bounded contents taken e.readings (proposed_with_by rule_part e (set_of kept))
+      taken_constraints_run image bounded contents taken e.readings (proposed_with_by contents.rules e (set_of kept))
       ∙ ap (conflict P.constraints e.readings) (taken_rules_run image bounded contents taken (keeping e.events (set_of kept)) e.readings)
 
-  pub kept_events_are : (e : Epoch) → kept_events_by rule_part constraint_part e ≡ kept_events P e
+  pub kept_events_are : (e : Epoch) → kept_events_by contents.rules contents.constraints e ≡ kept_events P e
   unfolding kept_events_by kept_events
   kept_events_are e = λ i. set_of (greedy (λ (kept : ℕ). clash_is e kept i) e.events.bits)
 
-  reduced_is : (e : Epoch) → reduced_by rule_part constraint_part e ≡ actions_of (proposed P.rules e) (issued P e) (tried_event_words rule_part constraint_part e)
+  reduced_is : (e : Epoch) → reduced_by contents.rules contents.constraints e ≡ actions_of (proposed P.rules e) (issued P e) (tried_event_words contents.rules contents.constraints e)
   unfolding reduced_by issued
   reduced_is e =
       rw (
@@ -75,15 +70,15 @@ module _ (image : List ℕ) (bounded : Bytes image) (contents : Contents) (taken
         taken_rules_run image bounded contents taken (keeping e.events (kept_events P e)) e.readings,
       )
 
-  pub events_decided_are : (line : List ℕ) (e : Epoch) → read_epoch line ≡ accepted e
-      → decision_in Mode.Events image line ≡ reduction_of P e (tried_event_words rule_part constraint_part e)
+  pub events_decided_are : (line : List ℕ) (e : Epoch) → read_epoch line ≡ Ok e
+      → decision_in Mode.Events image line ≡ reduction_of P e (tried_event_words contents.rules contents.constraints e)
   unfolding decided_by reduction_by unavoidable
   events_decided_are line e read = sym (line_accepted Mode.Events image line contents taken e read) ∙ rw (clash_is e 0, reduced_is e)
 
 -- ---- the image of a policy that an accepted text may have
 
 module _ (form : ℕ) (known : known_form form ≡ true) (p : Policy) (ok : Acceptable p) where
-  taken : load (image_of form p) ≡ Loaded.Image (contents_of form p)
+  taken : load (image_of form p) ≡ Ok (contents_of p)
   taken = image_taken form known p ok
 
   pub image_bounded : Bytes (image_of form p)
@@ -91,22 +86,22 @@ module _ (form : ℕ) (known : known_form form ≡ true) (p : Policy) (ok : Acce
   image_bounded = bytes_below (image_words form p)
 
   -- on a line that is refused, in either mode
-  pub image_refuses_in : (mode : Mode) (line : List ℕ) (f : Fault) → read_epoch line ≡ refused f → decision_in mode (image_of form p) line ≡ Decision.Refused (refusal f 0)
-  image_refuses_in mode line f q = sym (line_refused mode (image_of form p) line (contents_of form p) taken f q)
+  pub image_refuses_in : (mode : Mode) (line : List ℕ) (r : Refusal) → read_epoch line ≡ Err r → decision_in mode (image_of form p) line ≡ Err r
+  image_refuses_in mode line r q = sym (line_refused mode (image_of form p) line (contents_of p) taken r q)
 
-  pub image_refuses : (line : List ℕ) (f : Fault) → read_epoch line ≡ refused f → decision (image_of form p) line ≡ Decision.Refused (refusal f 0)
+  pub image_refuses : (line : List ℕ) (r : Refusal) → read_epoch line ≡ Err r → decision (image_of form p) line ≡ Err r
   image_refuses = image_refuses_in Mode.Actions
 
   -- on a line that is an epoch it decides what the policy yields
-  pub image_decides : (line : List ℕ) (e : Epoch) → read_epoch line ≡ accepted e
-      → decision (image_of form p) line ≡ Decision.Issued (actions_of (proposed p.rules e) (Yield.accepted p e) (issued_by (contents_of form p) (words_of (image_of form p)) e).visited)
+  pub image_decides : (line : List ℕ) (e : Epoch) → read_epoch line ≡ Ok e
+      → decision (image_of form p) line ≡ Ok (actions_of (proposed p.rules e) (Yield.accepted p e) (visited_by (rule_part_words p) (constraint_part_words p) e))
   image_decides line e q =
-      decided_is (image_of form p) image_bounded (contents_of form p) taken line e q
-      ∙ ap (λ (x : Policy). Decision.Issued (actions_of (proposed x.rules e) (Yield.accepted x e) (issued_by (contents_of form p) (words_of (image_of form p)) e).visited)) (image_holds form known p ok)
+      decided_is (image_of form p) image_bounded (contents_of p) taken line e q
+      ∙ ap (λ (x : Policy). Ok (actions_of (proposed x.rules e) (Yield.accepted x e) (visited_by (rule_part_words p) (constraint_part_words p) e))) (image_holds form known p ok)
 
-  pub image_reduces : (line : List ℕ) (e : Epoch) → read_epoch line ≡ accepted e
+  pub image_reduces : (line : List ℕ) (e : Epoch) → read_epoch line ≡ Ok e
       → decision_in Mode.Events (image_of form p) line
-      ≡ reduction_of p e (tried_event_words (rule_words_in (contents_of form p) (words_of (image_of form p))) (constraint_words_in (contents_of form p) (words_of (image_of form p))) e)
+      ≡ reduction_of p e (tried_event_words (rule_part_words p) (constraint_part_words p) e)
   image_reduces line e q =
-      events_decided_are (image_of form p) image_bounded (contents_of form p) taken line e q
-      ∙ ap (λ (x : Policy). reduction_of x e (tried_event_words (rule_words_in (contents_of form p) (words_of (image_of form p))) (constraint_words_in (contents_of form p) (words_of (image_of form p))) e)) (image_holds form known p ok)
+      events_decided_are (image_of form p) image_bounded (contents_of p) taken line e q
+      ∙ ap (λ (x : Policy). reduction_of x e (tried_event_words (rule_part_words p) (constraint_part_words p) e)) (image_holds form known p ok)

@@ -1,9 +1,9 @@
 -- How many words of a taken image its parts fetch at the most: each part ends with the ending of a line, which has no constant.
-use Rattle.std.proofs.Common.{ℕ, ◌+◌, ◌≤◌, true, List, [], ◌∷◌, ◌++◌, map, ◌≡◌, refl, ap, ◌∙◌, arith, ltb-true, length, take, length-take, length-drop, length-append}
+use Rattle.std.proofs.Common.{ℕ, ◌+◌, ◌≤◌, true, List, [], ◌∷◌, ◌++◌, map, ◌≡◌, refl, ap, ◌∙◌, arith, ltb-true, length, take, length-take, length-drop, length-append, Ok}
 use Rattle.policy.specs.Set.{ActionSet}
 use Rattle.policy.proofs.ListLaws.{and_out}
 use Rattle.policy.proofs.ValidLaws.{valid_out}
-use Rattle.policy.specs.Epoch.{Readings}
+use Rattle.policy.specs.declared.epoch.Readings.{Readings}
 use Rattle.policy.specs.Limits.{valid, ending_in_range}
 use Rattle.policy.specs.Line.{PolicyLine, rule, constraint, heads_of, comparisons_of, ending_of}
 use Rattle.policy.specs.List.{all}
@@ -18,9 +18,7 @@ use Rattle.operation.specs.Parts.{test_word, comparison_words, ending_word}
 use Rattle.layout.proofs.LayoutLaws.{condition_length, part_length, condition_size_limit}
 use Rattle.layout.specs.Layout.{condition_words, part_words, line_words, lines_words, rule_part_words, constraint_part_words}
 use Rattle.image.specs.Held.{policy_in}
-use Rattle.image.specs.Load.{load}
-use Rattle.image.specs.declared.load.Contents.{Contents}
-use Rattle.image.specs.declared.load.Loaded.{Loaded}
+use Rattle.image.specs.Load.{Contents, load}
 use Rattle.exactness.proofs.Exact.{held_acceptable, taken_rules, taken_constraints}
 use Rattle.run.proofs.FetchLaws.{last_constants, last_behind, rule_fetches_is, trial_fetches_is}
 use Rattle.run.specs.Run.{constants_behind, rule_fetches, trial_fetches}
@@ -64,29 +62,20 @@ lines_last (l ∷ ls) v =
 
 -- ---- the parts of a taken image
 
-module _ (bytes : List ℕ) (bounded : Bytes bytes) (contents : Contents) (taken : load bytes ≡ Loaded.Image contents) (rs : Readings) where
+module _ (bytes : List ℕ) (bounded : Bytes bytes) (contents : Contents) (taken : load bytes ≡ Ok contents) (rs : Readings) where
   -- its rules fetch at most as many words as they have
-  pub taken_rules_fetch : (ev : Events) → rule_fetches ev rs (between 1 (1 + contents.rule_words) (words_of bytes)) ≤ contents.rule_words
-  unfolding between rule_part_words
+  pub taken_rules_fetch : (ev : Events) → rule_fetches ev rs contents.rules ≤ length contents.rules
+  unfolding rule_part_words
   taken_rules_fetch ev =
       let ok = held_acceptable bytes bounded contents taken in
-      let last : last_constants (between 1 (1 + contents.rule_words) (words_of bytes)) ≡ 0 =
-      ap last_constants (taken_rules bytes bounded contents taken) ∙ lines_last (map rule (policy_in bytes).rules) ok.rules_valid in
-      omega (
-        arith,
-        rule_fetches_is rs (between 1 (1 + contents.rule_words) (words_of bytes)) ev,
-        length-drop 1 (take (1 + contents.rule_words) (words_of bytes)),
-        length-take (1 + contents.rule_words) (words_of bytes),
-      )
+      let last : last_constants contents.rules ≡ 0 = ap last_constants (taken_rules bytes bounded contents taken) ∙ lines_last (map rule (policy_in bytes).rules) ok.rules_valid in
+      omega (arith, rule_fetches_is rs contents.rules ev)
 
   -- and so does each trial by its constraints
-  pub taken_trial_fetch : (s : ActionSet)
-      → trial_fetches rs s (between (1 + contents.rule_words) (1 + contents.rule_words + contents.constraint_words) (words_of bytes)) ≤ contents.constraint_words
-  unfolding between constraint_part_words
+  pub taken_trial_fetch : (s : ActionSet) → trial_fetches rs s contents.constraints ≤ length contents.constraints
+  unfolding constraint_part_words
   taken_trial_fetch s =
       let ok = held_acceptable bytes bounded contents taken in
-      let middle = 1 + contents.rule_words in
-      let end = 1 + contents.rule_words + contents.constraint_words in
-      let last : last_constants (between middle end (words_of bytes)) ≡ 0 =
-      ap last_constants (taken_constraints bytes bounded contents taken) ∙ lines_last (map constraint (policy_in bytes).constraints) ok.constraints_valid in
-      omega (arith, trial_fetches_is rs (between middle end (words_of bytes)) s, length-drop middle (take end (words_of bytes)), length-take end (words_of bytes))
+      let last : last_constants contents.constraints ≡ 0 =
+          ap last_constants (taken_constraints bytes bounded contents taken) ∙ lines_last (map constraint (policy_in bytes).constraints) ok.constraints_valid in
+      omega (arith, trial_fetches_is rs contents.constraints s)

@@ -4,7 +4,7 @@ use Rattle.std.proofs.Math.Bool.{and_assoc}
 use Rattle.std.proofs.Math.ListN.{get_or, length-map}
 use Rattle.policy.proofs.ListLaws.{and_out}
 use Rattle.policy.specs.Comparison.{comparison_holds}
-use Rattle.policy.specs.Epoch.{Readings}
+use Rattle.policy.specs.declared.epoch.Readings.{Readings}
 use Rattle.policy.specs.Limits.{valid, test_number, comparison_in_range, ending_in_range}
 use Rattle.policy.specs.Line.{rule, constraint, heads_of, comparisons_of, ending_of}
 use Rattle.policy.specs.List.{all, any}

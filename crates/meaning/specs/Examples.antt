@@ -1,6 +1,6 @@
 -- What the words of the worked example of `exactness` do on four epochs, one row each.
 use Rattle.std.specs.Prelude.{ℕ, Bool, true, false, List, [], ◌∷◌, ℤ, pos}
-use Rattle.policy.specs.Epoch.{Epoch}
+use Rattle.policy.specs.declared.epoch.Epoch.{Epoch}
 use Rattle.policy.specs.Set.{ActionSet, all_events, set_of}
 use Rattle.exactness.specs.Examples.{worked}
 use Rattle.layout.specs.Layout.{rule_part_words, constraint_part_words}

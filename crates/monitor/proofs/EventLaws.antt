@@ -1,6 +1,6 @@
 -- The events of an epoch, tried from the lowest on.
 use Rattle.std.proofs.Common.{ℕ, ◌+◌, ◌*◌, ◌/◌, ◌%◌, ◌^◌, ◌≤◌, ◌<◌, Bool, true, false, List, ◌≢◌, ◌≡◌, sym, ap, ◌∙◌, arith, length}
-use Rattle.policy.specs.Epoch.{Epoch}
+use Rattle.policy.specs.declared.epoch.Epoch.{Epoch}
 use Rattle.policy.specs.Set.{ActionSet, EventSet, keeping, no_events, insert_event, set_of}
 use Rattle.policy.specs.declared.set.Events.{Events}
 use Rattle.pdl.proofs.CostLaws.{trials_limit}

@@ -1,8 +1,8 @@
 -- What is decided on an image and an epoch line, in each mode (docs/REFERENCE.md, "What an epoch yields" and "Running an image"). Past
 -- the faults for which it is refused it speaks of what the image's words do when they are run, and not of a policy.
-use Rattle.std.specs.Prelude.{ℕ, ◌+◌, Bool, cond, List}
-use Rattle.std.proofs.Math.Option.{Option, none, some}
-use Rattle.policy.specs.Epoch.{Epoch, Readings}
+use Rattle.std.specs.Prelude.{ℕ, ◌+◌, Bool, if◌then◌else◌, List, Result, Ok, Err}
+use Rattle.policy.specs.declared.epoch.Epoch.{Epoch}
+use Rattle.policy.specs.declared.epoch.Readings.{Readings}
 use Rattle.policy.specs.Fault.{refusal}
 use Rattle.policy.specs.Set.{ActionSet, EventSet, all_events, keeping, actions_without, set_of}
 use Rattle.policy.specs.declared.fault.Fault.{Fault}
@@ -10,14 +10,10 @@ use Rattle.policy.specs.declared.fault.Refusal.{Refusal}
 use Rattle.policy.specs.declared.mode.Mode.{Mode}
 use Rattle.pdl.specs.Answer.{Answer, refuses, issues}
 use Rattle.pdl.specs.Greedy.{greedy, trials_cost}
-use Rattle.epoch_line.specs.Epoch.{EpochAnswer, refused, accepted, read_epoch}
-use Rattle.word.specs.Word.{words_of, between}
-use Rattle.image.specs.Load.{load}
-use Rattle.image.specs.declared.load.Contents.{Contents}
-use Rattle.image.specs.declared.load.Loaded.{Loaded}
+use Rattle.epoch_line.specs.Epoch.{read_epoch}
+use Rattle.image.specs.Load.{Contents, load}
 use Rattle.run.specs.Run.{run_rules, run_constraints, rule_fetches, trial_fetches}
 use Rattle.monitor.specs.declared.decision.Actions.{Actions}
-use Rattle.monitor.specs.declared.decision.Decision.{Decision}
 
 -- ---- an epoch
 
@@ -84,54 +80,37 @@ reduced_by rules constraints e =
     actions_of (proposed_by rules e) (proposed_with_by rules e (kept_events_by rules constraints e)) (tried_event_words rules constraints e)
 
 -- unless a constraint holds already with no event kept
-unfoldable pub reduction_by : List ℕ → List ℕ → Epoch → Decision
+unfoldable pub reduction_by : List ℕ → List ℕ → Epoch → Result Actions Refusal
 reduction_by rules constraints e =
-    cond (clash_by rules constraints e 0) (Decision.Refused (refusal Fault.Unavoidable 0)) (Decision.Issued (reduced_by rules constraints e))
+    if clash_by rules constraints e 0 then Err (refusal Fault.Unavoidable 0) else Ok (reduced_by rules constraints e)
 
--- ---- the words of an image with these contents
+-- ---- the words of an image
 
-abbrev pub rule_words_in : Contents → List ℕ → List ℕ
-rule_words_in contents words = between 1 (1 + contents.rule_words) words
+unfoldable pub decided_by : Mode → Contents → Epoch → Result Actions Refusal
+decided_by Mode.Actions image e = Ok (yielded_by image.rules image.constraints e)
+decided_by Mode.Events image e = reduction_by image.rules image.constraints e
 
-abbrev pub constraint_words_in : Contents → List ℕ → List ℕ
-constraint_words_in contents words = between (1 + contents.rule_words) (1 + contents.rule_words + contents.constraint_words) words
+-- the image's faults come first, then those of the line
+unfoldable pub on_image : Mode → Result Contents Refusal → Result Epoch Refusal → Result Actions Refusal
+on_image mode (Err r) epoch = Err r
+on_image mode (Ok image) (Err r) = Err r
+on_image mode (Ok image) (Ok e) = decided_by mode image e
 
-unfoldable pub issued_by : Contents → List ℕ → Epoch → Actions
-issued_by contents words = yielded_by (rule_words_in contents words) (constraint_words_in contents words)
-
-unfoldable pub decided_by : Mode → Contents → List ℕ → Epoch → Decision
-decided_by Mode.Actions contents words e = Decision.Issued (issued_by contents words e)
-decided_by Mode.Events contents words e = reduction_by (rule_words_in contents words) (constraint_words_in contents words) e
-
--- ---- the image's faults come first, then those of the line
-
-unfoldable pub on_epoch_line : Mode → Contents → List ℕ → EpochAnswer → Decision
-on_epoch_line mode contents words (refused fault) = Decision.Refused (refusal fault 0)
-on_epoch_line mode contents words (accepted e) = decided_by mode contents words e
-
-unfoldable pub on_image : Mode → Loaded → List ℕ → EpochAnswer → Decision
-on_image mode (Loaded.Refused r) words answer = Decision.Refused r
-on_image mode (Loaded.Image contents) words answer = on_epoch_line mode contents words answer
-
-unfoldable pub decision_in : Mode → List ℕ → List ℕ → Decision
-decision_in mode image line = on_image mode (load image) (words_of image) (read_epoch line)
+unfoldable pub decision_in : Mode → List ℕ → List ℕ → Result Actions Refusal
+decision_in mode image line = on_image mode (load image) (read_epoch line)
 
 -- in the first mode
-abbrev pub decision : List ℕ → List ℕ → Decision
+abbrev pub decision : List ℕ → List ℕ → Result Actions Refusal
 decision = decision_in Mode.Actions
 
 -- ---- what a decision says
 
-abbrev pub refusal_in : Decision → Option Refusal
-refusal_in (Decision.Refused r) = some r
-refusal_in (Decision.Issued actions) = none
-
 -- number, place and both sets
-abbrev pub answer_of : Decision → Answer
-answer_of (Decision.Refused r) = refuses r
-answer_of (Decision.Issued actions) = issues actions.accepted actions.cancelled
+abbrev pub answer_of : Result Actions Refusal → Answer
+answer_of (Err r) = refuses r
+answer_of (Ok actions) = issues actions.accepted actions.cancelled
 
 -- how many words were fetched: none where the decision is refused
-abbrev pub visited_in : Decision → ℕ
-visited_in (Decision.Refused r) = 0
-visited_in (Decision.Issued actions) = actions.visited
+abbrev pub visited_in : Result Actions Refusal → ℕ
+visited_in (Err r) = 0
+visited_in (Ok actions) = actions.visited

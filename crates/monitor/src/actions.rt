@@ -4,7 +4,8 @@ ghost use Rattle.word.specs.Chunk.{words_in};
 ghost use Rattle.monitor.specs.Decision.{kept_by, tried_words, yielded_by};
 
 use crate::decision::Actions;
-use policy::{Action, ActionSet, EventSet, READING_LIMIT, ReadingSet};
+use image::Image;
+use policy::{Action, ActionSet, Epoch, Readings};
 use run::{run_constraints, run_rules};
 
 /// What is kept of the proposed actions, and how many words all trials fetched.
@@ -17,15 +18,10 @@ pub struct Kept {
 // What is kept of the proposed actions: by rising number, each unless a constraint holds on those kept so far together with it. The
 // constraints are those of an image, so that the words of all trials can be added up.
 #[inline(never)]
-fn resolve(
-    constraints: &[[u8; 4]],
-    proposed: ActionSet,
-    given: ReadingSet,
-    values: &[i32; READING_LIMIT],
-) -> Kept
+fn resolve(constraints: &[[u8; 4]], proposed: ActionSet, readings: &Readings) -> Kept
     requires { length constraints.now < 8192 }
-    ensures actions { result.actions ≡ kept_by (words_in constraints.now) (record { given = given; values = values.now }) proposed }
-    ensures words { result.words ≡ tried_words (words_in constraints.now) (record { given = given; values = values.now }) proposed }
+    ensures actions { result.actions ≡ kept_by (words_in constraints.now) readings.now proposed }
+    ensures words { result.words ≡ tried_words (words_in constraints.now) readings.now proposed }
 {
     let mut kept = ActionSet::EMPTY;
     let mut words = 0;
@@ -35,7 +31,7 @@ fn resolve(
     while left != 0 {
         if left % 2 == 1 {
             let more = kept.insert(Action(n));
-            let trial = run_constraints(constraints, more, given, values);
+            let trial = run_constraints(constraints, more, readings);
             words += trial.words;
             if !trial.conflict {
                 kept = more;
@@ -50,21 +46,13 @@ fn resolve(
     }
 }
 
-// The words of the rules and of the constraints of an image that the loader took, run on an epoch.
-pub(crate) fn issue(
-    rules: &[[u8; 4]],
-    constraints: &[[u8; 4]],
-    events: EventSet,
-    given: ReadingSet,
-    values: &[i32; READING_LIMIT],
-) -> Actions
-    requires few_rules { length rules.now < 4096 }
-    requires few_constraints { length constraints.now < 4096 }
-    ensures { result ≡ yielded_by (words_in rules.now) (words_in constraints.now) (record { events = events; readings = record { given = given; values = values.now } }) }
+// The words of an image, run on an epoch.
+pub(crate) fn issue(image: &Image<'_>, epoch: &Epoch) -> Actions
+    ensures { result ≡ yielded_by (words_in image.now.rules.now) (words_in image.now.constraints.now) epoch.now }
 {
-    let run = run_rules(rules, events.all(), given, values);
+    let run = run_rules(image.rules, epoch.events.all(), &epoch.readings);
     let proposed = run.actions;
-    let kept = resolve(constraints, proposed, given, values);
+    let kept = resolve(image.constraints, proposed, &epoch.readings);
     let accepted = kept.actions;
     Actions {
         accepted,

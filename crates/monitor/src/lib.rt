@@ -5,4 +5,4 @@ mod actions;
 mod decision;
 mod events;
 
-pub use decision::{Actions, Decision, decide};
+pub use decision::{Actions, decide};

@@ -7,7 +7,8 @@ use Rattle.policy.proofs.SetLaws.{has_below, has_below_past}
 use Rattle.policy.specs.Set.{ReadingSet, has, below, set_of}
 use Rattle.policy.proofs.MissingLaws.{given_counts, left_missing, right_missing}
 use Rattle.policy.specs.Comparison.{relation_holds, missing_holds, operand_value, comparison_holds}
-use Rattle.policy.specs.Epoch.{Readings, reading_value}
+use Rattle.policy.specs.Epoch.{reading_value}
+use Rattle.policy.specs.declared.epoch.Readings.{Readings}
 use Rattle.policy.specs.declared.comparison.Operand.{Operand}
 use Rattle.policy.specs.declared.comparison.Relation.{Relation}
 use Rattle.policy.specs.declared.line.Part.{Part}

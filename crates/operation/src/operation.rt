@@ -2,13 +2,14 @@
 ghost use Rattle.std.specs.Prelude.{◌≡◌, ◌<◌};
 ghost use Rattle.policy.specs.Epoch.{reading_value};
 ghost use Rattle.policy.specs.Comparison.{relation_holds, comparison_holds};
+ghost use Rattle.policy.specs.Epoch.{viewed};
 ghost use Rattle.operation.specs.Operation.{opcode, relation_code, relation_from};
 ghost use Rattle.operation.specs.Fields.{pack, operation_of};
 ghost use Rattle.operation.specs.Parts.{test_word, comparison_word, ending_word, constant_comparison, reading_comparison};
 
 use crate::fields::{first, opcode, relation_code_of, second};
 use policy::{
-    Comparison, Ending, Operand, Part, READING_LIMIT, Reading, ReadingSet, Relation, Test,
+    Comparison, Ending, Operand, Part, READING_LIMIT, Reading, ReadingView, Relation, Test,
     constant_from,
 };
 
@@ -177,45 +178,38 @@ fn relation_holds(code: u32, left: i32, right: i32) -> bool
 
 // The value of a reading; none where the epoch does not give it. The set is cut down to the readings that there are first, which a
 // loop does but once; then no index needs a test.
-fn value(reading: Reading, given: ReadingSet, values: &[i32; READING_LIMIT]) -> Option<i32>
-    ensures { result ≡ reading_value (record { given = given; values = values.now }) reading }
+fn value(reading: Reading, readings: ReadingView<'_>) -> Option<i32>
+    ensures { result ≡ reading_value (viewed readings.entry) reading }
 {
-    if given.below(Reading(READING_LIMIT as u8)).has(reading) {
-        Some(values[reading.0 as usize])
+    if readings
+        .given
+        .below(Reading(READING_LIMIT as u8))
+        .has(reading)
+    {
+        Some(readings.values[reading.0 as usize])
     } else {
         None
     }
 }
 
 /// Whether a comparison with a constant, by its word and the constant word, holds on the readings of an epoch in a line of the part.
-pub fn constant_holds(
-    part: Part,
-    word: u32,
-    constant: u32,
-    given: ReadingSet,
-    values: &[i32; READING_LIMIT],
-) -> bool
-    ensures { result ≡ comparison_holds part (record { given = given; values = values.now }) (constant_comparison word constant) }
+pub fn constant_holds(part: Part, word: u32, constant: u32, readings: ReadingView<'_>) -> bool
+    ensures { result ≡ comparison_holds part (viewed readings.entry) (constant_comparison word constant) }
 {
-    let Some(left) = value(Reading(first(word) as u8), given, values) else {
+    let Some(left) = value(Reading(first(word) as u8), readings) else {
         return part.missing_holds();
     };
     relation_holds(relation_code_of(word), left, constant_from(constant))
 }
 
 /// The same for a comparison with a reading.
-pub fn reading_holds(
-    part: Part,
-    word: u32,
-    given: ReadingSet,
-    values: &[i32; READING_LIMIT],
-) -> bool
-    ensures { result ≡ comparison_holds part (record { given = given; values = values.now }) (reading_comparison word) }
+pub fn reading_holds(part: Part, word: u32, readings: ReadingView<'_>) -> bool
+    ensures { result ≡ comparison_holds part (viewed readings.entry) (reading_comparison word) }
 {
-    let Some(left) = value(Reading(first(word) as u8), given, values) else {
+    let Some(left) = value(Reading(first(word) as u8), readings) else {
         return part.missing_holds();
     };
-    let Some(right) = value(Reading(second(word) as u8), given, values) else {
+    let Some(right) = value(Reading(second(word) as u8), readings) else {
         return part.missing_holds();
     };
     relation_holds(relation_code_of(word), left, right)

@@ -10,7 +10,7 @@ use Rattle.pdl.proofs.Resolution.{satisfied, conflict_out, resolve_within, resol
 use Rattle.policy.proofs.SetLaws.{has_insert_same}
 use Rattle.policy.proofs.MissingLaws.{missing_in_constraint}
 use Rattle.policy.specs.Comparison.{NamesMissing}
-use Rattle.policy.specs.Epoch.{Epoch}
+use Rattle.policy.specs.declared.epoch.Epoch.{Epoch}
 use Rattle.pdl.specs.Pdl.{Condition, Violated, Satisfies, of_one_action, lone, NameActions, Monitor, Conservative, ActionCancellation, MaximalActionCancellation, ◌⊆◌}
 use Rattle.policy.specs.Policy.{Policy}
 use Rattle.policy.specs.Set.{ActionSet, all_events, has_action, no_actions, insert_action, union_actions, actions_below}

@@ -5,7 +5,8 @@ use Rattle.policy.proofs.ListLaws.{true_false, not_true_is, and_in, and_out, all
 use Rattle.policy.proofs.SetLaws.{has_empty, has_limit, has_insert_same, has_insert_old, has_insert_cases, insert_limit}
 use Rattle.policy.proofs.MissingLaws.{missing_in_rule, fewer_in_rule}
 use Rattle.policy.specs.Comparison.{NamesMissing, comparison_holds}
-use Rattle.policy.specs.Epoch.{Readings, SomeOf}
+use Rattle.policy.specs.Epoch.{SomeOf}
+use Rattle.policy.specs.declared.epoch.Readings.{Readings}
 use Rattle.policy.specs.List.{all}
 use Rattle.policy.specs.Number.{set_limit}
 use Rattle.pdl.specs.Pdl.{Occurs, OccursAs, Condition, Derives, Interpretation, Model, Entails, DefinedBy, DefinedOnKept, ◌⊆◌, ◌⊑◌}

@@ -4,7 +4,8 @@
 use Rattle.std.proofs.Common.{ℕ, Bool, true, false, ◌↔◌, ◌≡◌, refl, sym, ap}
 use Rattle.policy.proofs.ListLaws.{true_false, not_true_is, not_false_is}
 use Rattle.policy.proofs.SetLaws.{has_empty, has_limit}
-use Rattle.policy.specs.Epoch.{Epoch, InAlphabet}
+use Rattle.policy.specs.Epoch.{InAlphabet}
+use Rattle.policy.specs.declared.epoch.Epoch.{Epoch}
 use Rattle.policy.specs.Policy.{Policy}
 use Rattle.policy.specs.Set.{ActionSet, EventSet, has_event, no_events, insert_event, events_below, has_action, no_actions, union_actions, set_of}
 use Rattle.policy.specs.declared.number.Action.{Action}

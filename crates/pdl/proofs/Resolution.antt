@@ -6,7 +6,8 @@ use Rattle.policy.proofs.ListLaws.{true_false, not_true_is, and_in, and_out, all
 use Rattle.policy.proofs.MissingLaws.{fewer_in_constraint}
 use Rattle.policy.proofs.SetLaws.{has_empty, has_limit, set_ext}
 use Rattle.policy.specs.Comparison.{comparison_holds}
-use Rattle.policy.specs.Epoch.{Readings, SomeOf}
+use Rattle.policy.specs.Epoch.{SomeOf}
+use Rattle.policy.specs.declared.epoch.Readings.{Readings}
 use Rattle.policy.specs.List.{all, any}
 use Rattle.policy.specs.Number.{set_limit}
 use Rattle.pdl.specs.Pdl.{HoldsOn, Violated, Satisfies, NameActions, ◌⊆◌}

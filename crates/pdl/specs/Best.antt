@@ -1,6 +1,6 @@
 -- Sets of actions compared by the lowest action in which they differ: lower numbers are the more important ones.
 use Rattle.std.specs.Prelude.{List, true, ◌<◌, ◌≡◌}
-use Rattle.policy.specs.Epoch.{Readings}
+use Rattle.policy.specs.declared.epoch.Readings.{Readings}
 use Rattle.policy.specs.Policy.{Constraint}
 use Rattle.policy.specs.Set.{ActionSet, has_action}
 use Rattle.policy.specs.declared.number.Action.{Action}

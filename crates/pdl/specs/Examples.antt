@@ -1,6 +1,6 @@
 -- Examples of both modes that need no text, one row each.
 use Rattle.std.specs.Prelude.{ℕ, zero, suc, Bool, true, false, not, if◌then◌else◌, ℤ, pos, List, [], ◌∷◌, map, fold, Option, None, Some}
-use Rattle.policy.specs.Epoch.{Epoch}
+use Rattle.policy.specs.declared.epoch.Epoch.{Epoch}
 use Rattle.policy.specs.Policy.{Policy, Rule, Constraint}
 use Rattle.policy.specs.Number.{set_limit}
 use Rattle.policy.specs.Set.{ActionSet, has_action, EventSet, no_events, insert_event, actions_from, no_readings, set_of}

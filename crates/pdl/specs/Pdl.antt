@@ -3,7 +3,9 @@
 use Rattle.std.specs.Prelude.{Bool, true, false, ◌↔◌, ◌≡◌, ◌<◌, List, [], ◌∷◌}
 use mathlib.Core.List.{Memᴰ}
 use Rattle.policy.specs.Comparison.{comparison_holds}
-use Rattle.policy.specs.Epoch.{Epoch, Readings, InAlphabet}
+use Rattle.policy.specs.Epoch.{InAlphabet}
+use Rattle.policy.specs.declared.epoch.Epoch.{Epoch}
+use Rattle.policy.specs.declared.epoch.Readings.{Readings}
 use Rattle.policy.specs.Number.{set_limit}
 use Rattle.policy.specs.Policy.{Rule, Constraint}
 use Rattle.policy.specs.Set.{ActionSet, EventSet, has_event, all_events, keeping, has_action}

@@ -1,7 +1,7 @@
 -- Event cancellation, the second mode: events of an epoch are dropped, with all that they cause. Which are kept, and which actions
 -- are then issued and cancelled.
 use Rattle.std.specs.Prelude.{ℕ, Bool, List}
-use Rattle.policy.specs.Epoch.{Epoch}
+use Rattle.policy.specs.declared.epoch.Epoch.{Epoch}
 use Rattle.policy.specs.Policy.{Policy, Rule}
 use Rattle.policy.specs.Set.{ActionSet, EventSet, keeping, no_events, actions_without, set_of}
 use Rattle.pdl.specs.Greedy.{greedy}

@@ -2,7 +2,8 @@
 -- of an epoch are proposed, accepted and cancelled.
 use Rattle.std.specs.Prelude.{ℕ, Bool, not, ◌&&◌, cond, List, fold}
 use Rattle.policy.specs.Comparison.{comparison_holds}
-use Rattle.policy.specs.Epoch.{Epoch, Readings}
+use Rattle.policy.specs.declared.epoch.Epoch.{Epoch}
+use Rattle.policy.specs.declared.epoch.Readings.{Readings}
 use Rattle.policy.specs.List.{all, any}
 use Rattle.policy.specs.Policy.{Policy, Rule, Constraint}
 use Rattle.policy.specs.Set.{ActionSet, has_event, all_events, no_actions, has_action, insert_action, actions_without, set_of}

@@ -3,7 +3,8 @@ use Rattle.std.proofs.Common.{Bool, true, false, cond, List, ◌∷◌, ◌⊎�
 use mathlib.Core.List.{Memᴰ}
 use Rattle.policy.proofs.ListLaws.{true_false}
 use Rattle.policy.specs.Comparison.{relation_holds, operand_readings, readings_of, NamesMissing, missing_holds, values_relate, operand_value, comparison_holds}
-use Rattle.policy.specs.Epoch.{Readings, reading_value, SomeOf}
+use Rattle.policy.specs.Epoch.{reading_value, SomeOf}
+use Rattle.policy.specs.declared.epoch.Readings.{Readings}
 use Rattle.policy.specs.Set.{ReadingSet, has_reading}
 use Rattle.policy.specs.declared.comparison.Comparison.{Comparison}
 use Rattle.policy.specs.declared.comparison.Operand.{Operand}

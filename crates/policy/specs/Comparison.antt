@@ -2,7 +2,8 @@
 use Rattle.std.specs.Prelude.{Bool, true, false, not, ◌&&◌, ◌≡◌, ℤ, Option, Some, None, List, [], ◌∷◌}
 use mathlib.Core.List.{Memᴰ}
 use Rattle.std.specs.Int.Signed.{lt_z, le_z}
-use Rattle.policy.specs.Epoch.{Readings, reading_value}
+use Rattle.policy.specs.Epoch.{reading_value}
+use Rattle.policy.specs.declared.epoch.Readings.{Readings}
 use Rattle.policy.specs.Set.{has_reading}
 use Rattle.policy.specs.declared.comparison.Comparison.{Comparison}
 use Rattle.policy.specs.declared.comparison.Operand.{Operand}

@@ -1,18 +1,11 @@
 -- An epoch: the events that occur in it, and the readings that it gives.
-use Rattle.std.specs.Prelude.{◌^◌, ◌<◌, cond, List, slice_get, ◌⊎◌, ◌≡◌, ℤ, Option, None}
+use Rattle.std.specs.Prelude.{◌^◌, ◌<◌, cond, slice_get, ◌⊎◌, ◌≡◌, ℤ, Option, None}
 use Rattle.policy.specs.Number.{set_limit}
-use Rattle.policy.specs.Set.{EventSet, ReadingSet, has_reading}
+use Rattle.policy.specs.Set.{has_reading}
 use Rattle.policy.specs.declared.number.Reading.{Reading}
-
-pub record Readings : Type 0 where
-  -- which readings the epoch gives
-  pub given : ReadingSet
-  -- by its number, the value of each that is given; what stands in the place of another is none
-  pub values : List ℤ
-
-pub record Epoch : Type 0 where
-  pub events : EventSet
-  pub readings : Readings
+use Rattle.policy.specs.declared.epoch.ReadingView.{ReadingView}
+use Rattle.policy.specs.declared.epoch.Readings.{Readings}
+use Rattle.policy.specs.declared.epoch.Epoch.{Epoch}
 
 -- its events are E0 to E63
 abbrev pub InAlphabet : Epoch → Type 0
@@ -25,3 +18,7 @@ reading_value rs r = cond (has_reading rs.given r) (slice_get rs.values r.0) Non
 -- each reading that the first has, the second has with the same value
 abbrev pub SomeOf : Readings → Readings → Type 0
 SomeOf fewer all = (r : Reading) → (reading_value fewer r ≡ None) ⊎ (reading_value fewer r ≡ reading_value all r)
+
+-- what a view of readings shows
+abbrev pub viewed : ReadingView → Readings
+viewed v = record { given = v.given; values = v.values.now }

@@ -1,6 +1,5 @@
 -- Faults: the number of each, and of an answer the number and the location, which also says in which text it is.
 use Rattle.std.specs.Prelude.{ℕ}
-use Rattle.std.proofs.Math.Option.{Option, none, some}
 use Rattle.policy.specs.declared.fault.Fault.{Fault}
 use Rattle.policy.specs.declared.fault.Fault.TheVariants.{TooLong, Syntax, OutOfRange, TooManyParts, TooManyLines, Duplicate, ImageSize, ImageForm, ImageCount, ImageSum, ImageBody, EpochSyntax, EpochRange, DuplicateReading, BufferTooSmall, Unavoidable}
 use Rattle.policy.specs.declared.fault.Refusal.{Refusal}
@@ -37,20 +36,3 @@ refusal f at = record { fault = f; source = Source.Neither; location = at }
 -- the same refusal, in one of the texts
 abbrev pub within : Source → Refusal → Refusal
 within s r = record { fault = r.fault; source = s; location = r.location }
-
--- ---- of an answer, which may be a refusal
-
--- the number of its fault; 0 where nothing is refused
-abbrev pub refusal_number : Option Refusal → ℕ
-refusal_number none = 0
-refusal_number (some r) = fault_number r.fault
-
--- the number of the text that its place is in; 0 where nothing is refused
-abbrev pub refusal_text : Option Refusal → ℕ
-refusal_text none = 0
-refusal_text (some r) = source_number r.source
-
--- its place; 0 where nothing is refused
-abbrev pub refusal_location : Option Refusal → ℕ
-refusal_location none = 0
-refusal_location (some r) = r.location

@@ -4,6 +4,7 @@
 
 mod comparison;
 mod constant;
+mod epoch;
 mod fault;
 mod limit;
 mod line;
@@ -13,6 +14,7 @@ mod set;
 
 pub use comparison::{Comparison, Literal, Operand, Relation};
 pub use constant::{constant_from, constant_word};
+pub use epoch::{Epoch, ReadingView, Readings};
 pub use fault::{Fault, Refusal, Source};
 pub use limit::{COMPARISON_LIMIT, CONSTRAINT_LIMIT, HEAD_LIMIT, READING_LIMIT, RULE_LIMIT};
 pub use line::{Ending, Head, Part, Test};

@@ -1,5 +1,6 @@
 -- What is held of a question answers it as the whole line does, and what the program prints for all of its input.
-use Rattle.std.proofs.Common.{ℕ, ◌+◌, ◌*◌, ◌-◌, min, ◌≤◌, ◌<◌, Bool, true, false, not, cond, ◌&&◌, ◌||◌, List, [], ◌∷◌, ◌++◌, append_assoc, append-nil, ◌⊎◌, inl, inr, ◌≡◌, refl, sym, ap, ap₂, ◌∙◌, add-one, arith, lt-ltb, le-ltb, ltb-true, ltb-false, eqb-true, eqb, ltb, length, take, set, length-set, length-append, length-take, take_all, take-suc-set, length-take-le, fold}
+use Rattle.policy.specs.Fault.{refusal}
+use Rattle.std.proofs.Common.{ℕ, ◌+◌, ◌*◌, ◌-◌, min, ◌≤◌, ◌<◌, Bool, true, false, not, cond, ◌&&◌, ◌||◌, List, [], ◌∷◌, ◌++◌, append_assoc, append-nil, ◌⊎◌, inl, inr, ◌≡◌, refl, sym, ap, ap₂, ◌∙◌, add-one, arith, lt-ltb, le-ltb, ltb-true, ltb-false, eqb-true, eqb, ltb, length, take, set, length-set, length-append, length-take, take_all, take-suc-set, length-take-le, fold, Err}
 use Rattle.std.proofs.lemmas.Bool.{not-true}
 use Rattle.std.proofs.lemmas.List.Sums.{fold-append}
 use Rattle.std.proofs.Math.Path.{subst⁻¹}
@@ -14,7 +15,7 @@ use Rattle.lexer.specs.Byte.{is_space, is_digit}
 use Rattle.lexer.specs.Lines.{prepend, pieces, lines_of, take_leading, in_line}
 use Rattle.lexer.specs.Number.{decimal_from, is_empty, number_of}
 use Rattle.lexer.specs.Token.{named}
-use Rattle.epoch_line.specs.Epoch.{refused, read_epoch}
+use Rattle.epoch_line.specs.Epoch.{read_epoch}
 use Rattle.rule_text.specs.Text.{Progress, reading, stopped, read_texts}
 use Rattle.acceptance.proofs.Accepted.{texts_acceptable}
 use Rattle.layout.specs.Layout.{image_of}
@@ -256,7 +257,7 @@ epoch_cut e = go (ltb 1025 (length e)) refl
     go true h = let k = ltb-true 1025 (length e) h in inr (omega (arith, length-take 1025 e), omega arith)
     go false h = inl (take_all 1025 e (ltb-false 1025 (length e) h))
 
-long_refused : (e : List ℕ) → 1024 < length e → read_epoch e ≡ refused Fault.TooLong
+long_refused : (e : List ℕ) → 1024 < length e → read_epoch e ≡ Err (refusal Fault.TooLong 0)
 unfolding read_epoch
 long_refused e h = rw (lt-ltb 1024 (length e) h)
 

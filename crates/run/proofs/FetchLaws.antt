@@ -2,7 +2,7 @@
 -- constant.
 use Rattle.std.proofs.Common.{ℕ, zero, suc, ◌+◌, ◌-◌, ◌≤◌, Bool, true, false, cond, List, [], ◌∷◌, ◌≡◌, refl, sym, ap, ◌∙◌, add-zero, arith, length}
 use Rattle.policy.specs.Set.{ActionSet}
-use Rattle.policy.specs.Epoch.{Readings}
+use Rattle.policy.specs.declared.epoch.Readings.{Readings}
 use Rattle.policy.specs.declared.set.Events.{Events}
 use Rattle.operation.specs.Fields.{operation_of}
 use Rattle.operation.specs.declared.operation.Operation.{Operation}

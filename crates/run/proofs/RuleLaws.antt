@@ -1,7 +1,7 @@
 -- Laws of the loop that runs rules: what is proposed, and how many words are fetched, from an index on.
 use Rattle.std.proofs.Common.{ℕ, ◌+◌, ◌≤◌, ◌<◌, Bool, true, false, cond, List, ◌∷◌, ◌≡◌, refl, sym, ap, ◌∙◌, add-zero, arith, get_or, length, drop, fold}
 use Rattle.policy.specs.Set.{ActionSet, no_actions}
-use Rattle.policy.specs.Epoch.{Readings}
+use Rattle.policy.specs.declared.epoch.Readings.{Readings}
 use Rattle.policy.specs.declared.set.Events.{Events}
 use Rattle.operation.specs.Fields.{skip_of, operation_of}
 use Rattle.run.specs.Run.{constants_behind, ran, rule_test, proposing, fetches_of, fetches}

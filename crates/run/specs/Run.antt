@@ -1,7 +1,7 @@
 -- What words do when they are run, by their operations and skips, and how many are fetched. Any words can be run.
 use Rattle.std.specs.Prelude.{ℕ, zero, suc, ◌+◌, Bool, true, false, not, cond, get_or, List, [], ◌∷◌, fold}
 use Rattle.policy.specs.Comparison.{comparison_holds}
-use Rattle.policy.specs.Epoch.{Readings}
+use Rattle.policy.specs.declared.epoch.Readings.{Readings}
 use Rattle.policy.specs.List.{any}
 use Rattle.policy.specs.Set.{ActionSet, has_event, no_actions, has_action, insert_action}
 use Rattle.policy.specs.declared.line.Part.{Part}

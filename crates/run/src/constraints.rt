@@ -1,13 +1,14 @@
 //! The constraint part of an image.
 ghost use Rattle.std.specs.Prelude.{◌≡◌, ◌<◌, ◌≤◌, length, get_or, true, MatchOption};
 ghost use Rattle.word.specs.Chunk.{words_in};
+ghost use Rattle.policy.specs.Epoch.{viewed};
 ghost use Rattle.operation.specs.Fields.{operation_of};
 ghost use Rattle.run.specs.Run.{ends_constraint, run_constraints, trial_fetches};
 ghost use Rattle.run.specs.Steps.Test.{IsTestOf, is_member_operation, is_constant_operation, left_at};
 
 use crate::test::{Tested, against_constant, against_reading, fetches, last_of};
 use operation::{Operation, first, skip};
-use policy::{Action, ActionSet, Part, READING_LIMIT, ReadingSet};
+use policy::{Action, ActionSet, Part, ReadingView, Readings};
 use word::nth_word;
 
 // Words are told apart by functions of their own, each of which compiles to one comparison.
@@ -47,16 +48,15 @@ fn test_constraint(
     behind: usize,
     word: u32,
     set: ActionSet,
-    given: ReadingSet,
-    values: &[i32; READING_LIMIT],
+    readings: ReadingView<'_>,
 ) -> Option<Tested>
     requires { behind < length words.now }
-    ensures { MatchOption result (ends_constraint word ≡ true) (IsTestOf (record { given = given; values = values.now }) set word (get_or (words_in words.now) behind 0) behind) }
+    ensures { MatchOption result (ends_constraint word ≡ true) (IsTestOf (viewed readings.entry) set word (get_or (words_in words.now) behind 0) behind) }
 {
     let part = Part::Constraints;
     if is_against_constant(word) {
         let constant = nth_word(words, behind);
-        return Some(against_constant(part, behind, word, constant, given, values));
+        return Some(against_constant(part, behind, word, constant, readings));
     }
     match Operation::of(word) {
         Operation::Never => None,
@@ -64,7 +64,7 @@ fn test_constraint(
             holds: set.has(Action(first(word) as u8)),
             next: behind,
         }),
-        Operation::AgainstReading => Some(against_reading(part, behind, word, given, values)),
+        Operation::AgainstReading => Some(against_reading(part, behind, word, readings)),
         _ => Some(Tested {
             holds: true,
             next: behind,
@@ -104,15 +104,11 @@ fn left_at(words: &[[u8; 4]], at: usize, from: usize) -> Trial
 // A constraint's members come before its comparisons, so they have a loop of their own, which tests for no other operation. The
 // loops are left at the word that ends a constraint which holds, or at the last word, so that a constant is always there and is read
 // without a test. The words are counted as in the run of rules.
-pub fn run_constraints(
-    words: &[[u8; 4]],
-    set: ActionSet,
-    given: ReadingSet,
-    values: &[i32; READING_LIMIT],
-) -> Trial
-    ensures conflict { result.conflict ≡ run_constraints (record { given = given; values = values.now }) set (words_in words.now) }
-    ensures words { result.words ≡ trial_fetches (record { given = given; values = values.now }) set (words_in words.now) }
+pub fn run_constraints(words: &[[u8; 4]], set: ActionSet, readings: &Readings) -> Trial
+    ensures conflict { result.conflict ≡ run_constraints readings.now set (words_in words.now) }
+    ensures words { result.words ≡ trial_fetches readings.now set (words_in words.now) }
 {
+    let view = readings.view();
     let last = last_of(words.len());
     let mut at = 0;
     let mut from = 0;
@@ -131,7 +127,7 @@ pub fn run_constraints(
         }
         while at < last {
             let word = nth_word(words, at);
-            let Some(test) = test_constraint(words, at + 1, word, set, given, values) else {
+            let Some(test) = test_constraint(words, at + 1, word, set, view) else {
                 break 'constraints;
             };
             at = test.next;

@@ -1,13 +1,14 @@
 //! The rule part of an image.
 ghost use Rattle.std.specs.Prelude.{◌≡◌, ◌≤◌, get_or, length, MatchOption};
 ghost use Rattle.word.specs.Chunk.{words_in};
+ghost use Rattle.policy.specs.Epoch.{viewed};
 ghost use Rattle.operation.specs.Fields.{operation_of};
 ghost use Rattle.run.specs.Run.{proposing, run_rules, rule_fetches};
 ghost use Rattle.run.specs.Steps.Test.{IsTestIn, AsksNothing, is_present_operation, is_absent_operation};
 
 use crate::test::{Tested, against_constant, against_reading};
 use operation::{Operation, first, skip};
-use policy::{Action, ActionSet, Event, Events, Part, READING_LIMIT, ReadingSet};
+use policy::{Action, ActionSet, Event, Events, Part, ReadingView, Readings};
 use word::{nth_word, nth_word_or_zero};
 
 fn is_present(word: u32) -> bool
@@ -35,11 +36,10 @@ fn test_rule(
     behind: usize,
     word: u32,
     events: Events,
-    given: ReadingSet,
-    values: &[i32; READING_LIMIT],
+    readings: ReadingView<'_>,
 ) -> Option<Tested>
     requires { behind ≤ length words.now }
-    ensures { MatchOption result (AsksNothing events (record { given = given; values = values.now }) word (get_or (words_in words.now) behind 0)) (IsTestIn events (record { given = given; values = values.now }) word (get_or (words_in words.now) behind 0) behind) }
+    ensures { MatchOption result (AsksNothing events (viewed readings.entry) word (get_or (words_in words.now) behind 0)) (IsTestIn events (viewed readings.entry) word (get_or (words_in words.now) behind 0) behind) }
 {
     let part = Part::Rules;
     if is_present(word) {
@@ -57,9 +57,9 @@ fn test_rule(
     match Operation::of(word) {
         Operation::AgainstConstant => {
             let constant = nth_word_or_zero(words, behind);
-            Some(against_constant(part, behind, word, constant, given, values))
+            Some(against_constant(part, behind, word, constant, readings))
         }
-        Operation::AgainstReading => Some(against_reading(part, behind, word, given, values)),
+        Operation::AgainstReading => Some(against_reading(part, behind, word, readings)),
         _ => None,
     }
 }
@@ -85,21 +85,17 @@ pub struct Proposals {
 /// The run of the words of the rules on the events and readings of an epoch.
 // Every word before `at` was fetched or passed over by a failed test, so that it is enough to move `from` along by what such a test
 // passes over.
-pub fn run_rules(
-    words: &[[u8; 4]],
-    events: Events,
-    given: ReadingSet,
-    values: &[i32; READING_LIMIT],
-) -> Proposals
-    ensures actions { result.actions ≡ run_rules events (record { given = given; values = values.now }) (words_in words.now) }
-    ensures words { result.words ≡ rule_fetches events (record { given = given; values = values.now }) (words_in words.now) }
+pub fn run_rules(words: &[[u8; 4]], events: Events, readings: &Readings) -> Proposals
+    ensures actions { result.actions ≡ run_rules events readings.now (words_in words.now) }
+    ensures words { result.words ≡ rule_fetches events readings.now (words_in words.now) }
 {
+    let view = readings.view();
     let mut actions = ActionSet::EMPTY;
     let mut at = 0;
     let mut from = 0;
     while at < words.len() {
         let word = nth_word(words, at);
-        match test_rule(words, at + 1, word, events, given, values) {
+        match test_rule(words, at + 1, word, events, view) {
             Some(test) => {
                 at = test.next;
                 if !test.holds {

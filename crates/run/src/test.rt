@@ -3,11 +3,12 @@ ghost use Rattle.std.specs.Prelude.{◌≡◌, ◌-◌, ◌≤◌};
 ghost use Rattle.operation.specs.Parts.{constant_comparison, reading_comparison};
 ghost use Rattle.operation.specs.declared.operation.Operation.{Operation};
 ghost use Rattle.policy.specs.Comparison.{comparison_holds};
+ghost use Rattle.policy.specs.Epoch.{viewed};
 ghost use Rattle.run.specs.Run.{fetches_of};
 ghost use Rattle.run.specs.Steps.Test.{tested};
 
 use operation::{Operation, constant_holds, reading_holds};
-use policy::{Part, READING_LIMIT, ReadingSet};
+use policy::{Part, ReadingView};
 
 /// Whether the test of a word holds, and the word behind it and its constant.
 #[derive(Clone, Copy)]
@@ -29,14 +30,13 @@ pub(crate) fn against_constant(
     behind: usize,
     word: u32,
     constant: u32,
-    given: ReadingSet,
-    values: &[i32; READING_LIMIT],
+    readings: ReadingView<'_>,
 ) -> Tested
     requires { behind ≤ 0x4000_0000_0000_0000 }
-    ensures { result ≡ tested (comparison_holds part (record { given = given; values = values.now }) (constant_comparison word constant)) Operation.AgainstConstant behind }
+    ensures { result ≡ tested (comparison_holds part (viewed readings.entry) (constant_comparison word constant)) Operation.AgainstConstant behind }
 {
     Tested {
-        holds: constant_holds(part, word, constant, given, values),
+        holds: constant_holds(part, word, constant, readings),
         next: behind + 1,
     }
 }
@@ -46,13 +46,12 @@ pub(crate) fn against_reading(
     part: Part,
     behind: usize,
     word: u32,
-    given: ReadingSet,
-    values: &[i32; READING_LIMIT],
+    readings: ReadingView<'_>,
 ) -> Tested
-    ensures { result ≡ tested (comparison_holds part (record { given = given; values = values.now }) (reading_comparison word)) Operation.AgainstReading behind }
+    ensures { result ≡ tested (comparison_holds part (viewed readings.entry) (reading_comparison word)) Operation.AgainstReading behind }
 {
     Tested {
-        holds: reading_holds(part, word, given, values),
+        holds: reading_holds(part, word, readings),
         next: behind,
     }
 }

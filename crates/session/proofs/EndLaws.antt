@@ -9,7 +9,7 @@ use Rattle.lexer.specs.Lines.{pieces, lines_of}
 use Rattle.rule_text.specs.Text.{Progress, read_text}
 use Rattle.codegen.specs.Compile.{compiled}
 use Rattle.monitor.specs.Decision.{decision_in}
-use Rattle.monitor.specs.declared.decision.Decision.{Decision}
+use Rattle.monitor.specs.declared.decision.Actions.{Actions}
 use Rattle.report.specs.Report.{refusal_line, next_number}
 use Rattle.output.proofs.AppendLaws.{Put, put_length}
 use Rattle.session.specs.Printed.{Session, with_epochs, decision_line, epoch_lines, answers_to, printed_for}
@@ -98,7 +98,7 @@ module _ (text : List ℕ) (mode : Mode) (s : State) (image out : List ℕ) (ans
 
 -- ---- the end of an epoch line
 
-pub line_ended_is : (s : State) (held image out : List ℕ) (d : Decision) (n : ℕ) (out' : List ℕ) (end : ℕ)
+pub line_ended_is : (s : State) (held image out : List ℕ) (d : Result Actions Refusal) (n : ℕ) (out' : List ℕ) (end : ℕ)
     → s.start ≡ 0 → length out ≡ 65536 → Room s → n ≡ next_number s.epochs → d ≡ decision_in s.mode (take s.size image) (take s.count held)
     → Put out s.used (decision_line n d) out' end
     → LineEnded s held image out (record { phase = s.phase; mode = s.mode; start = 0; count = 0; epochs = n; size = s.size; used = end }) out'
@@ -112,7 +112,7 @@ line_ended_is s held image out d n out' end zero' long room number decided p =
       state = ap (λ (k : ℕ). record { phase = s.phase; mode = s.mode; start = 0; count = 0; epochs = k; size = s.size; used = end }) number;
       prints =
           put_take out s.used (decision_line n d) out' end fits p
-          ∙ ap₂ (λ (k : ℕ) (x : Decision). take s.used out ++ decision_line k x) number (decided ∙ ap (decision_in s.mode (take s.size image)) now);
+          ∙ ap₂ (λ (k : ℕ) (x : Result Actions Refusal). take s.used out ++ decision_line k x) number (decided ∙ ap (decision_in s.mode (take s.size image)) now);
       out_long = same ∙ long;
       used = omega arith;
     }

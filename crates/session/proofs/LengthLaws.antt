@@ -1,20 +1,19 @@
 -- No printed line has more than 512 bytes.
-use Rattle.std.proofs.Common.{◌≡◌, ℕ, zero, suc, ◌+◌, ◌*◌, ◌<◌, ◌≤◌, Bool, true, false, cond, not, ◌&&◌, List, [], ◌∷◌, ◌++◌, length, refl, arith, length-append}
-use Rattle.policy.specs.Epoch.{Epoch}
+use Rattle.policy.specs.declared.fault.Refusal.{Refusal}
+use Rattle.std.proofs.Common.{◌≡◌, ℕ, zero, suc, ◌+◌, ◌*◌, ◌<◌, ◌≤◌, Bool, true, false, cond, not, ◌&&◌, List, [], ◌∷◌, ◌++◌, length, refl, arith, length-append, Result, Ok, Err}
+use Rattle.policy.specs.declared.epoch.Epoch.{Epoch}
 use Rattle.policy.specs.Fault.{refusal}
 use Rattle.policy.specs.Set.{has, difference}
 use Rattle.policy.specs.declared.fault.Fault.{Fault}
 use Rattle.policy.specs.declared.mode.Mode.{Mode}
 use Rattle.policy.proofs.SetLaws.{has_difference, has_empty}
 use Rattle.lexer.specs.Byte.{bytes}
-use Rattle.epoch_line.specs.Epoch.{EpochAnswer, refused, accepted, read_epoch}
+use Rattle.epoch_line.specs.Epoch.{read_epoch}
 use Rattle.word.specs.Word.{words_of}
-use Rattle.image.specs.Load.{load}
-use Rattle.image.specs.declared.load.Contents.{Contents}
-use Rattle.image.specs.declared.load.Loaded.{Loaded}
+use Rattle.image.specs.Load.{load, Contents}
 use Rattle.monitor.proofs.FewLaws.{visited_few}
-use Rattle.monitor.specs.Decision.{proposed_by, proposed_with_by, kept_by, yielded_by, clash_by, kept_events_by, reduced_by, reduction_by, rule_words_in, constraint_words_in, issued_by, decided_by, on_epoch_line, on_image, decision_in, answer_of, visited_in}
-use Rattle.monitor.specs.declared.decision.Decision.{Decision}
+use Rattle.monitor.specs.Decision.{proposed_by, proposed_with_by, kept_by, yielded_by, clash_by, kept_events_by, reduced_by, reduction_by, decided_by, on_image, decision_in, answer_of, visited_in}
+use Rattle.monitor.specs.declared.decision.Actions.{Actions}
 use Rattle.output.specs.Number.{decimal}
 use Rattle.output.proofs.DecimalLaws.{decimal_few, decimal_short}
 use Rattle.report.proofs.LengthLaws.{fault_digits}
@@ -53,7 +52,7 @@ difference_apart s t n = rw (has_difference s t n) (go (has t n) (has s n))
     go true false = refl
     go false c = refl
 
-abbrev ApartIn : Decision → Type 0
+abbrev ApartIn : Result Actions Refusal → Type 0
 ApartIn d = Apart (answer_of d).accepted.bits (answer_of d).cancelled.bits
 
 none_apart : Apart 0 0
@@ -63,34 +62,34 @@ reduction_apart : (rules constraints : List ℕ) (e : Epoch) → ApartIn (reduct
 unfolding reduction_by reduced_by
 reduction_apart rules constraints e = go (clash_by rules constraints e 0)
   where
-    go : (b : Bool) → ApartIn (cond b (Decision.Refused (refusal Fault.Unavoidable 0)) (Decision.Issued (reduced_by rules constraints e)))
+    go : (b : Bool) → ApartIn (cond b (Err (refusal Fault.Unavoidable 0)) (Ok (reduced_by rules constraints e)))
     go true = none_apart
     go false = difference_apart (proposed_by rules e).bits (proposed_with_by rules e (kept_events_by rules constraints e)).bits
 
-decided_apart : (mode : Mode) (contents : Contents) (words : List ℕ) (e : Epoch) → ApartIn (decided_by mode contents words e)
-unfolding decided_by issued_by yielded_by
-decided_apart Mode.Actions contents words e =
-    let all = proposed_by (rule_words_in contents words) e in
-    difference_apart all.bits (kept_by (constraint_words_in contents words) e.readings all).bits
-decided_apart Mode.Events contents words e = reduction_apart (rule_words_in contents words) (constraint_words_in contents words) e
+decided_apart : (mode : Mode) (contents : Contents) (e : Epoch) → ApartIn (decided_by mode contents e)
+unfolding decided_by yielded_by
+decided_apart Mode.Actions contents e =
+    let all = proposed_by contents.rules e in
+    difference_apart all.bits (kept_by contents.constraints e.readings all).bits
+decided_apart Mode.Events contents e = reduction_apart contents.rules contents.constraints e
 
 decision_apart : (mode : Mode) (image line : List ℕ) → ApartIn (decision_in mode image line)
-unfolding decision_in on_image on_epoch_line
+unfolding decision_in on_image
 decision_apart mode image line = go (load image) (read_epoch line)
   where
-    go : (l : Loaded) (a : EpochAnswer) → ApartIn (on_image mode l (words_of image) a)
-    go (Loaded.Refused x) a = none_apart
-    go (Loaded.Image contents) (refused f) = none_apart
-    go (Loaded.Image contents) (accepted e) = decided_apart mode contents (words_of image) e
+    go : (l : Result Contents Refusal) (a : Result Epoch Refusal) → ApartIn (on_image mode l a)
+    go (Err x) a = none_apart
+    go (Ok contents) (Err r) = none_apart
+    go (Ok contents) (Ok e) = decided_apart mode contents e
 
 -- ---- lines
 
-line_short : (n : ℕ) (d : Decision) → n < 18446744073709551616 → ApartIn d → visited_in d < 18446744073709551616
+line_short : (n : ℕ) (d : Result Actions Refusal) → n < 18446744073709551616 → ApartIn d → visited_in d < 18446744073709551616
     → length (decision_line n d) ≤ 512
 unfolding decision_line accept_line refused_line words_field action_list bytes
-line_short n (Decision.Refused x) h a v =
+line_short n (Err x) h a v =
     simp length-append (omega (arith, decimal_short n h, fault_digits x.fault, decimal_short 0 v))
-line_short n (Decision.Issued actions) h a v =
+line_short n (Ok actions) h a v =
     simp length-append
     (omega (
       arith,

@@ -1,5 +1,6 @@
 -- What the engine prints for all of its input (docs/REFERENCE.md, "The programs").
-use Rattle.std.specs.Prelude.{ℕ, ◌+◌, ◌%◌, ◌^◌, Bool, true, false, cond, List, [], ◌∷◌, ◌++◌}
+use Rattle.policy.specs.declared.fault.Refusal.{Refusal}
+use Rattle.std.specs.Prelude.{ℕ, ◌+◌, ◌%◌, ◌^◌, Bool, true, false, cond, List, [], ◌∷◌, ◌++◌, Result, Ok, Err}
 use Rattle.std.proofs.Math.Option.{Option, none, some, Option-elim}
 use Rattle.policy.specs.declared.mode.Mode.{Mode}
 use Rattle.lexer.specs.Byte.{is}
@@ -8,7 +9,7 @@ use Rattle.rule_text.specs.Text.{Progress, reading, stopped, read_text}
 use Rattle.layout.specs.Layout.{image_of}
 use Rattle.codegen.specs.Compile.{newest_form}
 use Rattle.monitor.specs.Decision.{decision_in}
-use Rattle.monitor.specs.declared.decision.Decision.{Decision}
+use Rattle.monitor.specs.declared.decision.Actions.{Actions}
 use Rattle.stream.specs.Lines.{due_by_lines}
 use Rattle.report.specs.Report.{refusal_line, accept_line, refused_line, next_number}
 
@@ -43,9 +44,9 @@ text_part input (with_epochs text mode epochs) = ended text
 
 -- ---- one line for each epoch
 
-unfoldable pub decision_line : ℕ → Decision → List ℕ
-decision_line n (Decision.Refused r) = refused_line n r.fault
-decision_line n (Decision.Issued actions) = accept_line n actions.accepted actions.cancelled actions.visited
+unfoldable pub decision_line : ℕ → Result Actions Refusal → List ℕ
+decision_line n (Err r) = refused_line n r.fault
+decision_line n (Ok actions) = accept_line n actions.accepted actions.cancelled actions.visited
 
 -- after n epochs
 unfoldable pub epoch_lines : Mode → List ℕ → ℕ → List (List ℕ) → List ℕ

@@ -8,17 +8,18 @@ ghost use Rattle.session.specs.declared.state.Phase.{Phase};
 
 use crate::state::{HELD_SIZE, LINE_HELD, OUT_SIZE, State, push};
 use image::IMAGE_SIZE;
-use monitor::Decision;
+use monitor::Actions;
 use output::{Page, Sink};
+use policy::Refusal;
 
 /// The decision of an epoch.
 #[tactic(auto, unfolding(crate::specs::Printed::decision_line))]
-fn put_decision<S: Sink>(sink: &mut S, number: u64, decision: Decision)
+fn put_decision<S: Sink>(sink: &mut S, number: u64, decision: Result<Actions, Refusal>)
     ensures { sink.new ≡ fed S.taken sink.old (decision_line number decision) }
 {
     match decision {
-        Decision::Refused(refusal) => report::put_refused(sink, number, refusal.fault),
-        Decision::Issued(actions) => report::put_accept(
+        Err(refusal) => report::put_refused(sink, number, refusal.fault),
+        Ok(actions) => report::put_accept(
             sink,
             number,
             actions.accepted,

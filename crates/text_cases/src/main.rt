@@ -2,7 +2,6 @@
 //! first byte says what it is: `T` a rule text, any other an epoch line.
 #![tactic(auto)]
 
-use epoch_line::EpochStatus;
 use rule_text::LineCounts;
 use std::io;
 use std::io::{BufWriter, Read, Write};
@@ -50,16 +49,16 @@ fn show_values<W: Write>(out: &mut W, values: &[i32]) -> io::Result<()> {
 }
 
 fn show_epoch<W: Write>(out: &mut W, line: &[u8]) -> io::Result<()> {
-    let read = epoch_line::read_epoch(line);
-    match read.status {
-        EpochStatus::Refused(fault) => write!(out, "refused {}", fault.number())?,
-        EpochStatus::Accepted => {
+    match epoch_line::read_epoch(line) {
+        Err(refusal) => write!(out, "refused {}", refusal.fault.number())?,
+        Ok(epoch) => {
+            let readings = epoch.readings;
             write!(
                 out,
                 "events {:x} given {:x}",
-                read.events.bits, read.given.bits
+                epoch.events.bits, readings.given.bits
             )?;
-            show_values(out, &read.values)?;
+            show_values(out, &readings.values)?;
         }
     }
     writeln!(out)

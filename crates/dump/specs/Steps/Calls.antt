@@ -1,12 +1,12 @@
 -- What the functions do: with a byte of the input, with the bytes of a chunk, and at the end of the input.
-use Rattle.std.specs.Prelude.{ℕ, ◌+◌, ◌*◌, ◌/◌, ◌%◌, ◌^◌, min, true, false, cond, ◌&&◌, ◌||◌, List, [], ◌∷◌, length, take, ◌==◌, nat_le, nat_lt, fold}
+use Rattle.policy.specs.declared.fault.Refusal.{Refusal}
+use Rattle.std.specs.Prelude.{ℕ, ◌+◌, ◌*◌, ◌/◌, ◌%◌, ◌^◌, min, true, false, cond, ◌&&◌, ◌||◌, List, [], ◌∷◌, length, take, ◌==◌, nat_le, nat_lt, fold, Result, Ok, Err}
 use Rattle.lexer.specs.Byte.{is_line_end, hex_value}
 use Rattle.word.specs.Steps.Write.{fits, put_words}
 use Rattle.policy.specs.Fault.{refusal}
 use Rattle.policy.specs.declared.fault.Fault.{Fault}
 use Rattle.image.specs.Held.{policy_in}
-use Rattle.image.specs.Load.{load}
-use Rattle.image.specs.declared.load.Loaded.{Loaded}
+use Rattle.image.specs.Load.{load, Contents}
 use Rattle.printer.specs.Printed.{text_of}
 use Rattle.report.specs.Report.{image_refusal_line, not_word_line, next_number}
 use Rattle.dump.specs.declared.state.State.{State}
@@ -67,9 +67,9 @@ image_held h = take (min h.state.words (length h.image / 4) * 4) h.image
 -- ---- what is printed at the end of the input, in a lent buffer of so many bytes
 
 -- as `loaded_answer`, but a text that has no room is refused
-unfoldable pub answer_within : ℕ → Loaded → List ℕ → List ℕ
-answer_within room (Loaded.Refused r) text = image_refusal_line r
-answer_within room (Loaded.Image contents) text = cond (nat_le (length text) room) text (image_refusal_line (refusal Fault.BufferTooSmall 0))
+unfoldable pub answer_within : ℕ → Result Contents Refusal → List ℕ → List ℕ
+answer_within room (Err r) text = image_refusal_line r
+answer_within room (Ok contents) text = cond (nat_le (length text) room) text (image_refusal_line (refusal Fault.BufferTooSmall 0))
 
 unfoldable pub image_within : ℕ → List ℕ → List ℕ
 image_within room image = answer_within room (load image) (text_of (policy_in image))

@@ -1,12 +1,10 @@
 use Rattle.std.proofs.Common.{◌≡◌, length}
-use Rattle.epoch_line.specs.declared.EpochStatus.{EpochStatus}
 use Rattle.epoch_line.specs.Steps.EpochScan.{scanned, epoch_from}
 use Rattle.epoch_line.proofs.read_items.Given as goal
 
 abbrev pub invariant-loop-front : goal.invariant-loop-front
 invariant-loop-front l = record {
-  same : epoch_from (scanned l.out_of_range l.twice l.read.events l.read.given l.read.values) l.rest ≡ epoch_from (scanned l.initial.out_of_range l.initial.twice l.initial.read.events l.initial.read.given l.initial.read.values) l.line;
-  accepted : l.read.status ≡ EpochStatus.Accepted;
+  same : epoch_from (scanned l.out_of_range l.twice l.events l.given l.values) l.rest ≡ epoch_from (scanned l.initial.out_of_range l.initial.twice l.initial.events l.initial.given l.initial.values) l.line;
 }
 
 abbrev pub decreases-loop-front : goal.decreases-loop-front

@@ -1,18 +1,18 @@
 -- What stands in front of an epoch line, and what was collected before it.
 use Prim.Native.Char.{code}
-use Rattle.std.specs.Prelude.{ℕ, Bool, true, ◌||◌, cond, eqb, ltb, ℤ, List, [], ◌∷◌, Option as Maybe, Some, None, option_map, fold}
+use Rattle.std.specs.Prelude.{ℕ, Bool, true, ◌||◌, cond, eqb, ltb, ℤ, List, [], ◌∷◌, Option as Maybe, Some, None, option_map, fold, Result, Ok, Err}
 use Rattle.std.proofs.Math.Option.{Option, none, some}
-use Rattle.policy.specs.Epoch.{Epoch}
+use Rattle.policy.specs.declared.epoch.Epoch.{Epoch}
 use Rattle.policy.specs.List.{any}
 use Rattle.policy.specs.Number.{set_limit, reading_limit}
 use Rattle.policy.specs.Set.{EventSet, ReadingSet, has_reading}
+use Rattle.policy.specs.Fault.{refusal}
 use Rattle.policy.specs.declared.fault.Fault.{Fault}
+use Rattle.policy.specs.declared.fault.Refusal.{Refusal}
 use Rattle.lexer.specs.Steps.Scan.{tokens_in}
 use Rattle.lexer.specs.Token.{Token}
 use Rattle.token.specs.Steps.PartIn.{part_in, constant_in}
-use Rattle.epoch_line.specs.Answer.{refused_read, accepted_read}
 use Rattle.epoch_line.specs.Epoch.{Item, event, value, at_equals, assignment_of, item_of, items_of, item_in_range, add_item}
-use Rattle.epoch_line.specs.declared.EpochRead.{EpochRead}
 use Rattle.epoch_line.specs.declared.Entry.{Entry}
 
 -- ---- the token in front: the item that it is, none where a number of it is out of range, and what stands behind it
@@ -67,15 +67,15 @@ flagged s = record { out_of_range = true; twice = s.twice; epoch = s.epoch }
 unfoldable pub take_item : Scanned → Item → Scanned
 take_item s i = cond (item_in_range i) (add_scanned s i) (flagged s)
 
-unfoldable pub finish_read : Scanned → EpochRead
+unfoldable pub finish_read : Scanned → Result Epoch Refusal
 finish_read s =
-    cond s.out_of_range (refused_read Fault.EpochRange)
-    (cond s.twice (refused_read Fault.DuplicateReading) (accepted_read s.epoch))
+    cond s.out_of_range (Err (refusal Fault.EpochRange 0))
+    (cond s.twice (Err (refusal Fault.DuplicateReading 0)) (Ok s.epoch))
 
-unfoldable pub items_read : Scanned → Option (List Item) → EpochRead
-items_read s none = refused_read Fault.EpochSyntax
+unfoldable pub items_read : Scanned → Option (List Item) → Result Epoch Refusal
+items_read s none = Err (refusal Fault.EpochSyntax 0)
 items_read s (some is) = finish_read (fold take_item s is)
 
 -- the answer, after what was collected before the rest of a line
-unfoldable pub epoch_from : Scanned → List ℕ → EpochRead
-epoch_from s rest = cond (any (eqb 10) rest) (refused_read Fault.EpochSyntax) (items_read s (items_of (tokens_in rest)))
+unfoldable pub epoch_from : Scanned → List ℕ → Result Epoch Refusal
+epoch_from s rest = cond (any (eqb 10) rest) (Err (refusal Fault.EpochSyntax 0)) (items_read s (items_of (tokens_in rest)))

@@ -1,6 +1,7 @@
 -- What the functions of the second mode answer.
 use Rattle.std.specs.Prelude.{ℕ, ◌+◌, List}
-use Rattle.policy.specs.Epoch.{Epoch, Readings}
+use Rattle.policy.specs.declared.epoch.Epoch.{Epoch}
+use Rattle.policy.specs.declared.epoch.Readings.{Readings}
 use Rattle.policy.specs.declared.set.Events.{Events}
 use Rattle.run.specs.Run.{run_rules, run_constraints, rule_fetches, trial_fetches}
 use Rattle.monitor.specs.Decision.{proposed_with_by, kept_events_by, tried_event_words}

@@ -1,6 +1,6 @@
 -- What the functions answer for the test of a word, and where a trial is left.
 use Rattle.std.specs.Prelude.{ℕ, ◌+◌, ◌-◌, Bool, true, false, cond, List, ltb, get_or, length, ◌≡◌}
-use Rattle.policy.specs.Epoch.{Readings}
+use Rattle.policy.specs.declared.epoch.Readings.{Readings}
 use Rattle.policy.specs.Set.{ActionSet}
 use Rattle.policy.specs.declared.set.Events.{Events}
 use Rattle.operation.specs.Fields.{operation_of}

@@ -1,4 +1,4 @@
-use Rattle.std.proofs.Common.{ℕ, ◌+◌, ◌≡◌, ◌≤◌, List, refl, ap, sym, ◌∙◌, subst, arith, length, drop, Ok}
+use Rattle.std.proofs.Common.{ℕ, ◌+◌, ◌≡◌, ◌≤◌, List, refl, ap, sym, ◌∙◌, subst, arith, length, drop, Ok, Err}
 use Rattle.policy.proofs.ListLaws.{true_false}
 use Rattle.word.proofs.ChunkLaws.{words_in_length}
 use Rattle.word.specs.Chunk.{words_in}
@@ -18,7 +18,7 @@ returns-in_default c =
     let k = ap length c.loop-count.invariant.same_words in
     let l = words_in_length c.args.words.now in
     let e : length c.loop-count.walker.words.now ≤ c.loop-count.walker.at → ⊥ = λ q. true_false (c.if-is_at_end.ensures.1 q) refl in
-    counted_fault c.args.part (words_in c.args.words.now) c.args.first c.args.limit c.loop-count.walker.at c.loop-count.count c.loop-count.invariant.counted (omega arith) c.loop-count-test.true
+    ap Err c.at.ensures ∙ counted_fault c.args.part (words_in c.args.words.now) c.args.first c.args.limit c.loop-count.walker.at c.loop-count.count c.loop-count.invariant.counted (omega arith) c.loop-count-test.true
     (subst (λ (chunks : List (List ℕ)). line_length (line_at c.args.part (drop c.loop-count.walker.at (words_in chunks))) ≡ 0) c.loop-count.invariant.same_words c.in_default.ensures)
 
 pub loop-count-preserved : goal.loop-count-preserved
@@ -50,4 +50,4 @@ returns-else-is_at_end-2 c =
     let k = ap length c.loop-count.invariant.same_words in
     let l = words_in_length c.args.words.now in
     let e : length c.loop-count.walker.words.now ≤ c.loop-count.walker.at → ⊥ = λ q. true_false (c.if-is_at_end-2.ensures.1 q) refl in
-    counted_full c.args.part (words_in c.args.words.now) c.args.first c.args.limit c.loop-count.walker.at c.loop-count.count c.loop-count.invariant.counted (omega arith) (omega arith)
+    ap Err c.at-else-is_at_end-2.ensures ∙ counted_full c.args.part (words_in c.args.words.now) c.args.first c.args.limit c.loop-count.walker.at c.loop-count.count c.loop-count.invariant.counted (omega arith) (omega arith)

@@ -1,5 +1,5 @@
-use Rattle.std.proofs.Common.{◌<◌, List, ℕ, length, arith, rules}
-use Rattle.policy.specs.Epoch.{Readings}
+use Rattle.std.proofs.Common.{◌<◌, List, ℕ, length, arith}
+use Rattle.policy.specs.declared.epoch.Readings.{Readings}
 use Rattle.word.specs.Chunk.{words_in}
 use Rattle.word.proofs.ChunkLaws.{words_in_length}
 use Rattle.run.proofs.FetchLaws.{rule_fetches_few}
@@ -9,19 +9,19 @@ use Rattle.monitor.proofs.actions.issue.Goals as goal
 
 pub overflow_add-result : goal.overflow_add-result
 overflow_add-result c =
-    let rs : Readings = record { given = c.args.given; values = c.args.values.now } in
-    let constraints : List ℕ = words_in c.args.constraints.now in
-    let few : length constraints < 8192 = omega (arith, words_in_length c.args.constraints.now) in
+    let rs : Readings = c.args.epoch.now.readings in
+    let constraints : List ℕ = words_in c.args.image.now.constraints.now in
+    let few : length constraints < 8192 = omega (arith, words_in_length c.args.image.now.constraints.now) in
     omega (
       arith,
       c.run_rules-run.ensures.words,
       c.resolve-kept.ensures.words,
-      rule_fetches_few rs (words_in c.args.rules.now) c.all.result,
-      words_in_length c.args.rules.now,
+      rule_fetches_few rs (words_in c.args.image.now.rules.now) c.all.result,
+      words_in_length c.args.image.now.rules.now,
       tried_few constraints few rs c.run_rules-run.result.actions,
     )
 
 pub returns : goal.returns
 returns c =
-    issues (words_in c.args.rules.now) (words_in c.args.constraints.now) (record { events = c.args.events; readings = record { given = c.args.given; values = c.args.values.now } })
+    issues (words_in c.args.image.now.rules.now) (words_in c.args.image.now.constraints.now) c.args.epoch.now
     _ _ _ _ _ _ c.all.ensures c.run_rules-run.ensures.actions c.run_rules-run.ensures.words c.resolve-kept.ensures.actions c.resolve-kept.ensures.words c.without.ensures

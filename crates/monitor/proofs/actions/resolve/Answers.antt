@@ -1,7 +1,7 @@
 use Rattle.std.proofs.Common.{ℕ, ◌^◌, ◌<◌, true, false, ⊎_elim, sym, ap, ◌∙◌, arith, length, rules}
 use Rattle.std.proofs.lemmas.Bool.{not-true, not-false}
 use Rattle.policy.specs.Set.{ActionSet, set_of}
-use Rattle.policy.specs.Epoch.{Readings}
+use Rattle.policy.specs.declared.epoch.Readings.{Readings}
 use Rattle.word.specs.Chunk.{words_in}
 use Rattle.word.proofs.ChunkLaws.{words_in_length}
 use Rattle.monitor.specs.Decision.{conflict_by, kept_by, trial_words, tried_words}
@@ -15,7 +15,7 @@ loop-left-init c = tried_none _ _ _
 pub overflow_add-words : goal.overflow_add-words
 overflow_add-words c =
     let part = words_in c.args.constraints.now in
-    let rs : Readings = record { given = c.args.given; values = c.args.values.now } in
+    let rs : Readings = c.args.readings.now in
     let small : c.args.proposed.bits < 2 ^ 64 = search rules in
     let few : length part < 8192 = omega (arith, words_in_length c.args.constraints.now, c.requires) in
     omega (
@@ -28,7 +28,7 @@ overflow_add-words c =
 pub loop-left-preserved : goal.loop-left-preserved
 loop-left-preserved c =
     let part = words_in c.args.constraints.now in
-    let rs : Readings = record { given = c.args.given; values = c.args.values.now } in
+    let rs : Readings = c.args.readings.now in
     let small : c.args.proposed.bits < 2 ^ 64 = search rules in
     let bits : ActionSet → ℕ = λ s. s.bits in
     let trial = trial_turn (conflict_by part rs) (trial_words part rs) c.args.proposed.bits small c.loop-left.kept.bits c.loop-left.words c.loop-left.left c.loop-left.n c.loop-left.invariant c.loop-left-test.true in
@@ -43,4 +43,4 @@ pub returns : goal.returns
 unfolding kept_by tried_words
 returns c =
     let part = words_in c.args.constraints.now in
-    let rs : Readings = record { given = c.args.given; values = c.args.values.now } in record { actions = ap set_of (tried_all (conflict_by part rs) (trial_words part rs) c.args.proposed.bits c.loop-left.kept.bits c.loop-left.words c.loop-left.left c.loop-left.n c.loop-left-test.false c.loop-left.invariant); words = all_spent (conflict_by part rs) (trial_words part rs) c.args.proposed.bits c.loop-left.kept.bits c.loop-left.words c.loop-left.left c.loop-left.n c.loop-left-test.false c.loop-left.invariant }
+    let rs : Readings = c.args.readings.now in record { actions = ap set_of (tried_all (conflict_by part rs) (trial_words part rs) c.args.proposed.bits c.loop-left.kept.bits c.loop-left.words c.loop-left.left c.loop-left.n c.loop-left-test.false c.loop-left.invariant); words = all_spent (conflict_by part rs) (trial_words part rs) c.args.proposed.bits c.loop-left.kept.bits c.loop-left.words c.loop-left.left c.loop-left.n c.loop-left-test.false c.loop-left.invariant }

@@ -1,4 +1,4 @@
-use Rattle.policy.specs.Epoch.{Readings}
+use Rattle.policy.specs.declared.epoch.Readings.{Readings}
 use Rattle.word.specs.Chunk.{words_in}
 use Rattle.monitor.specs.Decision.{conflict_by, trial_words}
 use Rattle.monitor.proofs.TrialLaws.{Tried}
@@ -7,7 +7,7 @@ use Rattle.monitor.proofs.actions.resolve.Given as goal
 abbrev pub invariant-loop-left : goal.invariant-loop-left
 invariant-loop-left l =
     let part = words_in l.constraints in
-    let rs : Readings = record { given = l.given; values = l.values } in
+    let rs : Readings = l.readings in
     Tried (conflict_by part rs) (trial_words part rs) l.initial.left l.kept.bits l.words l.left l.n
 
 abbrev pub decreases-loop-left : goal.decreases-loop-left

@@ -1,6 +1,6 @@
-use Rattle.std.proofs.Common.{◌^◌, ◌<◌, ⊎_elim, arith, rules}
+use Rattle.std.proofs.Common.{◌^◌, ◌<◌, ⊎_elim, arith}
 use Rattle.std.proofs.lemmas.Bool.{not-true, not-false}
-use Rattle.policy.specs.Epoch.{Epoch}
+use Rattle.policy.specs.declared.epoch.Epoch.{Epoch}
 use Rattle.word.specs.Chunk.{words_in}
 use Rattle.word.proofs.ChunkLaws.{words_in_length}
 use Rattle.monitor.proofs.EventLaws.{kept_none, other_event, kept_event, dropped_event, few_words, all_tried, all_few}
@@ -8,28 +8,28 @@ use Rattle.monitor.proofs.events.keep_events.Goals as goal
 
 pub loop-left-init : goal.loop-left-init
 loop-left-init c =
-    let e : Epoch = record { events = c.args.events; readings = record { given = c.args.given; values = c.args.values.now } } in
-    kept_none (words_in c.args.rules.now) (words_in c.args.constraints.now) e c.args.none c.requires.first
+    let e : Epoch = c.args.epoch.now in
+    kept_none (words_in c.args.image.now.rules.now) (words_in c.args.image.now.constraints.now) e c.args.none c.requires.first
 
 pub overflow_add-words : goal.overflow_add-words
 overflow_add-words c =
-    let rules = words_in c.args.rules.now in
-    let constraints = words_in c.args.constraints.now in
-    let e : Epoch = record { events = c.args.events; readings = record { given = c.args.given; values = c.args.values.now } } in
-    let small : c.args.events.bits < 2 ^ 64 = omega (arith, c.well_formed.1.1.1.0.1.1.0.1) in
+    let rules = words_in c.args.image.now.rules.now in
+    let constraints = words_in c.args.image.now.constraints.now in
+    let e : Epoch = c.args.epoch.now in
+    let small : c.args.epoch.now.events.bits < 2 ^ 64 = search rules in
     omega (
       arith,
       few_words rules constraints e small c.loop-left.kept c.loop-left.actions c.loop-left.words c.loop-left.left c.loop-left.n c.loop-left.invariant c.loop-left-test.true
           c.if-left-eq1.true _ c.insert-more.ensures _ c.keeping.ensures _ c.try_events-trial.ensures
-          (omega (arith, words_in_length c.args.rules.now)) (omega (arith, words_in_length c.args.constraints.now)),
+          (omega (arith, words_in_length c.args.image.now.rules.now)) (omega (arith, words_in_length c.args.image.now.constraints.now)),
     )
 
 pub loop-left-preserved : goal.loop-left-preserved
 loop-left-preserved c =
-    let rules = words_in c.args.rules.now in
-    let constraints = words_in c.args.constraints.now in
-    let e : Epoch = record { events = c.args.events; readings = record { given = c.args.given; values = c.args.values.now } } in
-    let small : c.args.events.bits < 2 ^ 64 = search rules in
+    let rules = words_in c.args.image.now.rules.now in
+    let constraints = words_in c.args.image.now.constraints.now in
+    let e : Epoch = c.args.epoch.now in
+    let small : c.args.epoch.now.events.bits < 2 ^ 64 = search rules in
     ⊎_elim
     (λ w. kept_event rules constraints e small c.loop-left.kept c.loop-left.actions c.loop-left.words c.loop-left.left c.loop-left.n c.loop-left.invariant c.loop-left-test.true w.if-left-eq1.true _ w.insert-more.ensures _ w.keeping.ensures _ w.try_events-trial.ensures (not-true _ w.if-not-trial.true) _ _ _ w.kept-is w.actions-is w.words-is)
     (⊎_elim
@@ -39,18 +39,18 @@ loop-left-preserved c =
 
 pub overflow_add-result : goal.overflow_add-result
 overflow_add-result c =
-    let rules = words_in c.args.rules.now in
-    let constraints = words_in c.args.constraints.now in
-    let e : Epoch = record { events = c.args.events; readings = record { given = c.args.given; values = c.args.values.now } } in
+    let rules = words_in c.args.image.now.rules.now in
+    let constraints = words_in c.args.image.now.constraints.now in
+    let e : Epoch = c.args.epoch.now in
     omega (
       arith,
       all_few rules constraints e c.loop-left.kept c.loop-left.actions c.loop-left.words c.loop-left.left c.loop-left.n c.loop-left.invariant c.loop-left-test.false c.args.none c.requires.first
-          (omega (arith, words_in_length c.args.rules.now)) (omega (arith, words_in_length c.args.constraints.now)),
+          (omega (arith, words_in_length c.args.image.now.rules.now)) (omega (arith, words_in_length c.args.image.now.constraints.now)),
     )
 
 pub returns : goal.returns
 returns c =
-    let rules = words_in c.args.rules.now in
-    let constraints = words_in c.args.constraints.now in
-    let e : Epoch = record { events = c.args.events; readings = record { given = c.args.given; values = c.args.values.now } } in
+    let rules = words_in c.args.image.now.rules.now in
+    let constraints = words_in c.args.image.now.constraints.now in
+    let e : Epoch = c.args.epoch.now in
     all_tried rules constraints e c.loop-left.kept c.loop-left.actions c.loop-left.words c.loop-left.left c.loop-left.n c.loop-left.invariant c.loop-left-test.false c.args.none c.requires.first

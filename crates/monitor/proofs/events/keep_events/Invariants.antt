@@ -1,12 +1,12 @@
-use Rattle.policy.specs.Epoch.{Epoch}
+use Rattle.policy.specs.declared.epoch.Epoch.{Epoch}
 use Rattle.word.specs.Chunk.{words_in}
 use Rattle.monitor.proofs.EventLaws.{KeptSoFar}
 use Rattle.monitor.proofs.events.keep_events.Given as goal
 
 abbrev pub invariant-loop-left : goal.invariant-loop-left
 invariant-loop-left l =
-    let e : Epoch = record { events = l.events; readings = record { given = l.given; values = l.values } } in
-    KeptSoFar (words_in l.rules) (words_in l.constraints) e l.kept l.actions l.words l.left l.n
+    let e : Epoch = l.epoch in
+    KeptSoFar (words_in l.image.rules.now) (words_in l.image.constraints.now) e l.kept l.actions l.words l.left l.n
 
 abbrev pub decreases-loop-left : goal.decreases-loop-left
 decreases-loop-left l =

@@ -1,19 +1,19 @@
-use Rattle.policy.specs.Epoch.{Readings}
+use Rattle.policy.specs.declared.epoch.Readings.{Readings}
 use Rattle.word.specs.Chunk.{words_in}
 use Rattle.word.proofs.ChunkLaws.{words_in_length}
 use Rattle.run.proofs.FetchLaws.{rule_fetches_few, trial_fetches_few}
-use Rattle.std.proofs.Common.{arith, rules}
+use Rattle.std.proofs.Common.{arith}
 use Rattle.monitor.proofs.events.try_events.Goals as goal
 
 pub overflow_add-result : goal.overflow_add-result
 overflow_add-result c =
-    let rs : Readings = record { given = c.args.given; values = c.args.values.now } in
+    let rs : Readings = c.args.readings.now in
     omega (
       arith,
       c.run_rules-run.ensures.words,
       c.run_constraints-trial.ensures.words,
-      rule_fetches_few rs (words_in c.args.rules.now) c.args.events,
-      trial_fetches_few rs (words_in c.args.constraints.now) c.run_rules-run.result.actions,
-      words_in_length c.args.rules.now,
-      words_in_length c.args.constraints.now,
+      rule_fetches_few rs (words_in c.args.image.now.rules.now) c.args.events,
+      trial_fetches_few rs (words_in c.args.image.now.constraints.now) c.run_rules-run.result.actions,
+      words_in_length c.args.image.now.rules.now,
+      words_in_length c.args.image.now.constraints.now,
     )

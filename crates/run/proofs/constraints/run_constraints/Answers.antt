@@ -1,6 +1,7 @@
+use Rattle.policy.specs.Epoch.{viewed}
 use Rattle.std.proofs.Common.{ℕ, ◌+◌, ◌≤◌, ◌<◌, true, false, List, ◌⊎◌, inl, inr, ⊎_elim, ◌≡◌, sym, ap, ◌∙◌, add-zero, get_or, length, arith}
 use Rattle.std.proofs.lemmas.Bool.{not-true, not-false}
-use Rattle.policy.specs.Epoch.{Readings}
+use Rattle.policy.specs.declared.epoch.Readings.{Readings}
 use Rattle.word.specs.Chunk.{words_in}
 use Rattle.word.proofs.ChunkLaws.{words_in_length}
 use Rattle.operation.specs.Fields.{operation_of}
@@ -15,7 +16,7 @@ constraints-init c = record { onward = omega arith; last = c.last_of-last.ensure
 
 pub constraints-preserved-then-not-has : goal.constraints-preserved-then-not-has
 constraints-preserved-then-not-has c =
-    let rs : Readings = record { given = c.args.given; values = c.args.values.now } in
+    let rs : Readings = viewed c.view-view.result in
     let ws : List ℕ = words_in c.args.words.now in
     let within : c.loop-at.at < length ws = omega (arith, words_in_length c.args.words.now) in
     record {
@@ -28,7 +29,7 @@ constraints-preserved-then-not-has c =
 
 pub loop-at-preserved : goal.loop-at-preserved
 loop-at-preserved c =
-    let rs : Readings = record { given = c.args.given; values = c.args.values.now } in
+    let rs : Readings = viewed c.view-view.result in
     let ws : List ℕ = words_in c.args.words.now in
     let within : c.loop-at.at < length ws = omega (arith, words_in_length c.args.words.now) in
     record {
@@ -41,7 +42,7 @@ loop-at-preserved c =
 
 pub constraints-preserved-then-not-test : goal.constraints-preserved-then-not-test
 constraints-preserved-then-not-test c =
-    let rs : Readings = record { given = c.args.given; values = c.args.values.now } in
+    let rs : Readings = viewed c.view-view.result in
     let ws : List ℕ = words_in c.args.words.now in
     let within : c.loop-at-2.at < length ws = omega (arith, words_in_length c.args.words.now) in
     record {
@@ -53,7 +54,7 @@ constraints-preserved-then-not-test c =
 
 pub loop-at-2-preserved : goal.loop-at-2-preserved
 loop-at-2-preserved c =
-    let rs : Readings = record { given = c.args.given; values = c.args.values.now } in
+    let rs : Readings = viewed c.view-view.result in
     let ws : List ℕ = words_in c.args.words.now in
     let within : c.loop-at-2.at < length ws = omega (arith, words_in_length c.args.words.now) in
     let w : ℕ = c.nth_word-word-in-loop-at-2.result in
@@ -68,7 +69,7 @@ loop-at-2-preserved c =
 pub returns : goal.returns
 unfolding run_constraints trial_fetches
 returns c =
-    let rs : Readings = record { given = c.args.given; values = c.args.values.now } in
+    let rs : Readings = viewed c.view-view.result in
     let ws : List ℕ = words_in c.args.words.now in
     let reached : Going rs c.args.set ws c.constraints-test.at c.constraints-test.from =
     ⊎_elim (λ w. going_at rs c.args.set ws _ _ _ _ c.constraints.invariant.going w.at-is w.from-is)
@@ -77,4 +78,4 @@ returns c =
     ⊎_elim (λ w. inl (omega (arith, w.constraints-test.false, w.at-is, c.constraints.invariant.last, words_in_length c.args.words.now)))
     (λ w. inr (ap (λ (n : ℕ). ends_constraint (get_or ws n 0)) w.at-is ∙ sym (ap ends_constraint w.nth_word-word-in-loop-at-2.ensures) ∙ w.in_default.ensures)) c.constraints-test.branch-raw in
     let answer = trial_left rs c.args.set ws c.constraints-test.at c.constraints-test.from reached way in
-    record { conflict = ap (λ (t : Trial). t.conflict) c.left_at.ensures ∙ answer.0; words = ap (λ (t : Trial). t.words) c.left_at.ensures ∙ answer.1 }
+    record { conflict = ap (λ (t : Trial). t.conflict) c.left_at.ensures ∙ answer.0 ∙ ap (λ (r : Readings). run_constraints r c.args.set ws) c.view-view.ensures; words = ap (λ (t : Trial). t.words) c.left_at.ensures ∙ answer.1 ∙ ap (λ (r : Readings). trial_fetches r c.args.set ws) c.view-view.ensures }

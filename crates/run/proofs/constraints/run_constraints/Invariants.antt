@@ -1,3 +1,4 @@
+use Rattle.policy.specs.Epoch.{viewed}
 use Rattle.std.proofs.Common.{◌-◌, ◌≤◌, ◌≡◌, length}
 use Rattle.word.specs.Chunk.{words_in}
 use Rattle.run.proofs.ConstraintLaws.{Going}
@@ -7,7 +8,7 @@ abbrev pub invariant-loop-at : goal.invariant-loop-at
 invariant-loop-at l = record {
   onward : l.initial.at ≤ l.at;
   last : l.last ≡ length l.words - 1;
-  going : Going (record { given = l.given; values = l.values }) l.set (words_in l.words) l.at l.from;
+  going : Going (viewed l.view) l.set (words_in l.words) l.at l.from;
 }
 
 abbrev pub decreases-loop-at : goal.decreases-loop-at
@@ -17,7 +18,7 @@ abbrev pub invariant-loop-at-2 : goal.invariant-loop-at-2
 invariant-loop-at-2 l = record {
   onward : l.initial.at ≤ l.at;
   last : l.last ≡ length l.words - 1;
-  going : Going (record { given = l.given; values = l.values }) l.set (words_in l.words) l.at l.from;
+  going : Going (viewed l.view) l.set (words_in l.words) l.at l.from;
 }
 
 abbrev pub decreases-loop-at-2 : goal.decreases-loop-at-2
@@ -27,7 +28,7 @@ abbrev pub invariant-constraints : goal.invariant-constraints
 invariant-constraints l = record {
   onward : l.initial.at ≤ l.at;
   last : l.last ≡ length l.words - 1;
-  going : Going (record { given = l.given; values = l.values }) l.set (words_in l.words) l.at l.from;
+  going : Going (viewed l.view) l.set (words_in l.words) l.at l.from;
 }
 
 abbrev pub decreases-constraints : goal.decreases-constraints

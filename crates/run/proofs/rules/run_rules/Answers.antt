@@ -1,6 +1,7 @@
-use Rattle.std.proofs.Common.{ℕ, ◌<◌, ◌≤◌, List, sym, ◌∙◌, length, arith}
+use Rattle.policy.specs.Epoch.{viewed}
+use Rattle.std.proofs.Common.{ℕ, ◌<◌, ◌≤◌, List, sym, ap, ◌∙◌, length, arith}
 use Rattle.std.proofs.lemmas.Bool.{not-true, not-false}
-use Rattle.policy.specs.Epoch.{Readings}
+use Rattle.policy.specs.declared.epoch.Readings.{Readings}
 use Rattle.word.specs.Chunk.{words_in}
 use Rattle.word.proofs.ChunkLaws.{words_in_length}
 use Rattle.run.specs.Run.{run_rules, rule_fetches}
@@ -9,7 +10,7 @@ use Rattle.run.proofs.rules.run_rules.Goals as goal
 
 pub loop-at-preserved-then-not-test : goal.loop-at-preserved-then-not-test
 loop-at-preserved-then-not-test c =
-    let rs : Readings = record { given = c.args.given; values = c.args.values.now } in
+    let rs : Readings = viewed c.view-view.result in
     let ws : List ℕ = words_in c.args.words.now in
     let within : c.loop-at.at < length ws = omega (arith, words_in_length c.args.words.now) in
     rules_failed c.args.events rs ws c.loop-at.at _ _ _ c.loop-at.invariant within c.nth_word-word.ensures _ c.in-Some.ensures (not-true _ c.if-not-test.true)
@@ -17,14 +18,14 @@ loop-at-preserved-then-not-test c =
 
 pub loop-at-preserved-else-not-test : goal.loop-at-preserved-else-not-test
 loop-at-preserved-else-not-test c =
-    let rs : Readings = record { given = c.args.given; values = c.args.values.now } in
+    let rs : Readings = viewed c.view-view.result in
     let ws : List ℕ = words_in c.args.words.now in
     let within : c.loop-at.at < length ws = omega (arith, words_in_length c.args.words.now) in
     rules_held c.args.events rs ws c.loop-at.at _ _ _ c.loop-at.invariant within c.nth_word-word.ensures _ c.in-Some.ensures (not-false _ c.if-not-test.false)
 
 pub loop-at-preserved : goal.loop-at-preserved
 loop-at-preserved c =
-    let rs : Readings = record { given = c.args.given; values = c.args.values.now } in
+    let rs : Readings = viewed c.view-view.result in
     let ws : List ℕ = words_in c.args.words.now in
     let within : c.loop-at.at < length ws = omega (arith, words_in_length c.args.words.now) in
     rw c.with_proposal-actions.ensures (rules_pass c.args.events rs ws c.loop-at.at _ _ _ c.loop-at.invariant within c.nth_word-word.ensures c.in-None.ensures)
@@ -32,10 +33,10 @@ loop-at-preserved c =
 pub returns : goal.returns
 unfolding run_rules rule_fetches
 returns c =
-    let rs : Readings = record { given = c.args.given; values = c.args.values.now } in
+    let rs : Readings = viewed c.view-view.result in
     let ws : List ℕ = words_in c.args.words.now in
     let past : length ws ≤ c.loop-at.at = omega (arith, words_in_length c.args.words.now) in
     record {
-      actions = sym (rules_end c.args.events rs ws c.loop-at.actions c.loop-at.at past) ∙ c.loop-at.invariant.proposed;
-      words = omega (arith, c.loop-at.invariant.words, c.loop-at.invariant.behind, rules_end_fetch c.args.events rs ws c.loop-at.at past);
+      actions = sym (rules_end c.args.events rs ws c.loop-at.actions c.loop-at.at past) ∙ c.loop-at.invariant.proposed ∙ ap (λ (r : Readings). run_rules c.args.events r ws) c.view-view.ensures;
+      words = omega (arith, c.loop-at.invariant.words, c.loop-at.invariant.behind, rules_end_fetch c.args.events rs ws c.loop-at.at past, ap (λ (r : Readings). rule_fetches c.args.events r ws) c.view-view.ensures);
     }
