@@ -7,18 +7,18 @@ ghost use Rattle.output.specs.Sink.{fed};
 ghost use Rattle.printer.specs.Printed.{longest_text};
 ghost use Rattle.decompile.specs.Decompile.{decompiled};
 ghost use Rattle.image.specs.Walk.{lines_ahead};
-ghost use Rattle.decompile.specs.Steps.Walk.{text_of_values, text_of_image};
+ghost use Rattle.decompile.specs.Steps.Walk.{text_of_values};
 
-use image::{Image, Walker, load_image};
+use image::{Walker, load_image};
 use output::{Counter, Page, Sink};
-use policy::{Fault, Part, Refusal};
+use policy::{Fault, Refusal};
 use printer::put_line;
 
 /// Bytes of the longest text: 128 rules of 150 bytes, and 64 constraints of 137.
 pub const TEXT_SIZE: usize = 27968;
 
 /// The texts of the lines, one after another.
-fn put_lines<S: Sink>(sink: &mut S, lines: Walker<'_>)
+fn put_text<S: Sink>(sink: &mut S, lines: Walker<'_>)
     ensures { sink.new ≡ fed S.taken sink.old (text_of_values (lines_ahead lines.entry)) }
 {
     for line in lines {
@@ -26,41 +26,33 @@ fn put_lines<S: Sink>(sink: &mut S, lines: Walker<'_>)
     }
 }
 
-/// The text of an image: its rules and then its constraints.
-fn put_text<S: Sink>(sink: &mut S, image: &Image<'_>)
-    ensures { sink.new ≡ fed S.taken sink.old (text_of_image image.now) }
-{
-    put_lines(sink, image.lines(Part::Rules));
-    put_lines(sink, image.lines(Part::Constraints));
-}
-
-/// How many bytes the text has.
+/// How many bytes the texts have.
 #[tactic(auto, using(output::proofs::SinkLaws::counted_all))]
-fn text_size(image: &Image<'_>) -> usize
-    requires { length (text_of_image image.now) ≤ longest_text }
-    ensures { result ≡ length (text_of_image image.now) }
+fn text_size(lines: Walker<'_>) -> usize
+    requires { length (text_of_values (lines_ahead lines)) ≤ longest_text }
+    ensures { result ≡ length (text_of_values (lines_ahead lines.entry)) }
 {
     let mut counter = Counter { count: 0 };
-    put_text(&mut counter, image);
+    put_text(&mut counter, lines);
     counter.count
 }
 
-/// Whether the text has room in so many bytes. Where the longest text has, it need not be counted.
-fn fits(image: &Image<'_>, room: usize) -> bool
-    requires { length (text_of_image image.now) ≤ longest_text }
-    ensures { IsTrue result ↔ (length (text_of_image image.now) ≤ room) }
+/// Whether the texts have room in so many bytes. Where the longest text has, they need not be counted.
+fn fits(lines: Walker<'_>, room: usize) -> bool
+    requires { length (text_of_values (lines_ahead lines)) ≤ longest_text }
+    ensures { IsTrue result ↔ (length (text_of_values (lines_ahead lines.entry)) ≤ room) }
 {
-    TEXT_SIZE <= room || text_size(image) <= room
+    TEXT_SIZE <= room || text_size(lines) <= room
 }
 
-/// Writes the text from the start of the buffer on. The answer is where it ends.
+/// Writes the texts from the start of the buffer on. The answer is where they end.
 #[tactic(auto, using(output::proofs::SinkLaws::stored_all))]
-fn write_text(out: &mut [u8], image: &Image<'_>) -> usize
-    ensures end { result ≡ min (length (text_of_image image.now)) (length out.old) }
-    ensures buffer { out.new ≡ appended out.old 0 (text_of_image image.now) }
+fn write_text(out: &mut [u8], lines: Walker<'_>) -> usize
+    ensures end { result ≡ min (length (text_of_values (lines_ahead lines.entry))) (length out.old) }
+    ensures buffer { out.new ≡ appended out.old 0 (text_of_values (lines_ahead lines.entry)) }
 {
     let mut page = Page { bytes: out, end: 0 };
-    put_text(&mut page, image);
+    put_text(&mut page, lines);
     page.end
 }
 
@@ -72,9 +64,9 @@ pub fn decompile(image: &[u8], out: &mut [u8]) -> Result<usize, Refusal>
     ensures buffer { out.new ≡ (decompiled image.now out.old).buffer }
     ensures within { IfOk result (λ size. size ≤ length out.new) }
 {
-    let image = load_image(image)?;
-    if !fits(&image, out.len()) {
+    let lines = load_image(image)?.lines();
+    if !fits(lines, out.len()) {
         return Err(Fault::BufferTooSmall.at(0));
     }
-    Ok(write_text(out, &image))
+    Ok(write_text(out, lines))
 }

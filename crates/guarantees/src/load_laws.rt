@@ -4,7 +4,7 @@ ghost use Rattle.policy.specs.Fault.{refusal};
 ghost use Rattle.std.specs.Prelude.{List, ℕ, ◌+◌, ◌∷◌, ◌↔◌, ◌≡◌, length, drop, map, Err, Ok};
 ghost use Rattle.std.proofs.Math.Option.{some};
 ghost use Rattle.word.specs.Word.{Bytes};
-ghost use Rattle.policy.specs.Line.{PolicyLine, rule, constraint};
+ghost use Rattle.policy.specs.Line.{PolicyLine};
 ghost use Rattle.policy.specs.declared.fault.Refusal.{Refusal};
 ghost use Rattle.policy.specs.declared.line.Part.{Part};
 ghost use Rattle.line_value.specs.Value.{line_value};
@@ -12,8 +12,8 @@ ghost use Rattle.layout.specs.Layout.{line_words};
 ghost use Rattle.decode.specs.Stands.{Stands, AreLines};
 ghost use Rattle.decode.specs.Decode.{line_at};
 ghost use Rattle.image.specs.Lines.{lines_from};
-ghost use Rattle.image.specs.Held.{policy_in};
-ghost use Rattle.image.specs.Load.{Contents, load};
+ghost use Rattle.image.specs.Held.{lines_held};
+ghost use Rattle.image.specs.Load.{Contents, both_parts, load};
 ghost use Rattle.image.specs.Walk.{lines_left, values_behind};
 ghost use Rattle.exactness.specs.ImageFault.{ImageFault, NoLineAt};
 ghost use Rattle.guarantees.specs.Claims.{SomeText};
@@ -58,7 +58,7 @@ pub fn standing_given()
     ensures { (part : Part) (words : List ℕ) (at : ℕ) (line : PolicyLine) → Stands part (drop at words) line → lines_left words at ≡ line_value line ∷ lines_left words (at + length (line_words line)) }
 {}
 
-/// Going over the parts of an image that the loader takes, exactly the values of the rules, and of the constraints, of the policy that it holds come, in order.
+/// Going over the words of an image that the loader takes, exactly the values of the lines of the policy that it holds come, in order: its rules, and then its constraints.
 pub fn held_given()
-    ensures { (bytes : List ℕ) (contents : Contents) → load bytes ≡ Ok contents → (values_behind 0 contents.rules ≡ map line_value (map rule (policy_in bytes).rules)) × (values_behind 0 contents.constraints ≡ map line_value (map constraint (policy_in bytes).constraints)) }
+    ensures { (bytes : List ℕ) (contents : Contents) → load bytes ≡ Ok contents → values_behind 0 (both_parts contents) ≡ map line_value (lines_held bytes) }
 {}

@@ -1,8 +1,7 @@
 -- The lines of an image that is taken are those of the policy that it holds.
-use Rattle.std.proofs.Common.{ℕ, zero, suc, ◌+◌, ◌≤◌, ◌<◌, Bool, true, false, ◌&&◌, List, [], ◌∷◌, ◌++◌, map, ◌≡◌, refl, sym, ap, ap₂, ◌∙◌, subst, arith, eqb-true, length, take, drop, length-take, take-append-drop, append_assoc, length-drop, ◌-◌, Result, Ok, Err}
+use Rattle.std.proofs.Common.{ℕ, zero, suc, ◌+◌, ◌<◌, Bool, true, false, ◌&&◌, List, [], ◌∷◌, ◌++◌, map, ◌≡◌, refl, sym, ap, ap₂, ◌∙◌, subst, arith, eqb-true, length, take, drop, length-take, append_assoc, length-drop, Result, Ok, Err}
 use Rattle.std.proofs.Math.Option.{Option, none, some}
 use Rattle.std.proofs.Math.Dec.{eqb, leb}
-use Rattle.std.proofs.Math.Seq.{drop-append-le}
 use Rattle.policy.proofs.ListLaws.{true_false, and_in, and_out, all_append}
 use Rattle.policy.specs.Limits.{valid}
 use Rattle.policy.specs.Line.{PolicyLine, rule, constraint}
@@ -17,11 +16,11 @@ use Rattle.decode.specs.Decode.{line_at}
 use Rattle.decode.specs.Stands.{in_part, Stands, AreLines}
 use Rattle.image.proofs.ValueLaws.{lines_given}
 use Rattle.image.specs.Check.{form_byte, rule_count, constraint_count, well_sized, counts_fit, sums_to_zero}
-use Rattle.image.specs.Held.{rules_in, constraints_in, lines_in, policy_in}
+use Rattle.image.specs.Held.{rules_in, constraints_in, lines_in, policy_in, lines_held}
 use Rattle.image.specs.Lines.{add_line, after_line, lines_from, part_lines, rule_part, constraint_part, rule_lines, constraint_lines}
 use Rattle.image.proofs.LoadLaws.{ok_err}
 use Rattle.policy.specs.declared.fault.Refusal.{Refusal}
-use Rattle.image.specs.Load.{Contents, body_answer, require, load_words, load}
+use Rattle.image.specs.Load.{Contents, both_parts, body_answer, require, load_words, load}
 use Rattle.image.specs.Walk.{values_behind}
 
 -- ---- what is found was written
@@ -177,11 +176,16 @@ taken_small bytes contents e =
 
 -- ---- its lines, one after the other
 
+lines_append : (ls ms : List PolicyLine) → lines_words (ls ++ ms) ≡ lines_words ls ++ lines_words ms
+unfolding lines_words
+lines_append [] ms = refl
+lines_append (l ∷ ls) ms = ap (λ (ws : List ℕ). line_words l ++ ws) (lines_append ls ms) ∙ sym (append_assoc (line_words l) (lines_words ls) (lines_words ms))
+
 -- the lines of both parts are those of its policy
-pub held_given : (bytes : List ℕ) (contents : Contents) → load bytes ≡ Ok contents
-    → (values_behind 0 contents.rules ≡ map line_value (map rule (policy_in bytes).rules)) × (values_behind 0 contents.constraints ≡ map line_value (map constraint (policy_in bytes).constraints))
+pub held_given : (bytes : List ℕ) (contents : Contents) → load bytes ≡ Ok contents → values_behind 0 (both_parts contents) ≡ map line_value (lines_held bytes)
 held_given bytes contents taken =
-    let h = held_parts bytes contents taken in (
-      ap (values_behind 0) h.rule_part_is.words ∙ lines_given (map rule (policy_in bytes).rules) h.rule_part_is.sound,
-      ap (values_behind 0) h.constraint_part_is.words ∙ lines_given (map constraint (policy_in bytes).constraints) h.constraint_part_is.sound,
-    )
+    let h = held_parts bytes contents taken in
+    let rs : List PolicyLine = map rule (policy_in bytes).rules in
+    let cs : List PolicyLine = map constraint (policy_in bytes).constraints in
+    ap (values_behind 0) (ap₂ (λ (x y : List ℕ). x ++ y) h.rule_part_is.words h.constraint_part_is.words ∙ sym (lines_append rs cs))
+    ∙ lines_given (rs ++ cs) (all_append valid rs cs h.rule_part_is.sound h.constraint_part_is.sound)

@@ -1,5 +1,5 @@
 -- The policy that a taken image holds.
-use Rattle.std.specs.Prelude.{ℕ, List, [], ◌∷◌, Result, Ok, Err}
+use Rattle.std.specs.Prelude.{ℕ, List, [], ◌∷◌, ◌++◌, map, Result, Ok, Err}
 use Rattle.policy.specs.Line.{PolicyLine, rule, constraint}
 use Rattle.policy.specs.Policy.{Policy, Rule, Constraint}
 use Rattle.word.specs.Word.{words_of}
@@ -22,3 +22,7 @@ lines_in (Err at) = []
 unfoldable pub policy_in : List ℕ → Policy
 policy_in bytes =
     record { rules = rules_in (lines_in (rule_lines (words_of bytes))); constraints = constraints_in (lines_in (constraint_lines (words_of bytes))) }
+
+-- its lines: the rules, and then the constraints
+abbrev pub lines_held : List ℕ → List PolicyLine
+lines_held bytes = map rule (policy_in bytes).rules ++ map constraint (policy_in bytes).constraints

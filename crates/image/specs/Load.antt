@@ -1,13 +1,12 @@
 -- The loader's answer: the faults 7 to 11 in their order, each with its location, or what stands in the image. Which bytes have which
 -- fault is told by `ImageFault` in exactness, and that both agree is a law (`image_refused_exactly` in guarantees).
 use Rattle.policy.specs.Line.{PolicyLine}
-use Rattle.std.specs.Prelude.{ℕ, Bool, if◌then◌else◌, List, length, Result, Ok, Err}
+use Rattle.std.specs.Prelude.{ℕ, Bool, if◌then◌else◌, List, ◌++◌, length, Result, Ok, Err}
 use Rattle.policy.specs.Fault.{refusal}
 use Rattle.policy.specs.declared.fault.Fault.{Fault}
 use Rattle.policy.specs.declared.fault.Refusal.{Refusal}
-use Rattle.policy.specs.declared.line.Part.{Part}
 use Rattle.word.specs.Word.{words_of}
-use Rattle.image.specs.Check.{form_byte, rule_count, constraint_count, well_sized, counts_fit, sums_to_zero}
+use Rattle.image.specs.Check.{form_byte, well_sized, counts_fit, sums_to_zero}
 use Rattle.layout.specs.Layout.{known_form}
 use Rattle.image.specs.Lines.{rule_part, constraint_part, rule_lines, constraint_lines}
 
@@ -18,10 +17,9 @@ pub record Contents : Type 0 where
   pub rule_count : ℕ
   pub constraint_count : ℕ
 
--- the words of a part
-unfoldable pub part_words : Part → Contents → List ℕ
-part_words Part.Rules contents = contents.rules
-part_words Part.Constraints contents = contents.constraints
+-- the words of both parts, as they stand behind each other
+abbrev pub both_parts : Contents → List ℕ
+both_parts contents = contents.rules ++ contents.constraints
 
 -- the answer for the words and the lines of both parts
 unfoldable pub body_answer : List ℕ → List ℕ → Result (List PolicyLine) ℕ → Result (List PolicyLine) ℕ → Result Contents Refusal

@@ -84,7 +84,7 @@ fn load_body(
         constraints,
         rule_count,
         constraint_count,
-        loaded: (),
+        words: part(words, 1, end),
     })
 }
 

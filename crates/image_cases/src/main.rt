@@ -3,20 +3,25 @@
 #![tactic(auto)]
 
 use image::{Image, Walker};
-use policy::Part;
+use policy::Ending;
 use std::io;
 use std::io::{BufWriter, Read, Write};
 
-/// How many lines are met.
-fn count(lines: Walker<'_>) -> usize {
-    let mut count = 0usize;
-    for _line in lines {
-        count = count.wrapping_add(1);
+/// How many rules are met, and how many constraints.
+fn count(lines: Walker<'_>) -> (usize, usize) {
+    let mut rules = 0usize;
+    let mut constraints = 0usize;
+    for line in lines {
+        match line.ending {
+            Ending::Causes(_) => rules = rules.wrapping_add(1),
+            Ending::Never => constraints = constraints.wrapping_add(1),
+        }
     }
-    count
+    (rules, constraints)
 }
 
 fn show_image<W: Write>(out: &mut W, image: Image<'_>) -> io::Result<()> {
+    let (first, second) = count(image.lines());
     let Image {
         rules,
         constraints,
@@ -26,13 +31,10 @@ fn show_image<W: Write>(out: &mut W, image: Image<'_>) -> io::Result<()> {
     } = image;
     let rule_words = rules.len();
     let constraint_words = constraints.len();
-    write!(
+    writeln!(
         out,
-        "image rules {rule_count} constraints {constraint_count} words {rule_words} {constraint_words}"
-    )?;
-    let first = count(image.lines(Part::Rules));
-    let second = count(image.lines(Part::Constraints));
-    writeln!(out, " lines {first} {second}")
+        "image rules {rule_count} constraints {constraint_count} words {rule_words} {constraint_words} lines {first} {second}"
+    )
 }
 
 fn show_case<W: Write>(out: &mut W, case: &[u8]) -> io::Result<()> {

@@ -1,9 +1,23 @@
-use Rattle.std.proofs.Common.{ℕ, List, ◌+◌, sym, ap, ap₂, ◌∙◌, Ok}
+use Rattle.std.proofs.Common.{ℕ, List, ◌+◌, ◌++◌, sym, ap, ap₂, ◌∙◌, Ok, arith}
+use Rattle.word.proofs.ChunkLaws.{words_in_length}
+use Rattle.word.specs.Chunk.{words_in}
+use Rattle.image.proofs.PartLaws.{between_join}
 use Rattle.policy.specs.declared.line.Part.{Part}
 use Rattle.image.specs.Lines.{lines_from, part_lines}
 use Rattle.image.specs.Steps.Part.{part_answer}
 use Rattle.image.proofs.LoadLaws.{passed_on, rules_fault, constraints_fault, both_whole}
 use Rattle.image.proofs.load.load_body.Goals as goal
+
+pub invariant_of-result : goal.invariant_of-result
+invariant_of-result c =
+    let r = c.requires.inside in
+    let n = words_in_length c.args.words.now in
+    let both = between_join 1 (1 + c.args.rule_words) (1 + c.args.rule_words + c.args.constraint_words) (words_in c.args.words.now) (omega arith) (omega arith) (omega arith) in
+    record {
+      joined = c.part.ensures.words ∙ both ∙ sym (ap₂ (λ (x y : List ℕ). x ++ y) c.part-rules.ensures.words c.part-constraints.ensures.words);
+      few_rules = omega (arith, c.requires.few, c.part-rules.ensures.count);
+      few_constraints = omega (arith, c.requires.few, c.part-constraints.ensures.count);
+    }
 
 pub returns-in_err-rule_count : goal.returns-in_err-rule_count
 unfolding part_lines

@@ -2,7 +2,7 @@ use Rattle.std.proofs.Common.{◌≡◌}
 use Rattle.output.specs.Sink.{fed}
 use Rattle.image.specs.Walk.{lines_ahead}
 use Rattle.decompile.specs.Steps.Walk.{text_of_values}
-use Rattle.decompile.proofs.put_lines.Given as goal
+use Rattle.decompile.proofs.put_text.Given as goal
 
 abbrev pub invariant-loop-line : goal.invariant-loop-line
 invariant-loop-line g l =
