@@ -1,9 +1,8 @@
 -- The events of an epoch that a line names are E0 to E63.
 use Rattle.policy.specs.declared.fault.Refusal.{Refusal}
 use Rattle.policy.specs.Fault.{refusal}
-use Rattle.std.specs.Prelude.{Result, Ok, Err}
+use Rattle.std.specs.Prelude.{Result, Ok, Err, Option, Some, None}
 use Rattle.std.proofs.Common.{ℕ, Bool, true, false, not, cond, List, [], ◌∷◌, ◌≡◌, subst, lit<, length, fold}
-use Rattle.std.proofs.Math.Option.{Option, none, some}
 use Rattle.std.proofs.Math.Dec.{ltb, eqb}
 use Rattle.policy.proofs.SetLaws.{insert_limit}
 use Rattle.policy.specs.Epoch.{InAlphabet}
@@ -37,8 +36,8 @@ inside line = go (ltb epoch_limit (length line)) (any (eqb 10) line) (items_of (
     go : (a b : Bool) (o : Option (List Item)) → Inside (cond a (Err (refusal Fault.TooLong 0)) (cond b (Err (refusal Fault.EpochSyntax 0)) (judge_epoch o)))
     go true b o = tt
     go false true o = tt
-    go false false none = tt
-    go false false (some is) = judged (all item_in_range is) (repeats (given_by is)) is
+    go false false None = tt
+    go false false (Some is) = judged (all item_in_range is) (repeats (given_by is)) is
 
 pub line_inside : (line : List ℕ) (e : Epoch) → read_epoch line ≡ Ok e → InAlphabet e
 line_inside line e q = subst Inside q (inside line)

@@ -1,11 +1,14 @@
 -- Of a text over its length 32,769 bytes are enough: a program need not hold more to read it, alone or with another.
 use Rattle.std.proofs.Common.{ℕ, ◌<◌, Bool, true, false, List, ◌⊎◌, inl, inr, ◌≡◌, refl, sym, ap, ◌∙◌, arith, leb-true, leb-false, lt-ltb, length, take, length-take, take_all}
 use Rattle.std.proofs.Math.Dec.{leb}
-use Rattle.policy.specs.Fault.{refusal}
+use Rattle.std.specs.Prelude.{Result, Ok, Err}
+use Rattle.policy.specs.Fault.{refusal, in_text}
+use Rattle.policy.specs.Result.{result_and_then}
+use Rattle.policy.specs.declared.fault.Refusal.{Refusal}
 use Rattle.policy.specs.Policy.{Policy}
 use Rattle.policy.specs.declared.fault.Fault.{Fault}
 use Rattle.policy.specs.declared.fault.Source.{Source}
-use Rattle.rule_text.specs.Text.{Progress, reading, stopped, empty_policy, read_text_behind, in_text, read_text, read_site, read_texts}
+use Rattle.rule_text.specs.Text.{empty_policy, read_text_behind, read_text, read_texts}
 
 -- what is cut off is cut off a text that is too long
 pub whole_or_long : (text : List ℕ) → (take 32769 text ≡ text) ⊎ (32768 < length text)
@@ -15,7 +18,7 @@ whole_or_long text = go (leb (length text) 32769) refl
     go true e = inl (take_all 32769 text (leb-true (length text) 32769 e))
     go false e = inr (let k = leb-false (length text) 32769 e in omega arith)
 
-pub long_stops : (p : Policy) (text : List ℕ) → 32768 < length text → read_text_behind p text ≡ stopped (refusal Fault.TooLong 0)
+pub long_stops : (p : Policy) (text : List ℕ) → 32768 < length text → read_text_behind p text ≡ Err (refusal Fault.TooLong 0)
 unfolding read_text_behind
 long_stops p text h = rw (lt-ltb 32768 (length text) h)
 
@@ -33,9 +36,9 @@ unfolding read_text
 text_cut text = ap (in_text Source.Maker) (behind_cut empty_policy text)
 
 pub texts_cut : (maker site : List ℕ) → read_texts (take 32769 maker) (take 32769 site) ≡ read_texts maker site
-unfolding read_texts read_site
-texts_cut maker site = ap (λ (s : Progress). read_site s (take 32769 site)) (text_cut maker) ∙ go (read_text maker)
+unfolding read_texts
+texts_cut maker site = rw (text_cut maker) (go (read_text maker))
   where
-    go : (s : Progress) → read_site s (take 32769 site) ≡ read_site s site
-    go (reading n p) = ap (in_text Source.Site) (behind_cut p site)
-    go (stopped r) = refl
+    go : (r : Result Policy Refusal) → result_and_then (λ (p : Policy). in_text Source.Site (read_text_behind p (take 32769 site))) r ≡ result_and_then (λ (p : Policy). in_text Source.Site (read_text_behind p site)) r
+    go (Ok p) = ap (in_text Source.Site) (behind_cut p site)
+    go (Err x) = refl

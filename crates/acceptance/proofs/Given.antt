@@ -1,10 +1,9 @@
 -- The readings of an accepted epoch line: one that it gives has the value that stands there, and no other is given.
 use Rattle.policy.specs.declared.fault.Refusal.{Refusal}
 use Rattle.policy.specs.Fault.{refusal}
-use Rattle.std.specs.Prelude.{Result, Ok, Err}
+use Rattle.std.specs.Prelude.{Result, Ok, Err, Some}
 use Rattle.std.proofs.Common.{ℕ, zero, suc, ◌<◌, Bool, true, false, not, cond, List, [], ◌∷◌, ◌≢◌, ◌≡◌, refl, sym, ap, ◌∙◌, subst, arith, ltb-true, ℤ, length, length-set, slice_get, lt-length-set, get_or-set_same, Some, fold}
 use Rattle.std.proofs.lemmas.Bool.{eqb-false}
-use Rattle.std.proofs.Math.Option.{some}
 use Rattle.std.proofs.Math.Dec.{ltb, eqb}
 use Rattle.std.proofs.Math.ListN.{set}
 use Rattle.std.proofs.lemmas.Option.{slice_get-get_or}
@@ -43,7 +42,7 @@ module _ (n : ℕ) where
   -- items that do not give the reading
   module _ {A : Type 0} (look : Epoch → A) (events : (e : Epoch) (m : ℕ) → look (add_item e (event m)) ≡ look e) (values : (e : Epoch) (m : ℕ) (k : ℤ) → n ≢ m → look (add_item e (value m k)) ≡ look e) where
     kept : (is : List Item) (e : Epoch) → any (eqb n) (given_by is) ≡ false → look (fold add_item e is) ≡ look e
-    unfolding any given_by
+    unfolding given_by
     kept [] e h = refl
     kept (event m ∷ is) e h = kept is (add_item e (event m)) h ∙ events e m
     kept (value m k ∷ is) e h =
@@ -77,7 +76,7 @@ module _ (n : ℕ) where
     Gives e is = reading_value (fold add_item e is).readings this ≡ Some k
 
     gives : (is : List Item) (e : Epoch) → length e.readings.values ≡ reading_limit → all item_in_range is ≡ true → repeats (given_by is) ≡ false → Memᴰ (value n k) is → Gives e is
-    unfolding all given_by repeats
+    unfolding given_by repeats
     gives [] e l r u x4 = elim x4 [ ]
     gives (i ∷ is) e l r u (Memᴰ.head p) = subst (λ (x : Item). all item_in_range (x ∷ is) ≡ true → repeats (given_by (x ∷ is)) ≡ false → Gives e (x ∷ is)) p first r u
       where
@@ -107,7 +106,7 @@ module _ (e : Epoch) where
     pub once : repeats (given_by is) ≡ false
     pub whole : fold add_item empty_epoch is ≡ e
 
-  judged : (is : List Item) → judge_epoch (some is) ≡ Ok e → Read is
+  judged : (is : List Item) → judge_epoch (Some is) ≡ Ok e → Read is
   unfolding judge_epoch
   judged is = go (all item_in_range is) refl (repeats (given_by is)) refl
     where
@@ -117,7 +116,7 @@ module _ (e : Epoch) where
       go true p true q h = absurd (true_false (ap is_accepted h) refl)
       go true p false q h = record { ranges = p; once = q; whole = ap epoch_of h }
 
-  pub items_read_is : (line : List ℕ) (is : List Item) → items_of (tokens_of line) ≡ some is → read_epoch line ≡ Ok e → Read is
+  pub items_read_is : (line : List ℕ) (is : List Item) → items_of (tokens_of line) ≡ Some is → read_epoch line ≡ Ok e → Read is
   unfolding read_epoch
   items_read_is line is some_is = go (ltb epoch_limit (length line)) (any (eqb 10) line)
     where
@@ -126,7 +125,7 @@ module _ (e : Epoch) where
       go false true h = absurd (true_false (ap is_accepted h) refl)
       go false false h = judged is (ap judge_epoch (sym some_is) ∙ h)
 
-  module _ (line : List ℕ) (is : List Item) (shape : items_of (tokens_of line) ≡ some is) (taken : read_epoch line ≡ Ok e) where
+  module _ (line : List ℕ) (is : List Item) (shape : items_of (tokens_of line) ≡ Some is) (taken : read_epoch line ≡ Ok e) where
     read : Read is
     read = items_read_is line is shape taken
 

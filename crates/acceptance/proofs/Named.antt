@@ -1,8 +1,7 @@
 -- The events of an accepted epoch line are those that it names.
-use Rattle.std.specs.Prelude.{Ok}
+use Rattle.std.specs.Prelude.{Ok, Some}
 use Rattle.std.proofs.Common.{ℕ, ◌<◌, Bool, true, false, ◌||◌, List, [], ◌∷◌, ◌≡◌, refl, sym, ap, ◌∙◌, eqb-true, ltb-true, fold}
 use Rattle.std.proofs.lemmas.Bool.{eqb-false}
-use Rattle.std.proofs.Math.Option.{some}
 use Rattle.std.proofs.Math.Dec.{eqb}
 use Rattle.policy.proofs.ListLaws.{and_out}
 use Rattle.policy.proofs.SetLaws.{has_empty, has_insert_same, has_insert_other}
@@ -33,7 +32,7 @@ module _ (n : ℕ) where
 
   names : (is : List Item) (e : Epoch) → all item_in_range is ≡ true
       → has (fold add_item e is).events.bits n ≡ any (eqb n) (named_by is) || has e.events.bits n
-  unfolding all any named_by add_item item_in_range
+  unfolding named_by add_item item_in_range
   names [] e r = refl
   names (event m ∷ is) e r =
       let parts = and_out (item_in_range (event m)) (all item_in_range is) r in
@@ -41,7 +40,7 @@ module _ (n : ℕ) where
   names (value m k ∷ is) e r = names is (add_item e (value m k)) (and_out (item_in_range (value m k)) (all item_in_range is) r).1
 
 -- on an accepted line, an event has occurred exactly if an item of the line names it
-pub line_names : (e : Epoch) (line : List ℕ) (is : List Item) → items_of (tokens_of line) ≡ some is → read_epoch line ≡ Ok e
+pub line_names : (e : Epoch) (line : List ℕ) (is : List Item) → items_of (tokens_of line) ≡ Some is → read_epoch line ≡ Ok e
     → (n : ℕ) → has_event e.events (record { 0 = n }) ≡ any (eqb n) (named_by is)
 line_names e line is shape taken n =
     let r : Read e is = items_read_is e line is shape taken in

@@ -1,7 +1,7 @@
 -- What a line is answered is what it is by what is written there.
-use Rattle.std.proofs.Common.{ℕ, Bool, true, false, not, ◌&&◌, cond, List, [], ◌∷◌, ◌≡◌, refl, sym, ap, ◌∙◌, arith, subst, length, le-ltb, ◌↔◌}
+use Rattle.std.specs.Prelude.{Option, Some, None, Ok, Err}
+use Rattle.std.proofs.Common.{ℕ, Bool, true, false, not, ◌&&◌, cond, List, [], ◌∷◌, ◌≡◌, refl, sym, ap, ◌∙◌, arith, subst, length, ◌↔◌}
 use Rattle.std.proofs.Math.Dec.{ltb}
-use Rattle.std.proofs.Math.Option.{Option, none, some}
 use Rattle.policy.proofs.ListLaws.{true_false}
 use Rattle.policy.specs.Limits.{in_range, crowded, repeated, valid}
 use Rattle.policy.specs.Line.{PolicyLine, heads_of}
@@ -9,50 +9,34 @@ use Rattle.policy.specs.declared.fault.Fault.{Fault}
 use Rattle.lexer.specs.Lines.{tokens_of}
 use Rattle.lexer.specs.Token.{Token}
 use Rattle.syntax.specs.Grammar.{line_from}
-use Rattle.syntax.specs.Judge.{LineAnswer, skipped, refused, accepted, judge_line, tokens_answer, line_answer}
+use Rattle.syntax.specs.Judge.{judge_line, tokens_answer, line_answer}
 use Rattle.acceptance.proofs.Accepted.{accepted_valid}
 use Rattle.acceptance.proofs.Written.{line_in, line_read}
 use Rattle.acceptance.specs.OneLine.{is_skipped, LineSkipped, LineAccepted, LineRefused}
 use Rattle.acceptance.specs.Written.{IsWritten}
 
--- a number for each kind of answer, so that no two are one
-abbrev kind : LineAnswer → ℕ
-kind skipped = 0
-kind (refused f) = 1
-kind (accepted l) = 2
-
-abbrev fault_or : Fault → LineAnswer → Fault
-fault_or g skipped = g
-fault_or g (refused f) = f
-fault_or g (accepted l) = g
-
-abbrev line_or : PolicyLine → LineAnswer → PolicyLine
-line_or m skipped = m
-line_or m (refused f) = m
-line_or m (accepted l) = l
-
 module _ (line : List ℕ) where
   -- what is written is what is read
-  pub written_answer : (l : PolicyLine) → IsWritten line l → line_answer line ≡ judge_line (some l)
+  pub written_answer : (l : PolicyLine) → IsWritten line l → line_answer line ≡ judge_line (Some l)
   unfolding line_answer tokens_answer
   written_answer l w = ap tokens_answer w.tokens ∙ rw w.no_comment (ap judge_line (line_read (w.first ∷ w.others) l w.written))
 
   -- ---- back: from what is written to the answer
 
-  pub skipped_answer : LineSkipped line → line_answer line ≡ skipped
+  pub skipped_answer : LineSkipped line → line_answer line ≡ Ok None
   unfolding line_answer tokens_answer is_skipped
   skipped_answer h = go (tokens_of line) h
     where
-      go : (ts : List Token) → is_skipped ts ≡ true → tokens_answer ts ≡ skipped
+      go : (ts : List Token) → is_skipped ts ≡ true → tokens_answer ts ≡ Ok None
       go [] k = refl
       go (t ∷ ts) k = rw k refl
 
-  pub accepted_answer : (l : PolicyLine) → LineAccepted line l → line_answer line ≡ accepted l
+  pub accepted_answer : (l : PolicyLine) → LineAccepted line l → line_answer line ≡ Ok (Some l)
   unfolding judge_line valid
   accepted_answer l a = written_answer l a.written ∙ go (ltb 0 (length (heads_of l))) (in_range l) (crowded l) (repeated l) a.valid
     where
       go : (x r c d : Bool) → x && r && not c && not d ≡ true
-          → cond (not r) (refused Fault.OutOfRange) (cond c (refused Fault.TooManyParts) (cond d (refused Fault.Duplicate) (accepted l))) ≡ accepted l
+          → cond (not r) (Err Fault.OutOfRange) (cond c (Err Fault.TooManyParts) (cond d (Err Fault.Duplicate) (Ok (Some l)))) ≡ Ok (Some l)
       go true true false false h = refl
       go true true false true h = absurd (true_false h refl)
       go true true true d h = absurd (true_false h refl)
@@ -62,8 +46,8 @@ module _ (line : List ℕ) where
   -- what stands there, where the line is not skipped
   record Read (o : Option PolicyLine) : Type 0 where
     answer : line_answer line ≡ judge_line o
-    written : (l : PolicyLine) → o ≡ some l → IsWritten line l
-    only : (l : PolicyLine) → IsWritten line l → o ≡ some l
+    written : (l : PolicyLine) → o ≡ Some l → IsWritten line l
+    only : (l : PolicyLine) → IsWritten line l → o ≡ Some l
 
   read : is_skipped (tokens_of line) ≡ false → (o : Option PolicyLine) × Read o
   unfolding line_answer tokens_answer is_skipped
@@ -80,13 +64,13 @@ module _ (line : List ℕ) where
         },
       )
 
-  pub refused_answer : (f : Fault) → LineRefused line f → line_answer line ≡ refused f
+  pub refused_answer : (f : Fault) → LineRefused line f → line_answer line ≡ Err f
   unfolding judge_line
   refused_answer f (LineRefused.wrong_shape h missing) = go (read h)
     where
-      go : (o : Option PolicyLine) × Read o → line_answer line ≡ refused Fault.Syntax
-      go (none, r) = r.answer
-      go (some l, r) = absurd (missing l (r.written l refl))
+      go : (o : Option PolicyLine) × Read o → line_answer line ≡ Err Fault.Syntax
+      go (None, r) = r.answer
+      go (Some l, r) = absurd (missing l (r.written l refl))
   refused_answer f (LineRefused.out_of_range l w r) = written_answer l w ∙ rw r refl
   refused_answer f (LineRefused.too_many l w r c) = written_answer l w ∙ rw (r, c) refl
   refused_answer f (LineRefused.twice l w r c d) = written_answer l w ∙ rw (r, c, d) refl
@@ -110,8 +94,8 @@ module _ (line : List ℕ) where
           accepts l (record { written = w; valid = accepted_valid line l (written_answer l w ∙ rw (p, q, s) refl) })
 
       shaped : is_skipped (tokens_of line) ≡ false → (o : Option PolicyLine) × Read o → Kinds
-      shaped h (none, r) = refuses Fault.Syntax (LineRefused.wrong_shape h (λ l w. let n : ◌≡◌ {A = Option PolicyLine} none (some l) = r.only l w in let z : ◌≡◌ {A = ℕ} 0 1 = cc in omega arith))
-      shaped h (some l, r) = of_line l (r.written l refl) (in_range l) (crowded l) (repeated l) refl refl refl
+      shaped h (None, r) = refuses Fault.Syntax (LineRefused.wrong_shape h (λ l w. let n : ◌≡◌ {A = Option PolicyLine} None (Some l) = r.only l w in let z : ◌≡◌ {A = ℕ} 0 1 = cc in omega arith))
+      shaped h (Some l, r) = of_line l (r.written l refl) (in_range l) (crowded l) (repeated l) refl refl refl
 
       go : (b : Bool) → is_skipped (tokens_of line) ≡ b → Kinds
       go true h = skips h
@@ -119,29 +103,26 @@ module _ (line : List ℕ) where
 
   -- ---- exactly
 
-  differ : {A : Type 0} (a b : LineAnswer) → line_answer line ≡ a → line_answer line ≡ b → ltb (kind a) (kind b) ≡ true → A
-  differ a b e h k = absurd (true_false k (rw (sym e ∙ h) (le-ltb (kind b) (kind b) (omega arith))))
-
-  pub line_refused_exactly : (f : Fault) → (line_answer line ≡ refused f) ↔ LineRefused line f
+  pub line_refused_exactly : (f : Fault) → (line_answer line ≡ Err f) ↔ LineRefused line f
   line_refused_exactly f = (λ h. go kinds h, refused_answer f)
     where
-      go : Kinds → line_answer line ≡ refused f → LineRefused line f
-      go (skips s) h = differ skipped (refused f) (skipped_answer s) h refl
-      go (accepts l a) h = differ (refused f) (accepted l) h (accepted_answer l a) refl
-      go (refuses g r) h = subst (LineRefused line) (ap (fault_or f) (sym (refused_answer g r) ∙ h)) r
+      go : Kinds → line_answer line ≡ Err f → LineRefused line f
+      go (skips s) h = let k = skipped_answer s in let z : ⊥ = cc in absurd z
+      go (accepts l a) h = let k = accepted_answer l a in let z : ⊥ = cc in absurd z
+      go (refuses g r) h = let k = refused_answer g r in let i : g ≡ f = cc in subst (LineRefused line) i r
 
-  pub line_accepted_exactly : (l : PolicyLine) → (line_answer line ≡ accepted l) ↔ LineAccepted line l
+  pub line_accepted_exactly : (l : PolicyLine) → (line_answer line ≡ Ok (Some l)) ↔ LineAccepted line l
   line_accepted_exactly l = (λ h. go kinds h, accepted_answer l)
     where
-      go : Kinds → line_answer line ≡ accepted l → LineAccepted line l
-      go (skips s) h = differ skipped (accepted l) (skipped_answer s) h refl
-      go (accepts m a) h = subst (LineAccepted line) (ap (line_or l) (sym (accepted_answer m a) ∙ h)) a
-      go (refuses f r) h = differ (refused f) (accepted l) (refused_answer f r) h refl
+      go : Kinds → line_answer line ≡ Ok (Some l) → LineAccepted line l
+      go (skips s) h = let k = skipped_answer s in let z : ⊥ = cc in absurd z
+      go (accepts m a) h = let k = accepted_answer m a in let i : m ≡ l = cc in subst (LineAccepted line) i a
+      go (refuses f r) h = let k = refused_answer f r in let z : ⊥ = cc in absurd z
 
-  pub line_skipped_exactly : (line_answer line ≡ skipped) ↔ LineSkipped line
+  pub line_skipped_exactly : (line_answer line ≡ Ok None) ↔ LineSkipped line
   line_skipped_exactly = (λ h. go kinds h, skipped_answer)
     where
-      go : Kinds → line_answer line ≡ skipped → LineSkipped line
+      go : Kinds → line_answer line ≡ Ok None → LineSkipped line
       go (skips s) h = s
-      go (accepts l a) h = differ skipped (accepted l) h (accepted_answer l a) refl
-      go (refuses f r) h = differ skipped (refused f) h (refused_answer f r) refl
+      go (accepts l a) h = let k = accepted_answer l a in let z : ⊥ = cc in absurd z
+      go (refuses f r) h = let k = refused_answer f r in let z : ⊥ = cc in absurd z

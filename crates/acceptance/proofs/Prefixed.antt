@@ -1,12 +1,11 @@
 -- Tokens that begin with `0x`: in a line of a text they stand only on the right-hand side of a comparison, in an epoch line only as a value. So a line that
 -- has one with no digits, or with another byte behind it, has a wrong shape, and one with more than eight digits a constant out of range.
 use Rattle.policy.specs.Fault.{refusal}
-use Rattle.std.specs.Prelude.{Err}
+use Rattle.std.specs.Prelude.{Err, Option, Some, None, option_map}
 use Rattle.std.proofs.Common.{ℕ, ◌≤◌, ◌<◌, Bool, true, false, cond, List, [], ◌∷◌, ◌++◌, ◌⊎◌, inl, inr, ◌≡◌, refl, sym, ap, ◌∙◌, arith, subst, eqb-true, length}
 use mathlib.Core.List.{Memᴰ}
 use Rattle.std.proofs.Math.Bool.{and-false}
 use Rattle.std.proofs.Math.Dec.{eqb, ltb}
-use Rattle.std.proofs.Math.Option.{Option, none, some, map, or_else}
 use Rattle.policy.proofs.ListLaws.{true_false, not_true_is, all_out}
 use Rattle.policy.specs.Limits.{in_range, test_number, comparison_in_range}
 use Rattle.policy.specs.Line.{PolicyLine, rule, constraint, heads_of, comparisons_of}
@@ -23,8 +22,8 @@ use Rattle.lexer.specs.Byte.{bytes, bytes_equal, is, is_digit, is_hex_digit}
 use Rattle.lexer.specs.Lines.{tokens_of}
 use Rattle.lexer.specs.Number.{number_of, pattern_digits, constant_of}
 use Rattle.lexer.specs.Token.{Token, named, both, literal_of, action_of, reading_of, relation_of, operand_of, comparison_by, comparison_of}
-use Rattle.syntax.specs.Judge.{refused, line_answer}
-use Rattle.epoch_line.specs.Epoch.{Item, Halves, event, value, to_left, at_equals, assignment_of, item_of, items_of, item_in_range, epoch_limit, read_epoch}
+use Rattle.syntax.specs.Judge.{line_answer}
+use Rattle.epoch_line.specs.Epoch.{Item, Halves, value, with_left, at_equals, assignment_of, item_of, items_of, item_in_range, epoch_limit, read_epoch}
 use Rattle.acceptance.proofs.FirstFault.{epoch_refused_exactly}
 use Rattle.acceptance.proofs.OneLine.{refused_answer}
 use Rattle.acceptance.proofs.Patterns.{bare_prefix, other_byte, wide_comparison, wide_value}
@@ -33,7 +32,7 @@ use Rattle.acceptance.specs.OneLine.{is_skipped, LineRefused}
 use Rattle.acceptance.specs.Patterns.{prefixed}
 use Rattle.acceptance.specs.Written.{AreJoined, AreComparisons, AreCondition, IsRule, IsConstraint, IsLine, IsWritten}
 
-none_some : {A B : Type 0} {x : A} → ◌≡◌ {A = Option A} none (some x) → B
+none_some : {A B : Type 0} {x : A} → ◌≡◌ {A = Option A} None (Some x) → B
 none_some e = let w : ◌≡◌ {A = ℕ} 0 1 = cc in absurd (omega arith)
 
 split : {A : Type 0} (x : A) (xs ys : List A) → Memᴰ x (xs ++ ys) → Memᴰ x xs ⊎ Memᴰ x ys
@@ -41,14 +40,14 @@ split x [] ys m = inr m
 split x (y ∷ xs) ys (Memᴰ.head e) = inl (Memᴰ.head e)
 split x (y ∷ xs) ys (Memᴰ.tail m) = elim (split x xs ys m) [ inl h ↦ inl (Memᴰ.tail h) | inr h ↦ inr h ]
 
-broken : (ds : List ℕ) → (ds ≡ []) ⊎ (all is_hex_digit ds ≡ false) → constant_of (prefixed ds) ≡ none
+broken : (ds : List ℕ) → (ds ≡ []) ⊎ (all is_hex_digit ds ≡ false) → constant_of (prefixed ds) ≡ None
 broken ds (inl e) = ap (λ (s : List ℕ). constant_of (prefixed s)) e ∙ bare_prefix
 broken ds (inr e) = other_byte ds e
 
 -- ---- lines of a text
 
 -- what is no item and no `&` is nowhere among items
-module _ {A : Type 0} (item : Token → Option A) (t : Token) (no_item : item t ≡ none) (no_and : is "&" t ≡ false) where
+module _ {A : Type 0} (item : Token → Option A) (t : Token) (no_item : item t ≡ None) (no_and : is "&" t ≡ false) where
   not_joined : (ts : List Token) (xs : List A) → AreJoined item ts xs → Memᴰ t ts → ⊥
   unfolding AreJoined
   not_joined [] xs h m = h
@@ -71,19 +70,19 @@ module _ (ds : List ℕ) where
     among : Memᴰ comparison cs
     reading : Token
     relation : Token
-    here : comparison_of reading relation token ≡ some comparison
+    here : comparison_of reading relation token ≡ Some comparison
 
-  not_first : (q o : Token) (c : Comparison) → comparison_of token q o ≡ some c → ⊥
+  not_first : (q o : Token) (c : Comparison) → comparison_of token q o ≡ Some c → ⊥
   unfolding comparison_of reading_of named bytes
   not_first q o c h = none_some h
 
-  not_second : (r o : Token) (c : Comparison) → comparison_of r token o ≡ some c → ⊥
+  not_second : (r o : Token) (c : Comparison) → comparison_of r token o ≡ Some c → ⊥
   unfolding comparison_of relation_of is bytes bytes_equal
   not_second r o c h = go (reading_of r) (operand_of o) h
     where
-      go : (a : Option Reading) (b : Option Operand) → comparison_by a none b ≡ some c → ⊥
-      go none b k = none_some k
-      go (some x) b k = none_some k
+      go : (a : Option Reading) (b : Option Operand) → comparison_by a None b ≡ Some c → ⊥
+      go None b k = none_some k
+      go (Some x) b k = none_some k
 
   in_comparisons : (ts : List Token) (cs : List Comparison) → AreComparisons ts cs → Memᴰ token ts → Stands cs
   unfolding AreComparisons is bytes bytes_equal
@@ -143,22 +142,22 @@ module _ (ds : List ℕ) where
     stands : (l : PolicyLine) → IsWritten line l → Stands (comparisons_of l)
     stands l w = in_line (w.first ∷ w.others) l w.written (subst (Memᴰ token) w.tokens m)
 
-    pub bare_prefix_refused : (ds ≡ []) ⊎ (all is_hex_digit ds ≡ false) → is_skipped (tokens_of line) ≡ false → line_answer line ≡ refused Fault.Syntax
-    unfolding operand_of reading_of named or_else bytes comparison_of
+    pub bare_prefix_refused : (ds ≡ []) ⊎ (all is_hex_digit ds ≡ false) → is_skipped (tokens_of line) ≡ false → line_answer line ≡ Err Fault.Syntax
+    unfolding operand_of reading_of named bytes comparison_of
     bare_prefix_refused b h = refused_answer line Fault.Syntax (LineRefused.wrong_shape h (λ l w. nowhere (stands l w)))
       where
-        no_operand : operand_of token ≡ none
-        no_operand = ap (map Operand.Constant) (broken ds b)
+        no_operand : operand_of token ≡ None
+        no_operand = ap (option_map Operand.Constant) (broken ds b)
 
         nowhere : {cs : List Comparison} → Stands cs → ⊥
         nowhere s = go (reading_of s.reading) (relation_of s.relation) (sym (ap (comparison_by (reading_of s.reading) (relation_of s.relation)) no_operand) ∙ s.here)
           where
-            go : (x : Option Reading) (y : Option Relation) → comparison_by x y none ≡ some s.comparison → ⊥
-            go none y k = none_some k
-            go (some x) none k = none_some k
-            go (some x) (some y) k = none_some k
+            go : (x : Option Reading) (y : Option Relation) → comparison_by x y None ≡ Some s.comparison → ⊥
+            go None y k = none_some k
+            go (Some x) None k = none_some k
+            go (Some x) (Some y) k = none_some k
 
-    pub wide_token_refused : all is_hex_digit ds ≡ true → pattern_digits < length ds → (l : PolicyLine) → IsWritten line l → line_answer line ≡ refused Fault.OutOfRange
+    pub wide_token_refused : all is_hex_digit ds ≡ true → pattern_digits < length ds → (l : PolicyLine) → IsWritten line l → line_answer line ≡ Err Fault.OutOfRange
     unfolding in_range
     wide_token_refused h k l w = refused_answer line Fault.OutOfRange (LineRefused.out_of_range l w (out (stands l w)))
       where
@@ -169,49 +168,49 @@ module _ (ds : List ℕ) where
 
 -- ---- epoch lines
 
-digits_none : (s : List ℕ) (h : Halves) → at_equals s ≡ some h → all is_digit s ≡ false
-unfolding at_equals to_left all
+digits_none : (s : List ℕ) (h : Halves) → at_equals s ≡ Some h → all is_digit s ≡ false
+unfolding at_equals
 digits_none [] h e = none_some e
 digits_none (b ∷ s) h e = go (eqb b 61) refl (at_equals s) refl (digits_none s) e
   where
-    go : (x : Bool) → eqb b 61 ≡ x → (o : Option Halves) → at_equals s ≡ o → ((g : Halves) → at_equals s ≡ some g → all is_digit s ≡ false) → cond x (some (record { left = []; right = s })) (to_left b o) ≡ some h → all is_digit (b ∷ s) ≡ false
+    go : (x : Bool) → eqb b 61 ≡ x → (o : Option Halves) → at_equals s ≡ o → ((g : Halves) → at_equals s ≡ Some g → all is_digit s ≡ false) → cond x (Some (record { left = []; right = s })) (option_map (with_left b) o) ≡ Some h → all is_digit (b ∷ s) ≡ false
     go true p o q later k = rw (eqb-true b 61 p) refl
-    go false p none q later k = none_some k
-    go false p (some g) q later k = rw (later g q) (and-false (is_digit b))
+    go false p None q later k = none_some k
+    go false p (Some g) q later k = rw (later g q) (and-false (is_digit b))
 
 -- a token with a `=` names no event
-unnamed : (t : Token) (h : Halves) → at_equals t ≡ some h → named 69 t ≡ none
-unfolding named at_equals to_left number_of
+unnamed : (t : Token) (h : Halves) → at_equals t ≡ Some h → named 69 t ≡ None
+unfolding named at_equals number_of
 unnamed [] h e = refl
 unnamed (b ∷ s) h e = go (eqb b 69) refl
   where
-    no_number : (s : List ℕ) → all is_digit s ≡ false → number_of s ≡ none
+    no_number : (s : List ℕ) → all is_digit s ≡ false → number_of s ≡ None
     no_number [] k = refl
     no_number (d ∷ ds) k = rw k refl
 
-    behind : (o : Option Halves) → at_equals s ≡ o → to_left b o ≡ some h → number_of s ≡ none
-    behind none q k = none_some k
-    behind (some g) q k = no_number s (digits_none s g q)
+    behind : (o : Option Halves) → at_equals s ≡ o → option_map (with_left b) o ≡ Some h → number_of s ≡ None
+    behind None q k = none_some k
+    behind (Some g) q k = no_number s (digits_none s g q)
 
-    go : (x : Bool) → eqb b 69 ≡ x → cond x (number_of s) none ≡ none
+    go : (x : Bool) → eqb b 69 ≡ x → cond x (number_of s) None ≡ None
     go true p = behind (at_equals s) refl (sym (rw (eqb-true b 69 p) refl) ∙ e)
     go false p = refl
 
-module _ (t : Token) (left ds : List ℕ) (halves : at_equals t ≡ some (record { left = left; right = prefixed ds })) where
-  item_is : item_of t ≡ assignment_of (some (record { left = left; right = prefixed ds }))
-  unfolding item_of or_else
+module _ (t : Token) (left ds : List ℕ) (halves : at_equals t ≡ Some (record { left = left; right = prefixed ds })) where
+  item_is : item_of t ≡ assignment_of (Some (record { left = left; right = prefixed ds }))
+  unfolding item_of
   item_is = rw (unnamed t (record { left = left; right = prefixed ds }) halves, halves) refl
 
-  item_there : (ts : List Token) (is : List Item) → items_of ts ≡ some is → Memᴰ t ts → (i : Item) × Memᴰ i is × (item_of t ≡ some i)
+  item_there : (ts : List Token) (is : List Item) → items_of ts ≡ Some is → Memᴰ t ts → (i : Item) × Memᴰ i is × (item_of t ≡ Some i)
   unfolding items_of both
   item_there [] is e m = elim m [ ]
   item_there (s ∷ ts) is e m = go (item_of s) refl (items_of ts) refl (item_there ts) e m
     where
-      go : (o : Option Item) → item_of s ≡ o → (p : Option (List Item)) → items_of ts ≡ p → ((js : List Item) → items_of ts ≡ some js → Memᴰ t ts → (i : Item) × Memᴰ i js × (item_of t ≡ some i)) → both ◌∷◌ o p ≡ some is → Memᴰ t (s ∷ ts) → (i : Item) × Memᴰ i is × (item_of t ≡ some i)
-      go none q p f later k m = none_some k
-      go (some i) q none f later k m = none_some k
-      go (some i) q (some js) f later k (Memᴰ.head h) = let same : i ∷ js ≡ is = cc in (i, subst (Memᴰ i) same (Memᴰ.head refl), ap item_of h ∙ q)
-      go (some i) q (some js) f later k (Memᴰ.tail h) =
+      go : (o : Option Item) → item_of s ≡ o → (p : Option (List Item)) → items_of ts ≡ p → ((js : List Item) → items_of ts ≡ Some js → Memᴰ t ts → (i : Item) × Memᴰ i js × (item_of t ≡ Some i)) → both ◌∷◌ o p ≡ Some is → Memᴰ t (s ∷ ts) → (i : Item) × Memᴰ i is × (item_of t ≡ Some i)
+      go None q p f later k m = none_some k
+      go (Some i) q None f later k m = none_some k
+      go (Some i) q (Some js) f later k (Memᴰ.head h) = let same : i ∷ js ≡ is = cc in (i, subst (Memᴰ i) same (Memᴰ.head refl), ap item_of h ∙ q)
+      go (Some i) q (Some js) f later k (Memᴰ.tail h) =
           let same : i ∷ js ≡ is = cc in
           let r = later js f h in
           (r.0, subst (Memᴰ r.0) same (Memᴰ.tail r.1), r.2)
@@ -221,18 +220,18 @@ module _ (t : Token) (left ds : List ℕ) (halves : at_equals t ≡ some (record
     unfolding assignment_of both
     epoch_bare_prefix_refused b = (epoch_refused_exactly line (refusal Fault.EpochSyntax 0)).1 (EpochFault.wrong_shape short (inr (go (items_of (tokens_of line)) refl)))
       where
-        no_item : item_of t ≡ none
+        no_item : item_of t ≡ None
         no_item = item_is ∙ ap (both value (named 82 left)) (broken ds b) ∙ none_of (named 82 left)
           where
-            none_of : (o : Option ℕ) → both value o none ≡ none
-            none_of none = refl
-            none_of (some n) = refl
+            none_of : (o : Option ℕ) → both value o None ≡ None
+            none_of None = refl
+            none_of (Some n) = refl
 
-        go : (o : Option (List Item)) → items_of (tokens_of line) ≡ o → items_of (tokens_of line) ≡ none
-        go none e = e
-        go (some is) e = none_some (sym no_item ∙ (item_there (tokens_of line) is e m).2)
+        go : (o : Option (List Item)) → items_of (tokens_of line) ≡ o → items_of (tokens_of line) ≡ None
+        go None e = e
+        go (Some is) e = none_some (sym no_item ∙ (item_there (tokens_of line) is e m).2)
 
-    pub epoch_wide_constant_refused : all is_hex_digit ds ≡ true → pattern_digits < length ds → any (eqb 10) line ≡ false → (is : List Item) → items_of (tokens_of line) ≡ some is
+    pub epoch_wide_constant_refused : all is_hex_digit ds ≡ true → pattern_digits < length ds → any (eqb 10) line ≡ false → (is : List Item) → items_of (tokens_of line) ≡ Some is
         → read_epoch line ≡ Err (refusal Fault.EpochRange 0)
     epoch_wide_constant_refused h k no_end is e =
         let r = item_there (tokens_of line) is e m in

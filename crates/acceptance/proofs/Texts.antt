@@ -1,146 +1,98 @@
 -- Two texts as one: their policy, and a single text as a case.
-use Rattle.std.proofs.Common.{ℕ, suc, ◌+◌, ◌≤◌, ◌<◌, Bool, true, false, cond, List, [], ◌∷◌, ◌++◌, append_assoc, append-nil, ◌≡◌, refl, sym, ap, ap₂, ◌∙◌, arith, lt-ltb, ltb-true, length, length-append, fold}
-use Rattle.std.proofs.Math.Option.{some}
-use Rattle.std.proofs.Math.Dec.{ltb}
-use Rattle.policy.specs.Fault.{refusal}
-use Rattle.policy.specs.Limits.{rule_limit, constraint_limit}
-use Rattle.policy.specs.Line.{rule, constraint}
+use Rattle.std.specs.Prelude.{Some, Result, Ok, Err}
+use Rattle.std.specs.Result.{result_ok}
+use Rattle.std.proofs.Common.{ℕ, suc, ◌+◌, ◌≤◌, true, List, [], ◌∷◌, ◌++◌, append_assoc, append-nil, ◌≡◌, refl, sym, ap, ap₂, ◌∙◌, arith, lt-ltb, ltb-true, le-ltb, length, length-append}
+use Rattle.policy.proofs.ResultLaws.{and_then_ok, in_text_ok, known}
+use Rattle.policy.specs.Fault.{in_text}
+use Rattle.policy.specs.Limits.{line_limit}
+use Rattle.policy.specs.Line.{PolicyLine, rule, constraint, line_part, line_count}
 use Rattle.policy.specs.Policy.{Policy, Rule, Constraint}
-use Rattle.policy.specs.declared.fault.Fault.{Fault}
+use Rattle.policy.specs.Result.{result_and_then}
 use Rattle.policy.specs.declared.fault.Refusal.{Refusal}
 use Rattle.policy.specs.declared.fault.Source.{Source}
+use Rattle.policy.specs.declared.line.Part.{Part}
 use Rattle.lexer.specs.Lines.{pieces, lines_of}
-use Rattle.syntax.specs.Judge.{LineAnswer, skipped, refused, accepted, line_answer}
-use Rattle.rule_text.specs.Answer.{text_read_of, text_read, texts_read}
-use Rattle.rule_text.specs.Text.{Progress, reading, stopped, with_rule, with_constraint, advance, read_next_line, empty_policy, text_limit, read_text_behind, in_text, read_text, read_site, read_texts, policy_read, policy_of, policy_of_texts}
+use Rattle.rule_text.proofs.ReadLaws.{LineRead, line_reads, read_skipped, read_added, first_read, lines_read, behind_read, count_more, count_kept}
+use Rattle.rule_text.specs.Answer.{counted, text_read, texts_read}
+use Rattle.rule_text.specs.Text.{has_room, with_line, read_line, read_lines, empty_policy, text_limit, read_text_behind, read_text, read_texts, policy_of, policy_of_texts}
 use Rattle.acceptance.proofs.Accepted.{texts_acceptable}
 use Rattle.acceptance.specs.Texts.{joint, Joint}
 
-stays : (r : Refusal) (ls : List (List ℕ)) → fold read_next_line (stopped r) ls ≡ stopped r
-unfolding read_next_line
-stays r [] = refl
-stays r (l ∷ ls) = stays r ls
-
-no_reading : (r : Refusal) (ls : List (List ℕ)) (m : ℕ) (p : Policy) → fold read_next_line (stopped r) ls ≡ reading m p → ⊥
-no_reading r ls m p e =
-    let k : stopped r ≡ reading m p = sym (stays r ls) ∙ e in
-    let w : ◌≡◌ {A = ℕ} 0 1 = cc in
-    omega arith
-
 -- ---- lines read behind a policy a and b are those read behind b alone, with a before them
 
-with_rule_is : (a b : Policy) (r : Rule) → with_rule (joint a b) r ≡ joint a (with_rule b r)
-with_rule_is a b r = ap (λ (x : List Rule). record { rules = x; constraints = a.constraints ++ b.constraints }) (append_assoc a.rules b.rules (r ∷ []))
+joint_count : (a b : Policy) (part : Part) → line_count (joint a b) part ≡ line_count a part + line_count b part
+joint_count a b Part.Rules = length-append a.rules b.rules
+joint_count a b Part.Constraints = length-append a.constraints b.constraints
 
-with_constraint_is : (a b : Policy) (c : Constraint) → with_constraint (joint a b) c ≡ joint a (with_constraint b c)
-with_constraint_is a b c = ap (λ (x : List Constraint). record { rules = a.rules ++ b.rules; constraints = x }) (append_assoc a.constraints b.constraints (c ∷ []))
+joint_line : (a b : Policy) (l : PolicyLine) → with_line (joint a b) l ≡ joint a (with_line b l)
+unfolding with_line
+joint_line a b (rule r) = ap (λ (x : List Rule). record { rules = x; constraints = a.constraints ++ b.constraints }) (append_assoc a.rules b.rules (r ∷ []))
+joint_line a b (constraint c) = ap (λ (x : List Constraint). record { rules = a.rules ++ b.rules; constraints = x }) (append_assoc a.constraints b.constraints (c ∷ []))
 
-less_room : {A : Type 0} (xs ys : List A) (limit : ℕ) → ltb (length (xs ++ ys)) limit ≡ true → ltb (length ys) limit ≡ true
-less_room xs ys limit e = lt-ltb (length ys) limit (omega (arith, ltb-true (length (xs ++ ys)) limit e, length-append xs ys))
+module _ (a : Policy) where
+  -- one line
+  line_apart : (b q : Policy) (line : List ℕ) → read_line (joint a b) line ≡ Ok q → (c : Policy) × (read_line b line ≡ Ok c) × (q ≡ joint a c)
+  line_apart b q line e = go (line_reads (joint a b) line)
+    where
+      go : LineRead (joint a b) line → (c : Policy) × (read_line b line ≡ Ok c) × (q ≡ joint a c)
+      go (LineRead.skips s r) = (b, read_skipped b line s, cc)
+      go (LineRead.fails f s r) = let z : ⊥ = cc in absurd z
+      go (LineRead.adds l s h r) =
+          let part : Part = line_part l in
+          let room : has_room b l ≡ true = lt-ltb _ _ (omega (arith, ltb-true _ _ h, joint_count a b part)) in
+          let i = joint_line a b l in
+          (with_line b l, read_added b line l s room, cc)
+      go (LineRead.is_over l s h r) = let z : ⊥ = cc in absurd z
 
-record Apart (a : Policy) (ls : List (List ℕ)) (n m : ℕ) (b q : Policy) : Type 0 where
-  policy : Policy
-  read : fold read_next_line (reading n b) ls ≡ reading m policy
-  same : q ≡ joint a policy
+  line_joint : (b c d : Policy) (line : List ℕ) → ((part : Part) → line_count c part ≤ line_count d part) → ((part : Part) → line_count a part + line_count d part ≤ line_limit part)
+      → read_line b line ≡ Ok c → read_line (joint a b) line ≡ Ok (joint a c)
+  line_joint b c d line grown few e = go (line_reads b line)
+    where
+      go : LineRead b line → read_line (joint a b) line ≡ Ok (joint a c)
+      go (LineRead.skips s r) = let i : b ≡ c = cc in read_skipped (joint a b) line s ∙ ap (λ (x : Policy). Ok (joint a x)) i
+      go (LineRead.fails f s r) = let z : ⊥ = cc in absurd z
+      go (LineRead.adds l s h r) =
+          let part : Part = line_part l in
+          let i : with_line b l ≡ c = cc in
+          let k : line_count c part ≡ suc (line_count b part) = ap (λ (x : Policy). line_count x part) (sym i) ∙ count_more b l in
+          let room : has_room (joint a b) l ≡ true = lt-ltb _ _ (omega (arith, joint_count a b part, grown part, few part)) in
+          read_added (joint a b) line l s room ∙ ap Ok (joint_line a b l ∙ ap (joint a) i)
+      go (LineRead.is_over l s h r) = let z : ⊥ = cc in absurd z
 
-abbrev Parting : Policy → List (List ℕ) → Type 0
-Parting a ls = (n m : ℕ) (b q : Policy) → fold read_next_line (reading n (joint a b)) ls ≡ reading m q → Apart a ls n m b q
+  -- all of them
+  lines_apart : (ls : List (List ℕ)) (n : ℕ) (b q : Policy) → read_lines n (joint a b) ls ≡ Ok q → (c : Policy) × (read_lines n b ls ≡ Ok c) × (q ≡ joint a c)
+  unfolding read_lines
+  lines_apart [] n b q e = (b, refl, cc)
+  lines_apart (l ∷ ls) n b q e =
+      let k = lines_read n (joint a b) l ls q e in
+      let here = line_apart b k.0 l k.1 in
+      let later = lines_apart ls (suc n) here.0 q (sym (ap (λ (x : Policy). read_lines (suc n) x ls) here.2) ∙ k.2) in
+      (later.0, first_read n b l ls here.0 here.1 ∙ later.1, later.2)
 
-parts : (a : Policy) (ls : List (List ℕ)) → Parting a ls
-unfolding read_next_line advance
-parts a [] n m b q e = let i : n ≡ m = cc in let s : joint a b ≡ q = cc in record { policy = b; read = ap (λ (k : ℕ). reading k b) i; same = sym s }
-parts a (l ∷ ls) n m b q e = go (line_answer l) refl (parts a ls) e
+-- no line is lost
+line_grows : (p q : Policy) (line : List ℕ) → read_line p line ≡ Ok q → (part : Part) → line_count p part ≤ line_count q part
+line_grows p q line e part = go (line_reads p line)
   where
-    made : (x : LineAnswer) → line_answer l ≡ x → (d : Policy) → fold read_next_line (advance n b x) ls ≡ reading m d → fold read_next_line (advance n b (line_answer l)) ls ≡ reading m d
-    made x k d h = ap (λ (y : LineAnswer). fold read_next_line (advance n b y) ls) k ∙ h
+    go : LineRead p line → line_count p part ≤ line_count q part
+    go (LineRead.skips s r) = let i : p ≡ q = cc in rw i (omega arith)
+    go (LineRead.fails f s r) = let z : ⊥ = cc in absurd z
+    go (LineRead.adds l s h r) = let i : with_line p l ≡ q = cc in rw (← i) (count_kept p l part)
+    go (LineRead.is_over l s h r) = let z : ⊥ = cc in absurd z
 
-    go : (x : LineAnswer) → line_answer l ≡ x → Parting a ls → fold read_next_line (advance n (joint a b) x) ls ≡ reading m q → Apart a (l ∷ ls) n m b q
-    go skipped k later h = let p = later (suc n) m b q h in record { policy = p.policy; read = made skipped k p.policy p.read; same = p.same }
-    go (refused f) k later h = absurd (no_reading (refusal f n) ls m q h)
-    go (accepted (rule r)) k later h = room (ltb (length (a.rules ++ b.rules)) rule_limit) refl h
-      where
-        room : (t : Bool) → ltb (length (a.rules ++ b.rules)) rule_limit ≡ t → fold read_next_line (cond t (reading (suc n) (with_rule (joint a b) r)) (stopped (refusal Fault.TooManyLines n))) ls ≡ reading m q → Apart a (l ∷ ls) n m b q
-        room true u v =
-            let p = later (suc n) m (with_rule b r) q (sym (ap (λ (x : Policy). fold read_next_line (reading (suc n) x) ls) (with_rule_is a b r)) ∙ v) in
-            record {
-              policy = p.policy;
-              read = made (accepted (rule r)) k p.policy (rw (less_room a.rules b.rules rule_limit u) p.read);
-              same = p.same;
-            }
-        room false u v = absurd (no_reading (refusal Fault.TooManyLines n) ls m q v)
-    go (accepted (constraint c)) k later h = room (ltb (length (a.constraints ++ b.constraints)) constraint_limit) refl h
-      where
-        room : (t : Bool) → ltb (length (a.constraints ++ b.constraints)) constraint_limit ≡ t → fold read_next_line (cond t (reading (suc n) (with_constraint (joint a b) c)) (stopped (refusal Fault.TooManyLines n))) ls ≡ reading m q → Apart a (l ∷ ls) n m b q
-        room true u v =
-            let p = later (suc n) m (with_constraint b c) q (sym (ap (λ (x : Policy). fold read_next_line (reading (suc n) x) ls) (with_constraint_is a b c)) ∙ v) in
-            record {
-              policy = p.policy;
-              read = made (accepted (constraint c)) k p.policy (rw (less_room a.constraints b.constraints constraint_limit u) p.read);
-              same = p.same;
-            }
-        room false u v = absurd (no_reading (refusal Fault.TooManyLines n) ls m q v)
+grows : (ls : List (List ℕ)) (n : ℕ) (p q : Policy) → read_lines n p ls ≡ Ok q → (part : Part) → line_count p part ≤ line_count q part
+unfolding read_lines
+grows [] n p q e part = let i : p ≡ q = cc in rw i (omega arith)
+grows (l ∷ ls) n p q e part =
+    let k = lines_read n p l ls q e in
+    omega (arith, line_grows p k.0 l k.1 part, grows ls (suc n) k.0 q k.2 part)
 
--- ---- and the other way round, where there is room for all
-
-record Grows (p q : Policy) : Type 0 where
-  rules : length p.rules ≤ length q.rules
-  constraints : length p.constraints ≤ length q.constraints
-
-abbrev Growing : List (List ℕ) → Type 0
-Growing ls = (n m : ℕ) (p q : Policy) → fold read_next_line (reading n p) ls ≡ reading m q → Grows p q
-
-grows : (ls : List (List ℕ)) → Growing ls
-unfolding read_next_line advance
-grows [] n m p q e = let s : p ≡ q = cc in rw s (record { rules = omega arith; constraints = omega arith })
-grows (l ∷ ls) n m p q e = go (line_answer l) (grows ls) e
-  where
-    go : (x : LineAnswer) → Growing ls → fold read_next_line (advance n p x) ls ≡ reading m q → Grows p q
-    go skipped later h = later (suc n) m p q h
-    go (refused f) later h = absurd (no_reading (refusal f n) ls m q h)
-    go (accepted (rule r)) later h = room (ltb (length p.rules) rule_limit) h
-      where
-        room : (t : Bool) → fold read_next_line (cond t (reading (suc n) (with_rule p r)) (stopped (refusal Fault.TooManyLines n))) ls ≡ reading m q → Grows p q
-        room true v = let g = later (suc n) m (with_rule p r) q v in record { rules = omega (arith, g.rules, length-append p.rules (r ∷ [])); constraints = g.constraints }
-        room false v = absurd (no_reading (refusal Fault.TooManyLines n) ls m q v)
-    go (accepted (constraint c)) later h = room (ltb (length p.constraints) constraint_limit) h
-      where
-        room : (t : Bool) → fold read_next_line (cond t (reading (suc n) (with_constraint p c)) (stopped (refusal Fault.TooManyLines n))) ls ≡ reading m q → Grows p q
-        room true v = let g = later (suc n) m (with_constraint p c) q v in record { rules = g.rules; constraints = omega (arith, g.constraints, length-append p.constraints (c ∷ [])) }
-        room false v = absurd (no_reading (refusal Fault.TooManyLines n) ls m q v)
-
-abbrev Joining : Policy → List (List ℕ) → Type 0
-Joining a ls = (n m : ℕ) (b d : Policy) → length a.rules + length d.rules ≤ rule_limit → length a.constraints + length d.constraints ≤ constraint_limit
-    → fold read_next_line (reading n b) ls ≡ reading m d → fold read_next_line (reading n (joint a b)) ls ≡ reading m (joint a d)
-
-more_room : {A : Type 0} (xs ys : List A) (count limit : ℕ) → length xs + count ≤ limit → length ys < count → ltb (length (xs ++ ys)) limit ≡ true
-more_room xs ys count limit h k = lt-ltb (length (xs ++ ys)) limit (omega (arith, length-append xs ys))
-
-joins : (a : Policy) (ls : List (List ℕ)) → Joining a ls
-unfolding read_next_line advance
-joins a [] n m b d f g e = let i : n ≡ m = cc in let s : b ≡ d = cc in ap₂ reading i (ap (joint a) s)
-joins a (l ∷ ls) n m b d f g e = go (line_answer l) (joins a ls) e
-  where
-    go : (x : LineAnswer) → Joining a ls → fold read_next_line (advance n b x) ls ≡ reading m d → fold read_next_line (advance n (joint a b) x) ls ≡ reading m (joint a d)
-    go skipped later h = later (suc n) m b d f g h
-    go (refused x) later h = absurd (no_reading (refusal x n) ls m d h)
-    go (accepted (rule r)) later h = room (ltb (length b.rules) rule_limit) h
-      where
-        room : (t : Bool) → fold read_next_line (cond t (reading (suc n) (with_rule b r)) (stopped (refusal Fault.TooManyLines n))) ls ≡ reading m d
-            → fold read_next_line (cond (ltb (length (a.rules ++ b.rules)) rule_limit) (reading (suc n) (with_rule (joint a b) r)) (stopped (refusal Fault.TooManyLines n))) ls ≡ reading m (joint a d)
-        room true v =
-            let k : length b.rules < length d.rules = omega (arith, (grows ls (suc n) m (with_rule b r) d v).rules, length-append b.rules (r ∷ [])) in
-            rw (more_room a.rules b.rules (length d.rules) rule_limit f k)
-            (ap (λ (x : Policy). fold read_next_line (reading (suc n) x) ls) (with_rule_is a b r) ∙ later (suc n) m (with_rule b r) d f g v)
-        room false v = absurd (no_reading (refusal Fault.TooManyLines n) ls m d v)
-    go (accepted (constraint c)) later h = room (ltb (length b.constraints) constraint_limit) h
-      where
-        room : (t : Bool) → fold read_next_line (cond t (reading (suc n) (with_constraint b c)) (stopped (refusal Fault.TooManyLines n))) ls ≡ reading m d
-            → fold read_next_line (cond (ltb (length (a.constraints ++ b.constraints)) constraint_limit) (reading (suc n) (with_constraint (joint a b) c)) (stopped (refusal Fault.TooManyLines n))) ls ≡ reading m (joint a d)
-        room true v =
-            let k : length b.constraints < length d.constraints = omega (arith, (grows ls (suc n) m (with_constraint b c) d v).constraints, length-append b.constraints (c ∷ [])) in
-            rw (more_room a.constraints b.constraints (length d.constraints) constraint_limit g k)
-            (ap (λ (x : Policy). fold read_next_line (reading (suc n) x) ls) (with_constraint_is a b c) ∙ later (suc n) m (with_constraint b c) d f g v)
-        room false v = absurd (no_reading (refusal Fault.TooManyLines n) ls m d v)
+lines_joint : (a : Policy) (ls : List (List ℕ)) (n : ℕ) (b d : Policy) → ((part : Part) → line_count a part + line_count d part ≤ line_limit part)
+    → read_lines n b ls ≡ Ok d → read_lines n (joint a b) ls ≡ Ok (joint a d)
+unfolding read_lines
+lines_joint a [] n b d few e = let i : b ≡ d = cc in ap (λ (x : Policy). Ok (joint a x)) i
+lines_joint a (l ∷ ls) n b d few e =
+    let k = lines_read n b l ls d e in
+    first_read n (joint a b) l ls (joint a k.0) (line_joint a b k.0 d l (grows ls (suc n) k.0 d k.2) few k.1) ∙ lines_joint a ls (suc n) k.0 d few k.2
 
 -- ---- the policy of two texts
 
@@ -148,100 +100,58 @@ joins a (l ∷ ls) n m b d f g e = go (line_answer l) (joins a ls) e
 nothing_behind : (a : Policy) → joint a empty_policy ≡ a
 nothing_behind a = ap₂ (λ (x : List Rule) (y : List Constraint). record { rules = x; constraints = y }) (append-nil a.rules) (append-nil a.constraints)
 
--- of a text that was read, the lines were
-record Lines (p : Policy) (text : List ℕ) (q : Policy) : Type 0 where
-  short : ltb text_limit (length text) ≡ false
-  next : ℕ
-  read : fold read_next_line (reading 1 p) (lines_of text) ≡ reading next q
+short_read : (source : Source) (p : Policy) (text : List ℕ) (q : Policy) → length text ≤ text_limit → read_lines 1 p (lines_of text) ≡ Ok q → in_text source (read_text_behind p text) ≡ Ok q
+unfolding read_text_behind
+short_read source p text q h k = rw (le-ltb _ _ h, k)
 
-lines_read : (source : Source) (p : Policy) (text : List ℕ) (q : Policy) → policy_read (in_text source (read_text_behind p text)) ≡ some q → Lines p text q
-unfolding read_text_behind in_text policy_read
-lines_read source p text q e = go (ltb text_limit (length text)) refl e
-  where
-    lines : ltb text_limit (length text) ≡ false → (s : Progress) → fold read_next_line (reading 1 p) (lines_of text) ≡ s → policy_read (in_text source s) ≡ some q → Lines p text q
-    lines h (reading n x) k v = let i : x ≡ q = cc in record { short = h; next = n; read = k ∙ ap (reading n) i }
-    lines h (stopped r) k v = let w : ◌≡◌ {A = ℕ} 0 1 = cc in absurd (omega arith)
+pub texts_joint : (maker site : List ℕ) (p : Policy) → policy_of_texts maker site ≡ Some p → Joint maker site p
+unfolding read_texts read_text
+texts_joint maker site p e =
+    let read : read_texts maker site ≡ Ok p = known (read_texts maker site) p e in
+    let k = and_then_ok (λ (a : Policy). in_text Source.Site (read_text_behind a site)) (read_text maker) p read in
+    let t = behind_read k.0 site p (in_text_ok Source.Site (read_text_behind k.0 site) p k.2) in
+    let x = lines_apart k.0 (lines_of site) 1 empty_policy p (ap (λ (y : Policy). read_lines 1 y (lines_of site)) (nothing_behind k.0) ∙ t.1) in
+    let ok = texts_acceptable maker site p read in
+    record {
+      makers = k.0;
+      sites = x.0;
+      maker_read = ap result_ok k.1;
+      site_read = ap result_ok (short_read Source.Maker empty_policy site x.0 t.0 x.1);
+      same = x.2;
+      few_rules = ok.few_rules;
+      few_constraints = ok.few_constraints;
+    }
 
-    go : (b : Bool) → ltb text_limit (length text) ≡ b → policy_read (in_text source (cond b (stopped (refusal Fault.TooLong 0)) (fold read_next_line (reading 1 p) (lines_of text)))) ≡ some q → Lines p text q
-    go true h v = let w : ◌≡◌ {A = ℕ} 0 1 = cc in absurd (omega arith)
-    go false h v = lines h (fold read_next_line (reading 1 p) (lines_of text)) refl v
-
-read_lines : (source : Source) (p : Policy) (text : List ℕ) (n : ℕ) (q : Policy) → ltb text_limit (length text) ≡ false → fold read_next_line (reading 1 p) (lines_of text) ≡ reading n q
-    → in_text source (read_text_behind p text) ≡ reading n q
-unfolding read_text_behind in_text
-read_lines source p text n q h k = rw (h, k)
-
--- of the site's text, where the maker's has a policy
-site_policy : (maker site : List ℕ) (a : Policy) → policy_of maker ≡ some a → policy_of_texts maker site ≡ policy_read (in_text Source.Site (read_text_behind a site))
-unfolding policy_of policy_of_texts read_texts read_site policy_read
-site_policy maker site a e = go (read_text maker) e
-  where
-    go : (s : Progress) → policy_read s ≡ some a → policy_read (read_site s site) ≡ policy_read (in_text Source.Site (read_text_behind a site))
-    go (reading n x) k = let i : x ≡ a = cc in ap (λ (y : Policy). policy_read (in_text Source.Site (read_text_behind y site))) i
-    go (stopped r) k = let w : ◌≡◌ {A = ℕ} 0 1 = cc in absurd (omega arith)
-
-pub texts_joint : (maker site : List ℕ) (p : Policy) → policy_of_texts maker site ≡ some p → Joint maker site p
-unfolding policy_of policy_of_texts read_texts read_text read_site policy_read
-texts_joint maker site p e = go (read_text maker) refl e
-  where
-    found : (n : ℕ) (a : Policy) → read_text maker ≡ reading n a → Lines a site p → Joint maker site p
-    found n a k t =
-        let x = parts a (lines_of site) 1 t.next empty_policy p (ap (λ (y : Policy). fold read_next_line (reading 1 y) (lines_of site)) (nothing_behind a) ∙ t.read) in
-        let ok = texts_acceptable maker site t.next p (ap (λ (s : Progress). read_site s site) k ∙ read_lines Source.Site a site t.next p t.short t.read) in
-        record {
-          makers = a;
-          sites = x.policy;
-          maker_read = ap policy_read k;
-          site_read = ap policy_read (read_lines Source.Maker empty_policy site t.next x.policy t.short x.read);
-          same = x.same;
-          few_rules = ok.few_rules;
-          few_constraints = ok.few_constraints;
-        }
-
-    go : (s : Progress) → read_text maker ≡ s → policy_read (read_site s site) ≡ some p → Joint maker site p
-    go (reading n a) k h = found n a k (lines_read Source.Site a site p h)
-    go (stopped r) k h = let w : ◌≡◌ {A = ℕ} 0 1 = cc in absurd (omega arith)
-
-pub joint_texts : (maker site : List ℕ) (p : Policy) → Joint maker site p → policy_of_texts maker site ≡ some p
-unfolding policy_of read_text policy_read
+pub joint_texts : (maker site : List ℕ) (p : Policy) → Joint maker site p → policy_of_texts maker site ≡ Some p
+unfolding read_texts read_text
 joint_texts maker site p j =
     let a : Policy = j.makers in
-    let t = lines_read Source.Maker empty_policy site j.sites j.site_read in
-    let rules : length p.rules ≡ length a.rules + length j.sites.rules = ap (λ (x : Policy). length x.rules) j.same ∙ length-append a.rules j.sites.rules in
-    let constraints : length p.constraints ≡ length a.constraints + length j.sites.constraints = ap (λ (x : Policy). length x.constraints) j.same ∙ length-append a.constraints j.sites.constraints in
-    let r = joins a (lines_of site) 1 t.next empty_policy j.sites (omega (arith, j.few_rules)) (omega (arith, j.few_constraints)) t.read in
-    site_policy maker site a j.maker_read
-    ∙ ap policy_read (read_lines Source.Site a site t.next (joint a j.sites) t.short (ap (λ (y : Policy). fold read_next_line (reading 1 y) (lines_of site)) (sym (nothing_behind a)) ∙ r))
-    ∙ policy_some t.next (joint a j.sites) ∙ ap some (sym j.same)
+    let m : read_text maker ≡ Ok a = known (read_text maker) a j.maker_read in
+    let t = behind_read empty_policy site j.sites (in_text_ok Source.Maker (read_text_behind empty_policy site) j.sites (known (read_text site) j.sites j.site_read)) in
+    let r = lines_joint a (lines_of site) 1 empty_policy j.sites few t.1 in
+    ap result_ok
+    (ap (result_and_then (λ (x : Policy). in_text Source.Site (read_text_behind x site))) m
+    ∙ short_read Source.Site a site (joint a j.sites) t.0 (ap (λ (y : Policy). read_lines 1 y (lines_of site)) (sym (nothing_behind a)) ∙ r))
+    ∙ ap Some (sym j.same)
   where
-    policy_some : (n : ℕ) (q : Policy) → policy_read (reading n q) ≡ some q
-    policy_some n q = refl
+    few : (part : Part) → line_count j.makers part + line_count j.sites part ≤ line_limit part
+    few Part.Rules = omega (arith, j.few_rules, ap (λ (x : Policy). length x.rules) j.same, length-append j.makers.rules j.sites.rules)
+    few Part.Constraints = omega (arith, j.few_constraints, ap (λ (x : Policy). length x.constraints) j.same, length-append j.makers.constraints j.sites.constraints)
 
 -- ---- an empty site's text
 
--- reading starts anew at line 1
-unfoldable pub restarted : Progress → Progress
-restarted (reading n p) = reading 1 p
-restarted (stopped r) = stopped r
-
-pub site_empty : (s : Progress) → read_site s [] ≡ restarted s
-unfolding read_site in_text read_text_behind lines_of pieces restarted
-site_empty (reading n p) = refl
-site_empty (stopped r) = refl
-
--- so that all is as for a single text: the policy, and what is answered
-pub policy_alone : (text : List ℕ) → policy_of_texts text [] ≡ policy_of text
-unfolding policy_of_texts policy_of read_texts policy_read restarted
-policy_alone text = ap policy_read (site_empty (read_text text)) ∙ go (read_text text)
+-- all is as for a single text: what is read, the policy, and what is answered
+pub site_empty : (text : List ℕ) → read_texts text [] ≡ read_text text
+unfolding read_texts read_text_behind read_lines lines_of pieces
+site_empty text = go (read_text text)
   where
-    go : (s : Progress) → policy_read (restarted s) ≡ policy_read s
-    go (reading n p) = refl
-    go (stopped r) = refl
+    go : (r : Result Policy Refusal) → result_and_then (λ (p : Policy). in_text Source.Site (read_text_behind p [])) r ≡ r
+    go (Ok p) = refl
+    go (Err x) = refl
+
+pub policy_alone : (text : List ℕ) → policy_of_texts text [] ≡ policy_of text
+policy_alone text = ap result_ok (site_empty text)
 
 pub read_alone : (text : List ℕ) → texts_read text [] ≡ text_read text
-unfolding texts_read text_read read_texts text_read_of restarted
-read_alone text = ap text_read_of (site_empty (read_text text)) ∙ go (read_text text)
-  where
-    go : (s : Progress) → text_read_of (restarted s) ≡ text_read_of s
-    go (reading n p) = refl
-    go (stopped r) = refl
+unfolding texts_read text_read
+read_alone text = ap counted (site_empty text)

@@ -1,11 +1,10 @@
 -- A comparison that is out of range makes its line out of range, whatever else the line has, and an item of an epoch line the epoch line: so
 -- do constants of more than eight hexadecimal digits.
 use Rattle.policy.specs.Fault.{refusal}
-use Rattle.std.specs.Prelude.{Err}
+use Rattle.std.specs.Prelude.{Err, Some}
 use Rattle.std.proofs.Common.{ℕ, ◌≤◌, ◌<◌, Bool, true, false, List, [], ◌∷◌, ◌++◌, ◌≡◌, refl, ap, ◌∙◌, le-ltb, length}
 use Rattle.std.proofs.Math.Bool.{and-false}
 use Rattle.std.proofs.Math.Dec.{eqb, ltb}
-use Rattle.std.proofs.Math.Option.{some}
 use Rattle.policy.specs.Limits.{in_range, test_number, comparison_in_range}
 use Rattle.policy.specs.Line.{PolicyLine, heads_of, comparisons_of}
 use Rattle.policy.specs.List.{all, any}
@@ -17,8 +16,8 @@ use Rattle.lexer.specs.Byte.{is_hex_digit}
 use Rattle.lexer.specs.Number.{pattern_digits}
 use Rattle.lexer.specs.Token.{Token, comparison_of}
 use Rattle.lexer.specs.Lines.{tokens_of}
-use Rattle.syntax.specs.Judge.{refused, judge_line, line_answer}
-use Rattle.epoch_line.specs.Epoch.{Item, items_of, item_in_range, assignment_of, epoch_limit, judge_epoch, read_epoch}
+use Rattle.syntax.specs.Judge.{judge_line, line_answer}
+use Rattle.epoch_line.specs.Epoch.{Item, items_of, item_in_range, epoch_limit, judge_epoch, read_epoch}
 use Rattle.acceptance.proofs.Patterns.{wide_comparison}
 use Rattle.acceptance.proofs.OneLine.{written_answer}
 use Rattle.acceptance.specs.Patterns.{prefixed}
@@ -26,7 +25,6 @@ use Rattle.acceptance.specs.Written.{IsWritten}
 
 module _ {A : Type 0} (p : A → Bool) (x : A) (fails : p x ≡ false) where
   some_fails : (before after : List A) → all p (before ++ x ∷ after) ≡ false
-  unfolding all
   some_fails [] after = rw fails refl
   some_fails (y ∷ ys) after = rw (some_fails ys after) (and-false (p y))
 
@@ -34,20 +32,20 @@ module _ {A : Type 0} (p : A → Bool) (x : A) (fails : p x ≡ false) where
 
 module _ (line : List ℕ) (l : PolicyLine) (w : IsWritten line l) where
   pub comparison_refused : (before after : List Comparison) (c : Comparison) → comparisons_of l ≡ before ++ c ∷ after → comparison_in_range c ≡ false
-      → line_answer line ≡ refused Fault.OutOfRange
+      → line_answer line ≡ Err Fault.OutOfRange
   unfolding judge_line in_range
   comparison_refused before after c e f =
       written_answer line l w ∙ rw (ap (all comparison_in_range) e ∙ some_fails comparison_in_range c f before after, and-false (all (λ (t : Test). ltb (test_number t) set_limit) (heads_of l))) refl
 
   -- whatever its reading, its relation and the rest of the line
-  pub wide_constant_refused : (ds : List ℕ) → all is_hex_digit ds ≡ true → pattern_digits < length ds → (r q : Token) (c : Comparison) → comparison_of r q (prefixed ds) ≡ some c
-      → (before after : List Comparison) → comparisons_of l ≡ before ++ c ∷ after → line_answer line ≡ refused Fault.OutOfRange
+  pub wide_constant_refused : (ds : List ℕ) → all is_hex_digit ds ≡ true → pattern_digits < length ds → (r q : Token) (c : Comparison) → comparison_of r q (prefixed ds) ≡ Some c
+      → (before after : List Comparison) → comparisons_of l ≡ before ++ c ∷ after → line_answer line ≡ Err Fault.OutOfRange
   wide_constant_refused ds h k r q c e before after s = comparison_refused before after c s (wide_comparison ds h k r q c e)
 
 -- ---- epoch lines
 
 module _ (line : List ℕ) (short : length line ≤ epoch_limit) (no_end : any (eqb 10) line ≡ false) where
-  pub item_refused : (before after : List Item) (i : Item) → items_of (tokens_of line) ≡ some (before ++ i ∷ after) → item_in_range i ≡ false
+  pub item_refused : (before after : List Item) (i : Item) → items_of (tokens_of line) ≡ Some (before ++ i ∷ after) → item_in_range i ≡ false
       → read_epoch line ≡ Err (refusal Fault.EpochRange 0)
   unfolding read_epoch judge_epoch
   item_refused before after i e f = rw (le-ltb _ _ short, no_end) (ap judge_epoch e ∙ rw (some_fails item_in_range i f before after) refl)

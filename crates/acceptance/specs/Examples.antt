@@ -14,7 +14,7 @@ use Rattle.policy.specs.declared.fault.Source.{Source}
 use Rattle.lexer.specs.Byte.{bytes}
 use Rattle.epoch_line.specs.Epoch.{read_epoch, empty_epoch}
 use Rattle.lexer.specs.Token.{literal_as}
-use Rattle.rule_text.specs.Text.{Progress, reading, stopped, read_text, read_texts, empty_policy}
+use Rattle.rule_text.specs.Text.{read_text, read_texts, empty_policy}
 
 -- ---- rule texts
 
@@ -52,24 +52,24 @@ patterns =
 
 pub record TextExample : Type 0 where
   pub text : String
-  pub answer : Progress
+  pub answer : Result Policy Refusal
 
-abbrev row : String → Progress → TextExample
+abbrev row : String → Result Policy Refusal → TextExample
 row text answer = record { text = text; answer = answer }
 
 -- refused in that text, at that line
-abbrev refused_at : Source → Fault → ℕ → Progress
-refused_at source f n = stopped (within source (refusal f n))
+abbrev refused_at : Source → Fault → ℕ → Result Policy Refusal
+refused_at source f n = Err (within source (refusal f n))
 
 unfoldable pub text_rows : List TextExample
 text_rows =
-    row "E1 & !E2 causes A3 if R0 > 40\nE3 causes A4\nnever A3 & A4\n" (reading 4 worked)
-    ∷ row "  never A3 & A4 \n\n# comment\nE1  &  !E2 causes A3 if R0 > 40\n#\nE3 causes A4" (reading 7 worked)
-    ∷ row "" (reading 1 empty_policy)
-    ∷ row "\n \n" (reading 3 empty_policy)
+    row "E1 & !E2 causes A3 if R0 > 40\nE3 causes A4\nnever A3 & A4\n" (Ok worked)
+    ∷ row "  never A3 & A4 \n\n# comment\nE1  &  !E2 causes A3 if R0 > 40\n#\nE3 causes A4" (Ok worked)
+    ∷ row "" (Ok empty_policy)
+    ∷ row "\n \n" (Ok empty_policy)
     ∷ row
     "E1 causes A1 if R0 = 0x8040 , R1 = 0xFFFFFFFF , R2 = 0x80000000 , R3 = 0x7fffffff\nnever A1 if R0 = 0x00 , R1 = 0x00000001 , R2 = 0xAbCdEf\n"
-    (reading 3 patterns)
+    (Ok patterns)
     ∷ row "E01 causes A1" (refused_at Source.Maker Fault.Syntax 1)
     ∷ row "E1 causes A1 if R0 = -0" (refused_at Source.Maker Fault.Syntax 1)
     ∷ row "E1 causes A1 if R0 = 00" (refused_at Source.Maker Fault.Syntax 1)
@@ -119,19 +119,19 @@ text_rows =
 pub record PairExample : Type 0 where
   pub maker : String
   pub site : String
-  pub answer : Progress
+  pub answer : Result Policy Refusal
 
-abbrev pair : String → String → Progress → PairExample
+abbrev pair : String → String → Result Policy Refusal → PairExample
 pair maker site answer = record { maker = maker; site = site; answer = answer }
 
 unfoldable pub pair_rows : List PairExample
 pair_rows =
     -- the maker's last line lacks its line end; in each part the maker's lines come first
-    pair "never A3 & A4\nE1 & !E2 causes A3 if R0 > 40" "E3 causes A4" (reading 2 worked)
-    ∷ pair "E1 & !E2 causes A3 if R0 > 40\nE3 causes A4\n" "# site\nnever A3 & A4\n" (reading 3 worked)
-    ∷ pair "E1 & !E2 causes A3 if R0 > 40\nE3 causes A4\nnever A3 & A4\n" "" (reading 1 worked)
-    ∷ pair "" "E1 & !E2 causes A3 if R0 > 40\nE3 causes A4\nnever A3 & A4\n" (reading 4 worked)
-    ∷ pair "" "" (reading 1 empty_policy)
+    pair "never A3 & A4\nE1 & !E2 causes A3 if R0 > 40" "E3 causes A4" (Ok worked)
+    ∷ pair "E1 & !E2 causes A3 if R0 > 40\nE3 causes A4\n" "# site\nnever A3 & A4\n" (Ok worked)
+    ∷ pair "E1 & !E2 causes A3 if R0 > 40\nE3 causes A4\nnever A3 & A4\n" "" (Ok worked)
+    ∷ pair "" "E1 & !E2 causes A3 if R0 > 40\nE3 causes A4\nnever A3 & A4\n" (Ok worked)
+    ∷ pair "" "" (Ok empty_policy)
     -- the bytes are not joined
     ∷ pair "E1 causes" " A1" (refused_at Source.Maker Fault.Syntax 1)
     -- the maker's faults come first, and lines are counted from 1 in each text
@@ -190,10 +190,10 @@ epoch_line_rows =
 
 -- ---- what the definitions say of each row
 
-unfoldable pub text_answer : TextExample → Progress
+unfoldable pub text_answer : TextExample → Result Policy Refusal
 text_answer x = read_text (bytes x.text)
 
-unfoldable pub pair_answer : PairExample → Progress
+unfoldable pub pair_answer : PairExample → Result Policy Refusal
 pair_answer x = read_texts (bytes x.maker) (bytes x.site)
 
 unfoldable pub epoch_answer : LineExample → Result Epoch Refusal

@@ -1,17 +1,16 @@
 -- Which fault a refused text and a refused epoch line have, where there could be several: the first line that has one, and for an
 -- epoch line the first in the order of the tests.
-use Rattle.std.specs.Prelude.{ℕ, suc, ◌≤◌, ◌<◌, ◌⊎◌, true, false, List, [], ◌∷◌, ◌++◌, ◌≡◌, eqb, length}
-use Rattle.std.proofs.Math.Option.{none, some}
-use Rattle.policy.specs.Limits.{rule_limit, constraint_limit, repeats}
-use Rattle.policy.specs.Line.{rule, constraint}
-use Rattle.policy.specs.List.{all, any}
-use Rattle.policy.specs.Policy.{Policy, Rule, Constraint}
+use Rattle.std.specs.Prelude.{ℕ, suc, ◌≤◌, ◌<◌, ◌⊎◌, true, false, List, [], ◌∷◌, ◌++◌, ◌≡◌, length, nat_eq, Some, None}
+use Rattle.policy.specs.Limits.{line_limit, repeats}
+use Rattle.policy.specs.Line.{PolicyLine, line_part, line_count}
+use Rattle.policy.specs.Policy.{Policy}
+use Rattle.std.specs.List.{list_all, list_any}
 use Rattle.policy.specs.Fault.{refusal, within}
 use Rattle.policy.specs.declared.fault.Fault.{Fault}
 use Rattle.policy.specs.declared.fault.Refusal.{Refusal}
 use Rattle.policy.specs.declared.fault.Source.{Source}
 use Rattle.lexer.specs.Lines.{lines_of, tokens_of}
-use Rattle.rule_text.specs.Text.{with_rule, with_constraint, empty_policy, text_limit}
+use Rattle.rule_text.specs.Text.{with_line, empty_policy, text_limit}
 use Rattle.epoch_line.specs.Epoch.{Item, items_of, item_in_range, given_by, epoch_limit}
 use Rattle.acceptance.specs.OneLine.{LineSkipped, LineAccepted, LineRefused}
 
@@ -19,8 +18,7 @@ use Rattle.acceptance.specs.OneLine.{LineSkipped, LineAccepted, LineRefused}
 -- is room for one more
 pub data Takes (p : Policy) (line : List ℕ) : Policy → Type 0 where
   passed : LineSkipped line → Takes p line p
-  one_rule : (r : Rule) → LineAccepted line (rule r) → length p.rules < rule_limit → Takes p line (with_rule p r)
-  one_constraint : (c : Constraint) → LineAccepted line (constraint c) → length p.constraints < constraint_limit → Takes p line (with_constraint p c)
+  added : (l : PolicyLine) → LineAccepted line l → line_count p (line_part l) < line_limit (line_part l) → Takes p line (with_line p l)
 
 -- such lines, one behind another
 unfoldable pub TakesAll : Policy → List (List ℕ) → Policy → Type 0
@@ -35,8 +33,7 @@ pub record TextAccepted (text : List ℕ) (p : Policy) : Type 0 where
 -- for what a line is refused behind the lines of a policy: for a fault of its own, or as one line too many of its kind
 pub data LineFault (p : Policy) (line : List ℕ) : Fault → Type 0 where
   own : (f : Fault) → LineRefused line f → LineFault p line f
-  one_rule_more : (r : Rule) → LineAccepted line (rule r) → rule_limit ≤ length p.rules → LineFault p line Fault.TooManyLines
-  one_constraint_more : (c : Constraint) → LineAccepted line (constraint c) → constraint_limit ≤ length p.constraints → LineFault p line Fault.TooManyLines
+  one_more : (l : PolicyLine) → LineAccepted line l → line_limit (line_part l) ≤ line_count p (line_part l) → LineFault p line Fault.TooManyLines
 
 -- line n of a text behind a policy is the first that is refused: those before it are taken
 pub record FirstFault (p : Policy) (text : List ℕ) (f : Fault) (n : ℕ) : Type 0 where
@@ -61,8 +58,8 @@ pub data TextsFault (maker site : List ℕ) : Refusal → Type 0 where
 -- the tests of an epoch line, one behind another
 pub data EpochFault (line : List ℕ) : Refusal → Type 0 where
   too_long : epoch_limit < length line → EpochFault line (refusal Fault.TooLong 0)
-  wrong_shape : length line ≤ epoch_limit → (any (eqb 10) line ≡ true) ⊎ (items_of (tokens_of line) ≡ none) → EpochFault line (refusal Fault.EpochSyntax 0)
-  out_of_range : length line ≤ epoch_limit → any (eqb 10) line ≡ false → (is : List Item) → items_of (tokens_of line) ≡ some is → all item_in_range is ≡ false
+  wrong_shape : length line ≤ epoch_limit → (list_any (nat_eq 10) line ≡ true) ⊎ (items_of (tokens_of line) ≡ None) → EpochFault line (refusal Fault.EpochSyntax 0)
+  out_of_range : length line ≤ epoch_limit → list_any (nat_eq 10) line ≡ false → (is : List Item) → items_of (tokens_of line) ≡ Some is → list_all item_in_range is ≡ false
       → EpochFault line (refusal Fault.EpochRange 0)
-  given_twice : length line ≤ epoch_limit → any (eqb 10) line ≡ false → (is : List Item) → items_of (tokens_of line) ≡ some is → all item_in_range is ≡ true
+  given_twice : length line ≤ epoch_limit → list_any (nat_eq 10) line ≡ false → (is : List Item) → items_of (tokens_of line) ≡ Some is → list_all item_in_range is ≡ true
       → repeats (given_by is) ≡ true → EpochFault line (refusal Fault.DuplicateReading 0)

@@ -1,14 +1,13 @@
 -- Which faults a text and an epoch line have, and at which locations.
-use Rattle.std.specs.Prelude.{ℕ, ◌≤◌, true, List, [], ◌∷◌, ◌≡◌, eqb, length}
-use Rattle.std.proofs.Math.Option.{some}
+use Rattle.std.specs.Prelude.{ℕ, ◌≤◌, true, List, [], ◌∷◌, ◌≡◌, length, nat_eq, Some, Err}
 use Rattle.policy.specs.Fault.{fault_number, refusal, within}
-use Rattle.policy.specs.List.{any}
+use Rattle.std.specs.List.{list_any}
 use Rattle.policy.specs.declared.fault.Fault.{Fault}
 use Rattle.policy.specs.Policy.{Policy}
 use Rattle.policy.specs.declared.fault.Refusal.{Refusal}
 use Rattle.policy.specs.declared.fault.Source.{Source}
 use Rattle.lexer.specs.Lines.{lines_of}
-use Rattle.rule_text.specs.Text.{stopped, read_text, policy_of}
+use Rattle.rule_text.specs.Text.{read_text, policy_of}
 
 -- 1, at no line, or one of 2 to 6 at a line of the text, counted from 1; the place says which text it is
 pub data OfText (source : Source) (text : List ℕ) : Refusal → Type 0 where
@@ -17,11 +16,11 @@ pub data OfText (source : Source) (text : List ℕ) : Refusal → Type 0 where
 
 -- of two texts, one of the maker's, or, where the maker's text is accepted alone, one of the site's
 pub data OfTexts (maker site : List ℕ) (r : Refusal) : Type 0 where
-  of_maker : read_text maker ≡ stopped r → OfText Source.Maker maker r → OfTexts maker site r
-  of_site : (p : Policy) → policy_of maker ≡ some p → OfText Source.Site site r → OfTexts maker site r
+  of_maker : read_text maker ≡ Err r → OfText Source.Maker maker r → OfTexts maker site r
+  of_site : (p : Policy) → policy_of maker ≡ Some p → OfText Source.Site site r → OfTexts maker site r
 
 -- 1, 12, 13 or 14, at no line and in no text
 pub record OfEpoch (r : Refusal) : Type 0 where
-  pub number : any (eqb (fault_number r.fault)) (1 ∷ 12 ∷ 13 ∷ 14 ∷ []) ≡ true
+  pub number : list_any (nat_eq (fault_number r.fault)) (1 ∷ 12 ∷ 13 ∷ 14 ∷ []) ≡ true
   pub source : r.source ≡ Source.Neither
   pub location : r.location ≡ 0

@@ -1,6 +1,5 @@
 -- What two accepted texts have as one.
-use Rattle.std.specs.Prelude.{ℕ, ◌≤◌, List, ◌++◌, ◌≡◌, length}
-use Rattle.std.proofs.Math.Option.{some}
+use Rattle.std.specs.Prelude.{ℕ, ◌≤◌, List, ◌++◌, ◌≡◌, length, Some}
 use Rattle.policy.specs.Limits.{rule_limit, constraint_limit}
 use Rattle.policy.specs.Policy.{Policy}
 use Rattle.rule_text.specs.Text.{policy_of}
@@ -14,8 +13,8 @@ joint p q = record { rules = p.rules ++ q.rules; constraints = p.constraints ++ 
 pub record Joint (maker site : List ℕ) (p : Policy) : Type 0 where
   pub makers : Policy
   pub sites : Policy
-  pub maker_read : policy_of maker ≡ some makers
-  pub site_read : policy_of site ≡ some sites
+  pub maker_read : policy_of maker ≡ Some makers
+  pub site_read : policy_of site ≡ Some sites
   pub same : p ≡ joint makers sites
   pub few_rules : length p.rules ≤ rule_limit
   pub few_constraints : length p.constraints ≤ constraint_limit

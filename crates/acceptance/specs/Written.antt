@@ -1,7 +1,6 @@
 -- The grammar of a line as it is written, without a way to read it: which tokens are those of a rule, of a constraint. Numbers have any size
 -- and lists any length; ranges, counts and repeats are tests on a line that is read.
-use Rattle.std.specs.Prelude.{ℕ, true, false, List, [], ◌∷◌, ◌++◌, ◌≡◌}
-use Rattle.std.proofs.Math.Option.{Option, some}
+use Rattle.std.specs.Prelude.{ℕ, true, false, List, [], ◌∷◌, ◌++◌, ◌≡◌, Option, Some}
 use Rattle.policy.specs.Line.{PolicyLine, rule, constraint}
 use Rattle.policy.specs.Policy.{Rule, Constraint}
 use Rattle.policy.specs.declared.comparison.Comparison.{Comparison}
@@ -12,14 +11,14 @@ use Rattle.syntax.specs.Judge.{is_comment}
 
 -- one or more items, joined by `&`
 unfoldable pub AreJoined : {A : Type 0} → (Token → Option A) → List Token → List A → Type 0
-AreJoined item (t ∷ []) (x ∷ []) = item t ≡ some x
-AreJoined item (t ∷ s ∷ ts) (x ∷ xs) = (item t ≡ some x) × (is "&" s ≡ true) × AreJoined item ts xs
+AreJoined item (t ∷ []) (x ∷ []) = item t ≡ Some x
+AreJoined item (t ∷ s ∷ ts) (x ∷ xs) = (item t ≡ Some x) × (is "&" s ≡ true) × AreJoined item ts xs
 AreJoined _ _ _ = ⊥
 
 -- one or more comparisons of three tokens each, joined by `,`
 unfoldable pub AreComparisons : List Token → List Comparison → Type 0
-AreComparisons (r ∷ relation ∷ o ∷ []) (c ∷ []) = comparison_of r relation o ≡ some c
-AreComparisons (r ∷ relation ∷ o ∷ s ∷ ts) (c ∷ cs) = (comparison_of r relation o ≡ some c) × (is "," s ≡ true) × AreComparisons ts cs
+AreComparisons (r ∷ relation ∷ o ∷ []) (c ∷ []) = comparison_of r relation o ≡ Some c
+AreComparisons (r ∷ relation ∷ o ∷ s ∷ ts) (c ∷ cs) = (comparison_of r relation o ≡ Some c) × (is "," s ≡ true) × AreComparisons ts cs
 AreComparisons _ _ = ⊥
 
 -- `if` and comparisons, or nothing
@@ -36,7 +35,7 @@ pub record IsRule (ts : List Token) (r : Rule) : Type 0 where
   pub tokens : ts ≡ literals ++ keyword ∷ action ∷ condition
   pub are_literals : AreJoined literal_of literals r.literals
   pub causes : is "causes" keyword ≡ true
-  pub names : action_of action ≡ some r.action
+  pub names : action_of action ≡ Some r.action
   pub are_condition : AreCondition condition r.comparisons
 
 -- `never`, actions, a condition

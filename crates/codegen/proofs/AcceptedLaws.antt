@@ -1,15 +1,13 @@
 -- The lines of two accepted texts make up their policy, and how many words they take.
 use Rattle.std.specs.Prelude.{Ok}
-use Rattle.std.proofs.Common.{ℕ, suc, ◌+◌, ◌≤◌, Bool, true, false, cond, List, [], ◌∷◌, ◌++◌, map, append_assoc, append-nil, ◌≡◌, refl, sym, ap, ◌∙◌, arith, ltb-false, length, length-append, fold}
-use Rattle.std.proofs.Math.Dec.{ltb}
-use Rattle.policy.specs.Fault.{refusal, within}
-use Rattle.policy.specs.Limits.{rule_limit, constraint_limit, Acceptable}
+use Rattle.std.proofs.Common.{ℕ, suc, ◌+◌, ◌≤◌, true, List, [], ◌∷◌, ◌++◌, map, append_assoc, append-nil, ◌≡◌, refl, sym, ap, ◌∙◌, arith, length, length-append}
+use Rattle.policy.proofs.ResultLaws.{and_then_ok, in_text_ok}
+use Rattle.policy.specs.Fault.{in_text}
+use Rattle.policy.specs.Limits.{Acceptable}
 use Rattle.policy.specs.Line.{PolicyLine, rule, constraint, heads_of, comparisons_of, ending_of, operand_constants, constant_count}
 use Rattle.policy.specs.Policy.{Policy, Rule, Constraint}
 use Rattle.policy.specs.declared.comparison.Comparison.{Comparison}
 use Rattle.policy.specs.declared.comparison.Operand.{Operand}
-use Rattle.policy.specs.declared.fault.Fault.{Fault}
-use Rattle.policy.specs.declared.fault.Refusal.{Refusal}
 use Rattle.policy.specs.declared.fault.Source.{Source}
 use Rattle.policy.specs.declared.line.Ending.{Ending}
 use Rattle.policy.specs.declared.line.Test.{Test}
@@ -18,50 +16,40 @@ use Rattle.layout.specs.Layout.{line_words, lines_words, rule_part_words, constr
 use Rattle.operation.specs.Parts.{constant_words, comparison_word, comparison_words}
 use Rattle.image.specs.Held.{rules_in, constraints_in}
 use Rattle.acceptance.proofs.Accepted.{texts_acceptable}
-use Rattle.rule_text.specs.Answer.{total, counts_in, counts_of, text_read_of, texts_read}
+use Rattle.rule_text.specs.Answer.{total, counts_in, counts_of, texts_read}
 use Rattle.lexer.specs.Lines.{lines_of}
-use Rattle.syntax.specs.Judge.{LineAnswer, skipped, refused, accepted, line_answer}
-use Rattle.rule_text.specs.Text.{Progress, reading, stopped, with_rule, with_constraint, advance, read_next_line, empty_policy, text_limit, read_text_behind, in_text, read_text, read_site, read_texts}
-use Rattle.rule_text.specs.declared.TextCounts.{TextCounts}
+use Rattle.syntax.specs.Judge.{line_answer}
+use Rattle.rule_text.proofs.ReadLaws.{LineRead, line_reads, lines_read, behind_read, counted_ok}
+use Rattle.rule_text.specs.Text.{with_line, read_line, read_lines, empty_policy, text_limit, read_text_behind, read_text, read_texts}
+use Rattle.rule_text.specs.declared.LineCounts.{LineCounts}
+use Rattle.policy.specs.declared.line.PerPart.{PerPart}
 use Rattle.codegen.specs.Compile.{newest_form}
 use Rattle.codegen.specs.Steps.Put.{word_count, accepted_line, accepted_lines, lines_of_both}
 
 -- ---- the lines that were accepted are those of the policy
-
-stays : (r : Refusal) (ls : List (List ℕ)) → fold read_next_line (stopped r) ls ≡ stopped r
-unfolding read_next_line
-stays r [] = refl
-stays r (l ∷ ls) = stays r ls
-
-no_reading : (r : Refusal) (m : ℕ) (p : Policy) → stopped r ≡ reading m p → ⊥
-no_reading r m p e = let w : ◌≡◌ {A = ℕ} 0 1 = cc in omega arith
 
 -- the policy q is p with the lines behind it
 record Extends (p : Policy) (ls : List PolicyLine) (q : Policy) : Type 0 where
   rules : q.rules ≡ p.rules ++ rules_in ls
   constraints : q.constraints ≡ p.constraints ++ constraints_in ls
 
-abbrev Extending : List (List ℕ) → Type 0
-Extending ls = (n m : ℕ) (p q : Policy) → fold read_next_line (reading n p) ls ≡ reading m q → Extends p (accepted_lines ls) q
+extends_more : (p : Policy) (l : PolicyLine) (ls : List PolicyLine) (q : Policy) → Extends (with_line p l) ls q → Extends p (l ∷ ls) q
+unfolding with_line rules_in constraints_in
+extends_more p (rule r) ls q x = record { rules = x.rules ∙ append_assoc p.rules (r ∷ []) (rules_in ls); constraints = x.constraints }
+extends_more p (constraint c) ls q x = record { rules = x.rules; constraints = x.constraints ∙ append_assoc p.constraints (c ∷ []) (constraints_in ls) }
 
-extends : (ls : List (List ℕ)) → Extending ls
-unfolding accepted_lines accepted_line rules_in constraints_in read_next_line advance
-extends [] n m p q e = let s : p ≡ q = cc in record { rules = ap (λ (x : Policy). x.rules) (sym s) ∙ sym (append-nil p.rules); constraints = ap (λ (x : Policy). x.constraints) (sym s) ∙ sym (append-nil p.constraints) }
-extends (l ∷ ls) n m p q e = go (line_answer l) (extends ls) e
+extends : (ls : List (List ℕ)) (n : ℕ) (p q : Policy) → read_lines n p ls ≡ Ok q → Extends p (accepted_lines ls) q
+unfolding read_lines accepted_lines accepted_line rules_in constraints_in
+extends [] n p q e = let s : p ≡ q = cc in record { rules = ap (λ (x : Policy). x.rules) (sym s) ∙ sym (append-nil p.rules); constraints = ap (λ (x : Policy). x.constraints) (sym s) ∙ sym (append-nil p.constraints) }
+extends (l ∷ ls) n p q e =
+    let k = lines_read n p l ls q e in
+    go k.0 k.1 (line_reads p l) (extends ls (suc n) k.0 q k.2)
   where
-    go : (a : LineAnswer) → Extending ls → fold read_next_line (advance n p a) ls ≡ reading m q → Extends p (accepted_line a (accepted_lines ls)) q
-    go skipped later k = later (suc n) m p q k
-    go (refused f) later k = absurd (no_reading (refusal f n) m q (sym (stays (refusal f n) ls) ∙ k))
-    go (accepted (rule r)) later k = room (ltb (length p.rules) rule_limit) k
-      where
-        room : (b : Bool) → fold read_next_line (cond b (reading (suc n) (with_rule p r)) (stopped (refusal Fault.TooManyLines n))) ls ≡ reading m q → Extends p (rule r ∷ accepted_lines ls) q
-        room true h = let x = later (suc n) m (with_rule p r) q h in record { rules = x.rules ∙ append_assoc p.rules (r ∷ []) (rules_in (accepted_lines ls)); constraints = x.constraints }
-        room false h = absurd (no_reading (refusal Fault.TooManyLines n) m q (sym (stays (refusal Fault.TooManyLines n) ls) ∙ h))
-    go (accepted (constraint c)) later k = room (ltb (length p.constraints) constraint_limit) k
-      where
-        room : (b : Bool) → fold read_next_line (cond b (reading (suc n) (with_constraint p c)) (stopped (refusal Fault.TooManyLines n))) ls ≡ reading m q → Extends p (constraint c ∷ accepted_lines ls) q
-        room true h = let x = later (suc n) m (with_constraint p c) q h in record { rules = x.rules; constraints = x.constraints ∙ append_assoc p.constraints (c ∷ []) (constraints_in (accepted_lines ls)) }
-        room false h = absurd (no_reading (refusal Fault.TooManyLines n) m q (sym (stays (refusal Fault.TooManyLines n) ls) ∙ h))
+    go : (m : Policy) → read_line p l ≡ Ok m → LineRead p l → Extends m (accepted_lines ls) q → Extends p (accepted_line (line_answer l) (accepted_lines ls)) q
+    go m r (LineRead.skips a s) x = let i : m ≡ p = cc in rw a (rw i at x)
+    go m r (LineRead.fails f a s) x = let z : ⊥ = cc in absurd z
+    go m r (LineRead.adds d a h s) x = let i : m ≡ with_line p d = cc in rw a (extends_more p d (accepted_lines ls) q (rw i at x))
+    go m r (LineRead.is_over d a h s) x = let z : ⊥ = cc in absurd z
 
 -- ---- how many words a line takes
 
@@ -114,22 +102,14 @@ record Lined (p : Policy) (text : List ℕ) (q : Policy) : Type 0 where
   short : length text ≤ text_limit
   lines : Extends p (accepted_lines (lines_of text)) q
 
-lined : (source : Source) (p : Policy) (text : List ℕ) (n : ℕ) (q : Policy) → in_text source (read_text_behind p text) ≡ reading n q → Lined p text q
-unfolding read_text_behind in_text
-lined source p text n q e = go (ltb text_limit (length text)) refl e
-  where
-    read : ltb text_limit (length text) ≡ false → (s : Progress) → fold read_next_line (reading 1 p) (lines_of text) ≡ s → in_text source s ≡ reading n q → Lined p text q
-    read h (reading m x) k v = let i : x ≡ q = cc in record { short = ltb-false text_limit (length text) h; lines = extends (lines_of text) 1 m p q (k ∙ ap (reading m) i) }
-    read h (stopped r) k v = absurd (no_reading (within source r) n q v)
+lined : (source : Source) (p : Policy) (text : List ℕ) (q : Policy) → in_text source (read_text_behind p text) ≡ Ok q → Lined p text q
+lined source p text q e =
+    let t = behind_read p text q (in_text_ok source (read_text_behind p text) q e) in
+    record { short = t.0; lines = extends (lines_of text) 1 p q t.1 }
 
-    go : (b : Bool) → ltb text_limit (length text) ≡ b → in_text source (cond b (stopped (refusal Fault.TooLong 0)) (fold read_next_line (reading 1 p) (lines_of text))) ≡ reading n q → Lined p text q
-    go true h k = absurd (no_reading (within source (refusal Fault.TooLong 0)) n q k)
-    go false h k = read h (fold read_next_line (reading 1 p) (lines_of text)) refl k
-
-pub record AcceptedTexts (maker site : List ℕ) (counts : TextCounts) : Type 0 where
-  pub number : ℕ
+pub record AcceptedTexts (maker site : List ℕ) (counts : PerPart LineCounts) : Type 0 where
   pub policy : Policy
-  pub read : read_texts maker site ≡ reading number policy
+  pub read : read_texts maker site ≡ Ok policy
   pub acceptable : Acceptable policy
   pub maker_short : length maker ≤ text_limit
   pub site_short : length site ≤ text_limit
@@ -140,37 +120,27 @@ pub record AcceptedTexts (maker site : List ℕ) (counts : TextCounts) : Type 0 
   pub rules : rules_in (lines_of_both maker site) ≡ policy.rules
   pub constraints : constraints_in (lines_of_both maker site) ≡ policy.constraints
 
-pub accepted_texts : (maker site : List ℕ) (counts : TextCounts) → texts_read maker site ≡ Ok counts → AcceptedTexts maker site counts
-unfolding texts_read text_read_of read_texts read_site read_text counts_of rule_part_words constraint_part_words
-accepted_texts maker site counts e = first (read_text maker) refl e
-  where
-    found : (n m : ℕ) (a p : Policy) → read_text maker ≡ reading m a → in_text Source.Site (read_text_behind a site) ≡ reading n p → counts_of p ≡ counts → AcceptedTexts maker site counts
-    found n m a p j r c =
-        let read : read_texts maker site ≡ reading n p = ap (λ (s : Progress). read_site s site) j ∙ r in
-        let ok = texts_acceptable maker site n p read in
-        let f = lined Source.Maker empty_policy maker m a j in
-        let g = lined Source.Site a site n p r in
-        record {
-          number = n;
-          policy = p;
-          read = read;
-          acceptable = ok;
-          maker_short = f.short;
-          site_short = g.short;
-          rule_count_is = ap (λ (x : TextCounts). word_count x.rules) (sym c) ∙ lines_words_is (map rule p.rules);
-          constraint_count_is = ap (λ (x : TextCounts). word_count x.constraints) (sym c) ∙ lines_words_is (map constraint p.constraints);
-          rule_limit_is = P_limit newest_form newest_known p ok;
-          constraint_limit_is = N_limit newest_form newest_known p ok;
-          rules = rules_append (accepted_lines (lines_of maker)) (accepted_lines (lines_of site))
-              ∙ ap (λ (x : List Rule). x ++ rules_in (accepted_lines (lines_of site))) (sym f.lines.rules) ∙ sym g.lines.rules;
-          constraints = constraints_append (accepted_lines (lines_of maker)) (accepted_lines (lines_of site))
-              ∙ ap (λ (x : List Constraint). x ++ constraints_in (accepted_lines (lines_of site))) (sym f.lines.constraints) ∙ sym g.lines.constraints;
-        }
-
-    second : (m : ℕ) (a : Policy) → read_text maker ≡ reading m a → (s : Progress) → in_text Source.Site (read_text_behind a site) ≡ s → text_read_of s ≡ Ok counts → AcceptedTexts maker site counts
-    second m a j (reading n p) r k = let c : counts_of p ≡ counts = cc in found n m a p j r c
-    second m a j (stopped x) r k = let w : ◌≡◌ {A = ℕ} 0 1 = cc in absurd (omega arith)
-
-    first : (s : Progress) → read_text maker ≡ s → text_read_of (read_site s site) ≡ Ok counts → AcceptedTexts maker site counts
-    first (reading m a) j k = second m a j (in_text Source.Site (read_text_behind a site)) refl k
-    first (stopped x) j k = let w : ◌≡◌ {A = ℕ} 0 1 = cc in absurd (omega arith)
+pub accepted_texts : (maker site : List ℕ) (counts : PerPart LineCounts) → texts_read maker site ≡ Ok counts → AcceptedTexts maker site counts
+unfolding texts_read read_texts read_text counts_of rule_part_words constraint_part_words
+accepted_texts maker site counts e =
+    let r = counted_ok (read_texts maker site) counts e in
+    let p : Policy = r.0 in
+    let k = and_then_ok (λ (a : Policy). in_text Source.Site (read_text_behind a site)) (read_text maker) p r.1 in
+    let ok = texts_acceptable maker site p r.1 in
+    let f = lined Source.Maker empty_policy maker k.0 k.1 in
+    let g = lined Source.Site k.0 site p k.2 in
+    record {
+      policy = p;
+      read = r.1;
+      acceptable = ok;
+      maker_short = f.short;
+      site_short = g.short;
+      rule_count_is = ap (λ (x : PerPart LineCounts). word_count x.rules) (sym r.2) ∙ lines_words_is (map rule p.rules);
+      constraint_count_is = ap (λ (x : PerPart LineCounts). word_count x.constraints) (sym r.2) ∙ lines_words_is (map constraint p.constraints);
+      rule_limit_is = P_limit newest_form newest_known p ok;
+      constraint_limit_is = N_limit newest_form newest_known p ok;
+      rules = rules_append (accepted_lines (lines_of maker)) (accepted_lines (lines_of site))
+          ∙ ap (λ (x : List Rule). x ++ rules_in (accepted_lines (lines_of site))) (sym f.lines.rules) ∙ sym g.lines.rules;
+      constraints = constraints_append (accepted_lines (lines_of maker)) (accepted_lines (lines_of site))
+          ∙ ap (λ (x : List Constraint). x ++ constraints_in (accepted_lines (lines_of site))) (sym f.lines.constraints) ∙ sym g.lines.constraints;
+    }

@@ -1,8 +1,8 @@
 -- What a compilation has done: the statements about `compiled` and `compiled_texts`.
-use Rattle.std.specs.Prelude.{Ok, Err}
+use Rattle.std.specs.Prelude.{Result, Ok, Err, Option, Some}
+use Rattle.std.specs.Result.{result_ok}
 use Rattle.std.proofs.Common.{ℕ, ◌≤◌, ◌<◌, List, ◌↔◌, ◌≡◌, refl, sym, ap, ◌∙◌, arith, le-leb, leb-true, length}
 use Rattle.std.proofs.lemmas.Bool.{lt-leb}
-use Rattle.std.proofs.Math.Option.{Option, some}
 use Rattle.std.proofs.Math.Dec.{leb}
 use Rattle.policy.proofs.ListLaws.{and_out}
 use Rattle.policy.proofs.FillLaws.{Delivered, fill_delivered, fill_unchanged}
@@ -18,18 +18,18 @@ use Rattle.image.specs.Load.{load}
 use Rattle.image.specs.Check.{well_sized}
 use Rattle.image.specs.Held.{policy_in}
 use Rattle.acceptance.proofs.Accepted.{accepted_acceptable, texts_acceptable}
-use Rattle.rule_text.specs.Text.{Progress, reading, stopped, read_text, read_texts, policy_read, policy_of, policy_of_texts}
+use Rattle.rule_text.specs.Text.{read_text, read_texts, policy_of, policy_of_texts}
 use Rattle.codegen.proofs.AcceptedLaws.{newest_known}
 use Rattle.codegen.specs.Compile.{newest_form, output_of, compiled, compiled_texts}
 use Rattle.codegen.specs.Written.{written_by, WrittenBy, written_in, ImageWritten, TextsImageWritten}
 
 -- ---- of what was read, be it a text or two
 
-module _ (s : Progress) (keeps : (n : ℕ) (p : Policy) → s ≡ reading n p → Acceptable p) (buffer : List ℕ) where
-  written_by_is : (n : ℕ) (p : Policy) (size : ℕ) → s ≡ reading n p → Delivered (image_of newest_form p) buffer (output_of s buffer).buffer size → WrittenBy (policy_read s) (output_of s buffer) buffer size
-  unfolding policy_read well_sized
-  written_by_is n p size r d =
-      let ok = keeps n p r in
+module _ (s : Result Policy Refusal) (keeps : (p : Policy) → s ≡ Ok p → Acceptable p) (buffer : List ℕ) where
+  written_by_is : (p : Policy) (size : ℕ) → s ≡ Ok p → Delivered (image_of newest_form p) buffer (output_of s buffer).buffer size → WrittenBy (result_ok s) (output_of s buffer) buffer size
+  unfolding well_sized
+  written_by_is p size r d =
+      let ok = keeps p r in
       let bytes : List ℕ = image_of newest_form p in
       let w : written_by size (output_of s buffer) ≡ bytes = d.front in
       let sized = and_out (leb 8 (length bytes)) (leb (length bytes) size_limit) (and_out _ _ (image_size newest_form newest_known p ok)).0 in
@@ -46,20 +46,20 @@ module _ (s : Progress) (keeps : (n : ℕ) (p : Policy) → s ≡ reading n p �
         again = ap (λ (b : List ℕ). image_of newest_form (policy_in b)) w ∙ ap (image_of newest_form) (image_holds newest_form newest_known p ok) ∙ sym w;
       }
 
-  output_written : (size : ℕ) → (output_of s buffer).answer ≡ Ok size → WrittenBy (policy_read s) (output_of s buffer) buffer size
+  output_written : (size : ℕ) → (output_of s buffer).answer ≡ Ok size → WrittenBy (result_ok s) (output_of s buffer) buffer size
   unfolding output_of
   output_written size e = go s refl e
     where
-      go : (x : Progress) → s ≡ x → (output_of x buffer).answer ≡ Ok size → WrittenBy (policy_read s) (output_of s buffer) buffer size
-      go (reading n p) r k = written_by_is n p size r (rw r (fill_delivered (image_of newest_form p) buffer size k))
-      go (stopped x) r k = let w : ⊥ = cc in absurd w
+      go : (x : Result Policy Refusal) → s ≡ x → (output_of x buffer).answer ≡ Ok size → WrittenBy (result_ok s) (output_of s buffer) buffer size
+      go (Ok p) r k = written_by_is p size r (rw r (fill_delivered (image_of newest_form p) buffer size k))
+      go (Err x) r k = let w : ⊥ = cc in absurd w
 
-module _ (s : Progress) (buffer : List ℕ) where
-  output_refused : (r : Refusal) → s ≡ stopped r → (output_of s buffer).answer ≡ Err r
+module _ (s : Result Policy Refusal) (buffer : List ℕ) where
+  output_refused : (r : Refusal) → s ≡ Err r → (output_of s buffer).answer ≡ Err r
   unfolding output_of
   output_refused r e = rw e
 
-  module _ (n : ℕ) (p : Policy) (r : s ≡ reading n p) where
+  module _ (p : Policy) (r : s ≡ Ok p) where
     output_short : length buffer < length (image_of newest_form p) → (output_of s buffer).answer ≡ Err (refusal Fault.BufferTooSmall 0)
     unfolding output_of
     output_short h = rw (r, lt-leb (length (image_of newest_form p)) (length buffer) h)
@@ -72,35 +72,35 @@ module _ (s : Progress) (buffer : List ℕ) where
   unfolding output_of
   output_unchanged r e = go s e
     where
-      go : (x : Progress) → (output_of x buffer).answer ≡ Err r → (output_of x buffer).buffer ≡ buffer
-      go (reading n p) k = fill_unchanged (image_of newest_form p) buffer r k
-      go (stopped x) k = refl
+      go : (x : Result Policy Refusal) → (output_of x buffer).answer ≡ Err r → (output_of x buffer).buffer ≡ buffer
+      go (Ok p) k = fill_unchanged (image_of newest_form p) buffer r k
+      go (Err x) k = refl
 
 -- ---- a text
 
 module _ (text buffer : List ℕ) where
   -- where the compiler answers a size, it has written an image of that size
   pub image_written : (size : ℕ) → (compiled text buffer).answer ≡ Ok size → ImageWritten text buffer size
-  unfolding compiled policy_of
+  unfolding compiled
   image_written size e = output_written (read_text text) (accepted_acceptable text) buffer size e
 
   -- ---- when it is refused, and that a refusal changes no byte of the buffer
 
   -- 1 to 6, at the line, whatever room there is
-  pub text_refused : (r : Refusal) → read_text text ≡ stopped r → (compiled text buffer).answer ≡ Err r
+  pub text_refused : (r : Refusal) → read_text text ≡ Err r → (compiled text buffer).answer ≡ Err r
   unfolding compiled
   text_refused r e = output_refused (read_text text) buffer r e
 
-  module _ (n : ℕ) (p : Policy) (r : read_text text ≡ reading n p) where
+  module _ (p : Policy) (r : read_text text ≡ Ok p) where
     -- 15 where the image has more bytes than the buffer
     pub room_refused : length buffer < length (image_of newest_form p) → (compiled text buffer).answer ≡ Err (refusal Fault.BufferTooSmall 0)
     unfolding compiled
-    room_refused h = output_short (read_text text) buffer n p r h
+    room_refused h = output_short (read_text text) buffer p r h
 
     -- every other text is accepted, and its image delivered
     pub text_delivered : length (image_of newest_form p) ≤ length buffer → compiled text buffer ≡ deliver (image_of newest_form p) buffer
     unfolding compiled
-    text_delivered h = output_delivered (read_text text) buffer n p r h
+    text_delivered h = output_delivered (read_text text) buffer p r h
 
     pub text_compiled : length (image_of newest_form p) ≤ length buffer → (compiled text buffer).answer ≡ Ok (length (image_of newest_form p))
     text_compiled h = ap (λ (o : Filled). o.answer) (text_delivered h)
@@ -113,21 +113,21 @@ module _ (text buffer : List ℕ) where
 
 module _ (maker site buffer : List ℕ) where
   pub texts_written : (size : ℕ) → (compiled_texts maker site buffer).answer ≡ Ok size → TextsImageWritten maker site buffer size
-  unfolding compiled_texts policy_of_texts
+  unfolding compiled_texts
   texts_written size e = output_written (read_texts maker site) (texts_acceptable maker site) buffer size e
 
-  pub texts_refused : (r : Refusal) → read_texts maker site ≡ stopped r → (compiled_texts maker site buffer).answer ≡ Err r
+  pub texts_refused : (r : Refusal) → read_texts maker site ≡ Err r → (compiled_texts maker site buffer).answer ≡ Err r
   unfolding compiled_texts
   texts_refused r e = output_refused (read_texts maker site) buffer r e
 
-  module _ (n : ℕ) (p : Policy) (r : read_texts maker site ≡ reading n p) where
+  module _ (p : Policy) (r : read_texts maker site ≡ Ok p) where
     pub texts_short : length buffer < length (image_of newest_form p) → (compiled_texts maker site buffer).answer ≡ Err (refusal Fault.BufferTooSmall 0)
     unfolding compiled_texts
-    texts_short h = output_short (read_texts maker site) buffer n p r h
+    texts_short h = output_short (read_texts maker site) buffer p r h
 
     pub texts_delivered : length (image_of newest_form p) ≤ length buffer → compiled_texts maker site buffer ≡ deliver (image_of newest_form p) buffer
     unfolding compiled_texts
-    texts_delivered h = output_delivered (read_texts maker site) buffer n p r h
+    texts_delivered h = output_delivered (read_texts maker site) buffer p r h
 
   pub texts_unchanged : (r : Refusal) → (compiled_texts maker site buffer).answer ≡ Err r → (compiled_texts maker site buffer).buffer ≡ buffer
   unfolding compiled_texts
@@ -140,11 +140,11 @@ same_written : (known known' : Option Policy) (made made' : Filled) (out out' : 
 same_written known known' made made' out out' m n a b = (there, back)
   where
     there : written_by m made ≡ written_by n made' → known ≡ known'
-    there k = a.read ∙ ap some (sym a.holds ∙ ap policy_in k ∙ b.holds) ∙ sym b.read
+    there k = a.read ∙ ap Some (sym a.holds ∙ ap policy_in k ∙ b.holds) ∙ sym b.read
 
     back : known ≡ known' → written_by m made ≡ written_by n made'
     back k =
-        let q : some a.policy ≡ some b.policy = sym a.read ∙ k ∙ b.read in
+        let q : Some a.policy ≡ Some b.policy = sym a.read ∙ k ∙ b.read in
         let p : a.policy ≡ b.policy = cc in
         a.image ∙ ap (image_of newest_form) p ∙ sym b.image
 

@@ -16,13 +16,15 @@ use Rattle.word.specs.Word.{bytes_of, words_of}
 use Rattle.layout.specs.Header.{pack_header}
 use Rattle.image.specs.Held.{rules_in, constraints_in}
 use Rattle.layout.specs.Layout.{line_words, lines_words, rule_part_words, constraint_part_words, header_word, content_words, check_words, image_words, image_of}
-use Rattle.rule_text.specs.Answer.{text_read_of, texts_read}
-use Rattle.acceptance.proofs.Texts.{restarted, site_empty}
-use Rattle.rule_text.specs.Text.{Progress, reading, stopped, read_text, read_texts}
-use Rattle.rule_text.specs.declared.TextCounts.{TextCounts}
+use Rattle.rule_text.proofs.ReadLaws.{counted_err}
+use Rattle.rule_text.specs.Answer.{texts_read}
+use Rattle.acceptance.proofs.Texts.{site_empty}
+use Rattle.rule_text.specs.Text.{read_texts}
+use Rattle.rule_text.specs.declared.LineCounts.{LineCounts}
+use Rattle.policy.specs.declared.line.PerPart.{PerPart}
 use Rattle.codegen.proofs.AcceptedLaws.{newest_known, AcceptedTexts}
 use Rattle.codegen.specs.Compile.{newest_form, output_of, compiled, compiled_texts}
-use Rattle.codegen.specs.Steps.Put.{word_count, cursor_for, cursors_after, lines_of_both, put_lines, put_content, put_image}
+use Rattle.codegen.specs.Steps.Put.{word_count, lines_of_both, put_lines, put_content, put_image}
 
 -- ---- the lines, one after another, are the two parts
 
@@ -34,7 +36,7 @@ constraint_part ls = lines_words (map constraint (constraints_in ls))
 
 lines_put : (ls : List PolicyLine) (i j : ℕ) (buffer : List ℕ) → i + length (rule_part ls) ≤ j → j + length (constraint_part ls) ≤ length buffer / 4
     → put_lines ls (record { rules = i; constraints = j }) buffer ≡ put_words (put_words buffer i (rule_part ls)) j (constraint_part ls)
-unfolding put_lines rules_in constraints_in lines_words cursors_after cursor_for ending_of
+unfolding put_lines rules_in constraints_in lines_words ending_of
 lines_put [] i j buffer h k = sym (put_none (put_words buffer i []) j ∙ put_none buffer i)
 lines_put (rule r ∷ ls) i j buffer h k =
     let w : List ℕ = line_words (rule r) in
@@ -56,7 +58,7 @@ three_put buffer h r c room =
 
 -- ---- the image of two accepted texts
 
-module _ (maker site : List ℕ) (counts : TextCounts) (t : AcceptedTexts maker site counts) (buffer : List ℕ) where
+module _ (maker site : List ℕ) (counts : PerPart LineCounts) (t : AcceptedTexts maker site counts) (buffer : List ℕ) where
   abbrev p : Policy
   p = t.policy
 
@@ -135,23 +137,15 @@ module _ (maker site : List ℕ) (counts : TextCounts) (t : AcceptedTexts maker 
         rw (t.read, le-leb (length image) (length buffer) room) (ap Ok size_is, done)
 
 pub compiled_refused : (maker site buffer : List ℕ) (r : Refusal) → texts_read maker site ≡ Err r → (Err r ≡ (compiled_texts maker site buffer).answer) × (buffer ≡ (compiled_texts maker site buffer).buffer)
-unfolding texts_read text_read_of compiled_texts output_of
-compiled_refused maker site buffer r e = go (read_texts maker site) e
-  where
-    go : (s : Progress) → text_read_of s ≡ Err r → (Err r ≡ (output_of s buffer).answer) × (buffer ≡ (output_of s buffer).buffer)
-    go (reading m p) k = let w : ◌≡◌ {A = ℕ} 0 1 = cc in absurd (omega arith)
-    go (stopped x) k = let p : r ≡ x = cc in (ap Err p, refl)
+unfolding texts_read compiled_texts output_of
+compiled_refused maker site buffer r e = rw (counted_err (read_texts maker site) r e) (refl, refl)
 
 -- ---- a single text
 
 -- with an empty site's text all is as for the maker's alone
 pub compiled_alone : (text buffer : List ℕ) → compiled_texts text [] buffer ≡ compiled text buffer
-unfolding compiled_texts compiled read_texts output_of restarted
-compiled_alone text buffer = ap (λ (s : Progress). output_of s buffer) (site_empty (read_text text)) ∙ go (read_text text)
-  where
-    go : (s : Progress) → output_of (restarted s) buffer ≡ output_of s buffer
-    go (reading n p) = refl
-    go (stopped r) = refl
+unfolding compiled_texts compiled
+compiled_alone text buffer = ap (λ (s : Result Policy Refusal). output_of s buffer) (site_empty text)
 
 pub alone_answer : (text buffer : List ℕ) (x : Result ℕ Refusal) → x ≡ (compiled_texts text [] buffer).answer → x ≡ (compiled text buffer).answer
 alone_answer text buffer x e = e ∙ ap (λ (o : Filled). o.answer) (compiled_alone text buffer)

@@ -1,18 +1,16 @@
 -- Putting the lines of a text one after another: what one turn of the loop does.
-use Rattle.std.specs.Prelude.{Some, None, Ok, Err}
-use Rattle.std.proofs.Common.{ℕ, ◌+◌, ◌*◌, ◌%◌, ◌≤◌, ◌<◌, true, List, [], ◌∷◌, ◌++◌, ◌≡◌, refl, sym, ap, ap₂, ◌∙◌, arith, length, take}
-use Rattle.policy.specs.Limits.{valid}
-use Rattle.policy.specs.Line.{PolicyLine, ending_of}
-use Rattle.line_value.specs.Value.{line_of, line_value}
+use Rattle.std.specs.Prelude.{Option, Some, None, Result, Ok, Err}
+use Rattle.std.proofs.Common.{ℕ, ◌+◌, ◌*◌, ◌%◌, ◌≤◌, ◌<◌, List, [], ◌∷◌, ◌++◌, ◌≡◌, refl, sym, ap, ap₂, ◌∙◌, arith, length, take}
+use Rattle.policy.specs.Line.{PolicyLine, ending_of, ending_part, line_part, part_get}
+use Rattle.policy.specs.declared.line.Part.{Part}
+use Rattle.policy.specs.declared.line.PerPart.{PerPart}
 use Rattle.policy.specs.declared.fault.Fault.{Fault}
 use Rattle.policy.specs.declared.line.Ending.{Ending}
 use Rattle.line_value.specs.declared.Line.{Line}
-use Rattle.policy.specs.declared.number.Action.{Action}
 use Rattle.layout.proofs.LayoutLaws.{value_words_is}
 use Rattle.layout.specs.Layout.{line_words, check_words}
 use Rattle.layout.specs.Steps.Value.{value_words}
 use Rattle.exactness.proofs.PartLines.{line_limit_is}
-use Rattle.policy.proofs.ValidLaws.{valid_out}
 use Rattle.word.proofs.WriteLaws.{put_length}
 use Rattle.word.specs.Steps.Write.{put_words}
 use Rattle.word.specs.Word.{words_of}
@@ -21,66 +19,41 @@ use Rattle.acceptance.proofs.Accepted.{accepted_valid}
 use Rattle.syntax.proofs.AnswerLaws.{lines_here, next_shorter, read_refused, read_skipped, read_accepted}
 use Rattle.syntax.specs.Answer.{next_line, line_read}
 use Rattle.lexer.specs.Lines.{pieces, lines_of, first_line}
-use Rattle.syntax.specs.Judge.{LineAnswer, skipped, refused, accepted, line_answer}
+use Rattle.syntax.specs.Judge.{line_answer}
 use Rattle.codegen.specs.Compile.{newest_form}
-use Rattle.codegen.specs.Steps.Put.{cursor_for, cursors_after, cursors_behind, Near, Further, accepted_line, accepted_lines, put_lines, put_content, put_image}
-use Rattle.codegen.specs.declared.Cursors.{Cursors}
+use Rattle.codegen.specs.Steps.Put.{cursors_after, cursors_behind, Near, Further, accepted_line, accepted_lines, put_lines, put_content, put_image}
 
 abbrev pub accepted_in : List ℕ → List PolicyLine
 accepted_in text = accepted_lines (lines_of text)
 
 -- the accepted lines of a text, by what its first line is
-here : (text : List ℕ) (a : LineAnswer) → 0 < length text → line_answer (first_line text) ≡ a → accepted_in text ≡ accepted_line a (accepted_in (next_line text))
+here : (text : List ℕ) (a : Result (Option PolicyLine) Fault) → 0 < length text → line_answer (first_line text) ≡ a → accepted_in text ≡ accepted_line a (accepted_in (next_line text))
 unfolding accepted_lines
-here text a h e = ap accepted_lines (lines_here text h) ∙ ap (λ (x : LineAnswer). accepted_line x (accepted_in (next_line text))) e
+here text a h e = ap accepted_lines (lines_here text h) ∙ ap (λ (x : Result (Option PolicyLine) Fault). accepted_line x (accepted_in (next_line text))) e
 
--- the value of a valid line has its words
-record Whole (l : PolicyLine) : Type 0 where
-  words : value_words (line_value l) ≡ line_words l
-  small : length (line_words l) ≤ 17
-  ends : (line_value l).ending ≡ ending_of l
-
-whole : (l : PolicyLine) → valid l ≡ true → Whole l
-unfolding line_value line_of
-whole l v = let p = valid_out l v in record { words = value_words_is l p.few_tests p.few_comparisons; small = line_limit_is l v; ends = refl }
-
-rules_after : (e : Ending) (p : Cursors) (n : ℕ) → n ≤ 17 → (cursors_after e p n).rules ≤ p.rules + 17
-unfolding cursors_after
-rules_after (Ending.Causes a) p n h = omega arith
-rules_after Ending.Never p n h = omega arith
-
-constraints_after : (e : Ending) (p : Cursors) (n : ℕ) → n ≤ 17 → (cursors_after e p n).constraints ≤ p.constraints + 17
-unfolding cursors_after
-constraints_after (Ending.Causes a) p n h = omega arith
-constraints_after Ending.Never p n h = omega arith
-
--- a line of either kind put in, as its ending says
-module _ (p : Cursors) (buffer buffer' ws : List ℕ) (n : ℕ) (e : n ≡ length ws) where
-  pub put_rule : (x : Ending) (a : Action) → x ≡ Ending.Causes a → buffer' ≡ put_words buffer p.rules ws → (record { rules = p.rules + n; constraints = p.constraints } ≡ cursors_after x p (length ws)) × (buffer' ≡ put_words buffer (cursor_for x p) ws)
-  unfolding cursors_after cursor_for
-  put_rule x a q g = rw (q, ← e) (refl, g)
-
-  pub put_constraint : (x : Ending) → x ≡ Ending.Never → buffer' ≡ put_words buffer p.constraints ws → (record { rules = p.rules; constraints = p.constraints + n } ≡ cursors_after x p (length ws)) × (buffer' ≡ put_words buffer (cursor_for x p) ws)
-  unfolding cursors_after cursor_for
-  put_constraint x q g = rw (q, ← e) (refl, g)
+-- no cursor goes further than the line is long
+after_near : (part : Part) (p : PerPart ℕ) (n : ℕ) → n ≤ 17 → (k : Part) → part_get (cursors_after part p n) k ≤ part_get p k + 17
+after_near Part.Rules p n h Part.Rules = omega arith
+after_near Part.Rules p n h Part.Constraints = omega arith
+after_near Part.Constraints p n h Part.Rules = omega arith
+after_near Part.Constraints p n h Part.Constraints = omega arith
 
 -- ---- what is left to put of the rest of a text
 
-pub record Putting (text buffer₀ : List ℕ) (start : Cursors) (buffer : List ℕ) (cursors : Cursors) (rest : List ℕ) : Type 0 where
+pub record Putting (text buffer₀ : List ℕ) (start : PerPart ℕ) (buffer : List ℕ) (cursors : PerPart ℕ) (rest : List ℕ) : Type 0 where
   pub long : length buffer ≡ length buffer₀
-  pub rules : cursors.rules + 17 * length rest ≤ start.rules + 17 * length text
-  pub constraints : cursors.constraints + 17 * length rest ≤ start.constraints + 17 * length text
+  pub near : (part : Part) → part_get cursors part + 17 * length rest ≤ part_get start part + 17 * length text
   pub ends : cursors_behind (accepted_in rest) cursors ≡ cursors_behind (accepted_in text) start
   pub same : put_lines (accepted_in rest) cursors buffer ≡ put_lines (accepted_in text) start buffer₀
 
-module _ (text buffer₀ : List ℕ) (start : Cursors) where
+module _ (text buffer₀ : List ℕ) (start : PerPart ℕ) where
   -- all is put: the cursors behind it, how far they went, and the buffer
-  abbrev Put : Cursors → List ℕ → Type 0
+  abbrev Put : PerPart ℕ → List ℕ → Type 0
   Put cursors buffer = (cursors ≡ cursors_behind (accepted_in text) start) × (Further start cursors × (buffer ≡ put_lines (accepted_in text) start buffer₀))
 
-  module _ (buffer : List ℕ) (cursors : Cursors) (rest : List ℕ) (p : Putting text buffer₀ start buffer cursors rest) where
+  module _ (buffer : List ℕ) (cursors : PerPart ℕ) (rest : List ℕ) (p : Putting text buffer₀ start buffer cursors rest) where
     pub putting_near : Near 600000 start → length text ≤ 32768 → Near 2000000 cursors
-    putting_near n h = record { rules = omega (arith, n.rules, p.rules); constraints = omega (arith, n.constraints, p.constraints) }
+    putting_near n h part = omega (arith, n part, p.near part)
 
     -- nothing is left to put
     done : length text ≤ 32768 → accepted_in rest ≡ [] → Put cursors buffer
@@ -88,7 +61,7 @@ module _ (text buffer₀ : List ℕ) (start : Cursors) where
     done h e = (
       sym (ap (λ (ls : List PolicyLine). cursors_behind ls cursors) e) ∙ p.ends,
       (
-        record { rules = omega (arith, p.rules); constraints = omega (arith, p.constraints) },
+        λ part. omega (arith, p.near part),
         sym (ap (λ (ls : List PolicyLine). put_lines ls cursors buffer) e) ∙ p.same,
       ),
     )
@@ -104,29 +77,27 @@ module _ (text buffer₀ : List ℕ) (start : Cursors) where
     module _ (h : 0 < length rest) where
       pub putting_stop : length text ≤ 32768 → (f : Fault) → Err f ≡ line_read rest → Put cursors buffer
       unfolding accepted_line
-      putting_stop s f q = done s (here rest (refused f) h (read_refused rest f q))
+      putting_stop s f q = done s (here rest (Err f) h (read_refused rest f q))
 
       module _ (behind : List ℕ) where
         pub putting_skip : Ok (None, behind) ≡ line_read rest → (length behind < length rest) × Putting text buffer₀ start buffer cursors behind
         unfolding accepted_line
         putting_skip q =
             let k = read_skipped rest behind q in
-            let e : accepted_in rest ≡ accepted_in behind = here rest skipped h k.0 ∙ ap accepted_in (sym k.1) in
+            let e : accepted_in rest ≡ accepted_in behind = here rest (Ok None) h k.0 ∙ ap accepted_in (sym k.1) in
             let l : length behind < length rest = rw k.1 (next_shorter rest h) in
-            (l, record { long = p.long; rules = omega (arith, p.rules); constraints = omega (arith, p.constraints); ends = ap (λ (ls : List PolicyLine). cursors_behind ls cursors) (sym e) ∙ p.ends; same = ap (λ (ls : List PolicyLine). put_lines ls cursors buffer) (sym e) ∙ p.same })
+            (l, record { long = p.long; near = λ part. omega (arith, p.near part); ends = ap (λ (ls : List PolicyLine). cursors_behind ls cursors) (sym e) ∙ p.ends; same = ap (λ (ls : List PolicyLine). put_lines ls cursors buffer) (sym e) ∙ p.same })
 
         -- a line put in
-        after : (k : PolicyLine) (buffer' : List ℕ) (cursors' : Cursors) → length behind < length rest → accepted_in rest ≡ k ∷ accepted_in behind → length (line_words k) ≤ 17
-            → cursors' ≡ cursors_after (ending_of k) cursors (length (line_words k)) → buffer' ≡ put_words buffer (cursor_for (ending_of k) cursors) (line_words k) → Putting text buffer₀ start buffer' cursors' behind
+        after : (k : PolicyLine) (buffer' : List ℕ) (cursors' : PerPart ℕ) → length behind < length rest → accepted_in rest ≡ k ∷ accepted_in behind → length (line_words k) ≤ 17
+            → cursors' ≡ cursors_after (line_part k) cursors (length (line_words k)) → buffer' ≡ put_words buffer (part_get cursors (line_part k)) (line_words k) → Putting text buffer₀ start buffer' cursors' behind
         unfolding put_lines cursors_behind
         after k buffer' cursors' n e small f g =
-            let a : cursors'.rules ≤ cursors.rules + 17 = rw f (rules_after (ending_of k) cursors (length (line_words k)) small) in
-            let b : cursors'.constraints ≤ cursors.constraints + 17 = rw f (constraints_after (ending_of k) cursors (length (line_words k)) small) in
+            let a : (part : Part) → part_get cursors' part ≤ part_get cursors part + 17 = rw f (after_near (line_part k) cursors (length (line_words k)) small) in
             record {
-              long = ap length g ∙ put_length buffer (cursor_for (ending_of k) cursors) (line_words k) ∙ p.long;
+              long = ap length g ∙ put_length buffer (part_get cursors (line_part k)) (line_words k) ∙ p.long;
               ends = ap (cursors_behind (accepted_in behind)) f ∙ ap (λ (ls : List PolicyLine). cursors_behind ls cursors) (sym e) ∙ p.ends;
-              rules = omega (arith, p.rules);
-              constraints = omega (arith, p.constraints);
+              near = λ part. omega (arith, a part, p.near part);
               same = ap₂ (put_lines (accepted_in behind)) f g ∙ ap (λ (ls : List PolicyLine). put_lines ls cursors buffer) (sym e) ∙ p.same;
             }
 
@@ -134,38 +105,38 @@ module _ (text buffer₀ : List ℕ) (start : Cursors) where
         pub record Taking (l : Line) : Type 0 where
           pub small : length (value_words l) ≤ 17
           pub shorter : length behind < length rest
-          pub next : (buffer' : List ℕ) (cursors' : Cursors) → cursors' ≡ cursors_after l.ending cursors (length (value_words l))
-              → buffer' ≡ put_words buffer (cursor_for l.ending cursors) (value_words l) → Putting text buffer₀ start buffer' cursors' behind
+          pub next : (buffer' : List ℕ) (cursors' : PerPart ℕ) → cursors' ≡ cursors_after (ending_part l.ending) cursors (length (value_words l))
+              → buffer' ≡ put_words buffer (part_get cursors (ending_part l.ending)) (value_words l) → Putting text buffer₀ start buffer' cursors' behind
 
         pub putting_take : (l : Line) → Ok (Some l, behind) ≡ line_read rest → Taking l
         unfolding accepted_line
         putting_take l q =
             let r = read_accepted rest l behind q in
             let k : PolicyLine = r.line in
-            let w = whole k (accepted_valid (first_line rest) k r.answer) in
-            let words : value_words l ≡ line_words k = ap value_words r.value ∙ w.words in
-            let ends : l.ending ≡ ending_of k = ap (λ (x : Line). x.ending) r.value ∙ w.ends in
-            let e : accepted_in rest ≡ k ∷ accepted_in behind = here rest (accepted k) h r.answer ∙ ap (λ (t : List ℕ). k ∷ accepted_in t) (sym r.behind) in
+            let small : length (line_words k) ≤ 17 = line_limit_is k (accepted_valid (first_line rest) k r.answer) in
+            let words : value_words l ≡ line_words k = ap value_words r.value ∙ value_words_is k in
+            let ends : l.ending ≡ ending_of k = ap (λ (x : Line). x.ending) r.value in
+            let e : accepted_in rest ≡ k ∷ accepted_in behind = here rest (Ok (Some k)) h r.answer ∙ ap (λ (t : List ℕ). k ∷ accepted_in t) (sym r.behind) in
             let n : length behind < length rest = rw r.behind (next_shorter rest h) in
             record {
-              small = rw words w.small;
+              small = rw words small;
               shorter = n;
-              next = λ b ps f g. after k b ps n e w.small (f ∙ ap₂ (λ (x : Ending) (ws : List ℕ). cursors_after x cursors (length ws)) ends words)
-                  (g ∙ ap₂ (λ (x : Ending) (ws : List ℕ). put_words buffer (cursor_for x cursors) ws) ends words);
+              next = λ b ps f g. after k b ps n e small (f ∙ ap₂ (λ (x : Ending) (ws : List ℕ). cursors_after (ending_part x) cursors (length ws)) ends words)
+                  (g ∙ ap₂ (λ (x : Ending) (ws : List ℕ). put_words buffer (part_get cursors (ending_part x)) ws) ends words);
             }
 
 -- ---- the whole image
 
-lines_behind : (ls ms : List PolicyLine) (p : Cursors) (buffer : List ℕ) → put_lines (ls ++ ms) p buffer ≡ put_lines ms (cursors_behind ls p) (put_lines ls p buffer)
+lines_behind : (ls ms : List PolicyLine) (p : PerPart ℕ) (buffer : List ℕ) → put_lines (ls ++ ms) p buffer ≡ put_lines ms (cursors_behind ls p) (put_lines ls p buffer)
 unfolding put_lines cursors_behind
 lines_behind [] ms p buffer = refl
-lines_behind (l ∷ ls) ms p buffer = lines_behind ls ms (cursors_after (ending_of l) p (length (line_words l))) (put_words buffer (cursor_for (ending_of l) p) (line_words l))
+lines_behind (l ∷ ls) ms p buffer = lines_behind ls ms (cursors_after (line_part l) p (length (line_words l))) (put_words buffer (part_get p (line_part l)) (line_words l))
 
 -- cursors behind those of the first text are near enough for the second
-pub near_behind : (p q : Cursors) → Near 4096 p → Further p q → Near 600000 q
-near_behind p q n f = record { rules = omega (arith, n.rules, f.rules); constraints = omega (arith, n.constraints, f.constraints) }
+pub near_behind : (p q : PerPart ℕ) → Near 4096 p → Further p q → Near 600000 q
+near_behind p q n f part = omega (arith, n part, f part)
 
-pub image_put : (ls ms : List PolicyLine) (P N h : ℕ) (cursors : Cursors) (buffer₀ buffer₁ buffer₂ buffer₃ buffer₄ : List ℕ) → P ≤ 2176 → N ≤ 1088 → h ≡ pack_header newest_form (P % 4096) (N % 4096)
+pub image_put : (ls ms : List PolicyLine) (P N h : ℕ) (cursors : PerPart ℕ) (buffer₀ buffer₁ buffer₂ buffer₃ buffer₄ : List ℕ) → P ≤ 2176 → N ≤ 1088 → h ≡ pack_header newest_form (P % 4096) (N % 4096)
     → buffer₁ ≡ put_words buffer₀ 0 (h ∷ []) → cursors ≡ cursors_behind ls (record { rules = 1; constraints = 1 + P }) → buffer₂ ≡ put_lines ls (record { rules = 1; constraints = 1 + P }) buffer₁
     → buffer₃ ≡ put_lines ms cursors buffer₂
     → buffer₄ ≡ put_words buffer₃ (1 + P + N) (check_words newest_form (take (1 + P + N) (words_of buffer₃))) → buffer₄ ≡ put_image (ls ++ ms) P N buffer₀
@@ -173,7 +144,7 @@ unfolding put_image put_content
 image_put ls ms P N h cursors buffer₀ buffer₁ buffer₂ buffer₃ buffer₄ a b e f s g m k =
     let p : P % 4096 ≡ P = omega arith in
     let n : N % 4096 ≡ N = omega arith in
-    let start : Cursors = record { rules = 1; constraints = 1 + P } in
+    let start : PerPart ℕ = record { rules = 1; constraints = 1 + P } in
     let head : h ≡ pack_header newest_form P N = e ∙ ap₂ (pack_header newest_form) p n in
     let first : buffer₁ ≡ put_words buffer₀ 0 (pack_header newest_form P N ∷ []) = f ∙ ap (λ (w : ℕ). put_words buffer₀ 0 (w ∷ [])) head in
     let content : buffer₃ ≡ put_lines (ls ++ ms) start (put_words buffer₀ 0 (pack_header newest_form P N ∷ [])) =

@@ -1,6 +1,5 @@
 -- What a compilation that answers a size has done.
-use Rattle.std.specs.Prelude.{ℕ, ◌≤◌, List, ◌≡◌, length, take, drop, Ok}
-use Rattle.std.proofs.Math.Option.{Option, some}
+use Rattle.std.specs.Prelude.{ℕ, ◌≤◌, List, ◌≡◌, length, take, drop, Ok, Option, Some}
 use Rattle.policy.specs.Fill.{Filled}
 use Rattle.policy.specs.Limits.{Acceptable}
 use Rattle.policy.specs.Policy.{Policy}
@@ -19,7 +18,7 @@ written_by size made = take size made.buffer
 pub record WrittenBy (known : Option Policy) (made : Filled) (buffer : List ℕ) (size : ℕ) : Type 0 where
   -- the bytes are the policy's image, and as many as were answered
   pub policy : Policy
-  pub read : known ≡ some policy
+  pub read : known ≡ Some policy
   pub acceptable : Acceptable policy
   pub image : written_by size made ≡ image_of newest_form policy
   pub long : length (written_by size made) ≡ size

@@ -5,12 +5,13 @@ ghost use Rattle.std.specs.Prelude.{◌≡◌, ◌≤◌, length, IfOk};
 ghost use Rattle.word.specs.Steps.Write.{put_words};
 ghost use Rattle.layout.specs.Steps.Value.{value_words};
 ghost use Rattle.lexer.specs.Lines.{lines_of};
+ghost use Rattle.policy.specs.Line.{ending_part, part_get};
 ghost use Rattle.codegen.specs.Compile.{compiled, compiled_texts};
-ghost use Rattle.codegen.specs.Steps.Put.{word_count, cursor_for, cursors_after, cursors_behind, accepted_lines, lines_of_both, put_lines, put_image, Near, Further};
+ghost use Rattle.codegen.specs.Steps.Put.{word_count, cursors_after, cursors_behind, accepted_lines, lines_of_both, put_lines, put_image, Near, Further};
 
 use layout::{header, put_check_words, put_line};
 use line_value::Line;
-use policy::{Ending, Fault, Refusal};
+use policy::{Fault, PerPart, Refusal};
 use rule_text::{LineCounts, read_texts};
 use syntax::read_line;
 use word::put_word;
@@ -26,40 +27,21 @@ fn words(counts: LineCounts) -> usize
     counts.lines + counts.heads + counts.comparisons + counts.constants
 }
 
-/// The words at which the next rule and the next constraint go.
-#[derive(Clone, Copy)]
-pub struct Cursors {
-    pub rules: usize,
-    pub constraints: usize,
-}
-
-/// A line put in behind those of its kind.
-fn put_next(out: &mut [u8], cursors: Cursors, line: &Line) -> Cursors
+/// A line put in behind those of its kind. Cursors are the words at which the next rule and the next constraint go.
+fn put_next(out: &mut [u8], cursors: PerPart<usize>, line: &Line) -> PerPart<usize>
     requires near { Near 2000000 cursors }
     requires short { length (value_words line.now) ≤ 17 }
-    ensures answer { result ≡ cursors_after line.now.ending cursors (length (value_words line.now)) }
-    ensures buffer { out.new ≡ put_words out.old (cursor_for line.now.ending cursors) (value_words line.now) }
+    ensures answer { result ≡ cursors_after (ending_part line.now.ending) cursors (length (value_words line.now)) }
+    ensures buffer { out.new ≡ put_words out.old (part_get cursors (ending_part line.now.ending)) (value_words line.now) }
 {
-    match line.ending {
-        Ending::Causes(_) => {
-            let words = put_line(out, cursors.rules, line);
-            Cursors {
-                rules: cursors.rules + words,
-                constraints: cursors.constraints,
-            }
-        }
-        Ending::Never => {
-            let words = put_line(out, cursors.constraints, line);
-            Cursors {
-                rules: cursors.rules,
-                constraints: cursors.constraints + words,
-            }
-        }
-    }
+    let part = line.ending.part();
+    let at = cursors.get(part);
+    let words = put_line(out, at, line);
+    cursors.with(part, at + words)
 }
 
 /// The lines of a text, up to the first that is refused, and the cursors behind them.
-fn put_lines(out: &mut [u8], text: &[u8], start: Cursors) -> Cursors
+fn put_lines(out: &mut [u8], text: &[u8], start: PerPart<usize>) -> PerPart<usize>
     requires near { Near 600000 start }
     requires short { length text.now ≤ 32768 }
     ensures answer { result ≡ cursors_behind (accepted_lines (lines_of text.now)) start }
@@ -72,8 +54,8 @@ fn put_lines(out: &mut [u8], text: &[u8], start: Cursors) -> Cursors
         let Ok((line, behind)) = read_line(rest) else {
             return cursors;
         };
-        if let Some(line) = line {
-            cursors = put_next(out, cursors, &line);
+        if let Some(line) = &line {
+            cursors = put_next(out, cursors, line);
         }
         rest = behind;
     }
@@ -90,7 +72,7 @@ fn put_image(out: &mut [u8], maker: &[u8], site: &[u8], rule_words: usize, const
 {
     put_word(out, 0, header(FORM, rule_words, constraint_words));
     let middle = 1 + rule_words;
-    let start = Cursors {
+    let start = PerPart {
         rules: 1,
         constraints: middle,
     };

@@ -1,6 +1,6 @@
 -- The words of a line read back, and when a line stands at the start of words.
+use Rattle.std.specs.Prelude.{Option, Some, None}
 use Rattle.std.proofs.Common.{ℕ, ◌+◌, ◌<◌, Bool, true, false, cond, ◌&&◌, List, [], ◌∷◌, ◌++◌, map, ◌↔◌, ◌≡◌, refl, sym, ap, ap₂, ◌∙◌, arith, ltb-true, eqb-true, eq-eqb, length, drop}
-use Rattle.std.proofs.Math.Option.{Option, none, some}
 use Rattle.std.proofs.Math.Dec.{eqb}
 use Rattle.std.proofs.Math.ListN.{get_or, length-map}
 use Rattle.policy.proofs.ListLaws.{and_in, and_out, true_false}
@@ -36,11 +36,11 @@ decode_by w ws o q = decode_cons w ws ∙ ap (λ (x : Operation). decode_word x 
 -- ---- a line of either kind, made of heads and comparisons
 
 module _ {X : Type 0} (line : List X → List Comparison → PolicyLine) (wrap : X → Test) (ending : Ending)
-    (front : (c : Comparison) (xs : List X) (cs : List Comparison) → add_comparison c (some (line xs cs)) ≡ some (line xs (c ∷ cs)))
-    (head : (x : X) (k : ℕ) (ws : List ℕ) (xs : List X) (cs : List Comparison) → test_number (wrap x) < 64 → k < 32 → decode ws ≡ some (line xs cs) → decode (test_word (wrap x) k ∷ ws) ≡ some (line (x ∷ xs) cs))
-    (ends : (ws : List ℕ) → decode (ending_word ending ∷ ws) ≡ some (line [] [])) where
-  condition_decoded : (cs : List Comparison) (rest : List ℕ) → all comparison_in_range cs ≡ true → condition_size cs < 32 → decode (condition_words cs ending ++ rest) ≡ some (line [] cs)
-  unfolding condition_words condition_size comparisons_size all decode_word
+    (front : (c : Comparison) (xs : List X) (cs : List Comparison) → add_comparison c (Some (line xs cs)) ≡ Some (line xs (c ∷ cs)))
+    (head : (x : X) (k : ℕ) (ws : List ℕ) (xs : List X) (cs : List Comparison) → test_number (wrap x) < 64 → k < 32 → decode ws ≡ Some (line xs cs) → decode (test_word (wrap x) k ∷ ws) ≡ Some (line (x ∷ xs) cs))
+    (ends : (ws : List ℕ) → decode (ending_word ending ∷ ws) ≡ Some (line [] [])) where
+  condition_decoded : (cs : List Comparison) (rest : List ℕ) → all comparison_in_range cs ≡ true → condition_size cs < 32 → decode (condition_words cs ending ++ rest) ≡ Some (line [] cs)
+  unfolding condition_words condition_size comparisons_size decode_word
   condition_decoded [] rest r l = ends rest
   condition_decoded (c ∷ cs) rest r l = go (condition_decoded cs rest p.1 (omega arith)) (written c (length tail) p.0 (omega (arith, condition_length cs ending)))
     where
@@ -50,14 +50,14 @@ module _ {X : Type 0} (line : List X → List Comparison → PolicyLine) (wrap :
       p : (comparison_in_range c ≡ true) × (all comparison_in_range cs ≡ true)
       p = and_out (comparison_in_range c) (all comparison_in_range cs) r
 
-      go : decode (tail ++ rest) ≡ some (line [] cs) → Written c (length tail) → decode (comparison_words c (length tail) ++ tail ++ rest) ≡ some (line [] (c ∷ cs))
+      go : decode (tail ++ rest) ≡ Some (line [] cs) → Written c (length tail) → decode (comparison_words c (length tail) ++ tail ++ rest) ≡ Some (line [] (c ∷ cs))
       go later (with_constant w v e o s b _ _) =
           ap (λ (ws : List ℕ). decode (ws ++ tail ++ rest)) e ∙ decode_by w (v ∷ (tail ++ rest)) Operation.AgainstConstant o ∙ ap₂ add_comparison b later ∙ front c [] cs
       go later (with_reading w e o s b _ _) =
           ap (λ (ws : List ℕ). decode (ws ++ tail ++ rest)) e ∙ decode_by w (tail ++ rest) Operation.AgainstReading o ∙ ap₂ add_comparison b later ∙ front c [] cs
 
-  part_decoded : (cs : List Comparison) (xs : List X) (rest : List ℕ) → all test_in_range (map wrap xs) ≡ true → all comparison_in_range cs ≡ true → length xs + condition_size cs < 32 → decode (part_words (map wrap xs) cs ending ++ rest) ≡ some (line xs cs)
-  unfolding part_words all
+  part_decoded : (cs : List Comparison) (xs : List X) (rest : List ℕ) → all test_in_range (map wrap xs) ≡ true → all comparison_in_range cs ≡ true → length xs + condition_size cs < 32 → decode (part_words (map wrap xs) cs ending ++ rest) ≡ Some (line xs cs)
+  unfolding part_words
   part_decoded cs [] rest t r l = condition_decoded cs rest r (omega arith)
   part_decoded cs (x ∷ xs) rest t r l =
       let p = and_out (test_in_range (wrap x)) (all test_in_range (map wrap xs)) t in
@@ -68,7 +68,7 @@ module _ {X : Type 0} (line : List X → List Comparison → PolicyLine) (wrap :
 -- ---- rules and constraints
 
 literal_decoded : (a : Action) (l : Literal) (k : ℕ) (ws : List ℕ) (ls : List Literal) (cs : List Comparison) → test_number (Test.Occurs l) < 64 → k < 32
-    → decode ws ≡ some (rule (record { literals = ls; action = a; comparisons = cs })) → decode (test_word (Test.Occurs l) k ∷ ws) ≡ some (rule (record { literals = l ∷ ls; action = a; comparisons = cs }))
+    → decode ws ≡ Some (rule (record { literals = ls; action = a; comparisons = cs })) → decode (test_word (Test.Occurs l) k ∷ ws) ≡ Some (rule (record { literals = l ∷ ls; action = a; comparisons = cs }))
 unfolding decode_word add_literal
 literal_decoded a l k ws ls cs h b e = decode_by (test_word (Test.Occurs l) k) ws (literal_operation l.negated) (literal_operation_is l k h b) ∙ go l.negated refl
   where
@@ -78,18 +78,18 @@ literal_decoded a l k ws ls cs h b e = decode_by (test_word (Test.Occurs l) k) w
     made : (n : Bool) → l.negated ≡ n → record { event = event_from w; negated = n } ≡ l
     made n q = λ i. record { event = literal_event l k h b i; negated = sym q i }
 
-    go : (n : Bool) → l.negated ≡ n → decode_word (literal_operation n) w (get_or ws 0 0) (decode ws) (decode (drop 1 ws)) ≡ some (rule (record { literals = l ∷ ls; action = a; comparisons = cs }))
+    go : (n : Bool) → l.negated ≡ n → decode_word (literal_operation n) w (get_or ws 0 0) (decode ws) (decode (drop 1 ws)) ≡ Some (rule (record { literals = l ∷ ls; action = a; comparisons = cs }))
     go true q = ap₂ add_literal (made true q) e
     go false q = ap₂ add_literal (made false q) e
 
-pub decode_line : (l : PolicyLine) (rest : List ℕ) → valid l ≡ true → decode (line_words l ++ rest) ≡ some l
+pub decode_line : (l : PolicyLine) (rest : List ℕ) → valid l ≡ true → decode (line_words l ++ rest) ≡ Some l
 unfolding line_words heads_of comparisons_of ending_of ending_in_range decode_word add_comparison add_member
 decode_line (rule r) rest v =
     let h = valid_out (rule r) v in
     let c = condition_size_limit r.comparisons in
     let n : r.action.0 < 64 = ltb-true r.action.0 64 h.ending in
     part_decoded (λ ls cs. rule (record { literals = ls; action = r.action; comparisons = cs })) Test.Occurs (Ending.Causes r.action) (λ c ls cs. refl) (literal_decoded r.action)
-    (λ ws. decode_by (ending_word (Ending.Causes r.action)) ws Operation.Proposes (causes_operation r.action n) ∙ ap (λ (a : Action). some (rule (record { literals = []; action = a; comparisons = [] }))) (causes_action r.action n))
+    (λ ws. decode_by (ending_word (Ending.Causes r.action)) ws Operation.Proposes (causes_operation r.action n) ∙ ap (λ (a : Action). Some (rule (record { literals = []; action = a; comparisons = [] }))) (causes_action r.action n))
     r.comparisons r.literals rest h.tests h.comparisons (omega (arith, h.few_tests, h.few_comparisons, length-map r.literals Test.Occurs))
 decode_line (constraint k) rest v =
     let h = valid_out (constraint k) v in
@@ -115,14 +115,14 @@ prefix_out (x ∷ xs) (y ∷ ys) e =
     ap₂ (λ (z : ℕ) (zs : List ℕ). z ∷ zs) (sym (eqb-true x y p.0)) (prefix_out xs ys p.1)
 
 -- a valid line of the part is found where its words stand
-pub line_in_is : (part : Part) (l : PolicyLine) (rest : List ℕ) → in_part part l ≡ true → valid l ≡ true → line_at part (line_words l ++ rest) ≡ some l
+pub line_in_is : (part : Part) (l : PolicyLine) (rest : List ℕ) → in_part part l ≡ true → valid l ≡ true → line_at part (line_words l ++ rest) ≡ Some l
 unfolding line_at keep_if stands_at
 line_in_is part l rest i v =
     ap (keep_if (stands_at part (line_words l ++ rest))) (decode_line l rest v)
     ∙ rw (i, v, prefix_in (line_words l) rest)
 
 -- what is found stands there
-pub line_out : (part : Part) (ws : List ℕ) (l : PolicyLine) → line_at part ws ≡ some l → Stands part ws l
+pub line_out : (part : Part) (ws : List ℕ) (l : PolicyLine) → line_at part ws ≡ Some l → Stands part ws l
 unfolding line_at keep_if stands_at
 line_out part ws l e = go (decode ws) e
   where
@@ -132,28 +132,28 @@ line_out part ws l e = go (decode ws) e
         let q = and_out (in_part part l) (valid l) p.0 in
         record { kind = q.0; sound = q.1; words = prefix_out (line_words l) ws p.1 }
 
-    kept : (m : PolicyLine) (b : Bool) → stands_at part ws m ≡ b → cond b (some m) none ≡ some l → Stands part ws l
+    kept : (m : PolicyLine) (b : Bool) → stands_at part ws m ≡ b → cond b (Some m) None ≡ Some l → Stands part ws l
     kept m true q r = let n : m ≡ l = cc in facts (ap (stands_at part ws) (sym n) ∙ q)
     kept m false q r = let z : ◌≡◌ {A = ℕ} 0 1 = cc in absurd (omega arith)
 
-    go : (d : Option PolicyLine) → keep_if (stands_at part ws) d ≡ some l → Stands part ws l
-    go none r = let z : ◌≡◌ {A = ℕ} 0 1 = cc in absurd (omega arith)
-    go (some m) r = kept m (stands_at part ws m) refl r
+    go : (d : Option PolicyLine) → keep_if (stands_at part ws) d ≡ Some l → Stands part ws l
+    go None r = let z : ◌≡◌ {A = ℕ} 0 1 = cc in absurd (omega arith)
+    go (Some m) r = kept m (stands_at part ws m) refl r
 
 -- where nothing is found, no valid line of the part stands
-pub line_none : (part : Part) (ws : List ℕ) → line_at part ws ≡ none → (l : PolicyLine) (rest : List ℕ) → in_part part l ≡ true → valid l ≡ true → ws ≡ line_words l ++ rest → ⊥
+pub line_none : (part : Part) (ws : List ℕ) → line_at part ws ≡ None → (l : PolicyLine) (rest : List ℕ) → in_part part l ≡ true → valid l ≡ true → ws ≡ line_words l ++ rest → ⊥
 line_none part ws e l rest i v q =
     let f = line_in_is part l rest i v in
-    let g : line_at part ws ≡ some l = ap (line_at part) q ∙ f in
+    let g : line_at part ws ≡ Some l = ap (line_at part) q ∙ f in
     let z : ◌≡◌ {A = ℕ} 0 1 = cc in
     omega arith
 
 -- what stands is found, so there is one line at most that does
-pub line_found_exactly : (part : Part) (ws : List ℕ) (l : PolicyLine) → (line_at part ws ≡ some l) ↔ Stands part ws l
+pub line_found_exactly : (part : Part) (ws : List ℕ) (l : PolicyLine) → (line_at part ws ≡ Some l) ↔ Stands part ws l
 line_found_exactly part ws l =
     (line_out part ws l, λ s. ap (line_at part) s.words ∙ line_in_is part l (drop (length (line_words l)) ws) s.kind s.sound)
 
 pub one_line_stands : (part : Part) (ws : List ℕ) (l m : PolicyLine) → Stands part ws l → Stands part ws m → l ≡ m
 one_line_stands part ws l m a b =
-    let e : some l ≡ some m = sym ((line_found_exactly part ws l).1 a) ∙ (line_found_exactly part ws m).1 b in
+    let e : Some l ≡ Some m = sym ((line_found_exactly part ws l).1 a) ∙ (line_found_exactly part ws m).1 b in
     cc

@@ -1,6 +1,6 @@
 -- One line, by the number of its words.
+use Rattle.std.specs.Prelude.{Option, Some, None}
 use Rattle.std.proofs.Common.{ℕ, ◌≤◌, ◌<◌, List, ◌≡◌, refl, ap, arith, length, drop, length-append}
-use Rattle.std.proofs.Math.Option.{Option, none, some}
 use Rattle.policy.specs.Line.{PolicyLine, heads_of, comparisons_of, ending_of}
 use Rattle.decode.proofs.DecodeLaws.{line_out}
 use Rattle.layout.proofs.LayoutLaws.{part_length, condition_size_limit}
@@ -14,16 +14,16 @@ line_some l = omega (arith, part_length (heads_of l) (comparisons_of l) (ending_
 
 -- one line, by the number of its words
 pub data Found (part : Part) (ws : List ℕ) (n : ℕ) : Type 0 where
-  is_none : line_at part ws ≡ none → n ≡ 0 → Found part ws n
-  is_line : (l : PolicyLine) → line_at part ws ≡ some l → n ≡ length (line_words l) → 0 < n → n ≤ length ws → Found part ws n
+  is_none : line_at part ws ≡ None → n ≡ 0 → Found part ws n
+  is_line : (l : PolicyLine) → line_at part ws ≡ Some l → n ≡ length (line_words l) → 0 < n → n ≤ length ws → Found part ws n
 
 pub found : (part : Part) (ws : List ℕ) (n : ℕ) → n ≡ line_length (line_at part ws) → Found part ws n
 unfolding line_length
 found part ws n e = go (line_at part ws) refl e
   where
     go : (o : Option PolicyLine) → line_at part ws ≡ o → n ≡ line_length o → Found part ws n
-    go none q r = is_none q r
-    go (some l) q r =
+    go None q r = is_none q r
+    go (Some l) q r =
         let h = line_out part ws l q in
         let s = line_some l in
         is_line l q r (omega arith) (omega (arith, ap length h.words, length-append (line_words l) (drop (length (line_words l)) ws)))

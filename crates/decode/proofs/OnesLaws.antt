@@ -83,7 +83,7 @@ record Gathered (s : ℕ) (ns : List ℕ) : Type 0 where
   back : seen_in s ns ≡ false → count_ones (fold insert s ns) ≡ count_ones s + length ns
 
 gathered : (s : ℕ) (ns : List ℕ) → all (λ (n : ℕ). ltb n set_limit) ns ≡ true → Gathered s ns
-unfolding seen_in all
+unfolding seen_in
 gathered s [] h = record { most = omega arith; once = λ e. refl; back = λ e. omega arith }
 gathered s (n ∷ ns) h = go (has s n) refl (gathered (insert s n) ns p.1)
   where
@@ -108,7 +108,6 @@ gathered s (n ∷ ns) h = go (has s n) refl (gathered (insert s n) ns p.1)
         }
 
 firsts_below : (ws : List ℕ) → all (λ (n : ℕ). ltb n set_limit) (map first_of ws) ≡ true
-unfolding all
 firsts_below [] = refl
 firsts_below (w ∷ ws) = and_in (lt-ltb (first_of w) 64 (omega arith)) (firsts_below ws)
 

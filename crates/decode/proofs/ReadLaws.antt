@@ -1,13 +1,11 @@
 -- The value of a line read from its words is the value that the line has.
 use Rattle.std.proofs.Common.{ℕ, zero, suc, ◌+◌, ◌≤◌, ◌<◌, Bool, true, false, List, [], ◌∷◌, ◌++◌, map, append-nil, ◌≡◌, refl, sym, ap, ◌∙◌, arith, lt-ltb, ltb-true, length, drop, length-append, drop-drop, drop-cons, drop_of_length-le}
-use Rattle.std.proofs.lemmas.List.{map-append}
 use Rattle.std.proofs.Math.ListN.{get_or, length-map}
 use Rattle.std.proofs.Math.Seq.{append_snoc}
-use Rattle.line_value.proofs.LineLaws.{room_counted, item_more, count_more}
 use Rattle.policy.proofs.ListLaws.{and_out}
 use Rattle.policy.specs.Limits.{valid, test_number, comparison_in_range, ending_in_range}
 use Rattle.policy.specs.Line.{PolicyLine, rule, constraint, heads_of, comparisons_of, ending_of, operand_constants}
-use Rattle.line_value.specs.Value.{count_up_to, head, no_head, no_comparison, line_of, line_value}
+use Rattle.line_value.specs.Value.{no_parts, line_value}
 use Rattle.policy.specs.List.{all}
 use Rattle.policy.specs.declared.comparison.Comparison.{Comparison}
 use Rattle.policy.specs.declared.comparison.Literal.{Literal}
@@ -66,19 +64,16 @@ never_read ws = part_by (ending_word Ending.Never) ws Operation.Never never_oper
 
 -- ---- the value of a line with one part more
 
+abbrev line_of : List Test → List Comparison → Ending → Line
+line_of hs cs e = record { heads = hs; comparisons = cs; ending = e }
+
 with_head : (hs : List Test) (cs : List Comparison) (e : Ending) (t : Test) → length hs < 8 → with_part (LinePart.Head t) (line_of hs cs e) ≡ line_of (hs ++ t ∷ []) cs e
-unfolding with_part line_of
-with_head hs cs e t h =
-    let room : length (map head hs) < 8 = omega (arith, length-map hs head) in
-    rw (lt-ltb (count_up_to 8 (map head hs)) 8 (room_counted 8 no_head (map head hs) (head t) room), item_more 8 no_head (map head hs) (head t) room, count_more 8 no_head (map head hs) (head t) room, map-append head hs (t ∷ []))
+unfolding with_part
+with_head hs cs e t h = rw (lt-ltb (length hs) 8 h) refl
 
 with_comparison : (hs : List Test) (cs : List Comparison) (e : Ending) (c : Comparison) → length cs < 4 → with_part (LinePart.Comparison c) (line_of hs cs e) ≡ line_of hs (cs ++ c ∷ []) e
-unfolding with_part line_of
-with_comparison hs cs e c h = rw (lt-ltb (count_up_to 4 cs) 4 (room_counted 4 no_comparison cs c h), item_more 4 no_comparison cs c h, count_more 4 no_comparison cs c h)
-
-with_ending : (hs : List Test) (cs : List Comparison) (e e' : Ending) → with_part (LinePart.Ending e') (line_of hs cs e) ≡ line_of hs cs e'
-unfolding with_part line_of
-with_ending hs cs e e' = refl
+unfolding with_part
+with_comparison hs cs e c h = rw (lt-ltb (length cs) 4 h) refl
 
 -- ---- the words of a line
 
@@ -100,8 +95,8 @@ read_comparison c k l rest (with_reading w q o s b h z) =
 module _ (e : Ending) (ends : line_part_at (ending_word e ∷ []) 0 ≡ LinePart.Ending e) where
   read_condition : (cs : List Comparison) (hs : List Test) (cs₀ : List Comparison) → all comparison_in_range cs ≡ true → length cs₀ + length cs ≤ 4
       → with_words (line_of hs cs₀ Ending.Never) 0 (condition_words cs e) ≡ line_of hs (cs₀ ++ cs) e
-  unfolding condition_words all with_words
-  read_condition [] hs cs₀ r l = read_by (line_of hs cs₀ Ending.Never) (ending_word e) [] (LinePart.Ending e) ends ∙ with_ending hs cs₀ Ending.Never e ∙ ap (λ (x : List Comparison). line_of hs x e) (sym (append-nil cs₀))
+  unfolding condition_words with_words with_part
+  read_condition [] hs cs₀ r l = read_by (line_of hs cs₀ Ending.Never) (ending_word e) [] (LinePart.Ending e) ends ∙ ap (λ (x : List Comparison). line_of hs x e) (sym (append-nil cs₀))
   read_condition (c ∷ cs) hs cs₀ r l =
       let p = and_out (comparison_in_range c) (all comparison_in_range cs) r in
       let tail : List ℕ = condition_words cs e in
@@ -113,7 +108,7 @@ module _ (e : Ending) (ends : line_part_at (ending_word e ∷ []) 0 ≡ LinePart
   read_parts : {X : Type 0} (wrap : X → Test) → ((x : X) (k : ℕ) (ws : List ℕ) → test_number (wrap x) < 64 → k < 32 → line_part_at (test_word (wrap x) k ∷ ws) 0 ≡ LinePart.Head (wrap x))
       → (cs : List Comparison) → all comparison_in_range cs ≡ true → length cs ≤ 4 → (xs : List X) (hs : List Test) → all test_in_range (map wrap xs) ≡ true → length hs + length xs ≤ 8
       → with_words (line_of hs [] Ending.Never) 0 (part_words (map wrap xs) cs e) ≡ line_of (hs ++ map wrap xs) cs e
-  unfolding part_words all constants_of
+  unfolding part_words constants_of
   read_parts wrap head cs r few [] hs t l = read_condition cs hs [] r (omega arith) ∙ ap (λ (x : List Test). line_of x cs e) (sym (append-nil hs))
   read_parts wrap head cs r few (x ∷ xs) hs t l =
       let p = and_out (test_in_range (wrap x)) (all test_in_range (map wrap xs)) t in
@@ -125,7 +120,7 @@ module _ (e : Ending) (ends : line_part_at (ending_word e ∷ []) 0 ≡ LinePart
 
 -- the words of a valid line say its value
 pub line_from_is : (l : PolicyLine) → valid l ≡ true → value_from (line_words l) ≡ line_value l
-unfolding line_words line_value heads_of comparisons_of ending_of ending_in_range
+unfolding line_words heads_of comparisons_of ending_of ending_in_range
 line_from_is (rule r) v =
     let h = valid_out (rule r) v in
     read_parts (Ending.Causes r.action) (causes_read r.action (ltb-true r.action.0 64 h.ending) []) Test.Occurs literal_read r.comparisons h.comparisons h.few_comparisons r.literals [] h.tests
@@ -148,7 +143,7 @@ past_constants l (suc k) [] = refl
 past_constants l (suc k) (w ∷ ws) = past_constants l k ws
 
 module _ (ws : List ℕ) where
-  pub remains_none : (line : Line) → line ≡ line_of [] [] Ending.Never → Remains ws line 0
+  pub remains_none : (line : Line) → line ≡ no_parts → Remains ws line 0
   remains_none line e = record { same = ap (λ (l : Line). with_words l 0 ws) e }
 
   -- a part and its constants are read
@@ -179,7 +174,7 @@ module _ (ws : List ℕ) where
 
 -- the first skip of a valid line tells where it ends
 pub first_skip : (l : PolicyLine) (rest : List ℕ) → valid l ≡ true → skip_of (get_or (line_words l ++ rest) 0 0) + 1 ≡ length (line_words l)
-unfolding line_words part_words all
+unfolding line_words part_words
 first_skip l rest v = go (heads_of l) h.some h.tests h.few_tests
   where
     h : ValidParts (heads_of l) (comparisons_of l) (ending_of l)

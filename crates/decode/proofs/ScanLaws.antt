@@ -132,7 +132,7 @@ fill_none n room w ws e = rw (ne_eqb (suc n) 0 (λ q. omega arith), e)
 module _ (part : Part) (e : Ending) (rest : List ℕ) where
   condition_fills : (cs : List Comparison) (room m : ℕ) → length cs ≤ room → length cs ≤ 4 → all comparison_in_range cs ≡ true → length (condition_words cs e) ≡ suc m
       → comparisons_fill room m (condition_words cs e ++ rest) ≡ true
-  unfolding condition_words comparisons_fill all
+  unfolding condition_words comparisons_fill
   condition_fills [] zero m f g r l = let z : m ≡ 0 = omega arith in rw z
   condition_fills [] (suc room) m f g r l = let z : m ≡ 0 = omega arith in rw z
   condition_fills (c ∷ cs) zero m f g r l = absurd (omega arith)
@@ -172,7 +172,7 @@ module _ (part : Part) (e : Ending) (rest : List ℕ) where
 
   -- no head stands where the comparisons begin
   condition_headless : (cs : List Comparison) (m : ℕ) → length cs ≤ 4 → all comparison_in_range cs ≡ true → length (condition_words cs e) ≡ suc m → count_heads part m (condition_words cs e ++ rest) ≡ 0
-  unfolding condition_words count_heads all
+  unfolding condition_words count_heads
   condition_headless [] m g r l = let z : m ≡ 0 = omega arith in rw z
   condition_headless (c ∷ cs) zero g r l = refl
   condition_headless (c ∷ cs) (suc m) g r l = go (written c (length tail) (and_out (comparison_in_range c) (all comparison_in_range cs) r).0 small)
@@ -190,7 +190,7 @@ module _ (part : Part) (e : Ending) (rest : List ℕ) where
   heads_counted : (cs : List Comparison) → length cs ≤ 4 → all comparison_in_range cs ≡ true → (ts : List Test) (m : ℕ) → length ts ≤ 8
       → all test_in_range ts ≡ true → all (λ (t : Test). is_head part (test_operation t)) ts ≡ true → length (part_words ts cs e) ≡ suc m
       → (count_heads part m (part_words ts cs e ++ rest) ≡ length ts) × (head_numbers (length ts) (part_words ts cs e ++ rest) ≡ map test_number ts)
-  unfolding part_words count_heads all
+  unfolding part_words count_heads
   heads_counted cs f r [] m h k o l = (condition_headless cs m f r l, refl)
   heads_counted cs f r (x ∷ xs) zero h k o l = absurd (omega (arith, part_length xs cs e, condition_size_limit cs))
   heads_counted cs f r (x ∷ xs) (suc m) h k o l =
@@ -246,7 +246,7 @@ last_word ts cs e rest m l =
 -- ---- the kinds of lines
 
 kind_heads : (part : Part) (l : PolicyLine) → in_part part l ≡ true → all (λ (t : Test). is_head part (test_operation t)) (heads_of l) ≡ true
-unfolding in_part heads_of is_head test_operation all
+unfolding in_part heads_of is_head test_operation
 kind_heads Part.Rules (rule r) k = each r.literals
   where
     one : (b : Bool) → is_head Part.Rules (cond b Operation.Absent Operation.Present) ≡ true
@@ -283,7 +283,7 @@ scan_by part ws n e = ap (λ (k : ℕ). cond (ltb k (length ws) && is_ending par
 
 parts_found : (part : Part) (ts : List Test) (cs : List Comparison) (e : Ending) (rest : List ℕ) → ValidParts ts cs e → all (λ (t : Test). is_head part (test_operation t)) ts ≡ true → is_ending part (ending_word e) ≡ true
     → scan_line part (part_words ts cs e ++ rest) ≡ length (part_words ts cs e)
-unfolding part_words all
+unfolding part_words
 parts_found part [] cs e rest v k n = absurd (omega (arith, v.some))
 parts_found part (t ∷ ts) cs e rest v k n =
     scan_by part ws m skip

@@ -1,6 +1,6 @@
 -- What a scan takes is a line: the scan finds the lines that `line_at` finds.
+use Rattle.std.specs.Prelude.{Option, Some, None}
 use Rattle.std.proofs.Common.{ℕ, zero, suc, ◌+◌, ◌-◌, ◌≤◌, ◌<◌, Bool, true, false, not, cond, ◌&&◌, List, [], ◌∷◌, ◌++◌, map, append_assoc, ◌≡◌, refl, sym, ap, ap₂, ◌∙◌, subst, arith, ltb-true, lt-ltb, leb-true, ne_eqb, length, drop, length-append}
-use Rattle.std.proofs.Math.Option.{Option, none, some}
 use Rattle.std.proofs.lemmas.Bool.{not-true}
 use Rattle.std.proofs.Math.Dec.{ltb, leb}
 use Rattle.std.proofs.Math.ListN.{get_or}
@@ -36,7 +36,6 @@ record Condition (part : Part) (room m : ℕ) (ws : List ℕ) : Type 0 where
   few : length (comparisons_of line) ≤ room
 
 condition_end : (part : Part) (room w : ℕ) (ws : List ℕ) → is_ending part w ≡ true → w < word_limit → Condition part room 0 (w ∷ ws)
-unfolding all
 condition_end part room w ws h l =
     let r = end_line part w h l in
     record {
@@ -52,7 +51,6 @@ condition_end part room w ws h l =
 
 condition_more : (part : Part) (room m n : ℕ) (c : Comparison) (ws rest : List ℕ) → Condition part room m rest → comparison_in_range c ≡ true → comparison_words c (suc m) ++ rest ≡ ws
     → length (comparison_words c (suc m)) + suc m ≡ suc n → drop (suc n) ws ≡ drop (suc m) rest → Condition part (suc room) n ws
-unfolding all
 condition_more part room m n c ws rest t i e size same =
     let r = add_comparison_is part c t.line t.kind in
     let words : line_words r.line ≡ comparison_words c (suc m) ++ line_words t.line =
@@ -132,7 +130,6 @@ record Tail (part : Part) (m : ℕ) (ws : List ℕ) : Type 0 where
   numbers : head_numbers (count_heads part m ws) ws ≡ map test_number (heads_of line)
 
 tail_headless : (part : Part) (m : ℕ) (ws : List ℕ) → count_heads part m ws ≡ 0 → Condition part 4 m ws → Tail part m ws
-unfolding all
 tail_headless part m ws z t =
     record {
       line = t.line;
@@ -149,7 +146,6 @@ tail_headless part m ws z t =
 
 tail_head : (part : Part) (m w : ℕ) (ws : List ℕ) → w < word_limit → HeadFacts part w (suc m) → count_heads part (suc m) (w ∷ ws) ≡ suc (count_heads part m ws)
     → Tail part m ws → Tail part (suc m) (w ∷ ws)
-unfolding all
 tail_head part m w ws l h q t =
     let r = add_head part w t.line h.operation t.kind in
     let size : suc m ≡ length (line_words t.line) = sym t.size in
@@ -215,7 +211,7 @@ scan_line_is part ws b = go (line_at part ws) refl
     once : Bool
     once = not (repeats (head_numbers h ws))
 
-    unscanned : line_at part ws ≡ none → (c : Bool) → before && once && comparisons_fill 4 (m - h) (drop h ws) ≡ c → cond c (m + 1) 0 ≡ 0
+    unscanned : line_at part ws ≡ None → (c : Bool) → before && once && comparisons_fill 4 (m - h) (drop h ws) ≡ c → cond c (m + 1) 0 ≡ 0
     unscanned q false e = refl
     unscanned q true e =
         let p = and_out (before && once) (comparisons_fill 4 (m - h) (drop h ws)) e in
@@ -237,5 +233,5 @@ scan_line_is part ws b = go (line_at part ws) refl
         absurd (line_none part ws q x.line (drop (suc m) ws) x.kind (valid_in x.line parts) x.words)
 
     go : (o : Option PolicyLine) → line_at part ws ≡ o → scan_line part ws ≡ line_length o
-    go none q = scan_by part ws m refl ∙ unscanned q (before && once && comparisons_fill 4 (m - h) (drop h ws)) refl
-    go (some l) q = let h = line_out part ws l q in ap (scan_line part) h.words ∙ line_found part l (drop (length (line_words l)) ws) h.kind h.sound
+    go None q = scan_by part ws m refl ∙ unscanned q (before && once && comparisons_fill 4 (m - h) (drop h ws)) refl
+    go (Some l) q = let h = line_out part ws l q in ap (scan_line part) h.words ∙ line_found part l (drop (length (line_words l)) ws) h.kind h.sound

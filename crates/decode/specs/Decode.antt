@@ -1,7 +1,6 @@
 -- The line that words of an image begin with, as a function. `line_at` finds a line exactly where it `Stands`, and no two lines stand at
 -- one place: both are laws (`line_found_exactly` and `one_line_stands` in guarantees), so that how it finds the line need not be read.
-use Rattle.std.specs.Prelude.{ℕ, List, length}
-use Rattle.std.proofs.Math.Option.{Option, none, some}
+use Rattle.std.specs.Prelude.{ℕ, List, length, Option, Some, None}
 use Rattle.policy.specs.Line.{PolicyLine}
 use Rattle.policy.specs.declared.line.Part.{Part}
 use Rattle.layout.specs.Layout.{line_words}
@@ -14,5 +13,5 @@ line_at part ws = keep_if (stands_at part ws) (decode ws)
 
 -- how many words it has; 0 where there is none
 unfoldable pub line_length : Option PolicyLine → ℕ
-line_length none = 0
-line_length (some l) = length (line_words l)
+line_length None = 0
+line_length (Some l) = length (line_words l)

@@ -1,8 +1,7 @@
 //! The lines of an image: whether words begin with a whole line that an accepted text may have, and the value of a line.
 #![tactic(auto)]
 
-ghost use Rattle.std.specs.Prelude.{◌≡◌, [], ◌+◌, ◌<◌, ◌≤◌, ◌==◌, false, true, MatchOption, get_or, length};
-ghost use Rattle.line_value.specs.Value.{line_of};
+ghost use Rattle.std.specs.Prelude.{◌≡◌, ◌+◌, ◌<◌, ◌≤◌, ◌==◌, false, true, MatchOption, length, slice_index_or};
 ghost use Rattle.word.specs.Word.{word_limit, Below};
 ghost use Rattle.word.specs.Chunk.{words_in};
 ghost use Rattle.operation.specs.Fields.{first_of};
@@ -12,7 +11,7 @@ ghost use Rattle.decode.specs.Steps.Scan.{first_head, head_operations, first_end
 use line_value::Line;
 use operation::{Operation, constant_comparison, first, reading_comparison, skip};
 use policy::{
-    Action, COMPARISON_LIMIT, Comparison, Ending, Event, HEAD_LIMIT, Head, Literal, Part, Test,
+    Action, COMPARISON_LIMIT, Comparison, Ending, Event, HEAD_LIMIT, Literal, Part, Test,
     with_member,
 };
 use word::{nth_word, nth_word_or_zero, part as part_of};
@@ -171,7 +170,7 @@ fn heads_of(part: Part, words: &[[u8; 4]]) -> Heads
 fn behind_comparison(words: &[[u8; 4]]) -> Option<&[[u8; 4]]>
     requires some { 0 < length words.now }
     requires few { length words.now < 32 }
-    ensures { MatchOption result (comparison_length (get_or (words_in words.now) 0 0) (length words.now) ≡ 0) (λ behind. IsBehind (words_in words.now) (words_in behind.now)) }
+    ensures { MatchOption result (comparison_length (slice_index_or (words_in words.now) 0 0) (length words.now) ≡ 0) (λ behind. IsBehind (words_in words.now) (words_in behind.now)) }
 {
     let word = nth_word(words, 0);
     let left = words.len() as u32;
@@ -292,15 +291,13 @@ fn push_part(line: &mut Line, part: LinePart)
 {
     match part {
         LinePart::Head(test) => {
-            if line.head_count < HEAD_LIMIT {
-                line.heads[line.head_count] = Head(test);
-                line.head_count += 1;
+            if line.heads.len() < HEAD_LIMIT {
+                line.heads.push(test);
             }
         }
         LinePart::Comparison(comparison) => {
-            if line.comparison_count < COMPARISON_LIMIT {
-                line.comparisons[line.comparison_count] = comparison;
-                line.comparison_count += 1;
+            if line.comparisons.len() < COMPARISON_LIMIT {
+                line.comparisons.push(comparison);
             }
         }
         LinePart::Ending(ending) => line.ending = ending,

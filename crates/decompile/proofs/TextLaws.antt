@@ -19,7 +19,7 @@ use Rattle.decompile.specs.Steps.Walk.{text_of_values}
 -- ---- the values of lines
 
 values_text : (ls : List PolicyLine) → all valid ls ≡ true → text_of_values (map line_value ls) ≡ lines_text ls
-unfolding text_of_values lines_text all
+unfolding text_of_values lines_text
 values_text [] h = refl
 values_text (l ∷ ls) h =
     let r = and_out (valid l) (all valid ls) h in
@@ -41,7 +41,7 @@ taken_text bytes contents lines e first =
     let cs : List PolicyLine = map constraint (policy_in bytes).constraints in
     let v : all valid (rs ++ cs) ≡ true = all_append valid rs cs h.rule_part_is.sound h.constraint_part_is.sound in
     let ahead : lines_ahead lines ≡ map line_value (rs ++ cs) =
-        ap₂ (λ (ws : List ℕ) (at : ℕ). values_behind 0 (drop at ws)) first.words first.start ∙ held_given bytes contents (sym e) in
+    ap₂ (λ (ws : List ℕ) (at : ℕ). values_behind 0 (drop at ws)) first.words first.start ∙ held_given bytes contents (sym e) in
     let text : text_of_values (lines_ahead lines) ≡ lines_text (rs ++ cs) = ap text_of_values ahead ∙ values_text (rs ++ cs) v in
     let acceptable : Acceptable (policy_in bytes) = record {
       rules_valid = h.rule_part_is.sound;

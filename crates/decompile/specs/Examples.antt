@@ -1,10 +1,9 @@
 -- Images and what the decompiler makes of them, one row each: a worked example, a line with every kind of part,
 -- patterns, and the order of the faults. A buffer is full of dots at first.
 use Rattle.std.specs.Prelude.{Result, Ok, Err}
-use Prim.Native.Char.{code}
-use Rattle.std.specs.Prelude.{ℕ, List, [], ◌∷◌, replicate}
+use Rattle.std.specs.Str.{byte}
+use Rattle.std.specs.Prelude.{ℕ, List, [], ◌∷◌, replicate, Option, Some, None}
 use Prim.Native.String.{String}
-use Rattle.std.proofs.Math.Option.{Option, none, some}
 use Rattle.policy.specs.Fault.{refusal}
 use Rattle.policy.specs.Fill.{Filled}
 use Rattle.policy.specs.Policy.{Policy}
@@ -30,8 +29,8 @@ worked_with last =
     bytes_of (16805891 ∷ 272629764 ∷ 545259523 ∷ 805339137 ∷ 40 ∷ 1354760192 ∷ 281018369 ∷ 1358954496 ∷ 1623195650 ∷ 1627389953 ∷ 1879048192 ∷ last ∷ [])
 
 unfoldable pub image_in : Option Policy → List ℕ
-image_in none = []
-image_in (some p) = image_of 1 p
+image_in None = []
+image_in (Some p) = image_of 1 p
 
 unfoldable pub image_from : String → List ℕ
 image_from text = image_in (policy_of (bytes text))
@@ -56,4 +55,4 @@ examples =
     ∷ []
 
 unfoldable pub computed : Example → Example
-computed x = record { image = x.image; room = x.room; output = decompiled x.image (replicate x.room (code ".")) }
+computed x = record { image = x.image; room = x.room; output = decompiled x.image (replicate x.room (byte ".")) }

@@ -1,8 +1,8 @@
 -- Laws of lines that are read byte by byte, and of a line as a word.
+use Rattle.std.specs.Prelude.{Some, None}
 use Rattle.std.proofs.Common.{◌≡◌, ℕ, ◌+◌, ◌*◌, ◌≤◌, true, false, List, [], ◌∷◌, ◌++◌, length, sym, refl, ap, ◌∙◌, append_assoc, arith, length-append, eq-eqb, ne_eqb}
 use Rattle.std.proofs.lemmas.List.Sums.{fold-append}
 use Rattle.std.proofs.Math.Bool.{and-false}
-use Rattle.std.proofs.Math.Option.{none, some}
 use Rattle.policy.specs.List.{all}
 use Rattle.lexer.specs.Byte.{hex_value, is_hex_digit}
 use Rattle.lexer.specs.Lines.{prepend}
@@ -48,24 +48,23 @@ glue_begun line b ls = ap (glue line) (prepend_parts b ls) ∙ glue_line line (b
 
 -- ---- a line as a word
 
-pub word_some : (line : List ℕ) → length line ≡ 8 → all is_hex_digit line ≡ true → word_in line ≡ some (hex_number line)
+pub word_some : (line : List ℕ) → length line ≡ 8 → all is_hex_digit line ≡ true → word_in line ≡ Some (hex_number line)
 unfolding word_in
 word_some line l h = rw (eq-eqb (length line) 8 l, h)
 
-pub word_none : (line : List ℕ) → (length line ≡ 8 → ⊥) → word_in line ≡ none
+pub word_none : (line : List ℕ) → (length line ≡ 8 → ⊥) → word_in line ≡ None
 unfolding word_in
 word_none line n = rw (ne_eqb (length line) 8 n)
 
 all_broken : (run : List ℕ) (c : ℕ) (q : List ℕ) → is_hex_digit c ≡ false → all is_hex_digit (run ++ c ∷ q) ≡ false
-unfolding all
 all_broken [] c q e = rw e
 all_broken (b ∷ run) c q e = rw (all_broken run c q e) (and-false (is_hex_digit b))
 
-pub word_broken : (line : List ℕ) (b : ℕ) (rest : List ℕ) → is_hex_digit b ≡ false → word_in (line ++ b ∷ rest) ≡ none
+pub word_broken : (line : List ℕ) (b : ℕ) (rest : List ℕ) → is_hex_digit b ≡ false → word_in (line ++ b ∷ rest) ≡ None
 unfolding word_in
 word_broken line b rest e = rw (all_broken line b rest e, and-false)
 
-pub word_over : (line : List ℕ) (b : ℕ) (rest : List ℕ) → 8 ≤ length line → word_in (line ++ b ∷ rest) ≡ none
+pub word_over : (line : List ℕ) (b : ℕ) (rest : List ℕ) → 8 ≤ length line → word_in (line ++ b ∷ rest) ≡ None
 word_over line b rest h = word_none (line ++ b ∷ rest) (λ e. omega (arith, length-append line (b ∷ rest)))
 
 pub number_more : (line : List ℕ) (b : ℕ) → hex_number (line ++ b ∷ []) ≡ hex_number line * 16 + hex_value b

@@ -1,7 +1,7 @@
 -- What the compiler prints of an image, its words one a line, is read as those words.
+use Rattle.std.specs.Prelude.{Some}
 use Rattle.std.proofs.Common.{◌≡◌, ℕ, zero, suc, ◌+◌, ◌-◌, ◌*◌, ◌/◌, ◌%◌, ◌^◌, ◌<◌, Bool, true, false, ltb, List, [], ◌∷◌, ◌++◌, map, length, refl, ap, ◌∙◌, append_assoc, append-nil, arith, ltb-true, le-ltb, lt-ltb, ne_eqb, le-leb, fold}
 use Rattle.std.proofs.lemmas.Bool.{lt-leb}
-use Rattle.std.proofs.Math.Option.{some}
 use mathlib.Core.List.{flatten}
 use Rattle.policy.specs.List.{all}
 use Rattle.policy.proofs.ListLaws.{and_in, and_out, true_false}
@@ -31,7 +31,7 @@ digit_read d h = go (ltb d 10) refl
         (omega arith, omega arith)
 
 pub digits_hex : (k w : ℕ) → all is_hex_digit (hex_digits k w) ≡ true
-unfolding all hex_digits
+unfolding hex_digits
 digits_hex zero w = refl
 digits_hex (suc k) w = and_in (lt-ltb (hex_value (hex_digit (w / 2 ^ (4 * k) % 16))) 16 (digit_read (w / 2 ^ (4 * k) % 16) (omega arith)).0) (digits_hex k w)
 
@@ -50,8 +50,8 @@ digits_number (suc k) v w =
 pub word_number : (w : ℕ) → w < word_limit → hex_number (hex_word w) ≡ w
 word_number w h = digits_number 8 0 w ∙ word_value w h
 
-word_read : (w : ℕ) → w < word_limit → word_in (hex_word w) ≡ some w
-word_read w h = word_some (hex_word w) (digits_length 8 w) (digits_hex 8 w) ∙ ap some (word_number w h)
+word_read : (w : ℕ) → w < word_limit → word_in (hex_word w) ≡ Some w
+word_read w h = word_some (hex_word w) (digits_length 8 w) (digits_hex 8 w) ∙ ap Some (word_number w h)
 
 -- ---- lines of digits
 
@@ -60,7 +60,7 @@ unfolding hex_value
 digit_inside b h e = let q : is_hex_digit 10 ≡ true = rw e at h in true_false q refl
 
 lines_hex : (line rest : List ℕ) → all is_hex_digit line ≡ true → lines_of (line ++ rest) ≡ glue line (lines_of rest)
-unfolding all lines_of pieces
+unfolding lines_of pieces
 lines_hex [] rest h = refl
 lines_hex (b ∷ line) rest h =
     let p = and_out (is_hex_digit b) (all is_hex_digit line) h in

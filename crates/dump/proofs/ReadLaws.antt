@@ -1,7 +1,7 @@
 -- The steps over the bytes of the input read its lines.
+use Rattle.std.specs.Prelude.{Some, None}
 use Rattle.std.proofs.Common.{◌≡◌, ℕ, ◌+◌, ◌/◌, ◌^◌, ◌<◌, ◌≤◌, min, Bool, true, false, cond, eqb, ltb, List, [], ◌∷◌, ◌++◌, length, take, sym, refl, ap, ◌∙◌, append-nil, arith, length-append, length-take, take_all, ltb-false, ltb-true, lt-ltb, ne_eqb, eqb-true}
 use Rattle.std.proofs.lemmas.Bool.{eqb-false}
-use Rattle.std.proofs.Math.Option.{none, some}
 use Rattle.std.proofs.Math.Seq.{take-append-le}
 use Rattle.policy.specs.List.{all}
 use Rattle.policy.proofs.ListLaws.{and_in, all_append}
@@ -96,7 +96,6 @@ pub record Reading (buffer ws line : List ℕ) (n : ℕ) (h : Held) : Type 0 whe
   pub hex : all is_hex_digit line ≡ true
 
 pub reading_start : (buffer : List ℕ) → Reading buffer [] [] 0 (held start_state buffer)
-unfolding all
 reading_start buffer =
     record {
       unbroken = refl;
@@ -114,7 +113,6 @@ reading_start buffer =
 module _ {buffer ws line : List ℕ} {n : ℕ} {h : Held} (r : Reading buffer ws line n h) where
   -- a digit more
   reading_digit : (b : ℕ) → (b ≡ 10 → ⊥) → hex_value b < 16 → length line < 8 → Reading buffer ws (line ++ b ∷ []) n (stepped h b)
-  unfolding all
   reading_digit b m d l = rw e (digits_more)
     where
       e : stepped h b ≡ held (with_digit h.state (hex_value b)) h.image
@@ -139,7 +137,6 @@ module _ {buffer ws line : List ℕ} {n : ℕ} {h : Held} (r : Reading buffer ws
 
   -- the line is a word
   reading_word : length line ≡ 8 → Reading buffer (ws ++ hex_number line ∷ []) [] (next_number n) (line_ended h)
-  unfolding all
   reading_word l = rw (ended_word h (r.digits ∙ l)) word
     where
       word : Reading buffer (ws ++ hex_number line ∷ []) [] (next_number n) (held (with_word h.state (cond (fits h.image h.state.words 1) (h.state.words + 1) h.state.words)) (put_words h.image h.state.words (h.state.value ∷ [])))
@@ -163,11 +160,11 @@ Ends buffer (not_word n) h = (h.state.broken ≡ true) × (next_number h.state.l
 abbrev result : List ℕ → ℕ → List (List ℕ) → Dump
 result ws n ls = behind_words ws (read_dump n ls)
 
-result_none : (ws : List ℕ) (n : ℕ) (l : List ℕ) (ls : List (List ℕ)) → word_in l ≡ none → result ws n (l ∷ ls) ≡ not_word (next_number n)
+result_none : (ws : List ℕ) (n : ℕ) (l : List ℕ) (ls : List (List ℕ)) → word_in l ≡ None → result ws n (l ∷ ls) ≡ not_word (next_number n)
 unfolding read_dump read_word_line behind_words
 result_none ws n l ls e = rw e
 
-result_some : (ws : List ℕ) (n : ℕ) (l : List ℕ) (ls : List (List ℕ)) (w : ℕ) → word_in l ≡ some w → result ws n (l ∷ ls) ≡ result (ws ++ w ∷ []) (next_number n) ls
+result_some : (ws : List ℕ) (n : ℕ) (l : List ℕ) (ls : List (List ℕ)) (w : ℕ) → word_in l ≡ Some w → result ws n (l ∷ ls) ≡ result (ws ++ w ∷ []) (next_number n) ls
 unfolding read_dump read_word_line
 result_some ws n l ls w e = rw e (behind_both ws w (read_dump (next_number n) ls))
 
@@ -231,7 +228,7 @@ reads_byte buffer b rest m f ws line n h r = rw (ne_eqb b 10 m) (go (ltb (hex_va
     ls : List (List ℕ)
     ls = lines_of rest
 
-    none_here : word_in (line ++ b ∷ rest_of ls) ≡ none → digit_taken h.state (hex_value b) ≡ broken h.state
+    none_here : word_in (line ++ b ∷ rest_of ls) ≡ None → digit_taken h.state (hex_value b) ≡ broken h.state
         → Ends buffer (result ws n (glue line (prepend b ls))) (closed (held_behind (stepped h b) rest))
     none_here e q =
         ends_broken r (stepped h b) rest (result ws n (glue line (prepend b ls)))

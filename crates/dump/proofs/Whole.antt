@@ -1,7 +1,7 @@
 -- However the input is cut into chunks, what is printed at its end is what the definition says for all of it.
+use Rattle.std.specs.Prelude.{Option, Some, None}
 use Rattle.std.proofs.Common.{◌≡◌, ℕ, ◌+◌, ◌*◌, ◌/◌, ◌%◌, ◌^◌, ◌<◌, ◌≤◌, min, Bool, true, false, cond, ◌&&◌, eqb, leb, List, [], ◌∷◌, ◌++◌, length, take, drop, sym, refl, ap, ◌∙◌, arith, length-append, length-take, take_all, take_at, le-leb, leb-false, leb-true, fold, Result, Ok, Err}
 use Rattle.std.proofs.lemmas.List.Sums.{fold-append}
-use Rattle.std.proofs.Math.Option.{Option, none, some}
 use mathlib.Core.List.{flatten}
 use Rattle.policy.specs.Fault.{fault_number, refusal}
 use Rattle.policy.specs.declared.fault.Fault.{Fault}
@@ -126,9 +126,9 @@ number_small n [] m e = let z : ◌≡◌ {A = ℕ} 0 1 = cc in absurd (omega ar
 number_small n (line ∷ lines) m e = go (word_in line) (read_dump (next_number n) lines) (number_small (next_number n) lines m) e
   where
     go : (o : Option ℕ) (d : Dump) → (d ≡ not_word m → m < 2 ^ 64) → read_word_line n o d ≡ not_word m → m < 2 ^ 64
-    go none d f q = let p : next_number n ≡ m = cc in omega arith
-    go (some w) (words vs) f q = let z : ◌≡◌ {A = ℕ} 0 1 = cc in absurd (omega arith)
-    go (some w) (not_word k) f q = f q
+    go None d f q = let p : next_number n ≡ m = cc in omega arith
+    go (Some w) (words vs) f q = let z : ◌≡◌ {A = ℕ} 0 1 = cc in absurd (omega arith)
+    go (Some w) (not_word k) f q = f q
 
 line_short : (n : ℕ) → n < 2 ^ 64 → length (not_word_line n) ≤ 27968
 unfolding not_word_line bytes

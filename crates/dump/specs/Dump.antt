@@ -1,9 +1,8 @@
 -- What the decompiler prints for all of its input: the words of an image as the compiler prints them, one a line in eight
 -- hexadecimal digits, here of either case.
 use Rattle.policy.specs.declared.fault.Refusal.{Refusal}
-use Rattle.std.specs.Prelude.{ℕ, ◌+◌, ◌%◌, ◌^◌, cond, ◌&&◌, List, [], ◌∷◌, ◌++◌, length, ◌==◌, Result, Ok, Err}
-use Rattle.std.proofs.Math.Option.{Option, none, some}
-use Rattle.policy.specs.List.{all}
+use Rattle.std.specs.Prelude.{ℕ, ◌&&◌, List, [], ◌∷◌, ◌++◌, length, ◌==◌, Result, Ok, Err, Option, Some, None, if◌then◌else◌}
+use Rattle.std.specs.List.{list_all}
 use Rattle.word.specs.Word.{bytes_of}
 use Rattle.lexer.specs.Byte.{is_hex_digit}
 use Rattle.lexer.specs.Lines.{lines_of}
@@ -17,7 +16,7 @@ use Rattle.report.specs.Report.{image_refusal_line, not_word_line, next_number}
 
 -- the word that a line stands for
 unfoldable pub word_in : List ℕ → Option ℕ
-word_in line = cond (length line == 8 && all is_hex_digit line) (some (hex_number line)) none
+word_in line = if length line == 8 && list_all is_hex_digit line then Some (hex_number line) else None
 
 pub data Dump : Type 0 where
   -- every line is a word
@@ -32,8 +31,8 @@ behind_words ws (not_word n) = not_word n
 
 -- the line behind n lines, and what the lines behind it are
 unfoldable pub read_word_line : ℕ → Option ℕ → Dump → Dump
-read_word_line n none rest = not_word (next_number n)
-read_word_line n (some w) rest = behind_words (w ∷ []) rest
+read_word_line n None rest = not_word (next_number n)
+read_word_line n (Some w) rest = behind_words (w ∷ []) rest
 
 -- the lines behind n lines
 unfoldable pub read_dump : ℕ → List (List ℕ) → Dump

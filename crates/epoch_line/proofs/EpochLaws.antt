@@ -1,8 +1,7 @@
 -- Laws of scanning an epoch line, token by token, and of its judgement against the definition.
-use Rattle.std.specs.Prelude.{Option as Maybe, Some, None}
+use Rattle.std.specs.Prelude.{Some, None, Option, option_map}
 use Rattle.std.proofs.Common.{ℕ, suc, ◌<◌, ◌≤◌, Bool, true, false, not, ◌&&◌, ◌||◌, cond, List, [], ◌∷◌, ◌≡◌, refl, sym, ap, ap₂, ◌∙◌, arith, eqb-true, eq-eqb, ne_eqb, ltb-true, lt-ltb, le-ltb, ℤ, pos, length, replicate, fold, Result, Ok, Err}
 use Rattle.std.proofs.Math.Bool.{or-true, or_assoc, or-false}
-use Rattle.std.proofs.Math.Option.{Option, none, some, or_else}
 use Rattle.std.proofs.Math.Dec.{eqb, ltb}
 use Rattle.policy.proofs.ListLaws.{true_false, and_in, and_out}
 use Rattle.policy.proofs.SeenLaws.{seen_repeats}
@@ -23,7 +22,7 @@ use Rattle.lexer.specs.Number.{is_empty}
 use Rattle.lexer.specs.Steps.Scan.{in_token, token_in, behind_token, without_spaces, tokens_in}
 use Rattle.lexer.specs.Token.{Token, named, both}
 use Rattle.token.proofs.PartLaws.{Parted, part_some}
-use Rattle.token.specs.Steps.PartIn.{part_before}
+use Rattle.token.specs.Steps.PartIn.{kept_before}
 use Rattle.epoch_line.specs.Epoch.{Item, event, value, item_of, items_of, item_in_range, given_by, add_item, empty_epoch, judge_epoch, epoch_limit, read_epoch, at_equals, assignment_of}
 use Rattle.epoch_line.specs.Steps.EpochScan.{Found, item_in, Scanned, scanned, add_scanned, flagged, take_item, finish_read, items_read, epoch_from}
 
@@ -33,7 +32,7 @@ has_end : List ℕ → Bool
 has_end s = any (eqb 10) s
 
 end_past : (p : ℕ → Bool) → ((b : ℕ) → p b ≡ true → eqb 10 b ≡ false) → (s : List ℕ) → has_end s ≡ has_end (drop_leading p s)
-unfolding has_end any
+unfolding has_end
 end_past p h [] = refl
 end_past p h (b ∷ s) =
     elim (p b) as (λ x. p b ≡ x → (eqb 10 b || any (eqb 10) s) ≡ any (eqb 10) (cond x (drop_leading p s) (b ∷ s))) [
@@ -43,7 +42,7 @@ end_past p h (b ∷ s) =
 
 -- where neither a space nor a token stands, and the line has not ended, there is a line end
 end_here : (s : List ℕ) → take_leading is_space s ≡ [] → is_empty s ≡ false → is_empty (token_in s) ≡ true → has_end s ≡ true
-unfolding has_end any
+unfolding has_end
 end_here [] h l e = absurd (true_false refl l)
 end_here (b ∷ s) h l e = go (eqb b 32) (eqb b 10) refl h e
   where
@@ -59,7 +58,7 @@ inside_no_end : (b : ℕ) → in_token b ≡ true → eqb 10 b ≡ false
 inside_no_end b e = ne_eqb 10 b (λ q. true_false (sym (ap in_token (sym q)) ∙ e) refl)
 
 no_end : (s : List ℕ) → has_end s ≡ false → first_line s ≡ s
-unfolding has_end any
+unfolding has_end
 no_end [] e = refl
 no_end (b ∷ s) e = go (eqb b 10) refl e (no_end s)
   where
@@ -77,7 +76,7 @@ module _ (s : Scanned) (is : List Item) where
   after s is = closed (s.out_of_range || not (all item_in_range is)) (s.twice || seen_in s.epoch.readings.given.bits (given_by is)) (fold add_item s.epoch is)
 
   one_more : (i : Item) → after (take_item s i) is ≡ after s (i ∷ is)
-  unfolding take_item add_scanned closed all seen_in given_by add_item
+  unfolding take_item add_scanned closed seen_in given_by add_item
   one_more i = go i (item_in_range i) refl
     where
       go : (i : Item) (b : Bool) → item_in_range i ≡ b → after (take_item s i) is ≡ after s (i ∷ is)
@@ -86,12 +85,12 @@ module _ (s : Scanned) (is : List Item) where
       go i false e = rw (e, or-true s.out_of_range)
 
 collected : (s : Scanned) (is : List Item) → finish_read (fold take_item s is) ≡ closed (s.out_of_range || not (all item_in_range is)) (s.twice || seen_in s.epoch.readings.given.bits (given_by is)) (fold add_item s.epoch is)
-unfolding finish_read closed all seen_in given_by
+unfolding finish_read closed seen_in given_by
 collected s [] = rw (or-false s.out_of_range, or-false s.twice)
 collected s (i ∷ is) = collected (take_item s i) is ∙ one_more s is i
 
 given_small : (is : List Item) → all item_in_range is ≡ true → all (λ (n : ℕ). ltb n set_limit) (given_by is) ≡ true
-unfolding all item_in_range given_by
+unfolding item_in_range given_by
 given_small [] e = refl
 given_small (event n ∷ is) e = given_small is (and_out (ltb n 64) (all item_in_range is) e).1
 given_small (value n k ∷ is) e =
@@ -104,8 +103,8 @@ nothing = scanned false false no_events no_readings (replicate 16 (pos 0))
 
 judged : (o : Option (List Item)) → items_read nothing o ≡ judge_epoch o
 unfolding items_read judge_epoch closed
-judged none = refl
-judged (some is) = collected nothing is ∙ go (all item_in_range is) refl
+judged None = refl
+judged (Some is) = collected nothing is ∙ go (all item_in_range is) refl
   where
     twice : (r : Bool) → cond r (Err (refusal Fault.DuplicateReading 0)) (Ok (fold add_item empty_epoch is)) ≡ (cond r (Err (refusal Fault.DuplicateReading 0)) (Ok (fold add_item empty_epoch is)))
     twice true = refl
@@ -130,15 +129,15 @@ read_long line h = rw (lt-ltb 1024 (length line) h)
 
 -- ---- one token
 
-item_token : (t : Token) (i : Item) → item_of t ≡ some i → is_empty t ≡ false
-unfolding item_of named assignment_of at_equals or_else
+item_token : (t : Token) (i : Item) → item_of t ≡ Some i → is_empty t ≡ false
+unfolding item_of named assignment_of at_equals
 item_token [] i e = let w : ◌≡◌ {A = ℕ} 0 1 = cc in absurd (omega arith)
 item_token (b ∷ t) i e = refl
 
-item_first : (s : Scanned) (i : Item) (o : Option (List Item)) → items_read s (both ◌∷◌ (some i) o) ≡ items_read (take_item s i) o
+item_first : (s : Scanned) (i : Item) (o : Option (List Item)) → items_read s (both ◌∷◌ (Some i) o) ≡ items_read (take_item s i) o
 unfolding items_read both
-item_first s i none = refl
-item_first s i (some is) = refl
+item_first s i None = refl
+item_first s i (Some is) = refl
 
 -- ---- a turn of scanning
 
@@ -158,7 +157,7 @@ module _ (s : Scanned) (line : List ℕ) where
       ap₂ (λ (b : Bool) (ts : List Token). cond b (Err (refusal Fault.EpochSyntax 0)) (items_read s (items_of ts)))
       (end_past is_space space_no_end line) (sym (tokens_after_spaces line))
 
-  read_taken : (i : Item) → item_of (token_in next) ≡ some i → epoch_from s next ≡ epoch_from (take_item s i) (behind_token next)
+  read_taken : (i : Item) → item_of (token_in next) ≡ Some i → epoch_from s next ≡ epoch_from (take_item s i) (behind_token next)
   unfolding epoch_from has_end items_of
   read_taken i q =
       ap₂ (λ (b : Bool) (x : Result Epoch Refusal). cond b (Err (refusal Fault.EpochSyntax 0)) x)
@@ -167,7 +166,7 @@ module _ (s : Scanned) (line : List ℕ) where
       ∙ ap (λ (o : Option Item). items_read s (both ◌∷◌ o (items_of (tokens_in (behind_token next))))) q
       ∙ item_first s i (items_of (tokens_in (behind_token next))))
 
-  read_malformed : is_empty next ≡ false → item_of (token_in next) ≡ none → epoch_from s next ≡ Err (refusal Fault.EpochSyntax 0)
+  read_malformed : is_empty next ≡ false → item_of (token_in next) ≡ None → epoch_from s next ≡ Err (refusal Fault.EpochSyntax 0)
   unfolding epoch_from items_of items_read both has_end
   read_malformed h q = go (is_empty (token_in next)) refl
     where
@@ -180,16 +179,16 @@ module _ (s : Scanned) (line : List ℕ) where
       go false e = rw (tokens_first next e, q) (same (any (eqb 10) next))
 
   read_item : is_empty next ≡ false → epoch_from s line ≡ epoch_behind s (item_in next)
-  unfolding item_in part_before take_item
+  unfolding item_in take_item
   read_item h = read_skipped ∙ go (item_of (token_in next)) refl
     where
       in_range : (i : Item) (b : Bool) → epoch_from (cond b (add_scanned s i) (flagged s)) (behind_token next) ≡ epoch_behind s (Some (cond b (Some i) None, behind_token next))
       in_range i true = refl
       in_range i false = refl
 
-      go : (o : Option Item) → item_of (token_in next) ≡ o → epoch_from s next ≡ epoch_behind s (part_before item_in_range (behind_token next) o)
-      go none q = read_malformed h q
-      go (some i) q = read_taken i q ∙ in_range i (item_in_range i)
+      go : (o : Option Item) → item_of (token_in next) ≡ o → epoch_from s next ≡ epoch_behind s (option_map (kept_before item_in_range (behind_token next)) o)
+      go None q = read_malformed h q
+      go (Some i) q = read_taken i q ∙ in_range i (item_in_range i)
 
 empty_length : (s : List ℕ) → is_empty s ≡ eqb (length s) 0
 empty_length [] = refl
@@ -202,7 +201,7 @@ no_length (b ∷ s) e = absurd (true_false (empty_length (b ∷ s) ∙ e) refl)
 -- spaces were passed over
 module _ (s : Scanned) (line front : List ℕ) (skipped : front ≡ without_spaces line) (ended : Bool) (e : ended ≡ eqb (length front) 0) where
   pub read_ended : ended ≡ true → epoch_from s line ≡ finish_read s
-  unfolding epoch_from any items_of items_read tokens_in tokens_of pieces non_empty
+  unfolding epoch_from items_of items_read tokens_in tokens_of pieces non_empty
   read_ended h = read_skipped s line ∙ rw (sym skipped ∙ no_length front (sym e ∙ h))
 
   pub read_turn : (f : Found) → f ≡ item_in front → ended ≡ false → epoch_from s line ≡ epoch_behind s f
@@ -210,7 +209,7 @@ module _ (s : Scanned) (line front : List ℕ) (skipped : front ≡ without_spac
       read_item s line (ap is_empty (sym skipped) ∙ empty_length front ∙ sym e ∙ h) ∙ ap (λ (t : List ℕ). epoch_behind s (item_in t)) (sym skipped) ∙ ap (epoch_behind s) (sym q)
 
 -- what an item says: a token was passed over, and a reading exists
-module _ (line front : List ℕ) (skipped : front ≡ without_spaces line) (m : Maybe Item) (rest : List ℕ) (q : Some (m, rest) ≡ item_in front) where
+module _ (line front : List ℕ) (skipped : front ≡ without_spaces line) (m : Option Item) (rest : List ℕ) (q : Some (m, rest) ≡ item_in front) where
   part : Parted Item item_in_range (behind_token front) (item_of (token_in front)) m rest
   unfolding item_in
   part = part_some item_in_range (behind_token front) (item_of (token_in front)) m rest (sym q)

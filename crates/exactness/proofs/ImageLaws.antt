@@ -40,7 +40,7 @@ comparison_below c k (with_constant w v q o s b h z) = rw q (below_cons word_lim
 comparison_below c k (with_reading w q o s b h z) = rw q (below_cons word_limit w [] h.limit below_none)
 
 condition_below : (cs : List Comparison) (e : Ending) → all comparison_in_range cs ≡ true → ending_in_range e ≡ true → condition_size cs < 32 → Below word_limit (condition_words cs e)
-unfolding condition_words condition_size comparisons_size all
+unfolding condition_words condition_size comparisons_size
 condition_below [] e r h l = below_cons word_limit (ending_word e) [] (ending_below e h) below_none
 condition_below (c ∷ cs) e r h l =
     let p = and_out (comparison_in_range c) (all comparison_in_range cs) r in
@@ -48,7 +48,7 @@ condition_below (c ∷ cs) e r h l =
     (comparison_below c (length (condition_words cs e)) (written c (length (condition_words cs e)) p.0 (omega (arith, condition_length cs e)))) (condition_below cs e p.1 h (omega arith))
 
 parts_below : (ts : List Test) (cs : List Comparison) (e : Ending) → all test_in_range ts ≡ true → all comparison_in_range cs ≡ true → ending_in_range e ≡ true → length ts + condition_size cs < 32 → Below word_limit (part_words ts cs e)
-unfolding part_words all
+unfolding part_words
 parts_below [] cs e t r h l = condition_below cs e r h (omega arith)
 parts_below (x ∷ xs) cs e t r h l =
     let p = and_out (test_in_range x) (all test_in_range xs) t in
@@ -64,7 +64,7 @@ line_below l v =
     parts_below (heads_of l) (comparisons_of l) (ending_of l) h.tests h.comparisons h.ending (omega (arith, condition_size_limit (comparisons_of l)))
 
 pub lines_below : (ls : List PolicyLine) → all valid ls ≡ true → Below word_limit (lines_words ls)
-unfolding lines_words all
+unfolding lines_words
 lines_below [] v = below_none
 lines_below (l ∷ ls) v =
     let p = and_out (valid l) (all valid ls) v in

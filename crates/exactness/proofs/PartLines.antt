@@ -1,6 +1,6 @@
 -- The lines of a part: all that are written are found, and what is found was written.
+use Rattle.std.specs.Prelude.{Option, Some, None}
 use Rattle.std.proofs.Common.{ℕ, zero, suc, ◌+◌, ◌*◌, ◌≤◌, ◌<◌, true, List, [], ◌∷◌, ◌++◌, map, append_assoc, ◌⊎◌, inl, inr, ◌↔◌, ◌≡◌, refl, sym, ap, ◌∙◌, add_assoc, add-zero, arith, length, drop, length-append, drop_at, Result, Ok, Err}
-use Rattle.std.proofs.Math.Option.{Option, none, some}
 use Rattle.policy.proofs.ListLaws.{and_in, and_out}
 use Rattle.policy.specs.Limits.{valid}
 use Rattle.policy.specs.Line.{PolicyLine, rule, constraint, heads_of, comparisons_of, ending_of}
@@ -30,7 +30,7 @@ line_limit_is l v =
     omega (arith, part_length (heads_of l) (comparisons_of l) (ending_of l), condition_size_limit (comparisons_of l))
 
 pub lines_limit : (ls : List PolicyLine) → all valid ls ≡ true → length (lines_words ls) ≤ 17 * length ls
-unfolding lines_words all
+unfolding lines_words
 lines_limit [] v = omega arith
 lines_limit (l ∷ ls) v =
     let p = and_out (valid l) (all valid ls) v in
@@ -56,7 +56,7 @@ line_step part room at l ls k v later =
     ∙ ap (add_line l) (ap (lines_from part room (at + length (line_words l))) (drop_at (line_words l) (lines_words ls) (length (line_words l)) refl) ∙ later)
 
 pub lines_found : (part : Part) (ls : List PolicyLine) (room at : ℕ) → all (in_part part) ls ≡ true → all valid ls ≡ true → length ls ≤ room → lines_from part room at (lines_words ls) ≡ Ok ls
-unfolding lines_words all lines_from
+unfolding lines_words lines_from
 lines_found part [] zero at k v h = refl
 lines_found part [] (suc room) at k v h = refl
 lines_found part (l ∷ ls) zero at k v h = absurd (omega arith)
@@ -69,7 +69,7 @@ lines_found part (l ∷ ls) (suc room) at k v h =
 
 module _ (part : Part) where
   fault_here : (room at location : ℕ) (ws : List ℕ) → ◌≡◌ {A = Result (List PolicyLine) ℕ} (Err at) (Err location) → 0 < length ws → (0 ≡ room) ⊎ ((l : PolicyLine) → ¬ Stands part ws l) → NoLineAt part room at ws location
-  unfolding all lines_words
+  unfolding lines_words
   fault_here room at location ws e h n =
       let p : location ≡ at = cc in
       record {
@@ -84,7 +84,7 @@ module _ (part : Part) where
       }
 
   fault_later : (room at location : ℕ) (ws : List ℕ) (l : PolicyLine) → Stands part ws l → NoLineAt part room (at + length (line_words l)) (drop (length (line_words l)) ws) location → NoLineAt part (suc room) at ws location
-  unfolding all lines_words
+  unfolding lines_words
   fault_later room at location ws l s h =
       record {
         front = line_words l ++ h.front;
@@ -107,9 +107,9 @@ module _ (part : Part) where
       one_more (inl q) = inl (ap suc q)
       one_more (inr q) = inr q
 
-  none_stands : (ws : List ℕ) (l : PolicyLine) → line_at part ws ≡ none → ¬ Stands part ws l
+  none_stands : (ws : List ℕ) (l : PolicyLine) → line_at part ws ≡ None → ¬ Stands part ws l
   none_stands ws l q s =
-      let e : none ≡ some l = sym q ∙ (line_found_exactly part ws l).1 s in
+      let e : None ≡ Some l = sym q ∙ (line_found_exactly part ws l).1 s in
       let z : ◌≡◌ {A = ℕ} 0 1 = cc in
       omega arith
 
@@ -117,8 +117,8 @@ module _ (part : Part) where
       → ((l : PolicyLine) → lines_from part room (at + length (line_words l)) (drop (length (line_words l)) ws) ≡ Err location → NoLineAt part room (at + length (line_words l)) (drop (length (line_words l)) ws) location)
       → (o : Option PolicyLine) → line_at part ws ≡ o → after_line at o (λ (l : PolicyLine). lines_from part room (at + length (line_words l)) (drop (length (line_words l)) ws)) ≡ Err location → NoLineAt part (suc room) at ws location
   unfolding after_line add_line
-  line_fault room at location ws h later none q e = fault_here (suc room) at location ws e h (inr (λ l s. none_stands ws l q s))
-  line_fault room at location ws h later (some l) q e = fault_later room at location ws l (line_out part ws l q) (later l (passed (lines_from part room (at + length (line_words l)) (drop (length (line_words l)) ws)) e))
+  line_fault room at location ws h later None q e = fault_here (suc room) at location ws e h (inr (λ l s. none_stands ws l q s))
+  line_fault room at location ws h later (Some l) q e = fault_later room at location ws l (line_out part ws l q) (later l (passed (lines_from part room (at + length (line_words l)) (drop (length (line_words l)) ws)) e))
     where
       passed : (x : Result (List PolicyLine) ℕ) → add_line l x ≡ Err location → x ≡ Err location
       passed (Ok ls) r = let z : ◌≡◌ {A = ℕ} 0 1 = cc in absurd (omega arith)
@@ -145,12 +145,12 @@ module _ (part : Part) (rest : List ℕ) (more : 0 < length rest) where
   abbrev Unfit : Type 0
   Unfit = (l : PolicyLine) → ¬ Stands part rest l
 
-  none_here : Unfit → line_at part rest ≡ none
+  none_here : Unfit → line_at part rest ≡ None
   none_here n = go (line_at part rest) refl
     where
-      go : (o : Option PolicyLine) → line_at part rest ≡ o → line_at part rest ≡ none
-      go none q = q
-      go (some l) q = absurd (n l (line_out part rest l q))
+      go : (o : Option PolicyLine) → line_at part rest ≡ o → line_at part rest ≡ None
+      go None q = q
+      go (Some l) q = absurd (n l (line_out part rest l q))
 
   no_room : (at : ℕ) → lines_from part zero at rest ≡ Err at
   unfolding lines_from
@@ -174,7 +174,7 @@ module _ (part : Part) (rest : List ℕ) (more : 0 < length rest) where
 
   behind_lines : (before : List PolicyLine) (room at : ℕ) → all (in_part part) before ≡ true → all valid before ≡ true → length before ≤ room → (length before ≡ room) ⊎ Unfit
       → lines_from part room at (lines_words before ++ rest) ≡ Err (at + length (lines_words before))
-  unfolding lines_words all after_line add_line
+  unfolding lines_words after_line add_line
   behind_lines [] room at k v f n = no_line room at n ∙ ap Err (sym (add-zero at))
   behind_lines (l ∷ ls) zero at k v f n = absurd (omega arith)
   behind_lines (l ∷ ls) (suc room) at k v f n =
@@ -205,12 +205,12 @@ part_fault_exactly part room at ws location = (lines_fault part room at location
 -- ---- rules and constraints as lines, both ways
 
 pub rules_kind : (rs : List Rule) → all (in_part Part.Rules) (map rule rs) ≡ true
-unfolding all in_part
+unfolding in_part
 rules_kind [] = refl
 rules_kind (r ∷ rs) = rules_kind rs
 
 pub constraints_kind : (cs : List Constraint) → all (in_part Part.Constraints) (map constraint cs) ≡ true
-unfolding all in_part
+unfolding in_part
 constraints_kind [] = refl
 constraints_kind (c ∷ cs) = constraints_kind cs
 

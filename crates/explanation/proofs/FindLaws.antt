@@ -1,12 +1,10 @@
 -- The first line of a text that is sought: what one turn of the search does, and what is shown of a line.
-use Rattle.std.specs.Prelude.{Option, Some, None, Ok, Err}
+use Rattle.std.specs.Prelude.{Result, Option, Some, None, Ok, Err}
 use Rattle.std.proofs.Common.{ℕ, ◌+◌, ◌-◌, ◌≤◌, ◌<◌, Bool, true, false, cond, List, [], ◌∷◌, ◌≡◌, refl, sym, ap, ap₂, ◌∙◌, arith, eqb-true, length, take}
-use Rattle.policy.proofs.ValidLaws.{valid_out}
 use Rattle.policy.specs.Limits.{valid}
 use Rattle.policy.specs.Line.{PolicyLine, ending_of}
 use Rattle.policy.specs.declared.fault.Fault.{Fault}
 use Rattle.policy.specs.declared.line.Ending.{Ending}
-use Rattle.line_value.specs.Value.{line_of, line_value}
 use Rattle.line_value.specs.declared.Line.{Line}
 use Rattle.layout.proofs.LayoutLaws.{value_words_is}
 use Rattle.layout.specs.Layout.{line_words}
@@ -19,7 +17,7 @@ use Rattle.lexer.specs.Lines.{pieces, lines_of, take_leading, drop_leading, in_l
 use Rattle.lexer.specs.Steps.Scan.{without_spaces}
 use Rattle.syntax.proofs.AnswerLaws.{lines_here, next_shorter, read_refused, read_skipped, read_accepted}
 use Rattle.syntax.specs.Answer.{next_line, line_read}
-use Rattle.syntax.specs.Judge.{LineAnswer, skipped, refused, accepted, line_answer}
+use Rattle.syntax.specs.Judge.{line_answer}
 use Rattle.explanation.proofs.TellLaws.{line_below}
 use Rattle.explanation.proofs.TrimLaws.{trimmed_front}
 use Rattle.explanation.specs.Part.{trim_start, trim_end, trim, Stretch, shown_at, or_later, first_from}
@@ -99,15 +97,15 @@ module _ (text : List ℕ) (q : Sought) (epoch : Epoch) where
       abbrev at : ℕ
       at = length text - length rest
 
-      turned : (a : LineAnswer) → line_answer (first_line rest) ≡ a → first_from (sought_by q epoch) 0 (lines_of text) ≡ or_later (sought_by q epoch) a at (first_line rest) (found (next_line rest))
+      turned : (a : Result (Option PolicyLine) Fault) → line_answer (first_line rest) ≡ a → first_from (sought_by q epoch) 0 (lines_of text) ≡ or_later (sought_by q epoch) a at (first_line rest) (found (next_line rest))
       unfolding first_from
       turned a k =
           s.same ∙ ap (first_from (sought_by q epoch) at) (lines_here rest h)
-          ∙ ap₂ (λ (x : LineAnswer) (later : Option Stretch). or_later (sought_by q epoch) x at (first_line rest) later) k (lines_behind rest s.inside)
+          ∙ ap₂ (λ (x : Result (Option PolicyLine) Fault) (later : Option Stretch). or_later (sought_by q epoch) x at (first_line rest) later) k (lines_behind rest s.inside)
 
       pub seeking_stop : (f : Fault) → Err f ≡ line_read rest → None ≡ first_from (sought_by q epoch) 0 (lines_of text)
       unfolding or_later
-      seeking_stop f e = sym (turned (refused f) (read_refused rest f e))
+      seeking_stop f e = sym (turned (Err f) (read_refused rest f e))
 
       module _ (behind : List ℕ) where
         onward : behind ≡ next_line rest → first_from (sought_by q epoch) 0 (lines_of text) ≡ found (next_line rest) → Seeking behind
@@ -118,7 +116,7 @@ module _ (text : List ℕ) (q : Sought) (epoch : Epoch) where
 
         pub seeking_skip : Ok (None, behind) ≡ line_read rest → (length behind < length rest) × Seeking behind
         unfolding or_later
-        seeking_skip e = let k = read_skipped rest behind e in (shorter k.1, onward k.1 (turned skipped k.0))
+        seeking_skip e = let k = read_skipped rest behind e in (shorter k.1, onward k.1 (turned (Ok None) k.0))
 
         -- an accepted line: its words can be run, and what is left where it is sought or not
         pub record Judging (l : Line) : Type 0 where
@@ -129,13 +127,12 @@ module _ (text : List ℕ) (q : Sought) (epoch : Epoch) where
           pub miss : (b : Bool) → b ≡ tells q epoch l.ending (value_words l) → b ≡ false → Seeking behind
 
         pub seeking_judge : (l : Line) → Ok (Some l, behind) ≡ line_read rest → Judging l
-        unfolding line_value line_of sought_by or_later
+        unfolding sought_by or_later
         seeking_judge l e =
             let r = read_accepted rest l behind e in
             let k : PolicyLine = r.line in
             let v : valid k ≡ true = accepted_valid (first_line rest) k r.answer in
-            let p = valid_out k v in
-            let words : value_words l ≡ line_words k = ap value_words r.value ∙ value_words_is k p.few_tests p.few_comparisons in
+            let words : value_words l ≡ line_words k = ap value_words r.value ∙ value_words_is k in
             let ends : l.ending ≡ ending_of k = ap (λ (x : Line). x.ending) r.value in
             let same : tells q epoch l.ending (value_words l) ≡ sought_by q epoch k = ap₂ (λ (x : Ending) (ws : List ℕ). tells q epoch x ws) ends words in
             record {
@@ -143,6 +140,6 @@ module _ (text : List ℕ) (q : Sought) (epoch : Epoch) where
               later = shorter r.behind;
               hit = λ b j t x u.
                   ap Some u
-                  ∙ sym (turned (accepted k) r.answer ∙ ap (λ (y : Bool). cond y (Some (shown_at at (first_line rest))) (found (next_line rest))) (sym (j ∙ same) ∙ t));
-              miss = λ b j t. onward r.behind (turned (accepted k) r.answer ∙ ap (λ (y : Bool). cond y (Some (shown_at at (first_line rest))) (found (next_line rest))) (sym (j ∙ same) ∙ t));
+                  ∙ sym (turned (Ok (Some k)) r.answer ∙ ap (λ (y : Bool). cond y (Some (shown_at at (first_line rest))) (found (next_line rest))) (sym (j ∙ same) ∙ t));
+              miss = λ b j t. onward r.behind (turned (Ok (Some k)) r.answer ∙ ap (λ (y : Bool). cond y (Some (shown_at at (first_line rest))) (found (next_line rest))) (sym (j ∙ same) ∙ t));
             }

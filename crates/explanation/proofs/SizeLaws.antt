@@ -4,6 +4,7 @@ use Rattle.std.specs.Option.{option_or, option_map_or}
 use Rattle.std.proofs.Common.{ℕ, suc, ◌+◌, ◌≤◌, Bool, true, false, cond, List, [], ◌∷◌, ◌≡◌, refl, arith, length}
 use Rattle.std.proofs.Math.Dec.{eqb}
 use Rattle.policy.specs.declared.epoch.Epoch.{Epoch}
+use Rattle.policy.specs.declared.fault.Fault.{Fault}
 use Rattle.policy.specs.Line.{PolicyLine}
 use Rattle.policy.specs.Number.{check_action}
 use Rattle.policy.specs.Set.{ActionSet, has_action}
@@ -12,7 +13,7 @@ use Rattle.policy.specs.declared.number.Action.{Action}
 use Rattle.lexer.proofs.LeadingLaws.{leading_length}
 use Rattle.lexer.specs.Byte.{is_space}
 use Rattle.lexer.specs.Lines.{prepend, pieces, lines_of}
-use Rattle.syntax.specs.Judge.{LineAnswer, skipped, refused, accepted, line_answer}
+use Rattle.syntax.specs.Judge.{line_answer}
 use Rattle.monitor.specs.Decision.{decision}
 use Rattle.monitor.specs.declared.decision.Actions.{Actions}
 use Rattle.epoch_line.specs.Epoch.{read_epoch}
@@ -64,10 +65,10 @@ unfolding first_from or_later shown_at total
 found_size test at [] = least 0
 found_size test at (line ∷ lines) = go (line_answer line) _ (found_size test (at + length line + 1) lines)
   where
-    go : (a : LineAnswer) (later : Option Stretch) → stretch_size later ≤ total lines → stretch_size (or_later test a at line later) ≤ length line + total lines
-    go skipped later h = omega (arith, h)
-    go (refused f) later h = least (length line + total lines)
-    go (accepted l) later h = passing (test l)
+    go : (a : Result (Option PolicyLine) Fault) (later : Option Stretch) → stretch_size later ≤ total lines → stretch_size (or_later test a at line later) ≤ length line + total lines
+    go (Ok None) later h = omega (arith, h)
+    go (Err f) later h = least (length line + total lines)
+    go (Ok (Some l)) later h = passing (test l)
       where
         passing : (b : Bool) → stretch_size (cond b (Some (shown_at at line)) later) ≤ length line + total lines
         passing true = omega (arith, trim_length line)

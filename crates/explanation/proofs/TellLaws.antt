@@ -1,6 +1,6 @@
 -- A line is judged by running its words: they are read back from the small buffer as they were put there, and they say what the
 -- line says.
-use Rattle.std.proofs.Common.{ℕ, ◌+◌, ◌*◌, ◌/◌, ◌≤◌, ◌<◌, Bool, true, false, cond, ◌&&◌, ◌||◌, List, [], ◌∷◌, append-nil, ◌≡◌, refl, sym, ap, ap₂, ◌∙◌, arith, ltb-true, eqb-true, ℤ, length, take, drop, take_at}
+use Rattle.std.proofs.Common.{ℕ, ◌+◌, ◌*◌, ◌/◌, ◌≤◌, ◌<◌, Bool, true, false, cond, ◌&&◌, ◌||◌, List, [], ◌∷◌, append-nil, ◌≡◌, refl, sym, ap, ap₂, ◌∙◌, arith, ltb-true, eqb-true, length, take, drop, take_at}
 use Rattle.std.proofs.lemmas.Bool.{eqb-false}
 use Rattle.std.proofs.Math.Dec.{eqb}
 use Rattle.policy.proofs.ListLaws.{and_in}
@@ -10,7 +10,7 @@ use Rattle.policy.specs.declared.epoch.Epoch.{Epoch}
 use Rattle.policy.specs.declared.epoch.Readings.{Readings}
 use Rattle.policy.specs.Limits.{valid, ending_in_range}
 use Rattle.policy.specs.Line.{PolicyLine, rule, constraint, ending_of}
-use Rattle.policy.specs.List.{all, any}
+use Rattle.policy.specs.List.{all}
 use Rattle.policy.specs.Policy.{Policy, Rule, Constraint}
 use Rattle.policy.specs.Set.{ActionSet, has, insert, all_events, no_actions, has_action, insert_action, actions_below}
 use Rattle.policy.specs.declared.line.Ending.{Ending}
@@ -58,7 +58,6 @@ module _ (q : Sought) (e : Epoch) (ending : Ending) (ws : List ℕ) where
 
 module _ (l : PolicyLine) (v : valid l ≡ true) where
   alone : all valid (l ∷ []) ≡ true
-  unfolding all
   alone = and_in v refl
 
   alone_words : lines_words (l ∷ []) ≡ line_words l
@@ -75,7 +74,7 @@ rule_alone r v ev rs =
     ap (run_rules ev rs) (sym (alone_words (rule r) v)) ∙ rules_run p (alone (rule r) v) ev rs
 
 constraint_alone : (c : Constraint) → valid (constraint c) ≡ true → (rs : Readings) (s : ActionSet) → run_constraints rs s (line_words (constraint c)) ≡ constraint_holds rs s c
-unfolding constraint_part_words conflict any
+unfolding constraint_part_words conflict
 constraint_alone c v rs s =
     let p : Policy = record { rules = []; constraints = c ∷ [] } in
     ap (run_constraints rs s) (sym (alone_words (constraint c) v)) ∙ constraints_run p (alone (constraint c) v) rs s ∙ or_none (constraint_holds rs s c)

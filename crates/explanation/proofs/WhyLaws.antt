@@ -1,22 +1,23 @@
 -- What became of an action: each way through the functions that answer it.
 use Rattle.std.specs.Prelude.{Option, Some, None, option_map, Result, Ok, Err}
 use Rattle.std.specs.Option.{option_or, option_map_or}
-use Rattle.std.proofs.Common.{ℕ, ◌+◌, ◌≤◌, Bool, true, false, cond, List, [], ◌∷◌, ◌≡◌, refl, sym, ap, ap₂, ◌∙◌, length, take}
+use Rattle.std.proofs.Common.{ℕ, ◌+◌, Bool, true, false, cond, List, [], ◌∷◌, ◌≡◌, refl, sym, ap, ap₂, ◌∙◌, length, take}
 use Rattle.policy.specs.declared.epoch.Epoch.{Epoch}
 use Rattle.policy.specs.Fault.{refusal}
 use Rattle.policy.specs.Limits.{valid, Acceptable}
 use Rattle.policy.specs.Line.{PolicyLine}
 use Rattle.policy.specs.Number.{check_action}
 use Rattle.policy.specs.Policy.{Policy}
+use Rattle.policy.specs.Result.{result_and_then}
 use Rattle.policy.specs.Set.{ActionSet, has_action, insert_action, actions_below}
 use Rattle.policy.specs.declared.fault.Fault.{Fault}
 use Rattle.policy.specs.declared.fault.Refusal.{Refusal}
 use Rattle.policy.specs.declared.number.Action.{Action}
 use Rattle.lexer.specs.Lines.{lines_of}
-use Rattle.syntax.specs.Judge.{LineAnswer, skipped, refused, accepted, line_answer}
+use Rattle.syntax.specs.Judge.{line_answer}
 use Rattle.acceptance.proofs.Accepted.{accepted_valid, texts_acceptable}
 use Rattle.codegen.proofs.AcceptedLaws.{newest_known}
-use Rattle.codegen.proofs.RoomLaws.{texts_stopped, texts_read_is}
+use Rattle.codegen.proofs.RoomLaws.{texts_refusal, texts_read_is}
 use Rattle.codegen.specs.Compile.{newest_form, compiled_texts}
 use Rattle.epoch_line.specs.Epoch.{read_epoch}
 use Rattle.layout.specs.Layout.{image_of}
@@ -24,10 +25,10 @@ use Rattle.meaning.proofs.Decided.{image_refuses, image_decides}
 use Rattle.pdl.specs.Yield as Yield
 use Rattle.monitor.specs.Decision.{decision}
 use Rattle.monitor.specs.declared.decision.Actions.{Actions}
-use Rattle.rule_text.specs.Text.{Progress, reading, stopped, read_texts}
+use Rattle.rule_text.specs.Text.{read_texts}
 use Rattle.explanation.proofs.TellLaws.{rules_sought, constraints_sought}
 use Rattle.explanation.specs.Part.{Stretch, Quote, of_maker, of_site, shown_at, or_later, first_from, first_shown}
-use Rattle.explanation.specs.Why.{is_proposing_rule, is_cancelling_constraint, Explanation, not_proposed, accepted_by, cancelled_by, explanation_for, on_action, on_epoch, on_both_texts, explained}
+use Rattle.explanation.specs.Why.{is_proposing_rule, is_cancelling_constraint, Explanation, not_proposed, accepted_by, cancelled_by, explanation_for, on_action, on_epoch, explained}
 use Rattle.explanation.specs.Steps.On.{on_decision, explained_on}
 use Rattle.explanation.specs.Steps.Sought.{sought_by}
 use Rattle.explanation.specs.declared.find.Sought.{Sought}
@@ -55,10 +56,10 @@ module _ (s t : PolicyLine → Bool) (agree : (l : PolicyLine) → valid l ≡ t
   first_same at [] = refl
   first_same at (line ∷ lines) = go (line_answer line) refl (first_same (at + length line + 1) lines)
     where
-      go : (a : LineAnswer) → line_answer line ≡ a → {later later' : Option Stretch} → later ≡ later' → or_later s a at line later ≡ or_later t a at line later'
-      go skipped k h = h
-      go (refused f) k h = refl
-      go (accepted l) k h = ap₂ (λ (b : Bool) (later : Option Stretch). cond b (Some (shown_at at line)) later) (agree l (accepted_valid line l k)) h
+      go : (a : Result (Option PolicyLine) Fault) → line_answer line ≡ a → {later later' : Option Stretch} → later ≡ later' → or_later s a at line later ≡ or_later t a at line later'
+      go (Ok None) k h = h
+      go (Err f) k h = refl
+      go (Ok (Some l)) k h = ap₂ (λ (b : Bool) (later : Option Stretch). cond b (Some (shown_at at line)) later) (agree l (accepted_valid line l k)) h
 
   shown_same : (maker site : List ℕ) → first_shown s maker site ≡ first_shown t maker site
   unfolding first_shown
@@ -123,26 +124,26 @@ on_image_is maker site line n p ok = go (read_epoch line) refl
 module _ (maker site line : List ℕ) (n : ℕ) (buffer written : List ℕ) (answer : Result ℕ Refusal) (made : answer ≡ (compiled_texts maker site buffer).answer)
     (wrote : written ≡ (compiled_texts maker site buffer).buffer) (long : length buffer ≡ 13064) where
   pub explains_refusal : (r : Refusal) → answer ≡ Err r → Err r ≡ explained maker site line n
-  unfolding explained on_both_texts
-  explains_refusal r e = rw (texts_stopped maker site buffer long r (sym made ∙ e))
+  unfolding explained
+  explains_refusal r e = rw (texts_refusal maker site buffer long r (sym made ∙ e))
 
   pub explains_image : (size : ℕ) → answer ≡ Ok size → (x : Result Explanation Refusal) → x ≡ explained_on maker site line n (take size written) → x ≡ explained maker site line n
-  unfolding explained on_both_texts
+  unfolding explained
   explains_image size e x h =
       let r = texts_read_is maker site buffer long size (sym made ∙ e) in
       let image : take size written ≡ image_of newest_form r.policy = ap (take size) wrote ∙ r.image in
-      h ∙ ap (explained_on maker site line n) image ∙ on_image_is maker site line n r.policy (texts_acceptable maker site r.lines r.policy r.read)
-      ∙ sym (ap (on_both_texts maker site line n) r.read)
+      h ∙ ap (explained_on maker site line n) image ∙ on_image_is maker site line n r.policy (texts_acceptable maker site r.policy r.read)
+      ∙ sym (ap (result_and_then (λ (p : Policy). on_epoch maker site p n (read_epoch line))) r.read)
 
 -- a number counts only by the action that it is
 pub same_action : (maker site line : List ℕ) (m n : ℕ) → check_action m ≡ check_action n → explained maker site line m ≡ explained maker site line n
-unfolding explained on_both_texts on_epoch
+unfolding explained on_epoch
 same_action maker site line m n h = go (read_texts maker site)
   where
     on : (p : Policy) (a : Result Epoch Refusal) → on_epoch maker site p m a ≡ on_epoch maker site p n a
     on p (Err r) = refl
     on p (Ok e) = ap (on_action maker site (Yield.accepted p e) (Yield.cancelled p e) e) h
 
-    go : (s : Progress) → on_both_texts maker site line m s ≡ on_both_texts maker site line n s
-    go (stopped r) = refl
-    go (reading next p) = on p (read_epoch line)
+    go : (r : Result Policy Refusal) → result_and_then (λ (p : Policy). on_epoch maker site p m (read_epoch line)) r ≡ result_and_then (λ (p : Policy). on_epoch maker site p n (read_epoch line)) r
+    go (Ok p) = on p (read_epoch line)
+    go (Err r) = refl

@@ -1,11 +1,12 @@
 -- The first line that passes a test, without its line end, trimmed of spaces at both ends, and straight out of the text that it
 -- stands in.
-use Rattle.std.specs.Prelude.{ℕ, ◌+◌, Bool, cond, List, [], ◌∷◌, length, Option, Some, None, option_map}
+use Rattle.std.specs.Prelude.{ℕ, ◌+◌, Bool, List, [], ◌∷◌, length, Option, Some, None, option_map, Result, Ok, Err, if◌then◌else◌}
 use Rattle.std.specs.Option.{option_or}
 use Rattle.policy.specs.Line.{PolicyLine}
+use Rattle.policy.specs.declared.fault.Fault.{Fault}
 use Rattle.lexer.specs.Byte.{is_space}
 use Rattle.lexer.specs.Lines.{lines_of, take_leading, drop_leading}
-use Rattle.syntax.specs.Judge.{LineAnswer, skipped, refused, accepted, line_answer}
+use Rattle.syntax.specs.Judge.{line_answer}
 use Rattle.explanation.specs.declared.part.Excerpt.{Excerpt}
 use Rattle.explanation.specs.declared.part.Shown.{Shown}
 
@@ -17,7 +18,7 @@ trim_start s = drop_leading is_space s
 
 -- a byte before what is left: a space counts only where something is
 unfoldable pub add_to_trimmed : ℕ → List ℕ → List ℕ
-add_to_trimmed b [] = cond (is_space b) [] (b ∷ [])
+add_to_trimmed b [] = if is_space b then [] else b ∷ []
 add_to_trimmed b (c ∷ s) = b ∷ c ∷ s
 
 -- at the end
@@ -44,10 +45,10 @@ shown_at at line = record { start = at + length (take_leading is_space line); by
 
 module _ (test : PolicyLine → Bool) where
   -- a line that starts at a position, and what is shown of those behind it; from a line that is refused on, nothing is
-  unfoldable pub or_later : LineAnswer → ℕ → List ℕ → Option Stretch → Option Stretch
-  or_later skipped at line later = later
-  or_later (refused f) at line later = None
-  or_later (accepted l) at line later = cond (test l) (Some (shown_at at line)) later
+  unfoldable pub or_later : Result (Option PolicyLine) Fault → ℕ → List ℕ → Option Stretch → Option Stretch
+  or_later (Ok None) at line later = later
+  or_later (Err f) at line later = None
+  or_later (Ok (Some l)) at line later = if test l then Some (shown_at at line) else later
 
   -- of lines, the first of which starts at a position
   unfoldable pub first_from : ℕ → List (List ℕ) → Option Stretch

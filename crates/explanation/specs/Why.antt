@@ -1,5 +1,5 @@
 -- For an epoch and an action: whether the action is not proposed, accepted, or cancelled, and which line is shown for it.
-use Rattle.std.specs.Prelude.{ℕ, Bool, false, cond, ◌&&◌, List, eqb, Option, Some, None, Result, Ok, Err}
+use Rattle.std.specs.Prelude.{ℕ, Bool, false, ◌&&◌, List, Option, Some, None, Result, Ok, Err, ◌==◌, if◌then◌else◌}
 use Rattle.std.specs.Option.{option_map_or}
 use Rattle.policy.specs.declared.epoch.Epoch.{Epoch}
 use Rattle.policy.specs.declared.epoch.Readings.{Readings}
@@ -7,6 +7,7 @@ use Rattle.policy.specs.Fault.{refusal}
 use Rattle.policy.specs.Line.{PolicyLine, rule, constraint}
 use Rattle.policy.specs.Number.{check_action}
 use Rattle.policy.specs.Policy.{Policy}
+use Rattle.policy.specs.Result.{result_and_then}
 use Rattle.policy.specs.Set.{ActionSet, all_events, has_action, insert_action, actions_below}
 use Rattle.policy.specs.declared.fault.Fault.{Fault}
 use Rattle.policy.specs.declared.fault.Refusal.{Refusal}
@@ -14,7 +15,7 @@ use Rattle.policy.specs.declared.number.Action.{Action}
 use Rattle.pdl.specs.Yield as Yield
 use Rattle.pdl.specs.Yield.{rule_holds, constraint_holds}
 use Rattle.epoch_line.specs.Epoch.{read_epoch}
-use Rattle.rule_text.specs.Text.{Progress, reading, stopped, read_texts}
+use Rattle.rule_text.specs.Text.{read_texts}
 use Rattle.explanation.specs.Part.{Quote, first_shown, quote_of}
 use Rattle.explanation.specs.declared.why.Outcome.{Outcome}
 
@@ -22,7 +23,7 @@ use Rattle.explanation.specs.declared.why.Outcome.{Outcome}
 
 -- for an accepted action the rules that proposed it
 unfoldable pub is_proposing_rule : Epoch → Action → PolicyLine → Bool
-is_proposing_rule e a (rule r) = rule_holds (all_events e.events) e.readings r && eqb r.action.0 a.0
+is_proposing_rule e a (rule r) = rule_holds (all_events e.events) e.readings r && r.action.0 == a.0
 is_proposing_rule e a (constraint c) = false
 
 -- for a cancelled one the constraints that hold on the lower-numbered accepted actions together with it
@@ -41,9 +42,9 @@ pub data Explanation : Type 0 where
 module _ (maker site : List ℕ) where
   unfoldable pub explanation_for : ActionSet → ActionSet → Epoch → Action → Explanation
   explanation_for accepts cancels e a =
-      cond (has_action accepts a) (option_map_or accepted_by (first_shown (is_proposing_rule e a) maker site) not_proposed)
-      (cond (has_action cancels a) (option_map_or cancelled_by (first_shown (is_cancelling_constraint e.readings accepts a) maker site) not_proposed)
-      not_proposed)
+      if has_action accepts a then option_map_or accepted_by (first_shown (is_proposing_rule e a) maker site) not_proposed
+      else (if has_action cancels a then option_map_or cancelled_by (first_shown (is_cancelling_constraint e.readings accepts a) maker site) not_proposed
+      else not_proposed)
 
   -- ---- an action over 63 is refused under 13, after all other checks
 
@@ -57,12 +58,8 @@ module _ (maker site : List ℕ) where
   on_epoch p n (Ok e) = on_action (Yield.accepted p e) (Yield.cancelled p e) e (check_action n)
 
   -- the texts' faults come first
-  unfoldable pub on_both_texts : List ℕ → ℕ → Progress → Result Explanation Refusal
-  on_both_texts line n (stopped r) = Err r
-  on_both_texts line n (reading next p) = on_epoch p n (read_epoch line)
-
   unfoldable pub explained : List ℕ → ℕ → Result Explanation Refusal
-  explained line n = on_both_texts line n (read_texts maker site)
+  explained line n = result_and_then (λ (p : Policy). on_epoch p n (read_epoch line)) (read_texts maker site)
 
 -- what is shown of the texts: nothing for an action that is not proposed
 abbrev pub quoted : Explanation → Option Quote

@@ -87,8 +87,8 @@ pub(crate) fn find<'t>(text: &'t [u8], sought: Sought, epoch: &Epoch) -> Option<
         let Ok((line, behind)) = read_line(rest) else {
             return None;
         };
-        if let Some(line) = line {
-            if told(&line, sought, epoch) {
+        if let Some(line) = &line {
+            if told(line, sought, epoch) {
                 return Some(excerpt_at(text.len() - rest.len(), rest));
             }
         }

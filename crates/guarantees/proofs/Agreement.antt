@@ -1,8 +1,8 @@
 -- On the image of a text, or of two as one, the decisions are those of the reference machine on the text, and an image with
 -- one word changed is refused.
+use Rattle.std.specs.Prelude.{Option, Some, option_map}
 use Rattle.policy.specs.declared.fault.Refusal.{Refusal}
 use Rattle.std.proofs.Common.{ℕ, ◌%◌, ◌<◌, List, [], ◌∷◌, ◌↔◌, ◌≡◌, refl, sym, ap, ap₂, ◌∙◌, arith, length, take, Result, Ok, Err}
-use Rattle.std.proofs.Math.Option.{Option, some, map}
 use Rattle.std.proofs.Math.Path.{subst⁻¹}
 use Rattle.std.proofs.Math.ListN.{set}
 use Rattle.policy.specs.declared.epoch.Epoch.{Epoch}
@@ -29,7 +29,6 @@ use Rattle.pdl.specs.Reduction.{proposed_with, kept_events}
 use Rattle.guarantees.proofs.Decisions.{written_refuses, written_yields, written_obeys, written_best, written_changed}
 use Rattle.guarantees.proofs.Reductions.{written_reduces, written_conflict, written_obeys_events}
 use Rattle.monitor.specs.Decision.{decision_in, decision, answer_of}
-use Rattle.monitor.specs.declared.decision.Actions.{Actions}
 use Rattle.guarantees.specs.Decisions.{CheckFailed, Obeys, IsBest, ObeysEvents}
 use Rattle.guarantees.specs.Claims.{CompilesTo, TextsCompileTo, answers}
 use Rattle.guarantees.specs.Machine.{yield_in, answer, step, steps, ToldLine, machine_of, machine, machine_of_texts}
@@ -37,7 +36,7 @@ use Rattle.guarantees.specs.Machine.{yield_in, answer, step, steps, ToldLine, ma
 -- the image is that of the policy, which there is
 pub record ImageOf (known : Option Policy) (image : List ℕ) : Type 0 where
   pub policy : Policy
-  pub read : known ≡ some policy
+  pub read : known ≡ Some policy
   pub acceptable : Acceptable policy
   pub same : image ≡ image_of newest_form policy
 
@@ -81,11 +80,11 @@ module _ (p : Policy) (ok : Acceptable p) where
   same_answers (x ∷ xs) = ap₂ (λ (a : Answer) (rest : List Answer). a ∷ rest) (same_answer x.mode x.line) (same_answers xs)
 
 module _ (known : Option Policy) (image : List ℕ) (t : ImageOf known image) where
-  agrees : (lines : List ToldLine) → some (answers image lines) ≡ machine_of known lines
+  agrees : (lines : List ToldLine) → Some (answers image lines) ≡ machine_of known lines
   unfolding machine_of
   agrees lines =
-      ap some (ap (λ (i : List ℕ). answers i lines) t.same ∙ same_answers t.policy t.acceptable lines)
-      ∙ sym (ap (map (λ (p : Policy). steps p lines)) t.read)
+      ap Some (ap (λ (i : List ℕ). answers i lines) t.same ∙ same_answers t.policy t.acceptable lines)
+      ∙ sym (ap (option_map (λ (p : Policy). steps p lines)) t.read)
 
   refuses_change : (i v : ℕ) → i < length (words_of image) → v < word_limit → ¬ (v ≡ word_at image i) → (mode : Mode) (line : List ℕ) → CheckFailed (answer_of (decision_in mode (changed image i v) line))
   refuses_change =
@@ -99,16 +98,16 @@ module _ (known : Option Policy) (image : List ℕ) (t : ImageOf known image) wh
       let whole : length (bytes_of words) % 4 ≡ 0 = omega (arith, bytes_length words) in
       rw t.same (changed_length (bytes_of words) i v whole, changed_words (bytes_of words) (bytes_below words) i v h)
 
-  obeys : (p : Policy) → known ≡ some p → (line : List ℕ) (e : Epoch) → read_epoch line ≡ Ok e → Obeys p e (answer_of (decision image line))
+  obeys : (p : Policy) → known ≡ Some p → (line : List ℕ) (e : Epoch) → read_epoch line ≡ Ok e → Obeys p e (answer_of (decision image line))
   obeys p q line e r =
-      let k : some p ≡ some t.policy = sym q ∙ t.read in
+      let k : Some p ≡ Some t.policy = sym q ∙ t.read in
       let same : p ≡ t.policy = cc in
       subst⁻¹ (λ (x : List ℕ). Obeys p e (answer_of (decision x line))) t.same
       (subst⁻¹ (λ (x : Policy). Obeys x e (answer_of (decision (image_of newest_form t.policy) line))) same (written_obeys newest_form newest_known t.policy t.acceptable line e r))
 
-  module _ (p : Policy) (q : known ≡ some p) (line : List ℕ) (e : Epoch) (r : read_epoch line ≡ Ok e) where
+  module _ (p : Policy) (q : known ≡ Some p) (line : List ℕ) (e : Epoch) (r : read_epoch line ≡ Ok e) where
     same_policy : p ≡ t.policy
-    same_policy = let k : some p ≡ some t.policy = sym q ∙ t.read in cc
+    same_policy = let k : Some p ≡ Some t.policy = sym q ∙ t.read in cc
 
     accepts_best : IsBest p e (answer_of (decision image line)).accepted
     accepts_best =
@@ -126,11 +125,11 @@ module _ (known : Option Policy) (image : List ℕ) (t : ImageOf known image) wh
 
 -- on the bytes that the compiler wrote for a text, the answers for every list of epoch lines with the mode of each, refused ones
 -- included, are those of the reference machine on the text: as many, and each the same in every field
-pub decisions_agree : (text image : List ℕ) → CompilesTo text image → (lines : List ToldLine) → some (answers image lines) ≡ machine text lines
+pub decisions_agree : (text image : List ℕ) → CompilesTo text image → (lines : List ToldLine) → Some (answers image lines) ≡ machine text lines
 decisions_agree text image c = agrees (policy_of text) image (image_of_text text image c)
 
 -- the same for the maker's and the site's text
-pub texts_decisions_agree : (maker site image : List ℕ) → TextsCompileTo maker site image → (lines : List ToldLine) → some (answers image lines) ≡ machine_of_texts maker site lines
+pub texts_decisions_agree : (maker site image : List ℕ) → TextsCompileTo maker site image → (lines : List ToldLine) → Some (answers image lines) ≡ machine_of_texts maker site lines
 texts_decisions_agree maker site image c = agrees (policy_of_texts maker site) image (image_of_texts maker site image c)
 
 -- ---- the second half
@@ -156,19 +155,19 @@ texts_change_only maker site image c = changes_one (policy_of_texts maker site) 
 
 module _ (maker site image : List ℕ) (c : TextsCompileTo maker site image) where
   -- a decision that is not refused is a maximal action cancellation of what the texts' rules propose
-  pub decision_obeys : (p : Policy) → policy_of_texts maker site ≡ some p → (line : List ℕ) (e : Epoch) → read_epoch line ≡ Ok e → Obeys p e (answer_of (decision image line))
+  pub decision_obeys : (p : Policy) → policy_of_texts maker site ≡ Some p → (line : List ℕ) (e : Epoch) → read_epoch line ≡ Ok e → Obeys p e (answer_of (decision image line))
   decision_obeys = obeys (policy_of_texts maker site) image (image_of_texts maker site image c)
 
   -- and it accepts the best of all sets of proposed actions on which no constraint holds
-  pub decision_best : (p : Policy) → policy_of_texts maker site ≡ some p → (line : List ℕ) (e : Epoch) → read_epoch line ≡ Ok e → IsBest p e (answer_of (decision image line)).accepted
+  pub decision_best : (p : Policy) → policy_of_texts maker site ≡ Some p → (line : List ℕ) (e : Epoch) → read_epoch line ≡ Ok e → IsBest p e (answer_of (decision image line)).accepted
   decision_best = accepts_best (policy_of_texts maker site) image (image_of_texts maker site image c)
 
   -- in the second mode a decision is refused under 17 exactly if no reduction of the epoch is free of conflict
-  pub events_conflict_refused : (p : Policy) → policy_of_texts maker site ≡ some p → (line : List ℕ) (e : Epoch) → read_epoch line ≡ Ok e
+  pub events_conflict_refused : (p : Policy) → policy_of_texts maker site ≡ Some p → (line : List ℕ) (e : Epoch) → read_epoch line ≡ Ok e
       → (decision_in Mode.Events image line ≡ Err (refusal Fault.Unavoidable 0)) ↔ ¬ Reducible p.constraints (proposed_with p.rules) e
   events_conflict_refused = conflict_refused (policy_of_texts maker site) image (image_of_texts maker site image c)
 
   -- otherwise the kept events are a maximal such reduction, and what they propose is issued
-  pub events_decision_obeys : (p : Policy) → policy_of_texts maker site ≡ some p → (line : List ℕ) (e : Epoch) → read_epoch line ≡ Ok e
+  pub events_decision_obeys : (p : Policy) → policy_of_texts maker site ≡ Some p → (line : List ℕ) (e : Epoch) → read_epoch line ≡ Ok e
       → Reducible p.constraints (proposed_with p.rules) e → ObeysEvents p e (kept_events p e) (answer_of (decision_in Mode.Events image line))
   events_decision_obeys = obeys_events (policy_of_texts maker site) image (image_of_texts maker site image c)

@@ -11,7 +11,6 @@ use Rattle.policy.specs.Line.{constraint, heads_of}
 use Rattle.policy.specs.List.{all}
 use Rattle.policy.specs.Policy.{Policy, Constraint}
 use Rattle.policy.specs.Set.{ActionSet, no_actions}
-use Rattle.policy.specs.declared.fault.Fault.{Fault}
 use Rattle.policy.specs.declared.fault.Refusal.{Refusal}
 use Rattle.policy.specs.declared.line.Test.{Test}
 use Rattle.policy.specs.declared.mode.Mode.{Mode}
@@ -86,7 +85,6 @@ has_action_is c v q =
     absurd (omega (arith, (valid_out (constraint c) v).some, ap (λ (actions : List Action). length (map Test.Member actions)) q))
 
 name_actions : (cs : List Constraint) → all valid (map constraint cs) ≡ true → NameActions cs
-unfolding all
 name_actions [] v c m = absurd (Memᴰ.not-nil m)
 name_actions (k ∷ cs) v c (Memᴰ.head q) =
     has_action_is c (ap (λ (x : Constraint). valid (constraint x)) q ∙ (and_out (valid (constraint k)) (all valid (map constraint cs)) v).0)

@@ -1,7 +1,7 @@
 -- The loader takes exactly the images that some accepted text compiles to, and when it refuses under 11.
+use Rattle.std.specs.Prelude.{Some}
 use Rattle.policy.specs.Line.{PolicyLine}
 use Rattle.std.proofs.Common.{ℕ, true, List, [], ◌∷◌, ◌↔◌, ◌≡◌, refl, sym, ap, ◌∙◌, subst, arith, ltb-true, eqb-true, length, Result, Ok, Err}
-use Rattle.std.proofs.Math.Option.{some}
 use Rattle.policy.proofs.ListLaws.{and_out}
 use Rattle.policy.specs.Fault.{fault_number, refusal}
 use Rattle.policy.specs.Limits.{Acceptable}
@@ -13,7 +13,6 @@ use Rattle.exactness.proofs.Exact.{exactly_images, image_refused_exactly, image_
 use Rattle.exactness.specs.Exact.{contents_of, Checked}
 use Rattle.exactness.specs.ImageFault.{ImageFault}
 use Rattle.layout.specs.Layout.{known_form, image_of}
-use Rattle.image.specs.Check.{form_byte}
 use Rattle.image.specs.Held.{policy_in}
 use Rattle.image.specs.Lines.{rule_part, constraint_part, rule_lines, constraint_lines}
 use Rattle.image.specs.Load.{body_answer, load_words, load, Contents}
@@ -28,7 +27,6 @@ use Rattle.guarantees.proofs.Agreement.{image_of_text}
 use Rattle.guarantees.specs.Claims.{CompilesTo, SomeText}
 
 ascii_bytes : (s : List ℕ) → all ascii s ≡ true → Bytes s
-unfolding all
 ascii_bytes [] h i = omega arith
 ascii_bytes (b ∷ s) h ℕ.zero = let l = ltb-true b 128 (and_out (ascii b) (all ascii s) h).0 in omega arith
 ascii_bytes (b ∷ s) h (ℕ.suc i) = ascii_bytes s (and_out (ascii b) (all ascii s) h).1 i
@@ -37,9 +35,9 @@ ascii_bytes (b ∷ s) h (ℕ.suc i) = ascii_bytes s (and_out (ascii b) (all asci
 pub printed_compiles : (p : Policy) → Acceptable p → CompilesTo (text_of p) (image_of newest_form p)
 printed_compiles p ok =
     let image : List ℕ = image_of newest_form p in
-    let e = text_compiled (text_of p) image _ p (text_read_is p ok) (omega arith) in
+    let e = text_compiled (text_of p) image p (text_read_is p ok) (omega arith) in
     let w = image_written (text_of p) image (length image) e in
-    let q : some p ≡ some w.policy = sym (text_policy p ok) ∙ w.read in
+    let q : Some p ≡ Some w.policy = sym (text_policy p ok) ∙ w.read in
     let same : p ≡ w.policy = cc in
     record { buffer = image; size = length image; accepted = e; written = w.image ∙ ap (image_of newest_form) (sym same) }
 

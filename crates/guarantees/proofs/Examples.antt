@@ -1,7 +1,5 @@
 -- Each row of the table of examples is as it says.
 use Rattle.std.proofs.Common.{map, ◌≡◌, refl}
-use Rattle.std.proofs.Math.Option.{or_else}
-use Rattle.policy.specs.List.{all, any}
 use Rattle.policy.specs.Set.{has, insert, below}
 use Rattle.policy.specs.Epoch.{reading_value}
 use Rattle.policy.specs.Comparison.{eq_z, relation_holds, operand_value, comparison_holds, missing_holds, values_relate}
@@ -11,13 +9,13 @@ use Rattle.pdl.specs.Greedy.{try_next, kept_below, greedy}
 use Rattle.pdl.specs.Reduction.{clashes, kept_events, issued, withheld, unavoidable}
 use Rattle.pdl.specs.Yield.{literal_holds, rule_holds, propose, proposals, constraint_holds, conflict, resolve, accepted, cancelled}
 use Rattle.lexer.specs.Byte.{bytes, bytes_equal, is, class_of, hex_value}
-use Rattle.lexer.specs.Number.{decimal_from, number_of, positive, negative, decimal_of, pattern_of, hexadecimal_of, constant_of}
+use Rattle.lexer.specs.Number.{decimal_from, number_of, negative, decimal_of, pattern_of, hexadecimal_of, constant_of}
 use Rattle.lexer.specs.Lines.{prepend, pieces, lines_of, non_empty, tokens_of}
 use Rattle.lexer.specs.Token.{named, literal_of, action_of, reading_of, relation_of, operand_of, both, comparison_of}
 use Rattle.syntax.specs.Grammar.{comparisons_from, condition_from, joined, rule_after, constraint_after, after, line_from}
 use Rattle.syntax.specs.Judge.{judge_line, is_comment, tokens_answer, line_answer}
-use Rattle.rule_text.specs.Text.{advance, read_next_line, read_text_behind, in_text, read_text, policy_read, policy_of}
-use Rattle.epoch_line.specs.Epoch.{to_left, at_equals, assignment_of, item_of, items_of, item_in_range, given_by, add_item, judge_epoch, read_epoch}
+use Rattle.rule_text.specs.Text.{with_line, with_any_line, read_line, read_lines, read_text_behind, read_text}
+use Rattle.epoch_line.specs.Epoch.{at_equals, assignment_of, item_of, items_of, item_in_range, given_by, add_item, judge_epoch, read_epoch}
 use Rattle.operation.specs.Operation.{operation_from, relation_from}
 use Rattle.word.specs.Word.{words_of, bytes_of, between}
 use Rattle.operation.specs.Fields.{pack}
@@ -29,5 +27,5 @@ use Rattle.guarantees.specs.Machine.{yield_in, answer, step, steps, machine_of}
 use Rattle.guarantees.specs.Examples.{examples, computed}
 
 pub examples_hold : map computed examples ≡ examples
-unfolding all any has insert below reading_value missing_holds values_relate eq_z relation_holds operand_value comparison_holds heads_of comparisons_of ending_of constant_count is_reading_value test_number operand_in_range comparison_in_range ending_in_range in_range crowded repeats repeated valid try_next kept_below greedy literal_holds rule_holds propose proposals constraint_holds conflict resolve accepted cancelled bytes bytes_equal is class_of decimal_from number_of positive negative hex_value decimal_of pattern_of hexadecimal_of constant_of prepend pieces lines_of non_empty tokens_of named literal_of action_of reading_of relation_of or_else operand_of both comparison_of comparisons_from condition_from joined rule_after constraint_after after line_from judge_line is_comment tokens_answer line_answer advance read_next_line read_text_behind in_text read_text policy_read policy_of to_left at_equals assignment_of item_of items_of item_in_range given_by add_item judge_epoch read_epoch operation_from relation_from words_of bytes_of between pack pack_header test_operation test_word operand_word constant_words comparison_word comparison_words constant_comparison reading_comparison ending_word condition_words part_words line_words lines_words known_form check_count sum check_word check_words header_word rule_part_words constraint_part_words content_words image_words image_of output_of compiled answer step steps machine_of yield_in clashes kept_events issued withheld unavoidable examples computed
+unfolding has insert below reading_value missing_holds values_relate eq_z relation_holds operand_value comparison_holds heads_of comparisons_of ending_of constant_count is_reading_value test_number operand_in_range comparison_in_range ending_in_range in_range crowded repeats repeated valid try_next kept_below greedy literal_holds rule_holds propose proposals constraint_holds conflict resolve accepted cancelled bytes bytes_equal is class_of decimal_from number_of negative hex_value decimal_of pattern_of hexadecimal_of constant_of prepend pieces lines_of non_empty tokens_of named literal_of action_of reading_of relation_of operand_of both comparison_of comparisons_from condition_from joined rule_after constraint_after after line_from judge_line is_comment tokens_answer line_answer with_line with_any_line read_line read_lines read_text_behind read_text at_equals assignment_of item_of items_of item_in_range given_by add_item judge_epoch read_epoch operation_from relation_from words_of bytes_of between pack pack_header test_operation test_word operand_word constant_words comparison_word comparison_words constant_comparison reading_comparison ending_word condition_words part_words line_words lines_words known_form check_count sum check_word check_words header_word rule_part_words constraint_part_words content_words image_words image_of output_of compiled answer step steps machine_of yield_in clashes kept_events issued withheld unavoidable examples computed
 examples_hold = refl

@@ -1,6 +1,6 @@
 -- When an action is explained, what is told of it, and which part of which text is shown.
 use Rattle.std.proofs.Common.{ℕ, ◌<◌, Bool, true, false, cond, ◌&&◌, List, [], ◌∷◌, ◌++◌, ◌↔◌, ◌≡◌, refl, sym, ap, ◌∙◌, subst, arith, lt-ltb, le-ltb, ltb-true, ltb-false, eqb-true, eq-eqb, Result}
-use Rattle.std.proofs.Math.Option.{some}
+use Rattle.std.specs.Result.{result_ok}
 use Rattle.std.specs.Prelude.{Option, Some, None, Ok, Err}
 use Rattle.std.specs.Option.{option_map_or}
 use Rattle.std.proofs.Math.Path.{subst⁻¹}
@@ -12,7 +12,9 @@ use Rattle.policy.specs.declared.epoch.Epoch.{Epoch}
 use Rattle.policy.specs.Fault.{refusal}
 use Rattle.policy.specs.Line.{PolicyLine, rule, constraint}
 use Rattle.policy.specs.Number.{check_action}
+use Rattle.policy.proofs.ResultLaws.{known}
 use Rattle.policy.specs.Policy.{Policy, Rule}
+use Rattle.policy.specs.Result.{result_and_then}
 use Rattle.policy.specs.Set.{ActionSet, all_events, has_action, insert_action, actions_below}
 use Rattle.policy.specs.declared.fault.Fault.{Fault}
 use Rattle.policy.specs.declared.fault.Refusal.{Refusal}
@@ -26,14 +28,14 @@ use Rattle.pdl.specs.Pdl.{Derives}
 use Rattle.pdl.specs.Yield as Yield
 use Rattle.pdl.specs.Yield.{rule_holds, propose, proposals}
 use Rattle.epoch_line.specs.Epoch.{read_epoch}
-use Rattle.acceptance.proofs.Texts.{restarted, site_empty}
-use Rattle.rule_text.specs.Text.{Progress, reading, stopped, read_text, read_texts, policy_read, policy_of_texts}
+use Rattle.acceptance.proofs.Texts.{site_empty}
+use Rattle.rule_text.specs.Text.{read_text, read_texts, policy_of_texts}
 use Rattle.codegen.proofs.AcceptedLaws.{newest_known}
 use Rattle.codegen.specs.Compile.{newest_form}
 use Rattle.codegen.specs.Steps.Put.{lines_of_both}
 use Rattle.monitor.specs.Decision.{decision, answer_of}
 use Rattle.explanation.specs.Part.{Stretch, Quote, of_maker, of_site, first_shown}
-use Rattle.explanation.specs.Why.{is_proposing_rule, is_cancelling_constraint, Explanation, not_proposed, accepted_by, cancelled_by, explanation_for, on_action, on_epoch, on_both_texts, explained, quoted}
+use Rattle.explanation.specs.Why.{is_proposing_rule, is_cancelling_constraint, Explanation, not_proposed, accepted_by, cancelled_by, explanation_for, on_action, on_epoch, explained, quoted}
 use Rattle.guarantees.proofs.Decisions.{written_yields}
 use Rattle.guarantees.proofs.Agreement.{image_of_texts, alone_writes}
 use Rattle.guarantees.proofs.FirstLaws.{Both, both, rule_line, constraint_line, FirstShown, first_line}
@@ -49,25 +51,16 @@ module _ (maker site : List ℕ) (p : Policy) (e : Epoch) (a : Action) where
 
 -- ---- when there is an explanation
 
-texts_known : (maker site : List ℕ) (p : Policy) → policy_of_texts maker site ≡ some p → (n : ℕ) × (read_texts maker site ≡ reading n p)
-unfolding policy_of_texts policy_read
-texts_known maker site p e = go (read_texts maker site) refl e
-  where
-    go : (s : Progress) → read_texts maker site ≡ s → policy_read s ≡ some p → (n : ℕ) × (read_texts maker site ≡ reading n p)
-    go (reading n q) k h = let i : q ≡ p = cc in (n, k ∙ ap (reading n) i)
-    go (stopped r) k h = let w : ◌≡◌ {A = ℕ} 0 1 = cc in absurd (omega arith)
-
-texts_policy : (maker site : List ℕ) (n : ℕ) (p : Policy) → read_texts maker site ≡ reading n p → policy_of_texts maker site ≡ some p
-unfolding policy_of_texts policy_read
-texts_policy maker site n p e = ap policy_read e
-
 module _ (maker site line : List ℕ) (n : ℕ) where
-  -- the answer, case by case
-  on_texts : (p : Policy) → policy_of_texts maker site ≡ some p → explained maker site line n ≡ on_epoch maker site p n (read_epoch line)
-  unfolding explained on_both_texts
-  on_texts p e = ap (on_both_texts maker site line n) (texts_known maker site p e).1
+  abbrev by_texts : Result Policy Refusal → Result Explanation Refusal
+  by_texts read = result_and_then (λ (p : Policy). on_epoch maker site p n (read_epoch line)) read
 
-  on_line : (p : Policy) → policy_of_texts maker site ≡ some p → (e : Epoch) → read_epoch line ≡ Ok e
+  -- the answer, case by case
+  on_texts : (p : Policy) → policy_of_texts maker site ≡ Some p → explained maker site line n ≡ on_epoch maker site p n (read_epoch line)
+  unfolding explained
+  on_texts p e = ap by_texts (known (read_texts maker site) p e)
+
+  on_line : (p : Policy) → policy_of_texts maker site ≡ Some p → (e : Epoch) → read_epoch line ≡ Ok e
       → explained maker site line n ≡ on_action maker site (Yield.accepted p e) (Yield.cancelled p e) e (check_action n)
   unfolding on_epoch
   on_line p q e r = on_texts p q ∙ ap (on_epoch maker site p n) r
@@ -77,8 +70,8 @@ module _ (maker site line : List ℕ) (n : ℕ) where
   explanation_is q = on_line q.policy q.both q.epoch q.read ∙ rw (lt-ltb n 64 q.number)
 
   unexplained : (r : Refusal) → Unexplained maker site line n r → explained maker site line n ≡ Err r
-  unfolding explained on_both_texts on_epoch on_action
-  unexplained r (the_texts q) = ap (on_both_texts maker site line n) q
+  unfolding explained on_epoch on_action
+  unexplained r (the_texts q) = ap by_texts q
   unexplained r (the_line p q k) = on_texts p q ∙ ap (on_epoch maker site p n) k
   unexplained r (the_action p q e k over w) = on_line p q e k ∙ rw (le-ltb n 64 over, w)
 
@@ -89,17 +82,17 @@ module _ (maker site line : List ℕ) (n : ℕ) where
   explaining : Explaining
   explaining = texts (read_texts maker site) refl
     where
-      number : (p : Policy) → policy_of_texts maker site ≡ some p → (e : Epoch) → read_epoch line ≡ Ok e → (b : Bool) → ltb n 64 ≡ b → Explaining
+      number : (p : Policy) → policy_of_texts maker site ≡ Some p → (e : Epoch) → read_epoch line ≡ Ok e → (b : Bool) → ltb n 64 ≡ b → Explaining
       number p q e k true l = explains (record { policy = p; both = q; epoch = e; read = k; number = ltb-true n 64 l })
       number p q e k false l = refuses (refusal Fault.EpochRange 0) (the_action p q e k (ltb-false n 64 l) refl)
 
-      epoch : (p : Policy) → policy_of_texts maker site ≡ some p → (a : Result Epoch Refusal) → read_epoch line ≡ a → Explaining
+      epoch : (p : Policy) → policy_of_texts maker site ≡ Some p → (a : Result Epoch Refusal) → read_epoch line ≡ a → Explaining
       epoch p q (Err r) k = refuses r (the_line p q k)
       epoch p q (Ok e) k = number p q e k (ltb n 64) refl
 
-      texts : (s : Progress) → read_texts maker site ≡ s → Explaining
-      texts (stopped r) k = refuses r (the_texts k)
-      texts (reading m p) k = epoch p (texts_policy maker site m p k) (read_epoch line) refl
+      texts : (s : Result Policy Refusal) → read_texts maker site ≡ s → Explaining
+      texts (Err r) k = refuses r (the_texts k)
+      texts (Ok p) k = epoch p (ap result_ok k) (read_epoch line) refl
 
   -- an explanation is refused exactly for these, in this order
   pub explained_refused : (r : Refusal) → (explained maker site line n ≡ Err r) ↔ Unexplained maker site line n r
@@ -226,13 +219,13 @@ module _ (maker site line : List ℕ) (n : ℕ) (q : IsExplainable maker site li
   pub asked_decided : (image : List ℕ) → TextsCompileTo maker site image → answer_of (decision image line) ≡ yield_of q.policy q.epoch
   asked_decided image c =
       let t = image_of_texts maker site image c in
-      let k : some q.policy ≡ some t.policy = sym q.both ∙ t.read in
+      let k : Some q.policy ≡ Some t.policy = sym q.both ∙ t.read in
       let same : t.policy ≡ q.policy = cc in
       ap (λ (x : List ℕ). answer_of (decision x line)) t.same ∙ written_yields newest_form newest_known t.policy t.acceptable line q.epoch q.read
       ∙ ap (λ (p : Policy). yield_of p q.epoch) same
 
   lines : Both maker site q.policy
-  lines = let t = texts_known maker site q.policy q.both in both maker site t.0 q.policy t.1
+  lines = both maker site q.policy (known (read_texts maker site) q.policy q.both)
 
   abbrev said : Explanation
   said = explanation maker site q.policy q.epoch (action n)
@@ -276,13 +269,9 @@ no_part (b ∷ before) part behind e = let w : ◌≡◌ {A = ℕ} 0 1 = cc in a
 
 module _ (maker line : List ℕ) (n : ℕ) where
   -- the answer, refused or not, is by what was read of the maker's text alone
-  pub explained_alone : explained maker [] line n ≡ on_both_texts maker [] line n (read_text maker)
-  unfolding explained on_both_texts read_texts restarted
-  explained_alone = ap (on_both_texts maker [] line n) (site_empty (read_text maker)) ∙ go (read_text maker)
-    where
-      go : (s : Progress) → on_both_texts maker [] line n (restarted s) ≡ on_both_texts maker [] line n s
-      go (reading m p) = refl
-      go (stopped r) = refl
+  pub explained_alone : explained maker [] line n ≡ by_texts maker [] line n (read_text maker)
+  unfolding explained
+  explained_alone = ap (by_texts maker [] line n) (site_empty maker)
 
   -- what is told is the decision's on the image of the maker's text
   pub alone_told : (why : Explanation) → explained maker [] line n ≡ Ok why → (image : List ℕ) → CompilesTo maker image → TellsOutcome (answer_of (decision image line)) (action n) why

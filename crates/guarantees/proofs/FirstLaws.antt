@@ -1,23 +1,22 @@
 -- The first line of both texts that passes a test: where some line of their policy does, one is shown, and it is the first.
-use Rattle.std.proofs.Common.{ℕ, suc, ◌+◌, Bool, true, false, cond, List, [], ◌∷◌, ◌++◌, ◌↔◌, ◌⊎◌, inl, inr, ⊎_elim, ◌≡◌, refl, sym, ap, ap₂, ◌∙◌, subst, arith, length, fold}
-use Rattle.std.specs.Prelude.{Option, Some, None}
+use Rattle.std.proofs.Common.{ℕ, suc, ◌+◌, Bool, true, false, cond, List, [], ◌∷◌, ◌++◌, ◌↔◌, ◌⊎◌, inl, inr, ⊎_elim, ◌≡◌, refl, sym, ap, ap₂, ◌∙◌, subst, arith, length}
+use Rattle.std.specs.Prelude.{Option, Some, None, Result, Ok, Err}
 use Rattle.std.proofs.Math.Path.{subst⁻¹}
-use Rattle.std.proofs.Math.Dec.{ltb}
 use mathlib.Core.List.Memᴰ
 use mathlib.Core.List.{Memᴰ}
 use Rattle.policy.proofs.ListLaws.{true_false}
-use Rattle.policy.specs.Fault.{refusal}
-use Rattle.policy.specs.Limits.{rule_limit, constraint_limit}
+use Rattle.policy.proofs.ResultLaws.{and_then_ok, in_text_ok}
+use Rattle.policy.specs.Fault.{in_text}
 use Rattle.policy.specs.Line.{PolicyLine, rule, constraint}
 use Rattle.policy.specs.Policy.{Policy, Rule, Constraint}
 use Rattle.policy.specs.declared.fault.Fault.{Fault}
-use Rattle.policy.specs.declared.fault.Refusal.{Refusal}
 use Rattle.policy.specs.declared.fault.Source.{Source}
 use Rattle.image.specs.Held.{rules_in, constraints_in}
 use Rattle.lexer.specs.Lines.{lines_of}
-use Rattle.syntax.specs.Judge.{LineAnswer, skipped, refused, accepted, line_answer}
-use Rattle.rule_text.specs.Answer.{counts_of, text_read_of, texts_read}
-use Rattle.rule_text.specs.Text.{Progress, reading, stopped, with_rule, with_constraint, advance, read_next_line, empty_policy, text_limit, read_text_behind, in_text, read_text, read_site, read_texts}
+use Rattle.syntax.specs.Judge.{line_answer}
+use Rattle.rule_text.specs.Answer.{counts_of, counted, texts_read}
+use Rattle.rule_text.proofs.ReadLaws.{LineRead, line_reads, lines_read, behind_read}
+use Rattle.rule_text.specs.Text.{read_line, read_lines, empty_policy, read_text_behind, read_text, read_texts}
 use Rattle.codegen.proofs.AcceptedLaws.{accepted_texts}
 use Rattle.codegen.specs.Steps.Put.{accepted_line, accepted_lines, lines_of_both}
 use Rattle.explanation.specs.Part.{trim, Stretch, Quote, of_maker, of_site, shown_at, or_later, first_from, first_shown}
@@ -54,50 +53,27 @@ line_listed (constraint k ∷ ls) (constraint c) (Memᴰ.tail m) = Memᴰ.tail (
 
 -- ---- lines that were read
 
-no_reading : (r : Refusal) (ls : List (List ℕ)) (m : ℕ) (p : Policy) → fold read_next_line (stopped r) ls ≡ reading m p → ⊥
-unfolding read_next_line
-no_reading r [] m p e = let w : ◌≡◌ {A = ℕ} 0 1 = cc in omega arith
-no_reading r (l ∷ ls) m p e = no_reading r ls m p e
-
--- the lines behind one were read too
-record Onward (ls : List (List ℕ)) (m : ℕ) (q : Policy) : Type 0 where
-  next : ℕ
-  sofar : Policy
-  read : fold read_next_line (reading next sofar) ls ≡ reading m q
-
-onward : (ls : List (List ℕ)) (n m : ℕ) (p q : Policy) (a : LineAnswer) → fold read_next_line (advance n p a) ls ≡ reading m q → Onward ls m q
-unfolding advance
-onward ls n m p q skipped e = record { next = suc n; sofar = p; read = e }
-onward ls n m p q (refused f) e = absurd (no_reading (refusal f n) ls m q e)
-onward ls n m p q (accepted (rule r)) e = go (ltb (length p.rules) rule_limit) e
-  where
-    go : (b : Bool) → fold read_next_line (cond b (reading (suc n) (with_rule p r)) (stopped (refusal Fault.TooManyLines n))) ls ≡ reading m q → Onward ls m q
-    go true h = record { next = suc n; sofar = with_rule p r; read = h }
-    go false h = absurd (no_reading (refusal Fault.TooManyLines n) ls m q h)
-onward ls n m p q (accepted (constraint c)) e = go (ltb (length p.constraints) constraint_limit) e
-  where
-    go : (b : Bool) → fold read_next_line (cond b (reading (suc n) (with_constraint p c)) (stopped (refusal Fault.TooManyLines n))) ls ≡ reading m q → Onward ls m q
-    go true h = record { next = suc n; sofar = with_constraint p c; read = h }
-    go false h = absurd (no_reading (refusal Fault.TooManyLines n) ls m q h)
-
--- so none was refused: a line that is accepted is one of the policy's
+-- none was refused: a line that is accepted is one of the policy's
 abbrev pub Held : List (List ℕ) → Type 0
-Held ls = (line : List ℕ) → Memᴰ line ls → (l : PolicyLine) → line_answer line ≡ accepted l → Memᴰ l (accepted_lines ls)
+Held ls = (line : List ℕ) → Memᴰ line ls → (l : PolicyLine) → line_answer line ≡ Ok (Some l) → Memᴰ l (accepted_lines ls)
 
-held : (ls : List (List ℕ)) (n m : ℕ) (p q : Policy) → fold read_next_line (reading n p) ls ≡ reading m q → Held ls
-unfolding read_next_line advance accepted_lines accepted_line
-held [] n m p q e line i l k = absurd (Memᴰ.not-nil i)
-held (x ∷ ls) n m p q e line i l k = go (line_answer x) refl e (Memᴰ.cases_cons i) (λ o. held ls o.next m o.sofar q o.read)
+held : (ls : List (List ℕ)) (n : ℕ) (p q : Policy) → read_lines n p ls ≡ Ok q → Held ls
+unfolding accepted_lines accepted_line
+held [] n p q e line i l k = absurd (Memᴰ.not-nil i)
+held (x ∷ ls) n p q e line i l k =
+    let r = lines_read n p x ls q e in
+    go r.0 r.1 (line_reads p x) (Memᴰ.cases_cons i) (held ls (suc n) r.0 q r.2)
   where
-    go : (a : LineAnswer) → line_answer x ≡ a → fold read_next_line (advance n p a) ls ≡ reading m q → (line ≡ x) ⊎ Memᴰ line ls → (Onward ls m q → Held ls) → Memᴰ l (accepted_line a (accepted_lines ls))
-    go skipped j h (inl w) later = let z : skipped ≡ accepted l = sym j ∙ sym (ap line_answer w) ∙ k in let y : ◌≡◌ {A = ℕ} 0 1 = cc in absurd (omega arith)
-    go skipped j h (inr i) later = later (onward ls n m p q skipped h) line i l k
-    go (refused f) j h c later = absurd (no_reading (refusal f n) ls m q h)
-    go (accepted y) j h (inl w) later =
-        let z : accepted l ≡ accepted y = sym k ∙ ap line_answer w ∙ j in
-        let v : l ≡ y = cc in
-        Memᴰ.head v
-    go (accepted y) j h (inr i) later = Memᴰ.tail (later (onward ls n m p q (accepted y) h) line i l k)
+    go : (m : Policy) → read_line p x ≡ Ok m → LineRead p x → (line ≡ x) ⊎ Memᴰ line ls → Held ls → Memᴰ l (accepted_line (line_answer x) (accepted_lines ls))
+    go m r (LineRead.skips a s) (inl w) later = let v : line_answer line ≡ line_answer x = ap line_answer w in let z : ⊥ = cc in absurd z
+    go m r (LineRead.skips a s) (inr j) later = rw a (later line j l k)
+    go m r (LineRead.fails f a s) c later = let z : ⊥ = cc in absurd z
+    go m r (LineRead.adds y a h s) (inl w) later =
+        let v : line_answer line ≡ line_answer x = ap line_answer w in
+        let i : l ≡ y = cc in
+        rw a (Memᴰ.head i)
+    go m r (LineRead.adds y a h s) (inr j) later = rw a (Memᴰ.tail (later line j l k))
+    go m r (LineRead.is_over y a h s) c later = let z : ⊥ = cc in absurd z
 
 -- ---- the first line of a text that passes
 
@@ -108,13 +84,13 @@ module _ (test : PolicyLine → Bool) where
     behind : List (List ℕ)
     stands : lines ≡ before ++ line ∷ behind
     is : PolicyLine
-    read : line_answer line ≡ accepted is
+    read : line_answer line ≡ Ok (Some is)
     passes : test is ≡ true
-    first : (x : List ℕ) → Memᴰ x before → (l : PolicyLine) → line_answer x ≡ accepted l → test l ≡ true → ⊥
+    first : (x : List ℕ) → Memᴰ x before → (l : PolicyLine) → line_answer x ≡ Ok (Some l) → test l ≡ true → ⊥
     shows : shown ≡ shown_at (at + ended_length before) line
 
   module _ (at : ℕ) (line : List ℕ) (lines : List (List ℕ)) (shown : Stretch) where
-    found_here : (l : PolicyLine) → line_answer line ≡ accepted l → test l ≡ true → shown_at at line ≡ shown → Found at (line ∷ lines) shown
+    found_here : (l : PolicyLine) → line_answer line ≡ Ok (Some l) → test l ≡ true → shown_at at line ≡ shown → Found at (line ∷ lines) shown
     unfolding ended_length
     found_here l k t e =
         let z : at + 0 ≡ at = omega arith in
@@ -130,7 +106,7 @@ module _ (test : PolicyLine → Bool) where
           shows = sym e ∙ ap (λ (n : ℕ). shown_at n line) (sym z);
         }
 
-    found_later : ((l : PolicyLine) → line_answer line ≡ accepted l → test l ≡ true → ⊥) → Found (at + length line + 1) lines shown → Found at (line ∷ lines) shown
+    found_later : ((l : PolicyLine) → line_answer line ≡ Ok (Some l) → test l ≡ true → ⊥) → Found (at + length line + 1) lines shown → Found at (line ∷ lines) shown
     unfolding ended_length
     found_later fails f =
         let n : at + length line + 1 + ended_length f.before ≡ at + (length line + 1 + ended_length f.before) = omega arith in
@@ -154,10 +130,10 @@ module _ (test : PolicyLine → Bool) where
       next : Option Stretch
       next = first_from test (at + length line + 1) lines
 
-      go : (a : LineAnswer) → line_answer line ≡ a → (next ≡ Some shown → Found (at + length line + 1) lines shown) → or_later test a at line next ≡ Some shown → Found at (line ∷ lines) shown
-      go skipped k rec h = found_later at line lines shown (λ l j t. let w : ◌≡◌ {A = ℕ} 0 1 = cc in omega arith) (rec h)
-      go (refused f) k rec h = let w : ◌≡◌ {A = ℕ} 0 1 = cc in absurd (omega arith)
-      go (accepted l) k rec h = passing (test l) refl h
+      go : (a : Result (Option PolicyLine) Fault) → line_answer line ≡ a → (next ≡ Some shown → Found (at + length line + 1) lines shown) → or_later test a at line next ≡ Some shown → Found at (line ∷ lines) shown
+      go (Ok None) k rec h = found_later at line lines shown (λ l j t. let w : ◌≡◌ {A = ℕ} 0 1 = cc in omega arith) (rec h)
+      go (Err f) k rec h = let w : ◌≡◌ {A = ℕ} 0 1 = cc in absurd (omega arith)
+      go (Ok (Some l)) k rec h = passing (test l) refl h
         where
           passing : (b : Bool) → test l ≡ b → cond b (Some (shown_at at line)) next ≡ Some shown → Found at (line ∷ lines) shown
           passing true t v = let w : shown_at at line ≡ shown = cc in found_here at line lines shown l k t w
@@ -172,11 +148,11 @@ module _ (test : PolicyLine → Bool) where
       next : Option Stretch
       next = first_from test (at + length line + 1) lines
 
-      go : (a : LineAnswer) → (next ≡ None → (l : PolicyLine) → Memᴰ l (accepted_lines lines) → test l ≡ true → ⊥)
+      go : (a : Result (Option PolicyLine) Fault) → (next ≡ None → (l : PolicyLine) → Memᴰ l (accepted_lines lines) → test l ≡ true → ⊥)
           → or_later test a at line next ≡ None → Memᴰ l (accepted_line a (accepted_lines lines)) → ⊥
-      go skipped rec h i = rec h l i t
-      go (refused f) rec h i = Memᴰ.not-nil i
-      go (accepted k) rec h i = passing (test k) refl h (Memᴰ.cases_cons i)
+      go (Ok None) rec h i = rec h l i t
+      go (Err f) rec h i = Memᴰ.not-nil i
+      go (Ok (Some k)) rec h i = passing (test k) refl h (Memᴰ.cases_cons i)
         where
           passing : (b : Bool) → test k ≡ b → cond b (Some (shown_at at line)) next ≡ None → (l ≡ k) ⊎ Memᴰ l (accepted_lines lines) → ⊥
           passing true q v c = let w : ◌≡◌ {A = ℕ} 0 1 = cc in omega arith
@@ -192,34 +168,22 @@ pub record Both (maker site : List ℕ) (p : Policy) : Type 0 where
   pub rules : rules_in (lines_of_both maker site) ≡ p.rules
   pub constraints : constraints_in (lines_of_both maker site) ≡ p.constraints
 
-text_held : (source : Source) (q : Policy) (text : List ℕ) (n : ℕ) (p : Policy) → in_text source (read_text_behind q text) ≡ reading n p → Held (lines_of text)
-unfolding in_text read_text_behind
-text_held source q text n p e = go (ltb text_limit (length text)) e
-  where
-    lines : (s : Progress) → fold read_next_line (reading 1 q) (lines_of text) ≡ s → in_text source s ≡ reading n p → Held (lines_of text)
-    lines (reading m x) k h = held (lines_of text) 1 m q x k
-    lines (stopped r) k h = let w : ◌≡◌ {A = ℕ} 0 1 = cc in absurd (omega arith)
+text_held : (source : Source) (q : Policy) (text : List ℕ) (p : Policy) → in_text source (read_text_behind q text) ≡ Ok p → Held (lines_of text)
+text_held source q text p e = held (lines_of text) 1 q p (behind_read q text p (in_text_ok source (read_text_behind q text) p e)).1
 
-    go : (b : Bool) → in_text source (cond b (stopped (refusal Fault.TooLong 0)) (fold read_next_line (reading 1 q) (lines_of text))) ≡ reading n p → Held (lines_of text)
-    go true h = let w : ◌≡◌ {A = ℕ} 0 1 = cc in absurd (omega arith)
-    go false h = lines (fold read_next_line (reading 1 q) (lines_of text)) refl h
-
-pub both : (maker site : List ℕ) (n : ℕ) (p : Policy) → read_texts maker site ≡ reading n p → Both maker site p
-unfolding read_texts read_site read_text texts_read text_read_of
-both maker site n p e = go (read_text maker) refl e
-  where
-    go : (s : Progress) → read_text maker ≡ s → read_site s site ≡ reading n p → Both maker site p
-    go (reading m q) k h =
-        let a = accepted_texts maker site (counts_of p) (ap text_read_of e) in
-        let z : reading n p ≡ reading a.number a.policy = sym e ∙ a.read in
-        let same : a.policy ≡ p = cc in
-        record {
-          makers = text_held Source.Maker empty_policy maker m q k;
-          sites = text_held Source.Site q site n p h;
-          rules = a.rules ∙ ap (λ (x : Policy). x.rules) same;
-          constraints = a.constraints ∙ ap (λ (x : Policy). x.constraints) same;
-        }
-    go (stopped r) k h = let w : ◌≡◌ {A = ℕ} 0 1 = cc in absurd (omega arith)
+pub both : (maker site : List ℕ) (p : Policy) → read_texts maker site ≡ Ok p → Both maker site p
+unfolding read_texts read_text texts_read
+both maker site p e =
+    let k = and_then_ok (λ (q : Policy). in_text Source.Site (read_text_behind q site)) (read_text maker) p e in
+    let a = accepted_texts maker site (counts_of p) (ap counted e) in
+    let read : read_texts maker site ≡ Ok p = e in
+    let same : a.policy ≡ p = cc (a.read) in
+    record {
+      makers = text_held Source.Maker empty_policy maker k.0 k.1;
+      sites = text_held Source.Site k.0 site p k.2;
+      rules = a.rules ∙ ap (λ (x : Policy). x.rules) same;
+      constraints = a.constraints ∙ ap (λ (x : Policy). x.constraints) same;
+    }
 
 -- the first line of both texts that passes is shown
 pub record FirstShown (test : PolicyLine → Bool) (Says : PolicyLine → Type 0) (p : Policy) (maker site : List ℕ) : Type 0 where

@@ -1,7 +1,6 @@
 -- A constraint with one action and no comparison keeps that action out of every decision.
-use Rattle.monitor.specs.declared.decision.Actions.{Actions}
+use Rattle.std.specs.Prelude.{Some}
 use Rattle.std.proofs.Common.{ℕ, Bool, true, false, cond, List, ◌≡◌, refl, sym, ap, ◌∙◌, arith, Ok}
-use Rattle.std.proofs.Math.Option.{some}
 use Rattle.std.proofs.Math.Path.{subst⁻¹}
 use mathlib.Core.List.Memᴰ
 use mathlib.Core.List.{Memᴰ}
@@ -49,13 +48,13 @@ module _ (p : Policy) (e : Epoch) (a : Action) (listed : Memᴰ (lone a) p.const
             cancelled = λ r h. other_in (proposed p.rules e) (issued p e) (withheld p e) (record { rest = issued_with_withheld p e; apart = withheld_apart p e }) a h out;
           }
 
-pub lone_constraint_cancels : (maker site image : List ℕ) → TextsCompileTo maker site image → (p : Policy) → policy_of_texts maker site ≡ some p
+pub lone_constraint_cancels : (maker site image : List ℕ) → TextsCompileTo maker site image → (p : Policy) → policy_of_texts maker site ≡ Some p
     → (x : Action) → Memᴰ (lone x) p.constraints → (mode : Mode) (line : List ℕ) (e : Epoch) → read_epoch line ≡ Ok e
     → KeptOut p e x (answer_of (decision_in mode image line))
 unfolding step answer
 lone_constraint_cancels maker site image c p q x listed mode line e r =
     let t = image_of_texts maker site image c in
-    let k : some p ≡ some t.policy = sym q ∙ t.read in
+    let k : Some p ≡ Some t.policy = sym q ∙ t.read in
     let same : t.policy ≡ p = cc in
     subst⁻¹ (KeptOut p e x)
     (ap (λ (i : List ℕ). answer_of (decision_in mode i line)) t.same ∙ same_answer t.policy t.acceptable mode line ∙ ap (λ (y : Policy). step mode y line) same ∙ ap (answer mode p) r)

@@ -7,7 +7,7 @@ use Rattle.policy.specs.declared.mode.Mode.{Mode}
 use Rattle.lexer.specs.Lines.{lines_of}
 use Rattle.pdl.specs.Answer.{Answer}
 use Rattle.acceptance.proofs.Accepted.{accepted_acceptable}
-use Rattle.rule_text.specs.Text.{Progress, reading, stopped, read_text}
+use Rattle.rule_text.specs.Text.{read_text}
 use Rattle.layout.specs.Layout.{image_of}
 use Rattle.codegen.specs.Compile.{newest_form}
 use Rattle.monitor.specs.Decision.{decision_in, answer_of, visited_in}
@@ -34,10 +34,10 @@ text_lines : (text : List ℕ) (s : Session) → printed_for text s ≡ machine_
 unfolding printed_for answers_to machine_lines
 text_lines text s = go (read_text text) refl s
   where
-    go : (p : Progress) → read_text text ≡ p → (x : Session) → answers_to p x ≡ machine_lines fetched p x
-    go (stopped r) e x = refl
-    go (reading n policy) e text_only = refl
-    go (reading n policy) e (with_epochs lines mode epochs) = epoch_lines_is policy (accepted_acceptable text n policy e) mode 0 epochs
+    go : (p : Result Policy Refusal) → read_text text ≡ p → (x : Session) → answers_to p x ≡ machine_lines fetched p x
+    go (Err r) e x = refl
+    go (Ok policy) e text_only = refl
+    go (Ok policy) e (with_epochs lines mode epochs) = epoch_lines_is policy (accepted_acceptable text policy e) mode 0 epochs
 
 -- for every input, in the mode that it picks, refused texts and refused lines included; the numbers of words are those of the decisions
 -- on the text's image

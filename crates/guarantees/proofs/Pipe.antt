@@ -1,13 +1,15 @@
 -- `compiler | decompiler | compiler`: what the compiler prints for an accepted text, the decompiler turns into a text for which the
 -- compiler prints the same again.
+use Rattle.std.specs.Prelude.{Some, Result}
+use Rattle.std.specs.Result.{result_ok}
+use Rattle.policy.proofs.ResultLaws.{known}
 use Rattle.std.proofs.Common.{ℕ, ◌%◌, List, [], ◌∷◌, ◌++◌, map, ◌≡◌, refl, sym, ap, ◌∙◌, arith, length}
-use Rattle.std.proofs.Math.Option.{some}
 use mathlib.Core.List.{flatten}
 use Rattle.policy.specs.declared.fault.Refusal.{Refusal}
 use Rattle.policy.specs.Limits.{Acceptable}
 use Rattle.policy.specs.Policy.{Policy}
 use Rattle.acceptance.proofs.Accepted.{accepted_acceptable, texts_acceptable}
-use Rattle.rule_text.specs.Text.{Progress, reading, stopped, read_text, read_texts, policy_read, policy_of, policy_of_texts}
+use Rattle.rule_text.specs.Text.{read_text, read_texts, policy_of, policy_of_texts}
 use Rattle.word.proofs.WordLaws.{bytes_length}
 use Rattle.word.specs.Word.{words_of}
 use Rattle.layout.specs.Layout.{image_words, image_of}
@@ -22,21 +24,11 @@ use Rattle.dump.proofs.PrintedLaws.{restored_image}
 use Rattle.dump.specs.Dump.{loaded_answer, image_answer, restored}
 use Rattle.guarantees.proofs.RoundTrip.{image_bytes}
 
-policy_acceptable : (text : List ℕ) (p : Policy) → policy_of text ≡ some p → Acceptable p
-unfolding policy_of policy_read
-policy_acceptable text p = go (read_text text) refl
-  where
-    go : (s : Progress) → read_text text ≡ s → policy_read s ≡ some p → Acceptable p
-    go (reading n q) k e = let w : q ≡ p = cc in accepted_acceptable text n p (k ∙ ap (reading n) w)
-    go (stopped r) k e = let z : ◌≡◌ {A = ℕ} 0 1 = cc in absurd (omega arith)
+policy_acceptable : (text : List ℕ) (p : Policy) → policy_of text ≡ Some p → Acceptable p
+policy_acceptable text p e = accepted_acceptable text p (known (read_text text) p e)
 
-texts_policy_acceptable : (maker site : List ℕ) (p : Policy) → policy_of_texts maker site ≡ some p → Acceptable p
-unfolding policy_of_texts policy_read
-texts_policy_acceptable maker site p = go (read_texts maker site) refl
-  where
-    go : (s : Progress) → read_texts maker site ≡ s → policy_read s ≡ some p → Acceptable p
-    go (reading n q) k e = let w : q ≡ p = cc in texts_acceptable maker site n p (k ∙ ap (reading n) w)
-    go (stopped r) k e = let z : ◌≡◌ {A = ℕ} 0 1 = cc in absurd (omega arith)
+texts_policy_acceptable : (maker site : List ℕ) (p : Policy) → policy_of_texts maker site ≡ Some p → Acceptable p
+texts_policy_acceptable maker site p e = texts_acceptable maker site p (known (read_texts maker site) p e)
 
 word_lines_is : (ws : List ℕ) → word_lines ws ≡ flatten (map word_line ws)
 unfolding word_lines flatten
@@ -47,17 +39,16 @@ whole_words : (p : Policy) → length (image_of newest_form p) % 4 ≡ 0
 unfolding image_of
 whole_words p = omega (arith, bytes_length (image_words newest_form p))
 
-listing_is : (refused : Refusal → List ℕ) (s : Progress) (p : Policy) → policy_read s ≡ some p → listing_of refused s ≡ word_lines (words_of (image_of newest_form p))
-unfolding policy_read listing_of
-listing_is refused (reading n q) p e = let w : q ≡ p = cc in ap (λ (x : Policy). word_lines (words_of (image_of newest_form x))) w
-listing_is refused (stopped r) p e = let z : ◌≡◌ {A = ℕ} 0 1 = cc in absurd (omega arith)
+listing_is : (refused : Refusal → List ℕ) (s : Result Policy Refusal) (p : Policy) → result_ok s ≡ Some p → listing_of refused s ≡ word_lines (words_of (image_of newest_form p))
+unfolding listing_of
+listing_is refused s p e = rw (known s p e)
 
-listed_image : (text : List ℕ) (p : Policy) → policy_of text ≡ some p → listed text ≡ word_lines (words_of (image_of newest_form p))
-unfolding listed policy_of
+listed_image : (text : List ℕ) (p : Policy) → policy_of text ≡ Some p → listed text ≡ word_lines (words_of (image_of newest_form p))
+unfolding listed
 listed_image text p = listing_is refusal_line (read_text text) p
 
-texts_listed_image : (maker site : List ℕ) (p : Policy) → policy_of_texts maker site ≡ some p → listed_texts maker site ≡ word_lines (words_of (image_of newest_form p))
-unfolding listed_texts policy_of_texts
+texts_listed_image : (maker site : List ℕ) (p : Policy) → policy_of_texts maker site ≡ Some p → listed_texts maker site ≡ word_lines (words_of (image_of newest_form p))
+unfolding listed_texts
 texts_listed_image maker site p = listing_is texts_refusal_line (read_texts maker site) p
 
 restored_words : (p : Policy) → Acceptable p → restored (word_lines (words_of (image_of newest_form p))) ≡ text_of p
@@ -68,20 +59,20 @@ restored_words p ok =
     ∙ rw (image_taken newest_form newest_known p ok, image_holds newest_form newest_known p ok)
 
 -- for every accepted text the decompiler prints, of what the compiler prints, the text of the text's policy
-pub listing_restored : (text : List ℕ) (p : Policy) → policy_of text ≡ some p → restored (listed text) ≡ text_of p
+pub listing_restored : (text : List ℕ) (p : Policy) → policy_of text ≡ Some p → restored (listed text) ≡ text_of p
 listing_restored text p e = ap restored (listed_image text p e) ∙ restored_words p (policy_acceptable text p e)
 
 -- the same of what the compiler prints for two texts
-pub texts_listing_restored : (maker site : List ℕ) (p : Policy) → policy_of_texts maker site ≡ some p → restored (listed_texts maker site) ≡ text_of p
+pub texts_listing_restored : (maker site : List ℕ) (p : Policy) → policy_of_texts maker site ≡ Some p → restored (listed_texts maker site) ≡ text_of p
 texts_listing_restored maker site p e = ap restored (texts_listed_image maker site p e) ∙ restored_words p (texts_policy_acceptable maker site p e)
 
 printed_listed : (p : Policy) → Acceptable p → listed (text_of p) ≡ word_lines (words_of (image_of newest_form p))
 printed_listed p ok = listed_image (text_of p) p (text_policy p ok)
 
 -- and the compiler prints the same for it
-pub listed_again : (text : List ℕ) (p : Policy) → policy_of text ≡ some p → listed (restored (listed text)) ≡ listed text
+pub listed_again : (text : List ℕ) (p : Policy) → policy_of text ≡ Some p → listed (restored (listed text)) ≡ listed text
 listed_again text p e = ap listed (listing_restored text p e) ∙ printed_listed p (policy_acceptable text p e) ∙ sym (listed_image text p e)
 
-pub texts_listed_again : (maker site : List ℕ) (p : Policy) → policy_of_texts maker site ≡ some p → listed (restored (listed_texts maker site)) ≡ listed_texts maker site
+pub texts_listed_again : (maker site : List ℕ) (p : Policy) → policy_of_texts maker site ≡ Some p → listed (restored (listed_texts maker site)) ≡ listed_texts maker site
 texts_listed_again maker site p e =
     ap listed (texts_listing_restored maker site p e) ∙ printed_listed p (texts_policy_acceptable maker site p e) ∙ sym (texts_listed_image maker site p e)

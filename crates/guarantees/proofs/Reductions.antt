@@ -24,7 +24,6 @@ use Rattle.exactness.proofs.Exact.{image_taken, image_holds}
 use Rattle.exactness.specs.Exact.{contents_of}
 use Rattle.meaning.proofs.Decided.{reduction_of, events_decided_are, image_bounded}
 use Rattle.monitor.specs.Decision.{actions_of, tried_event_words, decided_by, decision_in, answer_of}
-use Rattle.monitor.specs.declared.decision.Actions.{Actions}
 use Rattle.guarantees.proofs.Decisions.{refused_for, refused_cases, either_faults, not_refused}
 use Rattle.guarantees.specs.Machine.{yield_in}
 use Rattle.guarantees.specs.Decisions.{RefusedIn, as_first, for_conflict, OfDecisionIn, of_either, of_conflict, ObeysEvents}

@@ -1,7 +1,6 @@
 -- The text that is written from an image compiles to that image, and tells the policies apart.
-use Rattle.std.specs.Prelude.{Ok}
+use Rattle.std.specs.Prelude.{Ok, Option, Some}
 use Rattle.std.proofs.Common.{ℕ, ◌≤◌, List, ◌++◌, ◌↔◌, ◌≡◌, sym, ap, ◌∙◌, arith, length, drop}
-use Rattle.std.proofs.Math.Option.{Option, some}
 use Rattle.policy.specs.Fill.{Filled, deliver}
 use Rattle.policy.specs.Limits.{Acceptable}
 use Rattle.policy.specs.Policy.{Policy}
@@ -46,14 +45,14 @@ text_recompiles image text bounded d buffer room =
     let t = text_of_image image text bounded d in
     let p : Policy = policy_in image in
     let e : compiled (text_of p) buffer ≡ deliver (image_of newest_form p) buffer =
-    text_delivered (text_of p) buffer _ p (text_read_is p t.acceptable) (rw t.again room) in
+    text_delivered (text_of p) buffer p (text_read_is p t.acceptable) (rw t.again room) in
     let k : compiled text buffer ≡ deliver image buffer = rw t.same (e ∙ ap (λ (i : List ℕ). deliver i buffer) t.again) in
     (ap (λ (o : Filled). o.answer) k, ap (λ (o : Filled). o.buffer) k)
 
 -- the written text of the image of what has this policy is that policy's
 record TextOf (known : Option Policy) (written : List ℕ) : Type 0 where
   pub policy : Policy
-  pub read : known ≡ some policy
+  pub read : known ≡ Some policy
   pub acceptable : Acceptable policy
   pub same : written ≡ text_of policy
 
@@ -71,11 +70,11 @@ same_restored : (known known' : Option Policy) (u v : List ℕ) → TextOf known
 same_restored known known' u v a b = (there, back)
   where
     there : u ≡ v → known ≡ known'
-    there e = a.read ∙ ap some (text_injective a.policy b.policy a.acceptable b.acceptable (sym a.same ∙ e ∙ b.same)) ∙ sym b.read
+    there e = a.read ∙ ap Some (text_injective a.policy b.policy a.acceptable b.acceptable (sym a.same ∙ e ∙ b.same)) ∙ sym b.read
 
     back : known ≡ known' → u ≡ v
     back e =
-        let q : some a.policy ≡ some b.policy = sym a.read ∙ e ∙ b.read in
+        let q : Some a.policy ≡ Some b.policy = sym a.read ∙ e ∙ b.read in
         let p : a.policy ≡ b.policy = cc in
         a.same ∙ ap text_of p ∙ sym b.same
 

@@ -1,4 +1,5 @@
 -- What is shown of a line: it stands in its text, without line end and trimmed of spaces at both ends.
+use Rattle.std.specs.Prelude.{Some, None, Ok}
 use Rattle.std.proofs.Common.{ℕ, suc, ◌+◌, ◌≤◌, Bool, true, false, cond, List, [], ◌∷◌, ◌++◌, append_assoc, ⊎_elim, ◌≡◌, refl, sym, ap, ◌∙◌, arith, eqb-true, eq-eqb, length, take, drop, length-append, length-drop, take-append-drop, drop-drop, length-take-le}
 use Rattle.std.proofs.lemmas.Bool.{eqb-false}
 use Rattle.std.proofs.Math.Dec.{eqb}
@@ -10,7 +11,7 @@ use Rattle.policy.specs.Line.{PolicyLine}
 use Rattle.lexer.proofs.LeadingLaws.{leading_joined, leading_pass, leading_ends}
 use Rattle.lexer.specs.Byte.{is_space}
 use Rattle.lexer.specs.Lines.{prepend, pieces, lines_of, non_empty, tokens_of, take_leading}
-use Rattle.syntax.specs.Judge.{skipped, accepted, tokens_answer, line_answer}
+use Rattle.syntax.specs.Judge.{tokens_answer, line_answer}
 use Rattle.explanation.specs.Part.{trim_start, add_to_trimmed, trim_end, trim}
 use Rattle.guarantees.specs.Explanations.{ended_length, Spaces, Trimmed, Straight}
 
@@ -89,14 +90,13 @@ unfolding tokens_of pieces non_empty
 spaces_skipped [] h = refl
 spaces_skipped (b ∷ s) h = rw (eq-eqb b 32 (h b (Memᴰ.head refl))) (spaces_skipped s (λ c m. h c (Memᴰ.tail m)))
 
-pub not_empty : (line part : List ℕ) (l : PolicyLine) → line_answer line ≡ accepted l → Trimmed line part → part ≡ [] → ⊥
+pub not_empty : (line part : List ℕ) (l : PolicyLine) → line_answer line ≡ Ok (Some l) → Trimmed line part → part ≡ [] → ⊥
 unfolding line_answer tokens_answer
 not_empty line part l e t z =
     let same : line ≡ t.ahead ++ t.behind = t.whole ∙ ap (λ (p : List ℕ). t.ahead ++ (p ++ t.behind)) z in
     let none : tokens_of line ≡ [] = spaces_skipped line (λ b m. ⊎_elim (t.spaces_ahead b) (t.spaces_behind b) (Memᴰ.append_cases t.ahead (rw same at m))) in
-    let k : skipped ≡ accepted l = sym (ap tokens_answer none) ∙ e in
-    let w : ◌≡◌ {A = ℕ} 0 1 = cc in
-    omega arith
+    let k : line_answer line ≡ Ok None = ap tokens_answer none in
+    cc
 
 -- ---- where a line stands
 

@@ -16,4 +16,4 @@ module _ (maker site buffer written : List ℕ) (size : ℕ) (made : Ok size ≡
   together_decided lines old new q =
       let t = texts_read_is maker site buffer long size (sym made) in
       let d = q ∙ ap (λ (i : List ℕ). decided_lines i lines old) (ap (take size) wrote ∙ t.image) in
-      record { count = t.lines; policy = t.policy; read = t.read; decided = d; agreed = rw d (decided_agree t.policy (texts_acceptable maker site t.lines t.policy t.read) lines old) }
+      record { policy = t.policy; read = t.read; decided = d; agreed = rw d (decided_agree t.policy (texts_acceptable maker site t.policy t.read) lines old) }

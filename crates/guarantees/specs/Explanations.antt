@@ -1,8 +1,7 @@
 -- What is claimed of explanations: when there is one, what it says became of an action, which line it shows, and that
 -- what it shows stands in the text.
-use Rattle.std.specs.Prelude.{ℕ, ◌+◌, ◌<◌, ◌≤◌, true, false, ◌≡◌, length, List, [], ◌∷◌, ◌++◌, Ok, Err}
+use Rattle.std.specs.Prelude.{ℕ, ◌+◌, ◌<◌, ◌≤◌, true, false, ◌≡◌, length, List, [], ◌∷◌, ◌++◌, Ok, Err, Some}
 use mathlib.Core.List.{Memᴰ}
-use Rattle.std.proofs.Math.Option.{some}
 use Rattle.policy.specs.declared.epoch.Epoch.{Epoch}
 use Rattle.policy.specs.Fault.{refusal}
 use Rattle.policy.specs.Line.{PolicyLine, rule, constraint}
@@ -15,9 +14,8 @@ use Rattle.policy.specs.declared.number.Action.{Action}
 use Rattle.pdl.specs.Answer.{Answer}
 use Rattle.pdl.specs.Pdl.{Derives, HoldsOn}
 use Rattle.lexer.specs.Lines.{lines_of}
-use Rattle.syntax.specs.Judge as Judge
 use Rattle.syntax.specs.Judge.{line_answer}
-use Rattle.rule_text.specs.Text.{stopped, read_texts, policy_of_texts}
+use Rattle.rule_text.specs.Text.{read_texts, policy_of_texts}
 use Rattle.epoch_line.specs.Epoch.{read_epoch}
 use Rattle.explanation.specs.Part.{Stretch, Quote, of_maker, of_site}
 use Rattle.explanation.specs.Why.{Explanation, not_proposed, accepted_by, cancelled_by}
@@ -30,17 +28,17 @@ action n = record { 0 = n }
 -- the texts, the epoch line and the action's number pass all checks
 pub record IsExplainable (maker site line : List ℕ) (n : ℕ) : Type 0 where
   pub policy : Policy
-  pub both : policy_of_texts maker site ≡ some policy
+  pub both : policy_of_texts maker site ≡ Some policy
   pub epoch : Epoch
   pub read : read_epoch line ≡ Ok epoch
   pub number : n < set_limit
 
 -- for what one is refused: each only where those before it pass
 pub data Unexplained (maker site line : List ℕ) (n : ℕ) (r : Refusal) : Type 0 where
-  the_texts : read_texts maker site ≡ stopped r → Unexplained maker site line n r
-  the_line : (p : Policy) → policy_of_texts maker site ≡ some p → read_epoch line ≡ Err r
+  the_texts : read_texts maker site ≡ Err r → Unexplained maker site line n r
+  the_line : (p : Policy) → policy_of_texts maker site ≡ Some p → read_epoch line ≡ Err r
       → Unexplained maker site line n r
-  the_action : (p : Policy) → policy_of_texts maker site ≡ some p → (e : Epoch) → read_epoch line ≡ Ok e → set_limit ≤ n
+  the_action : (p : Policy) → policy_of_texts maker site ≡ Some p → (e : Epoch) → read_epoch line ≡ Ok e → set_limit ≤ n
       → r ≡ refusal Fault.EpochRange 0 → Unexplained maker site line n r
 
 -- ---- what became of an action
@@ -70,7 +68,7 @@ Listed p (constraint c) = Memᴰ c p.constraints
 
 -- no line of a text that is read as a line of a policy says so
 abbrev pub NoneSays : (PolicyLine → Type 0) → List (List ℕ) → Type 0
-NoneSays Says lines = (line : List ℕ) → Memᴰ line lines → (l : PolicyLine) → line_answer line ≡ Judge.accepted l → ¬ Says l
+NoneSays Says lines = (line : List ℕ) → Memᴰ line lines → (l : PolicyLine) → line_answer line ≡ Ok (Some l) → ¬ Says l
 
 -- how many bytes lines have, with their line ends
 unfoldable pub ended_length : List (List ℕ) → ℕ
@@ -117,7 +115,7 @@ pub record FirstOf (Says : PolicyLine → Type 0) (p : Policy) (text : List ℕ)
   pub behind : List (List ℕ)
   pub stands : lines_of text ≡ before ++ line ∷ behind
   pub is : PolicyLine
-  pub read : line_answer line ≡ Judge.accepted is
+  pub read : line_answer line ≡ Ok (Some is)
   pub listed : Listed p is
   pub says : Says is
   -- no earlier line does

@@ -1,10 +1,11 @@
 -- What the engine's program would print if the reference machine answered: but for the number of words, no image is spoken of.
-use Rattle.std.specs.Prelude.{ℕ, cond, List, [], ◌∷◌, ◌++◌}
+use Rattle.std.specs.Prelude.{ℕ, List, [], ◌∷◌, ◌++◌, if◌then◌else◌, Result, Ok, Err}
 use Rattle.policy.specs.Policy.{Policy}
+use Rattle.policy.specs.declared.fault.Refusal.{Refusal}
 use Rattle.policy.specs.declared.mode.Mode.{Mode}
 use Rattle.lexer.specs.Byte.{bytes}
 use Rattle.lexer.specs.Lines.{lines_of}
-use Rattle.rule_text.specs.Text.{Progress, reading, stopped, read_text}
+use Rattle.rule_text.specs.Text.{read_text}
 use Rattle.output.specs.Number.{decimal}
 use Rattle.layout.specs.Layout.{image_of}
 use Rattle.codegen.specs.Compile.{newest_form}
@@ -17,7 +18,7 @@ use Rattle.guarantees.specs.Machine.{step}
 -- of a refused epoch the line shows its fault's number and no sets
 unfoldable pub answer_line : ℕ → Answer → ℕ → List ℕ
 answer_line n a words =
-    cond a.is_refused (decimal n ++ bytes " refused " ++ decimal a.number ++ words_field words) (accept_line n a.accepted a.cancelled words)
+    if a.is_refused then decimal n ++ bytes " refused " ++ decimal a.number ++ words_field words else accept_line n a.accepted a.cancelled words
 
 -- the machine counts no words: what is printed as their number is told for each mode, policy and line
 module _ (words : Mode → Policy → List ℕ → ℕ) where
@@ -26,10 +27,10 @@ module _ (words : Mode → Policy → List ℕ → ℕ) where
   machine_answer_lines mode p n [] = []
   machine_answer_lines mode p n (line ∷ lines) = answer_line (next_number n) (step mode p line) (words mode p line) ++ machine_answer_lines mode p (next_number n) lines
 
-  unfoldable pub machine_lines : Progress → Session → List ℕ
-  machine_lines (stopped r) s = refusal_line r
-  machine_lines (reading n policy) text_only = []
-  machine_lines (reading n policy) (with_epochs text mode epochs) = machine_answer_lines mode policy 0 epochs
+  unfoldable pub machine_lines : Result Policy Refusal → Session → List ℕ
+  machine_lines (Err r) s = refusal_line r
+  machine_lines (Ok policy) text_only = []
+  machine_lines (Ok policy) (with_epochs text mode epochs) = machine_answer_lines mode policy 0 epochs
 
   -- all bytes of the input to all bytes of the output
   unfoldable pub machine_prints : List ℕ → List ℕ

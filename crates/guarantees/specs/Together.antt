@@ -1,8 +1,8 @@
 -- What the function that compiles and decides leaves, against the reference machine.
 use Rattle.policy.specs.declared.fault.Refusal.{Refusal}
-use Rattle.std.specs.Prelude.{ℕ, List, [], ◌∷◌, ◌≡◌, map, take, length, min, Result}
+use Rattle.std.specs.Prelude.{ℕ, List, [], ◌∷◌, ◌≡◌, map, take, length, min, Result, Ok}
 use Rattle.policy.specs.Policy.{Policy}
-use Rattle.rule_text.specs.Text.{reading, read_texts}
+use Rattle.rule_text.specs.Text.{read_texts}
 use Rattle.layout.specs.Layout.{image_of}
 use Rattle.codegen.specs.Compile.{newest_form}
 use Rattle.monitor.specs.Decision.{decision_in, answer_of}
@@ -23,8 +23,7 @@ decided_lines image (x ∷ lines) (d ∷ ds) = decision_in x.mode image x.line.n
 -- two texts were accepted, and each line for which there was room was decided on the image of their policy: as the reference
 -- machine answers it, which sees the policy and no image
 pub record DecidedBy (maker site : List ℕ) (lines : List Told) (old new : List (Result Actions Refusal)) : Type 0 where
-  pub count : ℕ
   pub policy : Policy
-  pub read : read_texts maker site ≡ reading count policy
+  pub read : read_texts maker site ≡ Ok policy
   pub decided : new ≡ decided_lines (image_of newest_form policy) lines old
   pub agreed : map answer_of (take (min (length lines) (length old)) new) ≡ steps policy (take (length old) (told lines))

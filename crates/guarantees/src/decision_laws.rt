@@ -1,9 +1,8 @@
 //! Laws of decisions. A law is a function with no parameters and an empty body, whose contract is the statement.
 
-ghost use Rattle.std.specs.Prelude.{List, ℕ, ◌≡◌, ◌<◌, length, set, ◌↔◌, true, ◌*◌, ◌+◌, ◌≤◌, Ok, Err};
+ghost use Rattle.std.specs.Prelude.{List, ℕ, ◌≡◌, ◌<◌, length, set, ◌↔◌, true, ◌*◌, ◌+◌, ◌≤◌, Ok, Err, Some};
 ghost use Rattle.guarantees.specs.Claims.{CompilesTo, answers, TextsCompileTo};
 ghost use Rattle.guarantees.specs.Machine.{ToldLine, machine, machine_of_texts};
-ghost use Rattle.std.proofs.Math.Option.{some};
 ghost use Rattle.guarantees.specs.Decisions.{CheckFailed, RefusedIn, OfDecisionIn, KeptOut, Obeys, IsBest, ObeysEvents};
 ghost use Rattle.policy.specs.declared.mode.Mode.{Mode};
 ghost use Rattle.policy.specs.declared.number.Action.{Action};
@@ -29,12 +28,12 @@ ghost use Rattle.image.specs.Load.{load, Contents};
 /// For every text, the bytes that the compiler wrote for it and every list of epoch lines with the mode of each, refused ones included: the list of
 /// decisions on those bytes is that of the reference machine, which sees the text and no image.
 pub fn decisions_agree()
-    ensures { (text image : List ℕ) → CompilesTo text image → (lines : List ToldLine) → some (answers image lines) ≡ machine text lines }
+    ensures { (text image : List ℕ) → CompilesTo text image → (lines : List ToldLine) → Some (answers image lines) ≡ machine text lines }
 {}
 
 /// The same for the maker's and the site's text as one.
 pub fn texts_decisions_agree()
-    ensures { (maker site image : List ℕ) → TextsCompileTo maker site image → (lines : List ToldLine) → some (answers image lines) ≡ machine_of_texts maker site lines }
+    ensures { (maker site image : List ℕ) → TextsCompileTo maker site image → (lines : List ToldLine) → Some (answers image lines) ≡ machine_of_texts maker site lines }
 {}
 
 /// Whichever one word of a compiled image is changed, to whatever other value, the decision on every line is refused by a check of the image.
@@ -75,7 +74,7 @@ pub fn refused_empty()
 
 /// On the image of a text, the decision by actions on an accepted line is a maximal action cancellation of what the text's rules propose, lower numbers kept first.
 pub fn decision_obeys()
-    ensures { (maker site image : List ℕ) → TextsCompileTo maker site image → (p : Policy) → policy_of_texts maker site ≡ some p → (line : List ℕ) (e : Epoch) → read_epoch line ≡ Ok e → Obeys p e (answer_of (decision image line)) }
+    ensures { (maker site image : List ℕ) → TextsCompileTo maker site image → (p : Policy) → policy_of_texts maker site ≡ Some p → (line : List ℕ) (e : Epoch) → read_epoch line ≡ Ok e → Obeys p e (answer_of (decision image line)) }
 {}
 
 /// What a policy asks of a decision by actions is met by one answer alone.
@@ -86,7 +85,7 @@ pub fn answer_determined()
 /// On the image of two texts, a decision by actions accepts the best choice: take any other set of proposed actions on which no constraint holds; the lowest
 /// action in which it differs from what is accepted is accepted.
 pub fn decision_best()
-    ensures { (maker site image : List ℕ) → TextsCompileTo maker site image → (p : Policy) → policy_of_texts maker site ≡ some p → (line : List ℕ) (e : Epoch) → read_epoch line ≡ Ok e → IsBest p e (answer_of (decision image line)).accepted }
+    ensures { (maker site image : List ℕ) → TextsCompileTo maker site image → (p : Policy) → policy_of_texts maker site ≡ Some p → (line : List ℕ) (e : Epoch) → read_epoch line ≡ Ok e → IsBest p e (answer_of (decision image line)).accepted }
 {}
 
 /// The same on every image that the loader takes, by the policy that it holds.
@@ -96,7 +95,7 @@ pub fn image_decision_best()
 
 /// By events: where some reduction of the epoch is free of conflict, the kept events are a maximal one and what they propose is issued.
 pub fn events_decision_obeys()
-    ensures { (maker site image : List ℕ) → TextsCompileTo maker site image → (p : Policy) → policy_of_texts maker site ≡ some p → (line : List ℕ) (e : Epoch) → read_epoch line ≡ Ok e → Reducible p.constraints (proposed_with p.rules) e → ObeysEvents p e (kept_events p e) (answer_of (decision_in Mode.Events image line)) }
+    ensures { (maker site image : List ℕ) → TextsCompileTo maker site image → (p : Policy) → policy_of_texts maker site ≡ Some p → (line : List ℕ) (e : Epoch) → read_epoch line ≡ Ok e → Reducible p.constraints (proposed_with p.rules) e → ObeysEvents p e (kept_events p e) (answer_of (decision_in Mode.Events image line)) }
 {}
 
 /// What a policy asks of a decision by events is met by one set of kept events and one answer alone.
@@ -106,12 +105,12 @@ pub fn events_answer_determined()
 
 /// By events: the epoch is refused exactly where no reduction of it is free of conflict.
 pub fn events_conflict_refused()
-    ensures { (maker site image : List ℕ) → TextsCompileTo maker site image → (p : Policy) → policy_of_texts maker site ≡ some p → (line : List ℕ) (e : Epoch) → read_epoch line ≡ Ok e → (decision_in Mode.Events image line ≡ Err (refusal Fault.Unavoidable 0)) ↔ ¬ Reducible p.constraints (proposed_with p.rules) e }
+    ensures { (maker site image : List ℕ) → TextsCompileTo maker site image → (p : Policy) → policy_of_texts maker site ≡ Some p → (line : List ℕ) (e : Epoch) → read_epoch line ≡ Ok e → (decision_in Mode.Events image line ≡ Err (refusal Fault.Unavoidable 0)) ↔ ¬ Reducible p.constraints (proposed_with p.rules) e }
 {}
 
 /// A constraint with one action and no comparison keeps that action out of every decision, in either mode.
 pub fn lone_constraint_cancels()
-    ensures { (maker site image : List ℕ) → TextsCompileTo maker site image → (p : Policy) → policy_of_texts maker site ≡ some p → (x : Action) → Memᴰ (lone x) p.constraints → (mode : Mode) (line : List ℕ) (e : Epoch) → read_epoch line ≡ Ok e → KeptOut p e x (answer_of (decision_in mode image line)) }
+    ensures { (maker site image : List ℕ) → TextsCompileTo maker site image → (p : Policy) → policy_of_texts maker site ≡ Some p → (x : Action) → Memᴰ (lone x) p.constraints → (mode : Mode) (line : List ℕ) (e : Epoch) → read_epoch line ≡ Ok e → KeptOut p e x (answer_of (decision_in mode image line)) }
 {}
 
 /// A decision by actions fetches at most P + 64 x N words, P and N the words of the rules and of the constraints.

@@ -14,7 +14,7 @@ pub mod reading_laws;
 pub mod writing_laws;
 
 ghost use Rattle.std.specs.Prelude.{◌≡◌, IfOk, IfErr};
-ghost use Rattle.rule_text.specs.Text.{read_texts, stopped};
+ghost use Rattle.rule_text.specs.Text.{read_texts};
 ghost use Rattle.guarantees.specs.Together.{decided_lines, DecidedBy};
 
 use image::IMAGE_SIZE;
@@ -47,7 +47,7 @@ pub fn compile_and_decide(
     decisions: &mut [Result<Actions, Refusal>],
 ) -> Result<(), Refusal>
     ensures ok { IfOk result (λ u. DecidedBy maker.now site.now lines.now decisions.old decisions.new) }
-    ensures err { IfErr result (λ refusal. (read_texts maker.now site.now ≡ stopped refusal) × (decisions.new ≡ decisions.old)) }
+    ensures err { IfErr result (λ refusal. (read_texts maker.now site.now ≡ Err refusal) × (decisions.new ≡ decisions.old)) }
 {
     let mut image = [0u8; IMAGE_SIZE];
     let size = codegen::compile_texts(maker, site, &mut image)?;

@@ -1,8 +1,7 @@
 //! Laws of what the loader takes and refuses, by the lines whose words stand in the bytes.
 
 ghost use Rattle.policy.specs.Fault.{refusal};
-ghost use Rattle.std.specs.Prelude.{List, ℕ, ◌+◌, ◌∷◌, ◌↔◌, ◌≡◌, length, drop, map, Err, Ok};
-ghost use Rattle.std.proofs.Math.Option.{some};
+ghost use Rattle.std.specs.Prelude.{List, ℕ, ◌+◌, ◌∷◌, ◌↔◌, ◌≡◌, length, drop, map, Err, Ok, Some};
 ghost use Rattle.word.specs.Word.{Bytes};
 ghost use Rattle.policy.specs.Line.{PolicyLine};
 ghost use Rattle.policy.specs.declared.fault.Refusal.{Refusal};
@@ -35,7 +34,7 @@ pub fn faulty_exactly()
 
 /// A line is found at the start of words exactly if it stands there.
 pub fn line_found_exactly()
-    ensures { (part : Part) (words : List ℕ) (line : PolicyLine) → (line_at part words ≡ some line) ↔ Stands part words line }
+    ensures { (part : Part) (words : List ℕ) (line : PolicyLine) → (line_at part words ≡ Some line) ↔ Stands part words line }
 {}
 
 /// At most one line of a part stands at the start of words.

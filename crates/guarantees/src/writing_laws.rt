@@ -1,12 +1,11 @@
 //! Laws of the text that is written from a policy and from an image.
 
-ghost use Rattle.std.specs.Prelude.{List, ℕ, map, length, ◌+◌, ◌≤◌, ◌≡◌, ◌↔◌, Ok};
-ghost use Rattle.std.proofs.Math.Option.{some};
+ghost use Rattle.std.specs.Prelude.{List, ℕ, map, length, ◌+◌, ◌≤◌, ◌≡◌, ◌↔◌, Ok, Some};
 ghost use Rattle.policy.specs.Limits.{Acceptable};
 ghost use Rattle.policy.specs.Line.{PolicyLine};
 ghost use Rattle.policy.specs.Policy.{Policy};
 ghost use Rattle.lexer.specs.Lines.{lines_of, tokens_of};
-ghost use Rattle.rule_text.specs.Text.{reading, read_text, policy_of};
+ghost use Rattle.rule_text.specs.Text.{read_text, policy_of};
 ghost use Rattle.printer.specs.Printed.{joined_by, line_bytes, lines_text, longest_text, text_of};
 ghost use Rattle.word.specs.Word.{Bytes};
 ghost use Rattle.image.specs.Held.{policy_in};
@@ -26,7 +25,7 @@ pub fn text_lines()
 
 /// What is written from a policy within the limits is accepted and has that policy.
 pub fn text_policy()
-    ensures { (p : Policy) → Acceptable p → policy_of (text_of p) ≡ some p }
+    ensures { (p : Policy) → Acceptable p → policy_of (text_of p) ≡ Some p }
 {}
 
 /// No two policies within the limits are written as the same text.
@@ -36,7 +35,7 @@ pub fn text_injective()
 
 /// The policies within the limits are exactly those of accepted texts.
 pub fn acceptable_texts()
-    ensures { (p : Policy) → Acceptable p ↔ ((text : List ℕ) × (n : ℕ) × (read_text text ≡ reading n p)) }
+    ensures { (p : Policy) → Acceptable p ↔ ((text : List ℕ) × (read_text text ≡ Ok p)) }
 {}
 
 /// An image that the loader takes is never refused a buffer of 27,968 bytes or more.

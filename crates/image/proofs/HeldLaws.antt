@@ -1,6 +1,6 @@
 -- The lines of an image that is taken are those of the policy that it holds.
-use Rattle.std.proofs.Common.{ℕ, zero, suc, ◌+◌, ◌<◌, Bool, true, false, ◌&&◌, List, [], ◌∷◌, ◌++◌, map, ◌≡◌, refl, sym, ap, ap₂, ◌∙◌, subst, arith, eqb-true, length, take, drop, length-take, append_assoc, length-drop, Result, Ok, Err}
-use Rattle.std.proofs.Math.Option.{Option, none, some}
+use Rattle.std.proofs.Common.{ℕ, zero, suc, ◌+◌, ◌<◌, Bool, true, false, ◌&&◌, List, [], ◌∷◌, ◌++◌, map, ◌≡◌, refl, sym, ap, ap₂, ◌∙◌, subst, arith, eqb-true, length, take, drop, length-take, length-drop, Result, Ok, Err, append_assoc}
+use Rattle.std.specs.Prelude.{Option, Some, None}
 use Rattle.std.proofs.Math.Dec.{eqb, leb}
 use Rattle.policy.proofs.ListLaws.{true_false, and_in, and_out, all_append}
 use Rattle.policy.specs.Limits.{valid}
@@ -29,12 +29,12 @@ pub same_lines : (part : Part) (room : ℕ) {a b : List ℕ} {xs ys : List Polic
 same_lines part room {a} {b} {xs} {ys} p q h = subst (λ (z : List ℕ). AreLines part room z ys) p (subst (λ (z : List PolicyLine). AreLines part room a z) q h)
 
 are_none : (part : Part) (room : ℕ) (ls : List PolicyLine) → ◌≡◌ {A = Result (List PolicyLine) ℕ} (Ok []) (Ok ls) → AreLines part room [] ls
-unfolding all lines_words
+unfolding lines_words
 are_none part room [] e = record { kind = refl; sound = refl; few = omega arith; words = refl }
 are_none part room (l ∷ ls) e = let z : ◌≡◌ {A = ℕ} 0 1 = cc in absurd (omega arith)
 
 are_more : (part : Part) (room : ℕ) (ws : List ℕ) (l : PolicyLine) (rest : Result (List PolicyLine) ℕ) (ls : List PolicyLine) → Stands part ws l → ((ms : List PolicyLine) → rest ≡ Ok ms → AreLines part room (drop (length (line_words l)) ws) ms) → add_line l rest ≡ Ok ls → AreLines part (suc room) ws ls
-unfolding add_line all lines_words
+unfolding add_line lines_words
 are_more part room ws l (Err n) ls s later e = let z : ◌≡◌ {A = ℕ} 0 1 = cc in absurd (omega arith)
 are_more part room ws l (Ok ms) [] s later e = let z : ◌≡◌ {A = ℕ} 0 1 = cc in absurd (omega arith)
 are_more part room ws l (Ok ms) (x ∷ xs) s later e =
@@ -52,8 +52,8 @@ line_written : (part : Part) (room at : ℕ) (ws : List ℕ) (ls : List PolicyLi
     → ((l : PolicyLine) (ms : List PolicyLine) → lines_from part room (at + length (line_words l)) (drop (length (line_words l)) ws) ≡ Ok ms → AreLines part room (drop (length (line_words l)) ws) ms)
     → (o : Option PolicyLine) → line_at part ws ≡ o → after_line at o (λ (l : PolicyLine). lines_from part room (at + length (line_words l)) (drop (length (line_words l)) ws)) ≡ Ok ls → AreLines part (suc room) ws ls
 unfolding after_line
-line_written part room at ws ls later none q e = let z : ◌≡◌ {A = ℕ} 0 1 = cc in absurd (omega arith)
-line_written part room at ws ls later (some l) q e = are_more part room ws l (lines_from part room (at + length (line_words l)) (drop (length (line_words l)) ws)) ls (line_out part ws l q) (later l) e
+line_written part room at ws ls later None q e = let z : ◌≡◌ {A = ℕ} 0 1 = cc in absurd (omega arith)
+line_written part room at ws ls later (Some l) q e = are_more part room ws l (lines_from part room (at + length (line_words l)) (drop (length (line_words l)) ws)) ls (line_out part ws l q) (later l) e
 
 pub lines_written : (part : Part) (room at : ℕ) (ws : List ℕ) (ls : List PolicyLine) → lines_from part room at ws ≡ Ok ls → AreLines part room ws ls
 unfolding lines_from
@@ -66,13 +66,13 @@ lines_written part (suc room) at (w ∷ ws) ls e =
 -- ---- rules and constraints as lines
 
 pub rules_there : (ls : List PolicyLine) → all (in_part Part.Rules) ls ≡ true → map rule (rules_in ls) ≡ ls
-unfolding rules_in all in_part
+unfolding rules_in in_part
 rules_there [] k = refl
 rules_there (rule r ∷ ls) k = ap (λ (xs : List PolicyLine). rule r ∷ xs) (rules_there ls k)
 rules_there (constraint c ∷ ls) k = absurd (true_false k refl)
 
 pub constraints_there : (ls : List PolicyLine) → all (in_part Part.Constraints) ls ≡ true → map constraint (constraints_in ls) ≡ ls
-unfolding constraints_in all in_part
+unfolding constraints_in in_part
 constraints_there [] k = refl
 constraints_there (rule r ∷ ls) k = absurd (true_false k refl)
 constraints_there (constraint c ∷ ls) k = ap (λ (xs : List PolicyLine). constraint c ∷ xs) (constraints_there ls k)

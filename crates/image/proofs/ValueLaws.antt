@@ -62,7 +62,7 @@ pub standing_given : (part : Part) (ws : List ℕ) (at : ℕ) (l : PolicyLine) �
 standing_given part ws at l s = line_given ws at l (drop (length (line_words l)) (drop at ws)) s.words s.sound
 
 pub lines_given : (ls : List PolicyLine) → all valid ls ≡ true → values_behind 0 (lines_words ls) ≡ map line_value ls
-unfolding lines_words all values_behind
+unfolding lines_words values_behind
 lines_given [] v = refl
 lines_given (l ∷ ls) v =
     let q = and_out (valid l) (all valid ls) v in

@@ -1,26 +1,26 @@
 -- The faults 7 to 10: the size of an image, its form, its counts and its sum.
-use Rattle.std.specs.Prelude.{ℕ, ◌+◌, ◌%◌, Bool, ◌&&◌, List, eqb, leb, length, get_or}
+use Rattle.std.specs.Prelude.{ℕ, ◌+◌, ◌%◌, Bool, ◌&&◌, List, length, ◌==◌, nat_le, slice_index_or}
 use Rattle.word.specs.Word.{word_limit}
 use Rattle.layout.specs.Header.{form_of, rule_count_of, constraint_count_of}
 use Rattle.layout.specs.Layout.{check_count, rule_word_limit, constraint_word_limit, size_limit, sum}
 
 -- the fields of word 0
 abbrev pub form_byte : List ℕ → ℕ
-form_byte ws = form_of (get_or ws 0 0)
+form_byte ws = form_of (slice_index_or ws 0 0)
 
 abbrev pub rule_count : List ℕ → ℕ
-rule_count ws = rule_count_of (get_or ws 0 0)
+rule_count ws = rule_count_of (slice_index_or ws 0 0)
 
 abbrev pub constraint_count : List ℕ → ℕ
-constraint_count ws = constraint_count_of (get_or ws 0 0)
+constraint_count ws = constraint_count_of (slice_index_or ws 0 0)
 
 unfoldable pub well_sized : ℕ → Bool
-well_sized size = leb 8 size && leb size size_limit && eqb (size % 4) 0
+well_sized size = nat_le 8 size && nat_le size size_limit && size % 4 == 0
 
 unfoldable pub counts_fit : List ℕ → Bool
 counts_fit ws =
-    leb (rule_count ws) (rule_word_limit (form_byte ws)) && leb (constraint_count ws) (constraint_word_limit (form_byte ws))
-    && eqb (length ws) (1 + rule_count ws + constraint_count ws + check_count (form_byte ws))
+    nat_le (rule_count ws) (rule_word_limit (form_byte ws)) && nat_le (constraint_count ws) (constraint_word_limit (form_byte ws))
+    && length ws == 1 + rule_count ws + constraint_count ws + check_count (form_byte ws)
 
 unfoldable pub sums_to_zero : List ℕ → Bool
-sums_to_zero ws = eqb (sum ws % word_limit) 0
+sums_to_zero ws = sum ws % word_limit == 0

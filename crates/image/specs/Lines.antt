@@ -1,8 +1,7 @@
 -- The lines of a part of an image, and where no line fits, which is the location of fault 11. Both answers are tied to the lines whose
 -- words stand there by laws (`part_whole_exactly` and `part_fault_exactly` in guarantees).
-use Rattle.std.specs.Prelude.{ℕ, zero, suc, ◌+◌, List, [], ◌∷◌, length, drop, Result, Ok, Err}
-use Rattle.std.proofs.Math.Option.{Option, none, some}
-use Rattle.policy.specs.Limits.{rule_limit, constraint_limit}
+use Rattle.std.specs.Prelude.{ℕ, zero, suc, ◌+◌, List, [], ◌∷◌, length, drop, Result, Ok, Err, Option, Some, None}
+use Rattle.policy.specs.Limits.{line_limit}
 use Rattle.policy.specs.Line.{PolicyLine}
 use Rattle.word.specs.Word.{between}
 use Rattle.decode.specs.Decode.{line_at}
@@ -18,8 +17,8 @@ add_line l (Err at) = Err at
 
 -- the answer at a line start, with what follows a line that fits
 unfoldable pub after_line : ℕ → Option PolicyLine → (PolicyLine → Result (List PolicyLine) ℕ) → Result (List PolicyLine) ℕ
-after_line at none next = Err at
-after_line at (some l) next = add_line l (next l)
+after_line at None next = Err at
+after_line at (Some l) next = add_line l (next l)
 
 -- the words of a part from the index `at` on, with room for so many lines
 unfoldable pub lines_from : Part → ℕ → ℕ → List ℕ → Result (List PolicyLine) ℕ
@@ -29,10 +28,6 @@ lines_from part (suc room) at [] = Ok []
 lines_from part (suc room) at (w ∷ ws) =
     after_line at (line_at part (w ∷ ws))
     (λ (l : PolicyLine). lines_from part room (at + length (line_words l)) (drop (length (line_words l)) (w ∷ ws)))
-
-abbrev pub line_limit : Part → ℕ
-line_limit Part.Rules = rule_limit
-line_limit Part.Constraints = constraint_limit
 
 -- the lines of a part that stands between two indexes
 unfoldable pub part_lines : Part → ℕ → ℕ → List ℕ → Result (List PolicyLine) ℕ

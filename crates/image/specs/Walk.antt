@@ -1,7 +1,7 @@
 -- Going over an image from line to line. Nothing is checked, so that what comes is defined on any words: the skip of a line's first word
 -- tells where the line ends. Where a line stands its value comes, as a law says (`standing_given` in guarantees), so that `value_from` and
 -- `told_length` need not be believed for images that are taken.
-use Rattle.std.specs.Prelude.{ℕ, zero, suc, ◌+◌, min, List, [], ◌∷◌, ◌≡◌, MatchOption, length, get_or, take, drop}
+use Rattle.std.specs.Prelude.{ℕ, zero, suc, ◌+◌, min, List, [], ◌∷◌, ◌≡◌, MatchOption, length, take, drop, slice_index_or}
 use Rattle.std.specs.Iterator.{YieldsFirst}
 use Rattle.std.specs.declared.option.Option.{Option}
 use Rattle.line_value.specs.declared.Line.{Line}
@@ -22,7 +22,7 @@ lines_left ws at = values_behind 0 (drop at ws)
 
 -- how many words the line has with which words begin, but no more than there are
 abbrev pub told_length : List ℕ → ℕ
-told_length ws = min (skip_of (get_or ws 0 0) + 1) (length ws)
+told_length ws = min (skip_of (slice_index_or ws 0 0) + 1) (length ws)
 
 -- the lines that a walker has before it
 abbrev pub lines_ahead : Walker → List Line

@@ -6,7 +6,8 @@ ghost use Rattle.word.specs.Chunk.{words_in};
 ghost use Rattle.image.specs.Check.{well_sized};
 ghost use Rattle.image.specs.Lines.{lines_from, part_lines};
 ghost use Rattle.image.specs.Load.{body_answer, load};
-ghost use Rattle.image.specs.Steps.Part.{part_answer, image_contents};
+ghost use Rattle.image.specs.Steps.Part.{part_answer};
+ghost use Rattle.image.specs.Taken.{image_contents};
 
 use crate::taken::Image;
 use crate::walker::Walker;

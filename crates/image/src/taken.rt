@@ -21,7 +21,7 @@ pub struct Image<'a> {
 impl<'a> Image<'a> {
     ghost use Rattle.image.specs.Load.{both_parts};
     ghost use Rattle.image.specs.Walk.{IsAtFirstLine};
-    ghost use Rattle.image.specs.Steps.Part.{image_contents};
+    ghost use Rattle.image.specs.Taken.{image_contents};
 
     /// The lines in order: its rules, and then its constraints.
     pub fn lines(&self) -> Walker<'a>

@@ -1,22 +1,19 @@
 -- Laws of the words of a line: their number, and writing them one after the other.
-use Rattle.std.proofs.Common.{◌≡◌, ℕ, suc, ◌+◌, ◌-◌, ◌*◌, ◌/◌, ◌<◌, ◌≤◌, List, [], ◌∷◌, ◌++◌, map, length, get_or, take, drop, sym, refl, ap, ◌∙◌, ap₂, arith, length-append, length-drop, drop_of_length-le, drop-cons}
+use Rattle.std.proofs.Common.{◌≡◌, ℕ, suc, ◌+◌, ◌-◌, ◌*◌, ◌/◌, ◌<◌, ◌≤◌, List, [], ◌∷◌, ◌++◌, length, get_or, drop, sym, refl, ap, ◌∙◌, ap₂, arith, length-append, length-drop, drop_of_length-le, drop-cons}
 use Rattle.std.proofs.Math.Nat.{sub-zero}
-use Rattle.std.proofs.Math.ListN.{get_or-map, length-map}
 use Rattle.layout.specs.Steps.Size.{operand_size, comparisons_size, condition_size}
-use Rattle.policy.specs.Line.{PolicyLine, heads_of, comparisons_of, ending_of, operand_constants, constant_count}
-use Rattle.line_value.proofs.LineLaws.{all_held}
-use Rattle.line_value.specs.Value.{head, no_head, no_comparison, line_of, line_value}
+use Rattle.policy.specs.Line.{PolicyLine, operand_constants, constant_count}
+use Rattle.line_value.specs.Value.{line_value}
 use Rattle.policy.specs.declared.comparison.Comparison.{Comparison}
 use Rattle.policy.specs.declared.comparison.Operand.{Operand}
 use Rattle.policy.specs.declared.line.Ending.{Ending}
-use Rattle.policy.specs.declared.line.Head.{Head}
 use Rattle.line_value.specs.declared.Line.{Line}
 use Rattle.policy.specs.declared.line.Test.{Test}
 use Rattle.word.proofs.WriteLaws.{put_append, put_length, put_none}
 use Rattle.operation.specs.Parts.{test_word, constant_words, comparison_words, ending_word}
 use Rattle.word.specs.Steps.Write.{put_words}
 use Rattle.layout.specs.Layout.{condition_words, part_words, line_words}
-use Rattle.layout.specs.Steps.Value.{head_words, tests_of, value_words}
+use Rattle.layout.specs.Steps.Value.{head_words, value_words}
 
 -- ---- how many words
 
@@ -134,28 +131,28 @@ pub record ConditionLeft (comparisons : List Comparison) (ending : Ending) (buff
   pub writing : Writing (condition_left comparisons ending) buffer₀ index buffer at i
 
 -- what a turn needs, and what holds after it
-pub record ConditionTurn (comparisons : List Comparison) (ending : Ending) (buffer₀ : List ℕ) (index : ℕ) (buffer : List ℕ) (at left i words : ℕ) : Type 0 where
-  pub sized : words ≡ operand_size (get_or comparisons i no_comparison).operand
+pub record ConditionTurn (d : Comparison) (comparisons : List Comparison) (ending : Ending) (buffer₀ : List ℕ) (index : ℕ) (buffer : List ℕ) (at left i words : ℕ) : Type 0 where
+  pub sized : words ≡ operand_size (get_or comparisons i d).operand
   pub enough : words ≤ left
   pub small : left - words < 32
   pub room : at + words ≤ length buffer / 4
-  pub next : (buffer' : List ℕ) → buffer' ≡ put_words buffer at (comparison_words (get_or comparisons i no_comparison) (left - words)) → ConditionLeft comparisons ending buffer₀ index buffer' (at + words) (left - words) (i + 1)
+  pub next : (buffer' : List ℕ) → buffer' ≡ put_words buffer at (comparison_words (get_or comparisons i d) (left - words)) → ConditionLeft comparisons ending buffer₀ index buffer' (at + words) (left - words) (i + 1)
 
 module _ (comparisons : List Comparison) (ending : Ending) (buffer₀ : List ℕ) (index : ℕ) where
   pub condition_none : (size : ℕ) → size ≡ condition_size comparisons → index + size ≤ length buffer₀ / 4 → ConditionLeft comparisons ending buffer₀ index buffer₀ index size 0
   condition_none size e h = record { remains = e; writing = writing_none (condition_left comparisons ending) buffer₀ index (omega (arith, condition_length comparisons ending)) }
 
-  pub condition_turn : (buffer : List ℕ) (at left i words : ℕ) → length comparisons ≤ 4 → ConditionLeft comparisons ending buffer₀ index buffer at left i → i < length comparisons
-      → words ≡ 1 + operand_constants (get_or comparisons i no_comparison).operand → ConditionTurn comparisons ending buffer₀ index buffer at left i words
-  condition_turn buffer at left i words few h l e =
+  pub condition_turn : (d : Comparison) (buffer : List ℕ) (at left i words : ℕ) → length comparisons ≤ 4 → ConditionLeft comparisons ending buffer₀ index buffer at left i → i < length comparisons
+      → words ≡ 1 + operand_constants (get_or comparisons i d).operand → ConditionTurn d comparisons ending buffer₀ index buffer at left i words
+  condition_turn d buffer at left i words few h l e =
       let m : words ≡ operand_size c.operand = e ∙ sym (operand_counted c.operand) in
       let r = h.remains in
-      let k : left - words ≡ condition_size (drop (i + 1) comparisons) = omega (arith, condition_size_next comparisons i no_comparison l) in
+      let k : left - words ≡ condition_size (drop (i + 1) comparisons) = omega (arith, condition_size_next comparisons i d l) in
       record {
         sized = m;
-        enough = omega (arith, condition_size_next comparisons i no_comparison l);
+        enough = omega (arith, condition_size_next comparisons i d l);
         small = omega (arith, condition_size_limit (drop (i + 1) comparisons), length-drop (i + 1) comparisons);
-        room = omega (arith, h.writing.room, condition_size_next comparisons i no_comparison l, condition_length (drop i comparisons) ending);
+        room = omega (arith, h.writing.room, condition_size_next comparisons i d l, condition_length (drop i comparisons) ending);
         next = λ b q. record {
           remains = k;
           writing = more b m (q ∙ ap (λ (n : ℕ). put_words buffer at (comparison_words c n)) k);
@@ -163,13 +160,13 @@ module _ (comparisons : List Comparison) (ending : Ending) (buffer₀ : List ℕ
       }
     where
       c : Comparison
-      c = get_or comparisons i no_comparison
+      c = get_or comparisons i d
 
       more : (b : List ℕ) → words ≡ operand_size c.operand → b ≡ put_words buffer at (comparison_words c (condition_size (drop (i + 1) comparisons)))
           → Writing (condition_left comparisons ending) buffer₀ index b (at + words) (i + 1)
       more b m q =
           rw (q, m, ← comparison_length_is c (condition_size (drop (i + 1) comparisons)))
-          (writing_more (condition_left comparisons ending) buffer₀ index buffer at i (comparison_words c (condition_size (drop (i + 1) comparisons))) (condition_next comparisons ending i no_comparison l) h.writing)
+          (writing_more (condition_left comparisons ending) buffer₀ index buffer at i (comparison_words c (condition_size (drop (i + 1) comparisons))) (condition_next comparisons ending i d l) h.writing)
 
   pub condition_all : (buffer buffer' : List ℕ) (at left i w : ℕ) → ConditionLeft comparisons ending buffer₀ index buffer at left i → length comparisons ≤ i → w ≡ ending_word ending → buffer' ≡ put_words buffer at (w ∷ []) → buffer' ≡ put_words buffer₀ index (condition_words comparisons ending)
   unfolding condition_words
@@ -178,96 +175,69 @@ module _ (comparisons : List Comparison) (ending : Ending) (buffer₀ : List ℕ
 
 -- ---- the loop over heads
 
-tests_length : (hs : List Head) → length (tests_of hs) ≡ length hs
-unfolding tests_of
-tests_length hs = length-map hs (λ (h : Head). h.0)
-
-tests_at : (hs : List Head) (i : ℕ) (d : Head) → get_or (tests_of hs) i d.0 ≡ (get_or hs i d).0
-unfolding tests_of
-tests_at hs i d = get_or-map (λ (h : Head). h.0) hs i d
-
 -- the words from the head i on
-abbrev heads_left : List Head → ℕ → ℕ → List ℕ
-heads_left hs size i = head_words (drop i (tests_of hs)) (size - i)
+abbrev heads_left : List Test → ℕ → ℕ → List ℕ
+heads_left hs size i = head_words (drop i hs) (size - i)
 
-pub record HeadsLeft (heads : List Head) (size : ℕ) (buffer₀ : List ℕ) (index : ℕ) (buffer : List ℕ) (at left i : ℕ) : Type 0 where
+pub record HeadsLeft (heads : List Test) (size : ℕ) (buffer₀ : List ℕ) (index : ℕ) (buffer : List ℕ) (at left i : ℕ) : Type 0 where
   pub remains : left + i ≡ size
   pub writing : Writing (heads_left heads size) buffer₀ index buffer at i
 
-module _ (heads : List Head) (size : ℕ) (buffer₀ : List ℕ) (index : ℕ) where
+module _ (heads : List Test) (size : ℕ) (buffer₀ : List ℕ) (index : ℕ) where
   pub heads_none : length heads ≤ size → index + size ≤ length buffer₀ / 4 → HeadsLeft heads size buffer₀ index buffer₀ index size 0
   heads_none k h =
-      record { remains = omega arith; writing = writing_none (heads_left heads size) buffer₀ index (omega (arith, head_length (tests_of heads) (size - 0), tests_length heads)) }
+      record { remains = omega arith; writing = writing_none (heads_left heads size) buffer₀ index (omega (arith, head_length heads (size - 0))) }
 
-  pub heads_turn : (d : Head) (buffer buffer' : List ℕ) (at left i w : ℕ) → HeadsLeft heads size buffer₀ index buffer at left i → length heads ≤ size → i < length heads
-      → w ≡ test_word (get_or heads i d).0 (left - 1) → buffer' ≡ put_words buffer at (w ∷ []) → HeadsLeft heads size buffer₀ index buffer' (at + 1) (left - 1) (i + 1)
+  pub heads_turn : (d : Test) (buffer buffer' : List ℕ) (at left i w : ℕ) → HeadsLeft heads size buffer₀ index buffer at left i → length heads ≤ size → i < length heads
+      → w ≡ test_word (get_or heads i d) (left - 1) → buffer' ≡ put_words buffer at (w ∷ []) → HeadsLeft heads size buffer₀ index buffer' (at + 1) (left - 1) (i + 1)
   heads_turn d buffer buffer' at left i w h k l e q =
       let r = h.remains in
       let n : size - i ≡ left = omega arith in
       let m : size - (i + 1) ≡ left - 1 = omega arith in
       record {
         remains = omega arith;
-        writing = rw (q, e) (writing_more (heads_left heads size) buffer₀ index buffer at i (test_word (get_or heads i d).0 (left - 1) ∷ [])
-            (heads_next (tests_of heads) size i d.0 (omega (arith, tests_length heads)) ∙ ap₂ (λ (t : Test) (x : ℕ). test_word t (x - 1) ∷ head_words (drop (i + 1) (tests_of heads)) (size - (i + 1))) (tests_at heads i d) n)
+        writing = rw (q, e) (writing_more (heads_left heads size) buffer₀ index buffer at i (test_word (get_or heads i d) (left - 1) ∷ [])
+            (heads_next heads size i d l ∙ ap (λ (x : ℕ). test_word (get_or heads i d) (x - 1) ∷ head_words (drop (i + 1) heads) (size - (i + 1))) n)
             h.writing);
       }
 
-  pub heads_all : (buffer : List ℕ) (at left i : ℕ) → HeadsLeft heads size buffer₀ index buffer at left i → length heads ≤ i → buffer ≡ put_words buffer₀ index (head_words (tests_of heads) size)
+  pub heads_all : (buffer : List ℕ) (at left i : ℕ) → HeadsLeft heads size buffer₀ index buffer at left i → length heads ≤ i → buffer ≡ put_words buffer₀ index (head_words heads size)
   unfolding head_words
   heads_all buffer at left i h l =
-      let none : drop i (tests_of heads) ≡ [] = drop_of_length-le (tests_of heads) {i = i} (omega (arith, tests_length heads)) in
+      let none : drop i heads ≡ [] = drop_of_length-le heads {i = i} (omega (arith)) in
       writing_all (heads_left heads size) buffer₀ index buffer at i (ap (λ (ts : List Test). head_words ts (size - i)) none) h.writing
-      ∙ ap (λ (k : ℕ). put_words buffer₀ index (head_words (tests_of heads) k)) (sub-zero size)
+      ∙ ap (λ (k : ℕ). put_words buffer₀ index (head_words heads k)) (sub-zero size)
 
--- ---- the whole line, of the heads and the comparisons that its value holds
+-- ---- the whole line
 
 condition_counted : (cs : List Comparison) → condition_size cs ≡ length cs + constant_count cs + 1
 unfolding condition_size comparisons_size constant_count
 condition_counted [] = refl
 condition_counted (c ∷ cs) = omega (arith, operand_counted c.operand, condition_counted cs)
 
-module _ (line : Line) (hs : List Head) (cs : List Comparison) (constants : ℕ) (eh : hs ≡ take line.head_count line.heads) (ec : cs ≡ take line.comparison_count line.comparisons)
-    (ek : constants ≡ constant_count (take line.comparison_count line.comparisons)) where
-  pub rest_counted : length cs + constants + 1 ≡ condition_size cs
-  rest_counted = omega (arith, condition_counted cs, ek ∙ ap constant_count (sym ec))
+module _ (line : Line) (constants : ℕ) (ek : constants ≡ constant_count line.comparisons) where
+  pub rest_counted : length line.comparisons + constants + 1 ≡ condition_size line.comparisons
+  rest_counted = omega (arith, condition_counted line.comparisons, ek)
 
-  -- the words of the heads, and how many the line has
-  first : List ℕ
-  first = head_words (tests_of hs) (length hs + condition_size cs)
+  -- the words of the heads
+  abbrev first : List ℕ
+  first = head_words line.heads (length line.heads + condition_size line.comparisons)
 
-  first_length : length first ≡ length hs
-  unfolding first
-  first_length = head_length (tests_of hs) (length hs + condition_size cs) ∙ tests_length hs
+  pub value_counted : length line.heads + (length line.comparisons + constants + 1) ≡ length (value_words line)
+  unfolding value_words
+  value_counted = omega (arith, part_length line.heads line.comparisons line.ending, rest_counted)
 
-  value_split : first ++ condition_words cs line.ending ≡ value_words line
-  unfolding value_words first
-  value_split =
-      ap (λ (k : ℕ). head_words (tests_of hs) (k + condition_size cs) ++ condition_words cs line.ending) (sym (tests_length hs))
-      ∙ part_split (tests_of hs) cs line.ending
-      ∙ ap₂ (λ (xs : List Head) (ys : List Comparison). part_words (tests_of xs) ys line.ending) eh ec
-
-  pub value_counted : length hs + (length cs + constants + 1) ≡ length (value_words line)
-  value_counted = omega (arith, ap length value_split, length-append first (condition_words cs line.ending), first_length, condition_length cs line.ending, rest_counted)
-
-  pub value_put : (buffer buffer₁ buffer₂ : List ℕ) (index : ℕ) → index + (length hs + (length cs + constants + 1)) ≤ length buffer / 4
-      → buffer₁ ≡ put_words buffer index (head_words (tests_of hs) (length hs + (length cs + constants + 1)))
-      → buffer₂ ≡ put_words buffer₁ (index + length hs) (condition_words cs line.ending)
+  pub value_put : (buffer buffer₁ buffer₂ : List ℕ) (index : ℕ) → index + (length line.heads + (length line.comparisons + constants + 1)) ≤ length buffer / 4
+      → buffer₁ ≡ put_words buffer index (head_words line.heads (length line.heads + (length line.comparisons + constants + 1)))
+      → buffer₂ ≡ put_words buffer₁ (index + length line.heads) (condition_words line.comparisons line.ending)
       → buffer₂ ≡ put_words buffer index (value_words line)
-  unfolding first
+  unfolding value_words
   value_put buffer buffer₁ buffer₂ index h e₁ e₂ =
-      e₂ ∙ ap₂ (λ (b : List ℕ) (k : ℕ). put_words b (index + k) (condition_words cs line.ending)) (e₁ ∙ ap (λ (k : ℕ). put_words buffer index (head_words (tests_of hs) (length hs + k))) rest_counted) (sym first_length)
-      ∙ put_append buffer index first (condition_words cs line.ending) (omega (arith, first_length, condition_length cs line.ending, rest_counted))
-      ∙ ap (put_words buffer index) value_split
+      let n : length first ≡ length line.heads = head_length line.heads (length line.heads + condition_size line.comparisons) in
+      e₂ ∙ ap₂ (λ (b : List ℕ) (k : ℕ). put_words b (index + k) (condition_words line.comparisons line.ending)) (e₁ ∙ ap (λ (k : ℕ). put_words buffer index (head_words line.heads (length line.heads + k))) rest_counted) (sym n)
+      ∙ put_append buffer index first (condition_words line.comparisons line.ending) (omega (arith, n, condition_length line.comparisons line.ending, rest_counted))
+      ∙ ap (put_words buffer index) (part_split line.heads line.comparisons line.ending)
 
--- ---- the value of a line that is not crowded holds all of it
-
-heads_back : (ts : List Test) → tests_of (map head ts) ≡ ts
-unfolding tests_of
-heads_back [] = refl
-heads_back (t ∷ ts) = ap (λ (x : List Test). t ∷ x) (heads_back ts)
-
-pub value_words_is : (l : PolicyLine) → length (heads_of l) ≤ 8 → length (comparisons_of l) ≤ 4 → value_words (line_value l) ≡ line_words l
-unfolding value_words line_value line_of line_words
-value_words_is l a b =
-    ap₂ (λ (hs : List Head) (cs : List Comparison). part_words (tests_of hs) cs (ending_of l)) (all_held 8 no_head (map head (heads_of l)) (omega (arith, length-map (heads_of l) head))) (all_held 4 no_comparison (comparisons_of l) b)
-    ∙ ap (λ (ts : List Test). part_words ts (comparisons_of l) (ending_of l)) (heads_back (heads_of l))
+pub value_words_is : (l : PolicyLine) → value_words (line_value l) ≡ line_words l
+unfolding value_words line_words
+value_words_is l = refl

@@ -4,11 +4,11 @@ ghost use Rattle.operation.specs.Parts.{comparison_words};
 ghost use Rattle.word.specs.Steps.Write.{put_words};
 ghost use Rattle.layout.specs.Layout.{condition_words};
 ghost use Rattle.layout.specs.Steps.Size.{operand_size, condition_size};
-ghost use Rattle.layout.specs.Steps.Value.{head_words, tests_of, value_words};
+ghost use Rattle.layout.specs.Steps.Value.{head_words, value_words};
 
 use line_value::Line;
 use operation::{comparison_word, ending_word, test_word};
-use policy::{Comparison, Ending, Head, Operand, constant_word};
+use policy::{Comparison, Ending, Operand, Test, constant_word};
 use word::put_word;
 
 /// The words of one comparison, for which there is room.
@@ -51,28 +51,30 @@ fn put_condition(
 }
 
 /// The words of the heads of a line of `size` words, for which there is room.
-fn put_heads(buffer: &mut [u8], index: usize, heads: &[Head], size: usize)
+fn put_heads(buffer: &mut [u8], index: usize, heads: &[Test], size: usize)
     requires within { length heads.now ≤ size }
     requires short { size < 33 }
     requires room { index + size ≤ length buffer.old / 4 }
-    ensures { buffer.new ≡ put_words buffer.old index (head_words (tests_of heads.now) size) }
+    ensures { buffer.new ≡ put_words buffer.old index (head_words heads.now size) }
 {
     let mut at = index;
     let mut left = size;
     for head in heads {
         left -= 1;
-        put_word(buffer, at, test_word(head.0, left as u8));
+        put_word(buffer, at, test_word(*head, left as u8));
         at += 1;
     }
 }
 
 /// The words of a line put in at a word index, and how many they are. Where they do not fit, the buffer stays as it is.
+#[inline(never)]
+#[tactic(auto, using(crate::proofs::LayoutLaws::rest_counted, crate::proofs::LayoutLaws::value_counted, crate::proofs::LayoutLaws::value_put, word::proofs::WriteLaws::put_out))]
 pub fn put_line(buffer: &mut [u8], index: usize, line: &Line) -> usize
     ensures answer { result ≡ length (value_words line.now) }
     ensures buffer { buffer.new ≡ put_words buffer.old index (value_words line.now) }
 {
-    let heads = line.held_heads();
-    let comparisons = line.held_comparisons();
+    let heads = line.heads.as_slice();
+    let comparisons = line.comparisons.as_slice();
     let rest = comparisons.len() + line.constants() + 1;
     let size = heads.len() + rest;
     let room = (buffer.len() / 4).saturating_sub(index);

@@ -3,7 +3,6 @@ use Rattle.std.proofs.Common.{ℕ, zero, suc, ◌+◌, ◌<◌, ◌≤◌, Bool,
 use Rattle.std.proofs.Math.Dec.{eqb, leb}
 use Rattle.std.proofs.Math.ListN.{get_or}
 use Rattle.policy.proofs.ListLaws.{and_out, true_false}
-use Rattle.policy.specs.List.{any}
 use Rattle.lexer.specs.declared.class.TheConstants.{CLASSES}
 use Rattle.lexer.specs.declared.class.Class.{Class}
 use Rattle.lexer.specs.Byte.{bytes, is_space, is_line_end, ends_token, is_digit, is_letter, is_sign, class_of}
@@ -26,7 +25,7 @@ classes_from b zero = []
 classes_from b (suc n) = class_of b ∷ classes_from (suc b) n
 
 table_right : CLASSES ≡ classes_from 0 256
-unfolding classes_from class_of any bytes
+unfolding classes_from class_of bytes
 table_right = refl
 
 class_at : (b n k : ℕ) (x : Class) → k < n → get_or (classes_from b n) k x ≡ class_of (b + k)

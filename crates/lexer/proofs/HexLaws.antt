@@ -31,7 +31,6 @@ hex_past (b ∷ s) v d h q l =
 
 -- so many digits are below that power of 16
 hex_below : (k v : ℕ) (ds : List ℕ) → all is_hex_digit ds ≡ true → length ds ≤ k → hex_from v ds < (v + 1) * 16 ^ k
-unfolding all
 hex_below k v [] e h = bounded v (16 ^ k) (one-le-pow k 16 (omega arith))
   where
     bounded : (v p : ℕ) → 1 ≤ p → v < (v + 1) * p

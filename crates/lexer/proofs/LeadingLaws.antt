@@ -17,7 +17,6 @@ module _ (p : ℕ → Bool) where
 
   -- each element in front passes
   pub leading_pass : (s : List ℕ) → all p (take_leading p s) ≡ true
-  unfolding all
   leading_pass [] = refl
   leading_pass (b ∷ s) = elim (p b) as (λ x. p b ≡ x → all p (cond x (b ∷ take_leading p s) []) ≡ true) [ true ↦ λ e. rw (e, leading_pass s) | false ↦ λ e. refl ] refl
 

@@ -10,7 +10,6 @@ use Rattle.lexer.specs.Steps.Scan.{in_token, token_in, behind_token}
 use Rattle.lexer.specs.Lines.{take_leading, drop_leading}
 
 pub all_broken : (p : ℕ → Bool) (run : List ℕ) (c : ℕ) (q : List ℕ) → p c ≡ false → all p (run ++ c ∷ q) ≡ false
-unfolding all
 all_broken p [] c q e = rw e
 all_broken p (b ∷ run) c q e = rw (all_broken p run c q e) (and-false (p b))
 
@@ -28,7 +27,6 @@ module _ (p : ℕ → Bool) (inside : (b : ℕ) → p b ≡ true → in_token b 
 
   -- in another some byte fails
   pub broken_token : (text : List ℕ) → is_empty (token_in (drop_leading p text)) ≡ false → all p (token_in text) ≡ false
-  unfolding all
   broken_token [] h = absurd (true_false refl h)
   broken_token (b ∷ s) h = go (p b) refl h (broken_token s)
     where

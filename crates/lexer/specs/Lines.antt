@@ -1,6 +1,6 @@
 -- Lines and tokens.
-use Prim.Native.Char.{code}
-use Rattle.std.specs.Prelude.{ℕ, Bool, not, cond, List, [], ◌∷◌, eqb, drop}
+use Rattle.std.specs.Str.{byte}
+use Rattle.std.specs.Prelude.{ℕ, Bool, not, List, [], ◌∷◌, drop, ◌==◌, if◌then◌else◌}
 use Rattle.lexer.specs.Byte.{is_line_end}
 
 unfoldable pub prepend : ℕ → List (List ℕ) → List (List ℕ)
@@ -10,7 +10,7 @@ prepend b (p ∷ ps) = (b ∷ p) ∷ ps
 -- pieces that end at a byte; the last may lack it
 unfoldable pub pieces : ℕ → List ℕ → List (List ℕ)
 pieces end [] = []
-pieces end (b ∷ s) = cond (eqb b end) ([] ∷ pieces end s) (prepend b (pieces end s))
+pieces end (b ∷ s) = if b == end then [] ∷ pieces end s else prepend b (pieces end s)
 
 -- lines end at byte 10; the last may lack it
 unfoldable pub lines_of : List ℕ → List (List ℕ)
@@ -23,7 +23,7 @@ non_empty ((b ∷ p) ∷ ps) = (b ∷ p) ∷ non_empty ps
 
 -- one or more spaces stand between tokens; spaces may stand before the first and after the last
 unfoldable pub tokens_of : List ℕ → List (List ℕ)
-tokens_of line = non_empty (pieces (code " ") line)
+tokens_of line = non_empty (pieces (byte " ") line)
 
 -- ---- what stands in front of a text, and what behind that
 
@@ -31,12 +31,12 @@ module _ {A : Type 0} where
   -- the longest part from the start whose elements all pass
   abbrev pub take_leading : (A → Bool) → List A → List A
   take_leading p [] = []
-  take_leading p (x ∷ xs) = cond (p x) (x ∷ take_leading p xs) []
+  take_leading p (x ∷ xs) = if p x then x ∷ take_leading p xs else []
 
   -- what stands behind that part
   abbrev pub drop_leading : (A → Bool) → List A → List A
   drop_leading p [] = []
-  drop_leading p (x ∷ xs) = cond (p x) (drop_leading p xs) (x ∷ xs)
+  drop_leading p (x ∷ xs) = if p x then drop_leading p xs else x ∷ xs
 
 abbrev pub in_line : ℕ → Bool
 in_line b = not (is_line_end b)

@@ -1,16 +1,15 @@
 -- Numbers and constants, of any length.
-use Prim.Native.Char.{code}
-use Rattle.std.specs.Prelude.{ℕ, zero, suc, ◌+◌, ◌*◌, ◌-◌, Bool, true, false, not, ◌&&◌, ◌||◌, cond, eqb, leb, ℤ, pos, negsuc, length, List, [], ◌∷◌, fold}
-use Rattle.std.proofs.Math.Option.{Option, none, some, or_else}
-use Rattle.std.specs.Int.{w32}
-use Rattle.std.proofs.Common.{to_z}
-use Rattle.policy.specs.List.{all}
+use Rattle.std.specs.Str.{byte}
+use Rattle.std.specs.Prelude.{ℕ, suc, ◌+◌, ◌*◌, ◌-◌, Bool, true, false, not, ◌&&◌, ◌||◌, ℤ, pos, negsuc, length, List, [], ◌∷◌, fold, Option, Some, None, option_map, ◌==◌, nat_le, if◌then◌else◌}
+use Rattle.std.specs.Option.{option_or}
+use Rattle.std.specs.Int.{w32, cast_signed}
+use Rattle.std.specs.List.{list_all}
 use Rattle.lexer.specs.Byte.{is_digit, hex_value, is_hex_digit}
 
 -- the value of digits, after the value of those before them
 unfoldable pub decimal_from : ℕ → List ℕ → ℕ
 decimal_from v [] = v
-decimal_from v (d ∷ ds) = decimal_from (v * 10 + (d - code "0")) ds
+decimal_from v (d ∷ ds) = decimal_from (v * 10 + (d - byte "0")) ds
 
 abbrev pub is_empty : List ℕ → Bool
 is_empty [] = true
@@ -18,21 +17,18 @@ is_empty (b ∷ bs) = false
 
 -- a number is `0`, or digits that do not start with 0
 unfoldable pub number_of : List ℕ → Option ℕ
-number_of [] = none
-number_of (d ∷ ds) = cond (all is_digit (d ∷ ds) && (is_empty ds || not (eqb d (code "0")))) (some (decimal_from 0 (d ∷ ds))) none
+number_of [] = None
+number_of (d ∷ ds) = if list_all is_digit (d ∷ ds) && (is_empty ds || not (d == byte "0")) then Some (decimal_from 0 (d ∷ ds)) else None
 
-unfoldable pub positive : Option ℕ → Option ℤ
-positive none = none
-positive (some n) = some (pos n)
-
+-- a number behind a minus, other than 0
 unfoldable pub negative : Option ℕ → Option ℤ
-negative (some (suc n)) = some (negsuc n)
-negative _ = none
+negative (Some (suc n)) = Some (negsuc n)
+negative _ = None
 
 -- a decimal constant may have a minus before a number other than 0
 unfoldable pub decimal_of : List ℕ → Option ℤ
-decimal_of [] = none
-decimal_of (b ∷ bs) = cond (eqb b (code "-")) (negative (number_of bs)) (positive (number_of (b ∷ bs)))
+decimal_of [] = None
+decimal_of (b ∷ bs) = if b == byte "-" then negative (number_of bs) else option_map pos (number_of (b ∷ bs))
 
 -- ---- hexadecimal digits, a pattern of 32 bits in two's complement
 
@@ -50,15 +46,15 @@ too_large = pos 2147483648
 
 -- one or more digits; more than eight are out of range, whatever their value
 unfoldable pub pattern_of : List ℕ → Option ℤ
-pattern_of [] = none
+pattern_of [] = None
 pattern_of (d ∷ ds) =
-    cond (all is_hex_digit (d ∷ ds)) (some (cond (leb (length (d ∷ ds)) pattern_digits) (to_z w32 (hex_number (d ∷ ds))) too_large)) none
+    if list_all is_hex_digit (d ∷ ds) then Some (if nat_le (length (d ∷ ds)) pattern_digits then cast_signed w32 (hex_number (d ∷ ds)) else too_large) else None
 
 -- `0x` and such digits
 unfoldable pub hexadecimal_of : List ℕ → Option ℤ
-hexadecimal_of (z ∷ x ∷ ds) = cond (eqb z (code "0") && eqb x (code "x")) (pattern_of ds) none
-hexadecimal_of _ = none
+hexadecimal_of (z ∷ x ∷ ds) = if z == byte "0" && x == byte "x" then pattern_of ds else None
+hexadecimal_of _ = None
 
 -- a constant of a text, or the value of a reading in an epoch line
 unfoldable pub constant_of : List ℕ → Option ℤ
-constant_of t = or_else (decimal_of t) (hexadecimal_of t)
+constant_of t = option_or (decimal_of t) (hexadecimal_of t)

@@ -1,8 +1,8 @@
 -- What one token is read as, and a comparison, which is three. Numbers of any size have the right
 -- shape; ranges are tested afterwards.
-use Prim.Native.Char.{code}
-use Rattle.std.specs.Prelude.{ℕ, Bool, true, false, cond, List, [], ◌∷◌, eqb}
-use Rattle.std.proofs.Math.Option.{Option, none, some, map, or_else}
+use Rattle.std.specs.Str.{byte}
+use Rattle.std.specs.Prelude.{ℕ, Bool, true, false, List, [], ◌∷◌, Option, Some, None, option_map, ◌==◌, if◌then◌else◌}
+use Rattle.std.specs.Option.{option_or}
 use Rattle.policy.specs.declared.comparison.Comparison.{Comparison}
 use Rattle.policy.specs.declared.comparison.Literal.{Literal}
 use Rattle.policy.specs.declared.comparison.Operand.{Operand}
@@ -17,53 +17,53 @@ Token = List ℕ
 
 -- a letter and a number
 unfoldable pub named : ℕ → Token → Option ℕ
-named letter [] = none
-named letter (b ∷ bs) = cond (eqb b letter) (number_of bs) none
+named letter [] = None
+named letter (b ∷ bs) = if b == letter then number_of bs else None
 
 abbrev pub literal_as : Bool → ℕ → Literal
 literal_as negated n = record { event = record { 0 = n }; negated = negated }
 
 -- `E1` or `!E1`
 unfoldable pub literal_of : Token → Option Literal
-literal_of [] = none
-literal_of (b ∷ bs) = cond (eqb b (code "!")) (map (literal_as true) (named (code "E") bs)) (map (literal_as false) (named (code "E") (b ∷ bs)))
+literal_of [] = None
+literal_of (b ∷ bs) = if b == byte "!" then option_map (literal_as true) (named (byte "E") bs) else option_map (literal_as false) (named (byte "E") (b ∷ bs))
 
 abbrev action_as : ℕ → Action
 action_as n = record { 0 = n }
 
 unfoldable pub action_of : Token → Option Action
-action_of t = map action_as (named (code "A") t)
+action_of t = option_map action_as (named (byte "A") t)
 
 abbrev reading_as : ℕ → Reading
 reading_as n = record { 0 = n }
 
 unfoldable pub reading_of : Token → Option Reading
-reading_of t = map reading_as (named (code "R") t)
+reading_of t = option_map reading_as (named (byte "R") t)
 
 unfoldable pub relation_of : Token → Option Relation
 relation_of t =
-    cond (is "=" t) (some Relation.Equal)
-    (cond (is "!=" t) (some Relation.NotEqual)
-    (cond (is "<" t) (some Relation.Less)
-    (cond (is "<=" t) (some Relation.LessOrEqual)
-    (cond (is ">" t) (some Relation.Greater)
-    (cond (is ">=" t) (some Relation.GreaterOrEqual) none)))))
+    if is "=" t then Some Relation.Equal
+    else (if is "!=" t then Some Relation.NotEqual
+    else (if is "<" t then Some Relation.Less
+    else (if is "<=" t then Some Relation.LessOrEqual
+    else (if is ">" t then Some Relation.Greater
+    else (if is ">=" t then Some Relation.GreaterOrEqual else None)))))
 
 unfoldable pub operand_of : Token → Option Operand
-operand_of t = or_else (map Operand.Reading (reading_of t)) (map Operand.Constant (constant_of t))
+operand_of t = option_or (option_map Operand.Reading (reading_of t)) (option_map Operand.Constant (constant_of t))
 
 module _ {A B C : Type 0} where
   unfoldable pub both : (A → B → C) → Option A → Option B → Option C
-  both f (some x) (some y) = some (f x y)
-  both _ _ _ = none
+  both f (Some x) (Some y) = Some (f x y)
+  both _ _ _ = None
 
 abbrev pub compare : Reading → Relation → Operand → Comparison
 compare reading relation operand = record { reading = reading; relation = relation; operand = operand }
 
 -- where all three are there
 abbrev pub comparison_by : Option Reading → Option Relation → Option Operand → Option Comparison
-comparison_by (some reading) (some relation) (some operand) = some (compare reading relation operand)
-comparison_by _ _ _ = none
+comparison_by (Some reading) (Some relation) (Some operand) = Some (compare reading relation operand)
+comparison_by _ _ _ = None
 
 -- a reading, a relation and an operand
 unfoldable pub comparison_of : Token → Token → Token → Option Comparison

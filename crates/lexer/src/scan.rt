@@ -1,7 +1,7 @@
 //! What stands in front of a text: spaces, keywords and numbers, each with what is left behind it. A token ends at a space, a line
 //! end or the end of the text.
 ghost use Rattle.std.specs.Prelude.{◌≡◌, true, false, ◌&&◌, ◌+◌, ◌*◌, ◌-◌, ◌≤◌, option_map};
-ghost use Rattle.policy.specs.List.{all};
+ghost use Rattle.std.specs.List.{list_all};
 ghost use Rattle.lexer.specs.Byte.{is_digit};
 ghost use Rattle.lexer.specs.Number.{is_empty};
 ghost use Rattle.lexer.specs.Steps.Scan.{token_in, without_spaces, keyword_in, in_token, clip, clip_limit, further_digits, starts_digit, digits_in, number_in, name_in, event_in, action_in, reading_in};
@@ -48,9 +48,9 @@ pub fn at_token_end(text: &[u8]) -> bool
 }
 
 /// What stands behind the token in front, if it is the keyword, in which no token ends.
-#[tactic(auto, unfolding(crate::specs::Byte::bytes_equal, crate::specs::Steps::Scan::keyword_in, policy::specs::List::all))]
+#[tactic(auto, unfolding(crate::specs::Byte::bytes_equal, crate::specs::Steps::Scan::keyword_in))]
 pub fn keyword<'a>(text: &'a [u8], keyword: &[u8]) -> Option<&'a [u8]>
-    requires { all in_token keyword.now ≡ true }
+    requires { list_all in_token keyword.now ≡ true }
     ensures { option_map (λ rest. rest.now) result ≡ keyword_in text.now keyword.now }
 {
     let mut rest = text;

@@ -1,3 +1,2 @@
--- What a reader must believe of this layer: `Value`, the value that holds a line. `Steps` need not be read.
+-- What a reader must believe of this layer: `Value`, the value that holds a line.
 pub mod Value
-pub mod Steps

@@ -1,55 +1,47 @@
 //! A line of a rule text by value: a rule or a constraint, with its parts in text order.
 #![tactic(auto)]
 
-ghost use Rattle.std.specs.Prelude.{◌≡◌, [], map, ◌≤◌, length, take};
-ghost use Rattle.policy.specs.Limits.{head_number};
+mod comparison_list;
+mod test_list;
+
+ghost use Rattle.std.specs.Prelude.{◌≡◌, [], map, ◌≤◌};
+ghost use Rattle.policy.specs.Limits.{test_number};
 ghost use Rattle.policy.specs.Line.{constant_count};
 ghost use Rattle.policy.specs.Steps.Seen.{seen_in};
-ghost use Rattle.line_value.specs.Value.{line_of};
+ghost use Rattle.line_value.specs.Value.{no_parts};
 
-use policy::{
-    Action, COMPARISON_LIMIT, Comparison, Ending, HEAD_LIMIT, Head, Operand, Reading, Relation,
-    Test, member, with_member,
-};
+pub use comparison_list::Comparisons;
+use policy::{Ending, member, with_member};
+pub use test_list::Tests;
 
-/// Up to eight heads and four comparisons. What is past the counts is filler. A count of nine or five says that there
-/// were more, which are not held.
-#[derive(Clone, Copy)]
+/// The heads and the comparisons of a line, and what it ends as.
+#[derive(Drop)]
 pub struct Line {
-    pub heads: [Head; HEAD_LIMIT],
-    pub head_count: usize,
-    pub comparisons: [Comparison; COMPARISON_LIMIT],
-    pub comparison_count: usize,
+    pub heads: Tests,
+    pub comparisons: Comparisons,
     pub ending: Ending,
 }
 
 impl Line {
-    /// The heads that are held.
-    #[tactic(auto, using(crate::proofs::LineLaws::taken_all))]
-    pub fn held_heads(&self) -> &[Head]
-        ensures value { result.now ≡ take self.now.head_count self.now.heads }
-        ensures few { length result.now ≤ 8 }
+    /// A line with no part yet.
+    pub fn new() -> Line
+        ensures { result ≡ no_parts }
     {
-        &self.heads[..self.head_count.min(HEAD_LIMIT)]
-    }
-
-    /// The comparisons that are held.
-    #[tactic(auto, using(crate::proofs::LineLaws::taken_all))]
-    pub fn held_comparisons(&self) -> &[Comparison]
-        ensures value { result.now ≡ take self.now.comparison_count self.now.comparisons }
-        ensures few { length result.now ≤ 4 }
-    {
-        &self.comparisons[..self.comparison_count.min(COMPARISON_LIMIT)]
+        Line {
+            heads: Tests::new(),
+            comparisons: Comparisons::new(),
+            ending: Ending::Never,
+        }
     }
 
     /// Whether some event or action stands twice among the heads.
-    pub fn has_repeats(self) -> bool
-        ensures { result ≡ seen_in 0 (map head_number (take self.head_count self.heads)) }
+    #[tactic(auto, using(policy::proofs::SeenLaws::seen_none, policy::proofs::SeenLaws::seen_here, policy::proofs::SeenLaws::seen_past, crate::proofs::LineLaws::items_past, crate::proofs::LineLaws::items_ended))]
+    pub fn has_repeats(&self) -> bool
+        ensures { result ≡ seen_in 0 (map test_number self.now.heads) }
     {
         let mut seen = 0;
-        for head in self.held_heads() {
-            let test = head.0;
-            let n = test.number();
+        for head in self.heads.as_slice() {
+            let n = head.number();
             if member(seen, n) {
                 return true;
             }
@@ -58,34 +50,16 @@ impl Line {
         false
     }
 
-    /// How many of the comparisons that the line holds have a constant.
-    pub fn constants(self) -> usize
-        ensures value { result ≡ constant_count (take self.comparison_count self.comparisons) }
+    /// How many of the comparisons have a constant.
+    #[tactic(auto, using(policy::proofs::SeenLaws::constants_none, policy::proofs::SeenLaws::constants_past, policy::proofs::SeenLaws::one_constant, crate::proofs::LineLaws::items_past, crate::proofs::LineLaws::items_ended))]
+    pub fn constants(&self) -> usize
+        ensures value { result ≡ constant_count self.now.comparisons }
         ensures upper_bound { result ≤ 4 }
     {
         let mut constants = 0;
-        for comparison in self.held_comparisons() {
-            let operand = comparison.operand;
-            constants += operand.constants();
+        for comparison in self.comparisons.as_slice() {
+            constants += comparison.operand.constants();
         }
         constants
-    }
-
-    /// A line with no part yet.
-    pub fn new() -> Line
-        ensures { result ≡ line_of [] [] Ending.Never }
-    {
-        let comparison = Comparison {
-            reading: Reading(0),
-            relation: Relation::Equal,
-            operand: Operand::Constant(0),
-        };
-        Line {
-            heads: [Head(Test::Member(Action(0))); HEAD_LIMIT],
-            head_count: 0,
-            comparisons: [comparison; COMPARISON_LIMIT],
-            comparison_count: 0,
-            ending: Ending::Never,
-        }
     }
 }

@@ -4,7 +4,6 @@ use Rattle.policy.specs.Comparison.{comparison_holds, relation_holds, operand_va
 use Rattle.policy.specs.Epoch.{reading_value}
 use Rattle.policy.specs.Limits.{test_number}
 use Rattle.policy.specs.Line.{heads_of, comparisons_of, ending_of}
-use Rattle.policy.specs.List.{any}
 use Rattle.policy.specs.Set.{has, insert}
 use Rattle.operation.specs.Fields.{pack}
 use Rattle.operation.specs.Operation.{operation_from, relation_from}
@@ -15,5 +14,5 @@ use Rattle.exactness.specs.Examples.{worked}
 use Rattle.meaning.specs.Examples.{runs, computed}
 
 pub runs_hold : map computed runs ≡ runs
-unfolding worked runs computed test_number pack operation_from relation_from test_operation test_word operand_word constant_words comparison_word comparison_words ending_word constant_comparison reading_comparison condition_words part_words line_words lines_words rule_part_words constraint_part_words heads_of comparisons_of ending_of ran comparison_test rule_test constraint_test proposes_at run_rules is_never run_constraints any comparison_holds relation_holds operand_value eq_z reading_value missing_holds values_relate has insert
+unfolding worked runs computed test_number pack operation_from relation_from test_operation test_word operand_word constant_words comparison_word comparison_words ending_word constant_comparison reading_comparison condition_words part_words line_words lines_words rule_part_words constraint_part_words heads_of comparisons_of ending_of ran comparison_test rule_test constraint_test proposes_at run_rules is_never run_constraints comparison_holds relation_holds operand_value eq_z reading_value missing_holds values_relate has insert
 runs_hold = refl

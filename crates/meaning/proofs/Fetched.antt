@@ -1,5 +1,5 @@
 -- How many words of a taken image its parts fetch at the most: each part ends with the ending of a line, which has no constant.
-use Rattle.std.proofs.Common.{ℕ, ◌+◌, ◌≤◌, true, List, [], ◌∷◌, ◌++◌, map, ◌≡◌, refl, ap, ◌∙◌, arith, ltb-true, length, take, length-take, length-drop, length-append, Ok}
+use Rattle.std.proofs.Common.{ℕ, ◌≤◌, true, List, [], ◌∷◌, ◌++◌, map, ◌≡◌, refl, ap, ◌∙◌, arith, ltb-true, length, length-append, Ok}
 use Rattle.policy.specs.Set.{ActionSet}
 use Rattle.policy.proofs.ListLaws.{and_out}
 use Rattle.policy.proofs.ValidLaws.{valid_out}
@@ -11,7 +11,7 @@ use Rattle.policy.specs.declared.comparison.Comparison.{Comparison}
 use Rattle.policy.specs.declared.line.Ending.{Ending}
 use Rattle.policy.specs.declared.line.Test.{Test}
 use Rattle.policy.specs.declared.set.Events.{Events}
-use Rattle.word.specs.Word.{Bytes, words_of, between}
+use Rattle.word.specs.Word.{Bytes}
 use Rattle.operation.proofs.PartsLaws.{causes_operation, never_operation}
 use Rattle.operation.specs.Fields.{operation_of}
 use Rattle.operation.specs.Parts.{test_word, comparison_words, ending_word}
@@ -54,7 +54,7 @@ module _ (e : Ending) (h : ending_in_range e ≡ true) where
       last_behind (test_word t (length (part_words ts cs e))) (part_words ts cs e) (omega (arith, part_length ts cs e, (condition_size_limit cs).0)) ∙ part_last ts cs
 
 lines_last : (ls : List PolicyLine) → all valid ls ≡ true → last_constants (lines_words ls) ≡ 0
-unfolding lines_words line_words all
+unfolding lines_words line_words
 lines_last [] v = refl
 lines_last (l ∷ ls) v =
     let p = and_out (valid l) (all valid ls) v in
@@ -77,5 +77,5 @@ module _ (bytes : List ℕ) (bounded : Bytes bytes) (contents : Contents) (taken
   taken_trial_fetch s =
       let ok = held_acceptable bytes bounded contents taken in
       let last : last_constants contents.constraints ≡ 0 =
-          ap last_constants (taken_constraints bytes bounded contents taken) ∙ lines_last (map constraint (policy_in bytes).constraints) ok.constraints_valid in
+      ap last_constants (taken_constraints bytes bounded contents taken) ∙ lines_last (map constraint (policy_in bytes).constraints) ok.constraints_valid in
       omega (arith, trial_fetches_is rs contents.constraints s)

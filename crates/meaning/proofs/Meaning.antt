@@ -47,7 +47,7 @@ module _ {A : Type 0} (run : ℕ → List ℕ → A) (pass : (n : ℕ) (ws : Lis
   after_test false w tail rest others e h = pass (skip_of w) (tail ++ rest) ∙ ap (run 0) (drop_at tail rest (skip_of w) (sym e))
 
   condition_run : (cs : List Comparison) (rest : List ℕ) → all comparison_in_range cs ≡ true → condition_size cs < 32 → run 0 (condition_words cs ending ++ rest) ≡ cond (all holds cs) (final rest) (run 0 rest)
-  unfolding condition_words condition_size comparisons_size all
+  unfolding condition_words condition_size comparisons_size
   condition_run [] rest r l = ends rest
   condition_run (c ∷ cs) rest r l = go (condition_run cs rest p.1 (omega arith)) (written c (length tail) p.0 (omega (arith, condition_length cs ending)))
     where
@@ -70,7 +70,7 @@ module _ {A : Type 0} (run : ℕ → List ℕ → A) (pass : (n : ℕ) (ws : Lis
       (cs : List Comparison) where
     heads_run : (xs : List X) (rest : List ℕ) → all test_in_range (map wrap xs) ≡ true → all comparison_in_range cs ≡ true → length xs + condition_size cs < 32
         → run 0 (part_words (map wrap xs) cs ending ++ rest) ≡ cond (all test xs && all holds cs) (final rest) (run 0 rest)
-    unfolding part_words all
+    unfolding part_words
     heads_run [] rest t r l = condition_run cs rest r (omega arith)
     heads_run (x ∷ xs) rest t r l =
         head x (length tail) (tail ++ rest) n k
@@ -178,7 +178,7 @@ module _ (ev : Events) (rs : Readings) where
         go false = refl
 
   rules_run_from : (rules : List Rule) (s : ActionSet) → all valid (map rule rules) ≡ true → more s 0 (lines_words (map rule rules)) ≡ fold (propose ev rs) s rules
-  unfolding lines_words all ran
+  unfolding lines_words ran
   rules_run_from [] s v = refl
   rules_run_from (r ∷ rest) s v =
       let p = and_out (valid (rule r)) (all valid (map rule rest)) v in
@@ -200,7 +200,6 @@ module _ (rs : Readings) (s : ActionSet) where
 
   -- a word that ends no constraint
   inner : (w : ℕ) (rest : List ℕ) (op : Operation) → operation_of w ≡ op → is_never op ≡ false → any ends_constraint (w ∷ rest) ≡ any ends_constraint rest
-  unfolding any
   inner w rest op o e = ap (λ (b : Bool). b || any ends_constraint rest) (ap is_never o ∙ e)
 
   -- and that is no comparison with a constant
@@ -218,7 +217,7 @@ module _ (rs : Readings) (s : ActionSet) where
   constraints_reading w ws o = silent w ws Operation.AgainstReading o refl refl
 
   constraints_ends : (ws : List ℕ) → holds 0 (ending_word Ending.Never ∷ ws) ≡ true
-  unfolding any is_never
+  unfolding is_never
   constraints_ends ws =
       ap (any ends_constraint) (ran_other (constraint_test rs s) (ending_word Ending.Never) ws Operation.Never never_operation refl)
       ∙ ap (λ (o : Operation). is_never o || holds (passed (constraint_test rs s Operation.Never (ending_word Ending.Never) (get_or ws 0 0)) (ending_word Ending.Never)) ws) never_operation
@@ -250,7 +249,7 @@ module _ (rs : Readings) (s : ActionSet) where
       go false = refl
 
   constraints_run_all : (cs : List Constraint) → all valid (map constraint cs) ≡ true → holds 0 (lines_words (map constraint cs)) ≡ any (constraint_holds rs s) cs
-  unfolding lines_words all any ran
+  unfolding lines_words ran
   constraints_run_all [] v = refl
   constraints_run_all (c ∷ cs) v =
       let p = and_out (valid (constraint c)) (all valid (map constraint cs)) v in

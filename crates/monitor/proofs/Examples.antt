@@ -1,7 +1,5 @@
 -- Each row of the table of decisions is as it says.
 use Rattle.std.proofs.Common.{map, ◌≡◌, refl}
-use Rattle.std.proofs.Math.Option.{or_else}
-use Rattle.policy.specs.List.{all, any}
 use Rattle.policy.specs.Set.{has, insert, below}
 use Rattle.policy.specs.Epoch.{reading_value}
 use Rattle.policy.specs.Comparison.{eq_z, relation_holds, operand_value, comparison_holds, missing_holds, values_relate}
@@ -10,10 +8,10 @@ use Rattle.policy.specs.Limits.{is_reading_value, test_number, operand_in_range,
 use Rattle.pdl.specs.Greedy.{try_next, kept_below, greedy, cost_below, trials_cost}
 use Rattle.pdl.specs.Yield.{literal_holds, rule_holds, propose, proposals, constraint_holds, conflict, resolve, accepted, cancelled}
 use Rattle.lexer.specs.Byte.{bytes, bytes_equal, is, class_of, hex_value}
-use Rattle.lexer.specs.Number.{decimal_from, number_of, positive, negative, decimal_of, pattern_of, hexadecimal_of, constant_of}
+use Rattle.lexer.specs.Number.{decimal_from, number_of, negative, decimal_of, pattern_of, hexadecimal_of, constant_of}
 use Rattle.lexer.specs.Lines.{prepend, pieces, lines_of, non_empty, tokens_of}
 use Rattle.lexer.specs.Token.{named, literal_of, action_of, reading_of, relation_of, operand_of, both, comparison_of}
-use Rattle.epoch_line.specs.Epoch.{to_left, at_equals, assignment_of, item_of, items_of, item_in_range, given_by, add_item, judge_epoch, read_epoch}
+use Rattle.epoch_line.specs.Epoch.{at_equals, assignment_of, item_of, items_of, item_in_range, given_by, add_item, judge_epoch, read_epoch}
 use Rattle.operation.specs.Operation.{operation_from, relation_from}
 use Rattle.word.specs.Word.{words_of, bytes_of, between}
 use Rattle.operation.specs.Fields.{pack}
@@ -30,5 +28,5 @@ use Rattle.exactness.specs.Examples.{worked, empty_policy, policies, images, ima
 use Rattle.monitor.specs.Examples.{decisions, decided}
 
 pub decisions_hold : map decided decisions ≡ decisions
-unfolding all any has insert below reading_value missing_holds values_relate eq_z relation_holds operand_value comparison_holds heads_of comparisons_of ending_of constant_count is_reading_value test_number operand_in_range comparison_in_range ending_in_range in_range crowded repeats repeated valid try_next kept_below greedy cost_below trials_cost literal_holds rule_holds propose proposals constraint_holds conflict resolve accepted cancelled bytes bytes_equal is class_of decimal_from number_of positive negative hex_value decimal_of pattern_of hexadecimal_of constant_of prepend pieces lines_of non_empty tokens_of named literal_of action_of reading_of relation_of or_else operand_of both comparison_of to_left at_equals assignment_of item_of items_of item_in_range given_by add_item judge_epoch read_epoch operation_from relation_from words_of bytes_of between pack pack_header test_operation test_word operand_word constant_words comparison_word comparison_words constant_comparison reading_comparison ending_word condition_words part_words line_words lines_words known_form check_count sum check_word check_words header_word rule_part_words constraint_part_words content_words image_words image_of well_sized counts_fit sums_to_zero add_literal add_member add_comparison decode_word decode is_prefix in_part stands_at keep_if line_at line_length add_line after_line lines_from part_lines body_answer load_words load ran comparison_test rule_test constraint_test proposes_at run_rules is_never run_constraints fetches up_to rule_fetches trial_fetches kept_by tried_words yielded_by kept_events_by tried_event_words reduced_by reduction_by decided_by on_image decision_in worked empty_policy policies images image_for decisions decided
+unfolding has insert below reading_value missing_holds values_relate eq_z relation_holds operand_value comparison_holds heads_of comparisons_of ending_of constant_count is_reading_value test_number operand_in_range comparison_in_range ending_in_range in_range crowded repeats repeated valid try_next kept_below greedy cost_below trials_cost literal_holds rule_holds propose proposals constraint_holds conflict resolve accepted cancelled bytes bytes_equal is class_of decimal_from number_of negative hex_value decimal_of pattern_of hexadecimal_of constant_of prepend pieces lines_of non_empty tokens_of named literal_of action_of reading_of relation_of operand_of both comparison_of at_equals assignment_of item_of items_of item_in_range given_by add_item judge_epoch read_epoch operation_from relation_from words_of bytes_of between pack pack_header test_operation test_word operand_word constant_words comparison_word comparison_words constant_comparison reading_comparison ending_word condition_words part_words line_words lines_words known_form check_count sum check_word check_words header_word rule_part_words constraint_part_words content_words image_words image_of well_sized counts_fit sums_to_zero add_literal add_member add_comparison decode_word decode is_prefix in_part stands_at keep_if line_at line_length add_line after_line lines_from part_lines body_answer load_words load ran comparison_test rule_test constraint_test proposes_at run_rules is_never run_constraints fetches up_to rule_fetches trial_fetches kept_by tried_words yielded_by kept_events_by tried_event_words reduced_by reduction_by decided_by on_image decision_in worked empty_policy policies images image_for decisions decided
 decisions_hold = refl

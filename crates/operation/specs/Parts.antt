@@ -1,8 +1,7 @@
 -- The words of the parts of a line, and what a word stands for. Packing and unpacking stand side by side;
 -- that each undoes the other is proved (proofs/PartsLaws.antt).
-use Rattle.std.specs.Prelude.{ℕ, cond, List, [], ◌∷◌}
-use Rattle.std.specs.Int.{w32}
-use Rattle.std.proofs.Common.{of_z, to_z}
+use Rattle.std.specs.Prelude.{ℕ, List, [], ◌∷◌, if◌then◌else◌}
+use Rattle.std.specs.Int.{w32, cast_signed, cast_unsigned}
 use Rattle.policy.specs.Limits.{test_number}
 use Rattle.policy.specs.declared.comparison.Comparison.{Comparison}
 use Rattle.policy.specs.declared.comparison.Operand.{Operand}
@@ -18,7 +17,7 @@ use Rattle.operation.specs.declared.operation.Operation.{Operation}
 
 -- the event present or absent, the action in the set
 unfoldable pub test_operation : Test → Operation
-test_operation (Test.Occurs l) = cond l.negated Operation.Absent Operation.Present
+test_operation (Test.Occurs l) = if l.negated then Operation.Absent else Operation.Present
 test_operation (Test.Member a) = Operation.Member
 
 -- the skip of a word is the number of words that follow it in its line
@@ -40,7 +39,7 @@ operand_word reading relation (Operand.Reading r) skip = pack Operation.AgainstR
 
 -- the word behind it: a constant in two's complement
 unfoldable pub constant_words : Operand → List ℕ
-constant_words (Operand.Constant k) = of_z w32 k ∷ []
+constant_words (Operand.Constant k) = cast_unsigned w32 k ∷ []
 constant_words (Operand.Reading r) = []
 
 unfoldable pub comparison_word : Comparison → ℕ → ℕ
@@ -52,7 +51,7 @@ comparison_words c skip = comparison_word c skip ∷ constant_words c.operand
 
 -- a comparison with a constant, from its word and the constant word
 unfoldable pub constant_comparison : ℕ → ℕ → Comparison
-constant_comparison w k = record { reading = record { 0 = first_of w }; relation = relation_from (relation_code_of w); operand = Operand.Constant (to_z w32 k) }
+constant_comparison w k = record { reading = record { 0 = first_of w }; relation = relation_from (relation_code_of w); operand = Operand.Constant (cast_signed w32 k) }
 
 -- a comparison with a reading
 unfoldable pub reading_comparison : ℕ → Comparison

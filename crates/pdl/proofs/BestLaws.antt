@@ -1,12 +1,11 @@
 -- The accepted set precedes every other set of proposed actions on which no constraint holds, and is the only such set that does.
 use Rattle.std.proofs.Common.{List, inl, inr, ap, subst, sym, ⊎_elim, ◌^◌, ◌<◌, ◌↔◌, ◌∙◌, ◌≡◌, ◌⊎◌, true}
-use Rattle.policy.proofs.SetLaws.{has_limit}
 use Rattle.policy.specs.declared.epoch.Epoch.{Epoch}
 use Rattle.policy.specs.declared.epoch.Readings.{Readings}
 use Rattle.policy.specs.Policy.{Policy, Constraint}
 use Rattle.policy.specs.Set.{ActionSet, all_events, has_action, set_of}
 use Rattle.policy.specs.declared.number.Action.{Action}
-use Rattle.pdl.proofs.GreedyLaws.{DifferAt, greedy_best, greedy_differs}
+use Rattle.pdl.proofs.GreedyLaws.{greedy_best, greedy_differs}
 use Rattle.pdl.proofs.Proposals.{proposals_limit}
 use Rattle.pdl.proofs.Resolution.{bad, bad_monotone, no_conflict, resolve_within, resolve_satisfies}
 use Rattle.pdl.specs.Best.{LowestDifference, Precedes, BestIn}

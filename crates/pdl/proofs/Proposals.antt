@@ -11,7 +11,7 @@ use Rattle.policy.specs.List.{all}
 use Rattle.policy.specs.Number.{set_limit}
 use Rattle.pdl.specs.Pdl.{Occurs, OccursAs, Condition, Derives, Interpretation, Model, Entails, DefinedBy, DefinedOnKept, ◌⊆◌, ◌⊑◌}
 use Rattle.policy.specs.Policy.{Rule}
-use Rattle.policy.specs.Set.{ActionSet, EventSet, has, has_event, all_events, keeping, has_action, no_actions, insert_action}
+use Rattle.policy.specs.Set.{ActionSet, EventSet, has_event, all_events, keeping, has_action, no_actions, insert_action}
 use Rattle.pdl.specs.Reduction.{proposed_with}
 use Rattle.pdl.specs.Yield.{literal_holds, rule_holds, propose, proposals, proposed}
 use Rattle.policy.specs.declared.comparison.Comparison.{Comparison}

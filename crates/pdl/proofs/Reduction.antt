@@ -7,7 +7,7 @@ use Rattle.policy.proofs.SetLaws.{has_empty, has_limit}
 use Rattle.policy.specs.Epoch.{InAlphabet}
 use Rattle.policy.specs.declared.epoch.Epoch.{Epoch}
 use Rattle.policy.specs.Policy.{Policy}
-use Rattle.policy.specs.Set.{ActionSet, EventSet, has_event, no_events, insert_event, events_below, has_action, no_actions, union_actions, set_of}
+use Rattle.policy.specs.Set.{EventSet, has_event, no_events, insert_event, events_below, has_action, no_actions, union_actions, set_of}
 use Rattle.policy.specs.declared.number.Action.{Action}
 use Rattle.policy.specs.declared.number.Event.{Event}
 use Rattle.pdl.proofs.GreedyLaws.{Monotone, greedy_dropped, greedy_within, greedy_good, greedy_maximal}

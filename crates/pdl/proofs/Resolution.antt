@@ -1,5 +1,5 @@
 -- Laws of resolving: when a set of actions has a conflict, and what is kept of it.
-use Rattle.std.proofs.Common.{ap, ℕ, ◌^◌, ◌<◌, Bool, true, false, not, List, [], ◌∷◌, ◌≡◌, refl}
+use Rattle.std.proofs.Common.{ap, ℕ, ◌^◌, ◌<◌, Bool, true, false, List, [], ◌∷◌, ◌≡◌, refl}
 use mathlib.Core.List.{Memᴰ}
 use Rattle.pdl.proofs.GreedyLaws.{Monotone, greedy_kept, greedy_dropped, greedy_within, greedy_good, greedy_maximal, greedy_limit}
 use Rattle.policy.proofs.ListLaws.{true_false, not_true_is, and_in, and_out, all_in, all_out, any_in, any_out}
@@ -8,11 +8,11 @@ use Rattle.policy.proofs.SetLaws.{has_empty, has_limit, set_ext}
 use Rattle.policy.specs.Comparison.{comparison_holds}
 use Rattle.policy.specs.Epoch.{SomeOf}
 use Rattle.policy.specs.declared.epoch.Readings.{Readings}
-use Rattle.policy.specs.List.{all, any}
+use Rattle.policy.specs.List.{all}
 use Rattle.policy.specs.Number.{set_limit}
 use Rattle.pdl.specs.Pdl.{HoldsOn, Violated, Satisfies, NameActions, ◌⊆◌}
 use Rattle.policy.specs.Policy.{Constraint}
-use Rattle.policy.specs.Set.{ActionSet, has, has_action, no_actions, insert_action, actions_below, set_of}
+use Rattle.policy.specs.Set.{ActionSet, has_action, no_actions, insert_action, actions_below, set_of}
 use Rattle.pdl.specs.Yield.{constraint_holds, conflict, resolve}
 use Rattle.policy.specs.declared.line.Part.{Part}
 use Rattle.policy.specs.declared.number.Action.{Action}

@@ -1,12 +1,12 @@
 -- Keeping candidates one after another, by rising number, as long as what is kept is not bad.
-use Rattle.std.specs.Prelude.{ℕ, zero, suc, ◌+◌, Bool, not, ◌&&◌, cond}
+use Rattle.std.specs.Prelude.{ℕ, zero, suc, ◌+◌, Bool, not, ◌&&◌, if◌then◌else◌}
 use Rattle.policy.specs.Number.{set_limit}
 use Rattle.policy.specs.Set.{has, insert}
 
 module _ (bad : ℕ → Bool) (candidates : ℕ) where
   -- the trial of n: a candidate is kept unless those kept so far together with it are bad
   unfoldable pub try_next : ℕ → ℕ → ℕ
-  try_next kept n = cond (has candidates n && not (bad (insert kept n))) (insert kept n) kept
+  try_next kept n = if has candidates n && not (bad (insert kept n)) then insert kept n else kept
 
   -- what is kept of the candidates under n
   unfoldable pub kept_below : ℕ → ℕ
@@ -22,7 +22,7 @@ module _ (bad : ℕ → Bool) (cost : ℕ → ℕ) (candidates : ℕ) where
   -- one trial for each candidate under n, kept or not: of those kept before it, together with it
   unfoldable pub cost_below : ℕ → ℕ
   cost_below zero = 0
-  cost_below (suc n) = cost_below n + cond (has candidates n) (cost (insert (kept_below bad candidates n) n)) 0
+  cost_below (suc n) = cost_below n + (if has candidates n then cost (insert (kept_below bad candidates n) n) else 0)
 
   unfoldable pub trials_cost : ℕ
   trials_cost = cost_below set_limit

@@ -1,10 +1,10 @@
 -- What an epoch yields (docs/REFERENCE.md, "What an epoch yields"): when a literal, a rule and a constraint hold, and which actions
 -- of an epoch are proposed, accepted and cancelled.
-use Rattle.std.specs.Prelude.{ℕ, Bool, not, ◌&&◌, cond, List, fold}
+use Rattle.std.specs.Prelude.{ℕ, Bool, not, ◌&&◌, List, fold, if◌then◌else◌}
 use Rattle.policy.specs.Comparison.{comparison_holds}
 use Rattle.policy.specs.declared.epoch.Epoch.{Epoch}
 use Rattle.policy.specs.declared.epoch.Readings.{Readings}
-use Rattle.policy.specs.List.{all, any}
+use Rattle.std.specs.List.{list_all, list_any}
 use Rattle.policy.specs.Policy.{Policy, Rule, Constraint}
 use Rattle.policy.specs.Set.{ActionSet, has_event, all_events, no_actions, has_action, insert_action, actions_without, set_of}
 use Rattle.policy.specs.declared.comparison.Literal.{Literal}
@@ -16,14 +16,14 @@ use Rattle.pdl.specs.Greedy.{greedy}
 
 -- `E1` holds where the event is present, `!E1` where it did not occur
 unfoldable pub literal_holds : Events → Literal → Bool
-literal_holds ev l = cond l.negated (not (has_event ev.occurred l.event)) (has_event ev.present l.event)
+literal_holds ev l = if l.negated then not (has_event ev.occurred l.event) else has_event ev.present l.event
 
 unfoldable pub rule_holds : Events → Readings → Rule → Bool
-rule_holds ev rs r = all (literal_holds ev) r.literals && all (comparison_holds Part.Rules rs) r.comparisons
+rule_holds ev rs r = list_all (literal_holds ev) r.literals && list_all (comparison_holds Part.Rules rs) r.comparisons
 
 -- a rule proposes its action where it holds
 unfoldable pub propose : Events → Readings → ActionSet → Rule → ActionSet
-propose ev rs s r = cond (rule_holds ev rs r) (insert_action s r.action) s
+propose ev rs s r = if rule_holds ev rs r then insert_action s r.action else s
 
 unfoldable pub proposals : List Rule → Events → Readings → ActionSet
 proposals rules ev rs = fold (propose ev rs) no_actions rules
@@ -36,11 +36,11 @@ proposed rules e = proposals rules (all_events e.events) e.readings
 
 -- a constraint holds on a set where all its actions are in the set and all its comparisons hold
 unfoldable pub constraint_holds : Readings → ActionSet → Constraint → Bool
-constraint_holds rs s c = all (has_action s) c.actions && all (comparison_holds Part.Constraints rs) c.comparisons
+constraint_holds rs s c = list_all (has_action s) c.actions && list_all (comparison_holds Part.Constraints rs) c.comparisons
 
 -- some constraint holds on the set
 unfoldable pub conflict : List Constraint → Readings → ActionSet → Bool
-conflict constraints rs s = any (constraint_holds rs s) constraints
+conflict constraints rs s = list_any (constraint_holds rs s) constraints
 
 -- what is kept of a set of actions: by rising number, each unless some constraint holds on those kept so far with it
 unfoldable pub resolve : List Constraint → Readings → ActionSet → ActionSet

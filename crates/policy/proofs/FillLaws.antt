@@ -1,6 +1,6 @@
 -- Laws of filling a lent buffer: what an answer of a size says, and that a refusal changes no byte.
 use Rattle.std.specs.Prelude.{Ok, Err}
-use Rattle.std.proofs.Common.{ℕ, ◌≤◌, Bool, true, false, cond, List, ◌++◌, ◌≡◌, refl, sym, ap, ◌∙◌, arith, leb-true, length, take, drop}
+use Rattle.std.proofs.Common.{ℕ, ◌≤◌, Bool, true, false, cond, List, ◌++◌, ◌≡◌, refl, sym, ap, ◌∙◌, leb-true, length, take, drop}
 use Rattle.std.proofs.Math.Dec.{leb}
 use Rattle.std.proofs.Math.Seq.{take-append_seam, drop-append_seam}
 use Rattle.policy.specs.Fault.{refusal}

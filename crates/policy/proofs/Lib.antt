@@ -5,6 +5,7 @@ pub mod FlagLaws
 pub mod ListLaws
 pub mod MissingLaws
 pub mod RelationLaws
+pub mod ResultLaws
 pub mod SeenLaws
 pub mod SetLaws
 pub mod SignLaws

@@ -32,23 +32,19 @@ bool_ext false b f g = sym (not_true_is b (λ e. true_false (g e) refl))
 
 module _ {A : Type 0} (p : A → Bool) where
   pub all_in : (xs : List A) → ((x : A) → Memᴰ x xs → p x ≡ true) → all p xs ≡ true
-  unfolding all
   all_in [] h = refl
   all_in (x ∷ xs) h = and_in (h x (Memᴰ.head refl)) (all_in xs (λ y m. h y (Memᴰ.tail m)))
 
   pub all_out : (xs : List A) → all p xs ≡ true → (x : A) → Memᴰ x xs → p x ≡ true
-  unfolding all
   all_out [] e x m = elim m [ ]
   all_out (y ∷ ys) e x (Memᴰ.head q) = ap p q ∙ (and_out (p y) (all p ys) e).0
   all_out (y ∷ ys) e x (Memᴰ.tail m) = all_out ys (and_out (p y) (all p ys) e).1 x m
 
   pub all_append : (xs ys : List A) → all p xs ≡ true → all p ys ≡ true → all p (xs ++ ys) ≡ true
-  unfolding all
   all_append [] ys e f = f
   all_append (x ∷ xs) ys e f = let h = and_out (p x) (all p xs) e in and_in h.0 (all_append xs ys h.1 f)
 
   pub any_in : (xs : List A) (x : A) → Memᴰ x xs → p x ≡ true → any p xs ≡ true
-  unfolding any
   any_in [] x m h = elim m [ ]
   any_in (y ∷ ys) x (Memᴰ.head q) h = rw (sym (ap p q) ∙ h)
   any_in (y ∷ ys) x (Memᴰ.tail m) h = or_right (p y) (any_in ys x m h)
@@ -58,7 +54,6 @@ module _ {A : Type 0} (p : A → Bool) where
       or_right false e = e
 
   pub any_out : (xs : List A) → any p xs ≡ true → (x : A) × Memᴰ x xs × (p x ≡ true)
-  unfolding any
   any_out [] e = absurd (true_false e refl)
   any_out (y ∷ ys) e = go (p y) refl e (any_out ys)
     where

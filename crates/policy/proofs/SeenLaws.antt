@@ -55,7 +55,6 @@ has_one_more s n m h = go (eqb n m) refl
     go false e = has_insert_other s n m (λ q. eqb-false n m e (sym q))
 
 any_one_more : (s n : ℕ) → n < set_limit → (ns : List ℕ) → any (has (insert s n)) ns ≡ any (eqb n) ns || any (has s) ns
-unfolding any
 any_one_more s n h [] = refl
 any_one_more s n h (m ∷ ms) = rw (has_one_more s n m h, any_one_more s n h ms) (four (eqb n m) (has s m) (any (eqb n) ms) (any (has s) ms))
   where
@@ -66,12 +65,11 @@ any_one_more s n h (m ∷ ms) = rw (has_one_more s n m h, any_one_more s n h ms)
     four false false c d = refl
 
 none_in_empty : (ns : List ℕ) → any (has 0) ns ≡ false
-unfolding any
 none_in_empty [] = refl
 none_in_empty (n ∷ ns) = rw (has_empty n) (none_in_empty ns)
 
 seen_all : (s : ℕ) (ns : List ℕ) → all (λ (n : ℕ). ltb n set_limit) ns ≡ true → seen_in s ns ≡ any (has s) ns || repeats ns
-unfolding seen_in repeats any all
+unfolding seen_in repeats
 seen_all s [] h = refl
 seen_all s (n ∷ ns) h =
     let p = and_out (ltb n 64) (all (λ (m : ℕ). ltb m set_limit) ns) h in

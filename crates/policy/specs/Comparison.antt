@@ -1,5 +1,5 @@
 -- When a relation holds between two numbers, and when a comparison holds on the readings of an epoch.
-use Rattle.std.specs.Prelude.{Bool, true, false, not, ◌&&◌, ◌≡◌, ℤ, Option, Some, None, List, [], ◌∷◌}
+use Rattle.std.specs.Prelude.{Bool, true, false, not, ◌&&◌, ◌≡◌, ℤ, Option, Some, List, [], ◌∷◌}
 use mathlib.Core.List.{Memᴰ}
 use Rattle.std.specs.Int.Signed.{lt_z, le_z}
 use Rattle.policy.specs.Epoch.{reading_value}
@@ -45,8 +45,7 @@ missing_holds Part.Constraints = true
 -- the relation of two values, or `missing` where there are not two
 unfoldable pub values_relate : Bool → Relation → Option ℤ → Option ℤ → Bool
 values_relate missing relation (Some a) (Some b) = relation_holds relation a b
-values_relate missing relation (Some a) None = missing
-values_relate missing relation None right = missing
+values_relate missing _ _ _ = missing
 
 -- a constant, or the value of another reading
 unfoldable pub operand_value : Readings → Operand → Option ℤ

@@ -1,5 +1,5 @@
 -- An epoch: the events that occur in it, and the readings that it gives.
-use Rattle.std.specs.Prelude.{◌^◌, ◌<◌, cond, slice_get, ◌⊎◌, ◌≡◌, ℤ, Option, None}
+use Rattle.std.specs.Prelude.{◌^◌, ◌<◌, slice_get, ◌⊎◌, ◌≡◌, ℤ, Option, None, if◌then◌else◌}
 use Rattle.policy.specs.Number.{set_limit}
 use Rattle.policy.specs.Set.{has_reading}
 use Rattle.policy.specs.declared.number.Reading.{Reading}
@@ -13,7 +13,7 @@ InAlphabet e = e.events.bits < 2 ^ set_limit
 
 -- a reading that the epoch does not give has no value
 unfoldable pub reading_value : Readings → Reading → Option ℤ
-reading_value rs r = cond (has_reading rs.given r) (slice_get rs.values r.0) None
+reading_value rs r = if has_reading rs.given r then slice_get rs.values r.0 else None
 
 -- each reading that the first has, the second has with the same value
 abbrev pub SomeOf : Readings → Readings → Type 0

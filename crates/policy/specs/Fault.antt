@@ -1,5 +1,6 @@
 -- Faults: the number of each, and of an answer the number and the location, which also says in which text it is.
-use Rattle.std.specs.Prelude.{ℕ}
+use Rattle.std.specs.Prelude.{ℕ, Result}
+use Rattle.std.specs.Result.{result_map_both}
 use Rattle.policy.specs.declared.fault.Fault.{Fault}
 use Rattle.policy.specs.declared.fault.Fault.TheVariants.{TooLong, Syntax, OutOfRange, TooManyParts, TooManyLines, Duplicate, ImageSize, ImageForm, ImageCount, ImageSum, ImageBody, EpochSyntax, EpochRange, DuplicateReading, BufferTooSmall, Unavoidable}
 use Rattle.policy.specs.declared.fault.Refusal.{Refusal}
@@ -36,3 +37,12 @@ refusal f at = record { fault = f; source = Source.Neither; location = at }
 -- the same refusal, in one of the texts
 abbrev pub within : Source → Refusal → Refusal
 within s r = record { fault = r.fault; source = s; location = r.location }
+
+module _ {A : Type 0} where
+  -- the fault, if it is one, at a location
+  abbrev pub located : ℕ → Result A Fault → Result A Refusal
+  located at answer = result_map_both (λ x. x) (λ f. refusal f at) answer
+
+  -- the refusal, if it is one, in one of the texts
+  abbrev pub in_text : Source → Result A Refusal → Result A Refusal
+  in_text source answer = result_map_both (λ x. x) (within source) answer

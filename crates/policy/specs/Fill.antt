@@ -1,6 +1,6 @@
 -- Filling a lent buffer: an accepted call writes just its output, from the start. Where the output has more bytes than the buffer,
 -- the call is refused (fault 15); a refusal leaves the buffer as it was.
-use Rattle.std.specs.Prelude.{ℕ, cond, List, ◌++◌, leb, length, drop, Result, Ok, Err}
+use Rattle.std.specs.Prelude.{ℕ, List, ◌++◌, length, drop, Result, Ok, Err, nat_le, if◌then◌else◌}
 use Rattle.policy.specs.Fault.{refusal}
 use Rattle.policy.specs.declared.fault.Fault.{Fault}
 use Rattle.policy.specs.declared.fault.Refusal.{Refusal}
@@ -18,4 +18,4 @@ deliver bytes buffer = record { answer = Ok (length bytes); buffer = bytes ++ dr
 
 -- the bytes, if there is room for them
 abbrev pub fill : List ℕ → List ℕ → Filled
-fill bytes buffer = cond (leb (length bytes) (length buffer)) (deliver bytes buffer) (refuse (refusal Fault.BufferTooSmall 0) buffer)
+fill bytes buffer = if nat_le (length bytes) (length buffer) then deliver bytes buffer else refuse (refusal Fault.BufferTooSmall 0) buffer

@@ -6,6 +6,7 @@ pub mod Comparison
 pub mod Policy
 pub mod Line
 pub mod List
+pub mod Result
 pub mod Limits
 pub mod Fault
 pub mod Fill

@@ -1,12 +1,2 @@
--- Tests of a whole list.
-use Rattle.std.specs.Prelude.{Bool, List}
-use Rattle.std.specs.List.{list_all, list_any}
-
-module _ {A : Type 0} where
-  -- each element passes
-  unfoldable pub all : (A → Bool) → List A → Bool
-  all p xs = list_all p xs
-
-  -- some element passes
-  unfoldable pub any : (A → Bool) → List A → Bool
-  any p xs = list_any p xs
+-- Short names for the tests of a whole list, for proofs.
+pub use Rattle.std.specs.List.{list_all as all, list_any as any}

@@ -1,5 +1,5 @@
 -- Sets of numbers below 64. A set is a number whose bit n says whether n is in it.
-use Rattle.std.specs.Prelude.{ℕ, zero, suc, ◌+◌, ◌/◌, ◌%◌, ◌^◌, Bool, cond, ltb, eqb, List, map, fold}
+use Rattle.std.specs.Prelude.{ℕ, zero, suc, ◌+◌, ◌/◌, ◌%◌, ◌^◌, Bool, List, map, fold, ◌==◌, nat_lt, if◌then◌else◌}
 use Rattle.std.specs.Int.Bits.{bit_and, bit_or, bit_xor}
 use Rattle.policy.specs.Number.{set_limit}
 use Rattle.policy.specs.declared.number.Event.{Event}
@@ -9,11 +9,11 @@ use Rattle.policy.specs.declared.set.Events.{Events}
 use Rattle.policy.specs.declared.set.Set.{Set}
 
 unfoldable pub has : ℕ → ℕ → Bool
-has s n = eqb (s / 2 ^ n % 2) 1
+has s n = s / 2 ^ n % 2 == 1
 
 -- a number past 63 is not taken in
 unfoldable pub insert : ℕ → ℕ → ℕ
-insert s n = cond (ltb n set_limit) (bit_or s (2 ^ n)) s
+insert s n = if nat_lt n set_limit then bit_or s (2 ^ n) else s
 
 -- the members of either
 abbrev pub union : ℕ → ℕ → ℕ
@@ -30,7 +30,7 @@ below s n = s % 2 ^ n
 -- how many members a set has, of those under n and of all
 unfoldable pub set_size_below : ℕ → ℕ → ℕ
 set_size_below s zero = 0
-set_size_below s (suc n) = set_size_below s n + cond (has s n) 1 0
+set_size_below s (suc n) = set_size_below s n + (if has s n then 1 else 0)
 
 abbrev pub size : ℕ → ℕ
 size s = set_size_below s set_limit

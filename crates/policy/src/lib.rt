@@ -17,7 +17,7 @@ pub use constant::{constant_from, constant_word};
 pub use epoch::{Epoch, ReadingView, Readings};
 pub use fault::{Fault, Refusal, Source};
 pub use limit::{COMPARISON_LIMIT, CONSTRAINT_LIMIT, HEAD_LIMIT, READING_LIMIT, RULE_LIMIT};
-pub use line::{Ending, Head, Part, Test};
+pub use line::{Ending, Part, PerPart, Test};
 pub use mode::Mode;
 pub use number::{Action, Event, Numbered, Reading};
 pub use set::{ActionSet, EventSet, Events, ReadingSet, Set, member, with_member};

@@ -2,9 +2,11 @@
 
 ghost use Rattle.std.specs.Prelude.{◌≡◌};
 ghost use Rattle.policy.specs.Comparison.{missing_holds};
-ghost use Rattle.policy.specs.Limits.{test_number};
+ghost use Rattle.policy.specs.Limits.{test_number, line_limit};
+ghost use Rattle.policy.specs.Line.{ending_part, part_get, part_set};
 
 use crate::comparison::Literal;
+use crate::limit::{CONSTRAINT_LIMIT, RULE_LIMIT};
 use crate::number::Action;
 
 /// The two kinds of lines: the rules of a policy, and its constraints. Each stands in its own part of an image.
@@ -22,6 +24,47 @@ impl Part {
     {
         matches!(self, Part::Constraints)
     }
+
+    /// How many lines of the kind a text may have.
+    pub fn line_limit(self) -> usize
+        ensures { result ≡ line_limit self }
+    {
+        match self {
+            Part::Rules => RULE_LIMIT,
+            Part::Constraints => CONSTRAINT_LIMIT,
+        }
+    }
+}
+
+/// What there is of each kind of line.
+#[derive(Clone, Copy)]
+pub struct PerPart<T> {
+    pub rules: T,
+    pub constraints: T,
+}
+
+impl<T: Copy> PerPart<T> {
+    /// What there is of one kind.
+    pub fn get(self, part: Part) -> T
+        ensures { result ≡ part_get self part }
+    {
+        match part {
+            Part::Rules => self.rules,
+            Part::Constraints => self.constraints,
+        }
+    }
+
+    /// The same with another value for one kind.
+    pub fn with(self, part: Part, value: T) -> PerPart<T>
+        ensures { result ≡ part_set self part value }
+    {
+        let mut changed = self;
+        match part {
+            Part::Rules => changed.rules = value,
+            Part::Constraints => changed.constraints = value,
+        }
+        changed
+    }
 }
 
 /// What stands before the condition of a line: an event literal of a rule, or an action of a constraint.
@@ -38,9 +81,17 @@ pub enum Ending {
     Never,
 }
 
-/// One of up to eight tests of a line.
-#[derive(Clone, Copy)]
-pub struct Head(pub Test);
+impl Ending {
+    /// The kind of a line that ends so.
+    pub fn part(self) -> Part
+        ensures { result ≡ ending_part self }
+    {
+        match self {
+            Ending::Causes(_) => Part::Rules,
+            Ending::Never => Part::Constraints,
+        }
+    }
+}
 
 impl Test {
     /// The number of the event or the action.

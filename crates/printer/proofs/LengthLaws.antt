@@ -21,7 +21,6 @@ use Rattle.output.specs.Number.{decimal}
 use Rattle.printer.specs.Printed.{constant_token, literal_token, action_token, reading_token, relation_token, operand_token, comparison_tokens, joined_by, head_tokens, condition_tokens, line_tokens, line_bytes}
 
 all_map : {A B : Type 0} (p : B → Bool) (f : A → B) (xs : List A) → all p (map f xs) ≡ all (λ x. p (f x)) xs
-unfolding all
 all_map p f [] = refl
 all_map p f (x ∷ xs) = ap (◌&&◌ (p (f x))) (all_map p f xs)
 
@@ -45,7 +44,7 @@ joined_short (t ∷ u ∷ us) h = omega (arith, length-append t (32 ∷ joined_b
 -- there is one separator fewer than there are elements
 module _ {A : Type 0} (p : A → Bool) (f : A → List Token) (sep : Token) (w : ℕ) (fits : (x : A) → p x ≡ true → room (f x) ≤ w) where
   joined_room : (xs : List A) → 0 < length xs → all p xs ≡ true → room (joined_by sep (map f xs)) + (length sep + 1) ≤ length xs * (w + (length sep + 1))
-  unfolding joined_by room all
+  unfolding joined_by room
   joined_room [] n h = absurd (omega arith)
   joined_room (x ∷ []) n h = omega (arith, fits x (and_out (p x) true h).0)
   joined_room (x ∷ y ∷ ys) n h =

@@ -4,7 +4,7 @@ use Rattle.std.proofs.Math.ListN.{length-replicate}
 use Rattle.policy.proofs.ListLaws.{and_in}
 use Rattle.policy.specs.Limits.{is_reading_value, test_number, operand_in_range, comparison_in_range, ending_in_range, in_range, crowded, repeats, repeated, valid, Acceptable}
 use Rattle.policy.specs.Line.{PolicyLine, rule, constraint, heads_of, comparisons_of, ending_of}
-use Rattle.policy.specs.List.{all, any}
+use Rattle.policy.specs.List.{all}
 use Rattle.policy.specs.Policy.{Policy, Rule, Constraint}
 use Rattle.policy.specs.declared.comparison.Comparison.{Comparison}
 use Rattle.policy.specs.declared.comparison.Operand.{Operand}
@@ -32,7 +32,6 @@ long_constraint = record { actions = map (λ (n : ℕ). record { 0 = n }) eight;
 
 module _ {A : Type 0} (line : A → PolicyLine) (x : A) where
   copies_valid : valid (line x) ≡ true → (n : ℕ) → all valid (map line (replicate n x)) ≡ true
-  unfolding all
   copies_valid v zero = refl
   copies_valid v (suc n) = and_in v (copies_valid v n)
 
@@ -53,7 +52,7 @@ unfolding eight comparisons long_constraint bytes digits decimal constant_token 
 constraint_long = refl
 
 long_valid : (valid (rule long_rule) ≡ true) × (valid (constraint long_constraint) ≡ true)
-unfolding eight comparisons long_rule long_constraint is_reading_value test_number operand_in_range comparison_in_range ending_in_range in_range crowded repeats repeated valid heads_of comparisons_of ending_of all any
+unfolding eight comparisons long_rule long_constraint is_reading_value test_number operand_in_range comparison_in_range ending_in_range in_range crowded repeats repeated valid heads_of comparisons_of ending_of
 long_valid = (refl, refl)
 
 -- some acceptable policy has a text of so many bytes

@@ -1,7 +1,7 @@
 -- Laws of reading back: the tokens of each part of a line are read as that part, and those of a valid line as the line.
+use Rattle.std.specs.Prelude.{Option, Some, None, Ok}
 use Rattle.std.proofs.Common.{◌<◌, Bool, true, false, not, cond, List, [], ◌∷◌, ◌++◌, map, ◌≡◌, refl, sym, ap, ◌∙◌, arith, ℤ, pos, negsuc, length}
 use Rattle.std.proofs.lemmas.Bool.{not-true}
-use Rattle.std.proofs.Math.Option.{Option, none, some, or_else}
 use Rattle.policy.specs.Limits.{valid, in_range, crowded, repeated}
 use Rattle.policy.specs.Line.{PolicyLine, rule, constraint, heads_of}
 use Rattle.policy.specs.declared.comparison.Comparison.{Comparison}
@@ -14,7 +14,7 @@ use Rattle.policy.specs.declared.number.Reading.{Reading}
 use Rattle.lexer.specs.Byte.{bytes, bytes_equal, is}
 use Rattle.lexer.specs.Token.{Token, named, literal_of, action_of, reading_of, relation_of, operand_of, both, comparison_of}
 use Rattle.syntax.specs.Grammar.{comparisons_from, condition_from, joined, causes, never, rule_after, constraint_after, after, line_from}
-use Rattle.syntax.specs.Judge.{accepted, judge_line, is_comment, tokens_answer, line_answer}
+use Rattle.syntax.specs.Judge.{judge_line, is_comment, tokens_answer, line_answer}
 use Rattle.printer.proofs.DecimalLaws.{decimal_all, number_read, digits_unnamed, constant_read}
 use Rattle.printer.proofs.SplitLaws.{line_tokens_is}
 use Rattle.policy.proofs.ValidLaws.{valid_tests}
@@ -23,23 +23,23 @@ use Rattle.printer.specs.Printed.{constant_token, literal_token, action_token, r
 
 -- ---- the parts
 
-literal_read : (l : Literal) → literal_of (literal_token l) ≡ some l
+literal_read : (l : Literal) → literal_of (literal_token l) ≡ Some l
 unfolding literal_token literal_of named bytes
 literal_read l = go l.negated refl
   where
-    go : (b : Bool) → l.negated ≡ b → literal_of (cond b (33 ∷ []) [] ++ 69 ∷ decimal l.event.0) ≡ some l
+    go : (b : Bool) → l.negated ≡ b → literal_of (cond b (33 ∷ []) [] ++ 69 ∷ decimal l.event.0) ≡ Some l
     go true e = rw (number_read l.event.0, ← e)
     go false e = rw (number_read l.event.0, ← e)
 
-action_read : (a : Action) → action_of (action_token a) ≡ some a
+action_read : (a : Action) → action_of (action_token a) ≡ Some a
 unfolding action_token action_of named
 action_read a = rw (number_read a.0)
 
-reading_read : (r : Reading) → reading_of (reading_token r) ≡ some r
+reading_read : (r : Reading) → reading_of (reading_token r) ≡ Some r
 unfolding reading_token reading_of named
 reading_read r = rw (number_read r.0)
 
-relation_read : (r : Relation) → relation_of (relation_token r) ≡ some r
+relation_read : (r : Relation) → relation_of (relation_token r) ≡ Some r
 unfolding relation_token relation_of is bytes bytes_equal
 relation_read Relation.Equal = refl
 relation_read Relation.NotEqual = refl
@@ -48,28 +48,28 @@ relation_read Relation.LessOrEqual = refl
 relation_read Relation.Greater = refl
 relation_read Relation.GreaterOrEqual = refl
 
-constant_unnamed : (k : ℤ) → reading_of (constant_token k) ≡ none
+constant_unnamed : (k : ℤ) → reading_of (constant_token k) ≡ None
 unfolding reading_of constant_token named
 constant_unnamed (pos n) = rw (digits_unnamed 82 (decimal n) refl (decimal_all n))
 constant_unnamed (negsuc n) = refl
 
-operand_read : (o : Operand) → operand_of (operand_token o) ≡ some o
-unfolding operand_token operand_of or_else
+operand_read : (o : Operand) → operand_of (operand_token o) ≡ Some o
+unfolding operand_token operand_of
 operand_read (Operand.Constant k) = rw (constant_unnamed k, constant_read k)
 operand_read (Operand.Reading r) = rw (reading_read r)
 
-comparison_read : (c : Comparison) → comparison_of (reading_token c.reading) (relation_token c.relation) (operand_token c.operand) ≡ some c
+comparison_read : (c : Comparison) → comparison_of (reading_token c.reading) (relation_token c.relation) (operand_token c.operand) ≡ Some c
 unfolding comparison_of both
 comparison_read c = rw (reading_read c.reading, relation_read c.relation, operand_read c.operand)
 
 -- ---- the condition
 
-comparisons_read : (c : Comparison) (cs : List Comparison) → comparisons_from (joined_by (bytes ",") (map comparison_tokens (c ∷ cs))) ≡ some (c ∷ cs)
+comparisons_read : (c : Comparison) (cs : List Comparison) → comparisons_from (joined_by (bytes ",") (map comparison_tokens (c ∷ cs))) ≡ Some (c ∷ cs)
 unfolding comparisons_from joined_by comparison_tokens both is bytes bytes_equal
 comparisons_read c [] = rw (comparison_read c)
 comparisons_read c (d ∷ ds) = rw (comparison_read c, comparisons_read d ds)
 
-condition_read : (cs : List Comparison) → condition_from (condition_tokens cs) ≡ some cs
+condition_read : (cs : List Comparison) → condition_from (condition_tokens cs) ≡ Some cs
 unfolding condition_from condition_tokens is bytes bytes_equal
 condition_read [] = refl
 condition_read (c ∷ cs) = comparisons_read c cs
@@ -86,9 +86,9 @@ unfolding ended condition_tokens is bytes bytes_equal
 condition_ended [] = refl
 condition_ended (c ∷ cs) = refl
 
-module _ {A : Type 0} (token : A → Token) (item : Token → Option A) (back : (x : A) → item (token x) ≡ some x) where
+module _ {A : Type 0} (token : A → Token) (item : Token → Option A) (back : (x : A) → item (token x) ≡ Some x) where
   heads_read : (x : A) (xs : List A) (rest : List Token) → ended rest ≡ true
-      → joined item (head_tokens token (x ∷ xs) ++ rest) ≡ some (record { items = x ∷ xs; rest = rest })
+      → joined item (head_tokens token (x ∷ xs) ++ rest) ≡ Some (record { items = x ∷ xs; rest = rest })
   unfolding head_tokens joined_by joined both ended is bytes bytes_equal
   heads_read x [] [] h = rw (back x)
   heads_read x [] (t ∷ ts) h = rw (not-true (is "&" t) h, back x)
@@ -130,7 +130,7 @@ rule_answer t ts h k = rw (h, k)
 
 -- a line is judged by what its tokens are read as
 abbrev Answered : PolicyLine → Type 0
-Answered l = tokens_answer (line_tokens l) ≡ judge_line (some l)
+Answered l = tokens_answer (line_tokens l) ≡ judge_line (Some l)
 
 module _ (cs : List Comparison) where
   rule_read : (a : Action) (x : Literal) (xs : List Literal) → Answered (causes (x ∷ xs) a cs)
@@ -160,12 +160,12 @@ line_judged (constraint c) = go c.actions
     go [] h = absurd (omega arith)
     go (x ∷ xs) h = constraint_read c.comparisons x xs
 
-judge_valid : (l : PolicyLine) → in_range l ≡ true → crowded l ≡ false → repeated l ≡ false → judge_line (some l) ≡ accepted l
+judge_valid : (l : PolicyLine) → in_range l ≡ true → crowded l ≡ false → repeated l ≡ false → judge_line (Some l) ≡ Ok (Some l)
 unfolding judge_line
 judge_valid l h k m = rw (h, k, m)
 
 -- a valid line is read back from its bytes
-pub line_read : (l : PolicyLine) → valid l ≡ true → line_answer (line_bytes l) ≡ accepted l
+pub line_read : (l : PolicyLine) → valid l ≡ true → line_answer (line_bytes l) ≡ Ok (Some l)
 unfolding line_answer
 line_read l v =
     let f = valid_tests l v in

@@ -24,17 +24,15 @@ use Rattle.printer.specs.Printed.{constant_token, literal_token, action_token, r
 
 module _ {A : Type 0} where
   pub all_weaker : (p q : A → Bool) → ((x : A) → p x ≡ true → q x ≡ true) → (xs : List A) → all p xs ≡ true → all q xs ≡ true
-  unfolding all
   all_weaker p q f [] h = refl
   all_weaker p q f (x ∷ xs) h = let r = and_out (p x) (all p xs) h in and_in (f x r.0) (all_weaker p q f xs r.1)
 
   pub all_mapped : {B : Type 0} (p : B → Bool) (f : A → B) → ((x : A) → p (f x) ≡ true) → (xs : List A) → all p (map f xs) ≡ true
-  unfolding all
   all_mapped p f h [] = refl
   all_mapped p f h (x ∷ xs) = and_in (h x) (all_mapped p f h xs)
 
   pub all_joined : (p : A → Bool) (sep : A) (xs : List (List A)) → p sep ≡ true → all (all p) xs ≡ true → all p (joined_by sep xs) ≡ true
-  unfolding all joined_by
+  unfolding joined_by
   all_joined p sep [] s h = refl
   all_joined p sep (x ∷ []) s h = (and_out (all p x) true h).0
   all_joined p sep (x ∷ y ∷ ys) s h =
@@ -47,14 +45,14 @@ abbrev other : ℕ → ℕ → Bool
 other end b = not (eqb b end)
 
 pieces_past : (end : ℕ) (t s : List ℕ) → all (other end) t ≡ true → pieces end (t ++ end ∷ s) ≡ t ∷ pieces end s
-unfolding all pieces prepend
+unfolding pieces prepend
 pieces_past end [] s h = rw (eq-eqb end end refl)
 pieces_past end (b ∷ t) s h =
     let r = and_out (other end b) (all (other end) t) h in
     rw (not-true (eqb b end) r.0) (ap (prepend b) (pieces_past end t s r.1))
 
 pieces_last : (end b : ℕ) (t : List ℕ) → all (other end) (b ∷ t) ≡ true → pieces end (b ∷ t) ≡ (b ∷ t) ∷ []
-unfolding all pieces prepend
+unfolding pieces prepend
 pieces_last end b [] h = rw (not-true (eqb b end) (and_out (other end b) true h).0)
 pieces_last end b (c ∷ t) h =
     let r = and_out (other end b) (all (other end) (c ∷ t)) h in
@@ -93,7 +91,7 @@ no_end b k = go (eqb b 32) (eqb b 10) (and_out (in_token b) (ascii b) k).0
     go false y h = h
 
 tokens_joined : (ts : List Token) → all clean ts ≡ true → tokens_of (joined_by 32 ts) ≡ ts
-unfolding tokens_of joined_by all clean non_empty pieces
+unfolding tokens_of joined_by clean non_empty pieces
 tokens_joined [] h = refl
 tokens_joined ([] ∷ []) h = absurd (true_false h refl)
 tokens_joined ((b ∷ t) ∷ []) h = ap non_empty (pieces_last 32 b t (clean_all (other 32) no_space (b ∷ t) (and_out (clean (b ∷ t)) true h).0))
@@ -116,7 +114,7 @@ unfolding clean
 decimal_clean n = rw (decimal_some n) (decimal_inside n)
 
 sign_clean : (b : ℕ) (t : Token) → inside b ≡ true → clean t ≡ true → clean (b ∷ t) ≡ true
-unfolding clean all
+unfolding clean
 sign_clean b t h k = and_in h (and_out (not (is_empty t)) (all inside t) k).1
 
 literal_clean : (l : Literal) → clean (literal_token l) ≡ true
@@ -136,7 +134,7 @@ unfolding reading_token
 reading_clean r = sign_clean 82 (decimal r.0) refl (decimal_clean r.0)
 
 relation_clean : (r : Relation) → clean (relation_token r) ≡ true
-unfolding relation_token bytes clean all
+unfolding relation_token bytes clean
 relation_clean Relation.Equal = refl
 relation_clean Relation.NotEqual = refl
 relation_clean Relation.Less = refl
@@ -151,20 +149,20 @@ operand_clean (Operand.Constant (negsuc n)) = sign_clean 45 (decimal (suc n)) re
 operand_clean (Operand.Reading r) = reading_clean r
 
 comparison_clean : (c : Comparison) → all clean (comparison_tokens c) ≡ true
-unfolding comparison_tokens all
+unfolding comparison_tokens
 comparison_clean c = and_in (reading_clean c.reading) (and_in (relation_clean c.relation) (and_in (operand_clean c.operand) refl))
 
 condition_clean : (cs : List Comparison) → all clean (condition_tokens cs) ≡ true
-unfolding condition_tokens all clean bytes
+unfolding condition_tokens clean bytes
 condition_clean [] = refl
 condition_clean (c ∷ cs) = all_joined clean (bytes ",") (map comparison_tokens (c ∷ cs)) refl (all_mapped (all clean) comparison_tokens comparison_clean (c ∷ cs))
 
 heads_clean : {A : Type 0} (token : A → Token) → ((x : A) → clean (token x) ≡ true) → (xs : List A) → all clean (head_tokens token xs) ≡ true
-unfolding head_tokens all clean bytes
+unfolding head_tokens clean bytes
 heads_clean token h xs = all_joined clean (bytes "&") (map (λ x. token x ∷ []) xs) refl (all_mapped (all clean) (λ x. token x ∷ []) (λ x. and_in (h x) refl) xs)
 
 line_clean : (l : PolicyLine) → all clean (line_tokens l) ≡ true
-unfolding line_tokens all clean bytes
+unfolding line_tokens clean bytes
 line_clean (rule r) =
     all_append clean (head_tokens literal_token r.literals) (bytes "causes" ∷ action_token r.action ∷ condition_tokens r.comparisons)
     (heads_clean literal_token literal_clean r.literals) (and_in (action_clean r.action) (condition_clean r.comparisons))
@@ -197,6 +195,6 @@ unfolding line_bytes
 line_ascii l = all_joined ascii 32 (line_tokens l) refl (all_weaker clean (all ascii) (clean_all ascii is_ascii) (line_tokens l) (line_clean l))
 
 pub lines_ascii : (ls : List PolicyLine) → all ascii (lines_text ls) ≡ true
-unfolding lines_text all
+unfolding lines_text
 lines_ascii [] = refl
 lines_ascii (l ∷ ls) = all_append ascii (line_bytes l) (10 ∷ lines_text ls) (line_ascii l) (lines_ascii ls)

@@ -1,5 +1,5 @@
 -- The text of a line's value: from its parts, and that it is the text of the line.
-use Rattle.std.proofs.Common.{ℕ, ◌≤◌, ◌<◌, true, List, [], ◌∷◌, ◌++◌, map, append_assoc, append-nil, ◌≡◌, refl, sym, ap, ap₂, ◌∙◌, arith, length, length-append}
+use Rattle.std.proofs.Common.{ℕ, ◌<◌, true, List, [], ◌∷◌, ◌++◌, map, append_assoc, append-nil, ◌≡◌, refl, sym, ap, ap₂, ◌∙◌, arith, length, length-append}
 use Rattle.std.proofs.Math.ListN.{length-map}
 use Rattle.policy.proofs.ValidLaws.{valid_out}
 use Rattle.policy.specs.Limits.{valid}
@@ -8,23 +8,22 @@ use Rattle.policy.specs.declared.comparison.Comparison.{Comparison}
 use Rattle.policy.specs.declared.line.Ending.{Ending}
 use Rattle.policy.specs.declared.line.Test.{Test}
 use Rattle.policy.specs.declared.number.Action.{Action}
-use Rattle.line_value.proofs.LineLaws.{all_held}
-use Rattle.line_value.specs.Value.{head, no_head, no_comparison, line_of, line_value}
+use Rattle.line_value.specs.Value.{line_value}
 use Rattle.line_value.specs.declared.Line.{Line}
 use Rattle.lexer.specs.Byte.{bytes}
 use Rattle.lexer.specs.Token.{Token}
 use Rattle.printer.specs.Printed.{action_token, literal_token, comparison_tokens, joined_by, head_tokens, condition_tokens, line_tokens, line_bytes}
-use Rattle.printer.specs.Steps.Value.{test_token, comparison_text, head_text, linked, heads_text, condition_text, ending_text, value_text}
+use Rattle.printer.specs.Steps.Value.{test_token, comparison_text, linked, heads_text, condition_text, ending_text, value_text}
 
 -- ---- from its parts, in the order in which they are appended
 
-pub value_causes : (l : Line) (a : Action) → l.ending ≡ Ending.Causes a → ((heads_text l ++ bytes " causes ") ++ action_token a) ++ (condition_text l ++ 10 ∷ []) ≡ value_text l
+pub value_causes : (l : Line) (a : Action) → l.ending ≡ Ending.Causes a → ((heads_text l.heads ++ bytes " causes ") ++ action_token a) ++ (condition_text l.comparisons ++ 10 ∷ []) ≡ value_text l
 unfolding value_text ending_text
-value_causes l a e = (simp append_assoc) ∙ ap (λ (x : Ending). ending_text x (heads_text l) (condition_text l)) (sym e)
+value_causes l a e = (simp append_assoc) ∙ ap (λ (x : Ending). ending_text x (heads_text l.heads) (condition_text l.comparisons)) (sym e)
 
-pub value_never : (l : Line) → l.ending ≡ Ending.Never → (bytes "never " ++ heads_text l) ++ (condition_text l ++ 10 ∷ []) ≡ value_text l
+pub value_never : (l : Line) → l.ending ≡ Ending.Never → (bytes "never " ++ heads_text l.heads) ++ (condition_text l.comparisons ++ 10 ∷ []) ≡ value_text l
 unfolding value_text ending_text
-value_never l e = (simp append_assoc) ∙ ap (λ (x : Ending). ending_text x (heads_text l) (condition_text l)) (sym e)
+value_never l e = (simp append_assoc) ∙ ap (λ (x : Ending). ending_text x (heads_text l.heads) (condition_text l.comparisons)) (sym e)
 
 -- ---- it is the text of the line
 
@@ -67,40 +66,22 @@ comparison_spaced : (c : Comparison) → 32 ∷ comparison_text c ≡ spaced (co
 unfolding comparison_tokens comparison_text spaced
 comparison_spaced c = sym (simp (append_assoc, append-nil))
 
-abbrev condition : List Comparison → List ℕ
-condition cs = linked comparison_text (bytes " if ") (bytes " , ") cs
-
-condition_spaced : (cs : List Comparison) → spaced (condition_tokens cs) ≡ condition cs
+condition_spaced : (cs : List Comparison) → spaced (condition_tokens cs) ≡ condition_text cs
 unfolding condition_tokens linked bytes spaced
 condition_spaced [] = refl
 condition_spaced (c ∷ cs) = ap (λ (s : List ℕ). 32 ∷ 105 ∷ 102 ∷ s) (further comparison_tokens comparison_text (bytes ",") comparison_spaced c cs)
 
--- the parts that the value of a line holds
 linked_map : {A B : Type 0} (text : B → List ℕ) (f : A → B) (first next : List ℕ) (xs : List A) → linked text first next (map f xs) ≡ linked (λ x. text (f x)) first next xs
 unfolding linked
 linked_map text f first next [] = refl
 linked_map text f first next (x ∷ xs) = ap (λ (s : List ℕ). first ++ text (f x) ++ s) (linked_map text f next next xs)
-
-heads_held : (l : PolicyLine) → length (heads_of l) ≤ 8 → heads_text (line_value l) ≡ linked test_token [] (bytes " & ") (heads_of l)
-unfolding heads_text line_value line_of
-heads_held l h =
-    ap (linked head_text [] (bytes " & ")) (all_held 8 no_head (map head (heads_of l)) (omega (arith, length-map (heads_of l) head)))
-    ∙ linked_map head_text head [] (bytes " & ") (heads_of l)
-
-condition_held : (l : PolicyLine) → length (comparisons_of l) ≤ 4 → condition_text (line_value l) ≡ condition (comparisons_of l)
-unfolding condition_text line_value line_of
-condition_held l h = ap (linked comparison_text (bytes " if ") (bytes " , ")) (all_held 4 no_comparison (comparisons_of l) h)
-
-value_ending : (l : PolicyLine) → (line_value l).ending ≡ ending_of l
-unfolding line_value line_of
-value_ending l = refl
 
 grouped : (a b c d e : List ℕ) → (a ++ (b ++ (c ++ d))) ++ e ≡ a ++ b ++ c ++ d ++ e
 grouped a b c d e = simp append_assoc
 
 -- a line of one or more heads; 32 stands before both sides
 line_spaced : (l : PolicyLine) → 0 < length (heads_of l)
-    → (32 ∷ line_bytes l) ++ 10 ∷ [] ≡ 32 ∷ ending_text (ending_of l) (linked test_token [] (bytes " & ") (heads_of l)) (condition (comparisons_of l))
+    → (32 ∷ line_bytes l) ++ 10 ∷ [] ≡ 32 ∷ ending_text (ending_of l) (heads_text (heads_of l)) (condition_text (comparisons_of l))
 unfolding line_bytes line_tokens heads_of comparisons_of ending_of ending_text spaced bytes test_token
 line_spaced (rule r) h =
     let heads : List Token = head_tokens literal_token r.literals in
@@ -110,7 +91,7 @@ line_spaced (rule r) h =
     spaced_append heads rest ∙ ap (λ (s : List ℕ). s ++ spaced rest) (heads_spaced literal_token r.literals (omega (arith, length-map r.literals Test.Occurs))) in
     let name : linked test_token [] (bytes " & ") (map Test.Occurs r.literals) ≡ linked literal_token [] (bytes " & ") r.literals = linked_map test_token Test.Occurs [] (bytes " & ") r.literals in
     ap (λ (s : List ℕ). s ++ 10 ∷ []) (spaced_joined (heads ++ rest) some ∙ all)
-    ∙ rw (name, condition_spaced r.comparisons) (ap (λ (s : List ℕ). 32 ∷ s) (grouped (linked literal_token [] (bytes " & ") r.literals) (bytes " causes ") (action_token r.action) (condition r.comparisons) (10 ∷ [])))
+    ∙ rw (name, condition_spaced r.comparisons) (ap (λ (s : List ℕ). 32 ∷ s) (grouped (linked literal_token [] (bytes " & ") r.literals) (bytes " causes ") (action_token r.action) (condition_text r.comparisons) (10 ∷ [])))
 line_spaced (constraint c) h =
     let heads : List Token = head_tokens action_token c.actions in
     let rest : List Token = condition_tokens c.comparisons in
@@ -118,14 +99,8 @@ line_spaced (constraint c) h =
     spaced_append heads rest ∙ ap (λ (s : List ℕ). s ++ spaced rest) (heads_spaced action_token c.actions (omega (arith, length-map c.actions Test.Member))) in
     let name : linked test_token [] (bytes " & ") (map Test.Member c.actions) ≡ linked action_token [] (bytes " & ") c.actions = linked_map test_token Test.Member [] (bytes " & ") c.actions in
     ap (λ (s : List ℕ). s ++ 10 ∷ []) (spaced_joined (bytes "never" ∷ heads ++ rest) (omega arith) ∙ ap (λ (s : List ℕ). (32 ∷ bytes "never") ++ s) all)
-    ∙ rw (name, condition_spaced c.comparisons) (ap (λ (s : List ℕ). 32 ∷ s) (grouped [] (bytes "never ") (linked action_token [] (bytes " & ") c.actions) (condition c.comparisons) (10 ∷ [])))
+    ∙ rw (name, condition_spaced c.comparisons) (ap (λ (s : List ℕ). 32 ∷ s) (grouped [] (bytes "never ") (linked action_token [] (bytes " & ") c.actions) (condition_text c.comparisons) (10 ∷ [])))
 
 pub value_text_is : (l : PolicyLine) → valid l ≡ true → value_text (line_value l) ≡ line_bytes l ++ 10 ∷ []
 unfolding value_text
-value_text_is l v =
-    let p = valid_out l v in
-    let held : value_text (line_value l) ≡ ending_text (ending_of l) (linked test_token [] (bytes " & ") (heads_of l)) (condition (comparisons_of l)) =
-    ap (λ (e : Ending). ending_text e (heads_text (line_value l)) (condition_text (line_value l))) (value_ending l)
-    ∙ ap₂ (ending_text (ending_of l)) (heads_held l p.few_tests) (condition_held l p.few_comparisons) in
-    let both : 32 ∷ (line_bytes l ++ 10 ∷ []) ≡ 32 ∷ value_text (line_value l) = line_spaced l p.some ∙ ap (λ (s : List ℕ). 32 ∷ s) (sym held) in
-    cc
+value_text_is l v = let both : 32 ∷ (line_bytes l ++ 10 ∷ []) ≡ 32 ∷ value_text (line_value l) = line_spaced l (valid_out l v).some in cc

@@ -1,7 +1,6 @@
 -- Texts that are printed from their own policies: a worked example, and each part of a line.
-use Rattle.std.specs.Prelude.{ℕ, List, [], ◌∷◌}
+use Rattle.std.specs.Prelude.{ℕ, List, [], ◌∷◌, Option, option_map}
 use Prim.Native.String.{String}
-use Rattle.std.proofs.Math.Option.{Option, map}
 use Rattle.lexer.specs.Byte.{bytes}
 use Rattle.rule_text.specs.Text.{policy_of}
 use Rattle.printer.specs.Printed.{text_of}
@@ -15,4 +14,4 @@ printed_texts =
 
 -- the text printed from the policy of a text
 unfoldable pub reprinted : String → Option (List ℕ)
-reprinted s = map text_of (policy_of (bytes s))
+reprinted s = option_map text_of (policy_of (bytes s))

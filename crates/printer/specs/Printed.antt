@@ -1,7 +1,7 @@
 -- The rule text written from a policy (docs/REFERENCE.md, "The rule text"), in one form of its own. The rules come first, then the
 -- constraints, one space stands between tokens, and every line is ended.
-use Prim.Native.Char.{code}
-use Rattle.std.specs.Prelude.{ℕ, cond, List, [], ◌∷◌, ◌++◌, map, ℤ}
+use Rattle.std.specs.Str.{byte}
+use Rattle.std.specs.Prelude.{ℕ, List, [], ◌∷◌, ◌++◌, map, ℤ, if◌then◌else◌}
 use Rattle.policy.specs.Line.{PolicyLine, rule, constraint}
 use Rattle.policy.specs.Policy.{Policy}
 use Rattle.policy.specs.declared.comparison.Comparison.{Comparison}
@@ -20,13 +20,13 @@ unfoldable pub constant_token : ℤ → Token
 constant_token k = integer k
 
 unfoldable pub literal_token : Literal → Token
-literal_token l = cond l.negated (bytes "!") [] ++ code "E" ∷ decimal l.event.0
+literal_token l = (if l.negated then bytes "!" else []) ++ byte "E" ∷ decimal l.event.0
 
 unfoldable pub action_token : Action → Token
-action_token a = code "A" ∷ decimal a.0
+action_token a = byte "A" ∷ decimal a.0
 
 unfoldable pub reading_token : Reading → Token
-reading_token r = code "R" ∷ decimal r.0
+reading_token r = byte "R" ∷ decimal r.0
 
 unfoldable pub relation_token : Relation → Token
 relation_token Relation.Equal = bytes "="
@@ -70,7 +70,7 @@ line_tokens (constraint c) = bytes "never" ∷ head_tokens action_token c.action
 
 -- without its end
 unfoldable pub line_bytes : PolicyLine → List ℕ
-line_bytes l = joined_by (code " ") (line_tokens l)
+line_bytes l = joined_by (byte " ") (line_tokens l)
 
 -- ---- texts
 

@@ -1,6 +1,9 @@
 -- Of a text over its length 32,769 bytes are enough, whatever a run leaves.
+use Rattle.std.specs.Prelude.{Result, Ok, Err}
 use Rattle.std.proofs.Common.{◌≡◌, ℕ, List, take, ◌∙◌, ap₂, subst}
-use Rattle.rule_text.specs.Text.{Progress, reading, stopped, read_texts}
+use Rattle.policy.specs.Policy.{Policy}
+use Rattle.policy.specs.declared.fault.Refusal.{Refusal}
+use Rattle.rule_text.specs.Text.{read_texts}
 use Rattle.acceptance.proofs.Cut.{texts_cut}
 use Rattle.stream.specs.declared.failure.Failure.{Failure}
 use Rattle.stream.specs.Lines.{whole_part}
@@ -24,15 +27,15 @@ module _ (maker site first second : List ℕ) (m : first ≡ take 32769 maker) (
     pub answered_texts_cut : AnswersTexts (read_texts first second) first second old new → AnswersTexts (read_texts maker site) maker site old new
     answered_texts_cut h = go (read_texts maker site) (subst (λ p. AnswersTexts p first second old new) read_cut h)
       where
-        go : (p : Progress) → AnswersTexts p first second old new → AnswersTexts p maker site old new
-        go (stopped r) h = h
-        go (reading n policy) h =
+        go : (p : Result Policy Refusal) → AnswersTexts p first second old new → AnswersTexts p maker site old new
+        go (Err r) h = h
+        go (Ok policy) h =
             subst (λ d. AnswersAll (answers_printed maker site) d old new) due_cut (subst (λ a. AnswersAll a (answers_due first second) old new) answered_cut h)
 
     pub end_cut : (e : Failure) → QuestionsEndBy e (read_texts first second) first second old new → QuestionsEndBy e (read_texts maker site) maker site old new
     end_cut e h = go (read_texts maker site) (subst (λ p. QuestionsEndBy e p first second old new) read_cut h)
       where
-        go : (p : Progress) → QuestionsEndBy e p first second old new → QuestionsEndBy e p maker site old new
-        go (stopped r) h = h
-        go (reading n policy) h =
+        go : (p : Result Policy Refusal) → QuestionsEndBy e p first second old new → QuestionsEndBy e p maker site old new
+        go (Err r) h = h
+        go (Ok policy) h =
             subst (λ d. EndsBy e d (answers_printed maker site) old new) due_cut (subst (λ a. EndsBy e (answers_due first second) a old new) answered_cut h)

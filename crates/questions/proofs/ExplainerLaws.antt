@@ -3,10 +3,10 @@ use Rattle.std.specs.Prelude.{Result, Ok, Err}
 use Rattle.std.proofs.Common.{◌≡◌, ℕ, ◌≤◌, Bool, true, false, cond, List, [], ◌++◌, length, take, refl, sym, ap, ◌∙◌, subst, append-nil, arith}
 use Rattle.policy.specs.Policy.{Policy}
 use Rattle.policy.specs.declared.fault.Refusal.{Refusal}
-use Rattle.rule_text.specs.Text.{reading, stopped, read_texts}
+use Rattle.rule_text.specs.Text.{read_texts}
 use Rattle.layout.specs.Layout.{image_of}
 use Rattle.codegen.specs.Compile.{newest_form, compiled_texts}
-use Rattle.codegen.proofs.RoomLaws.{Read, texts_read_is, texts_stopped}
+use Rattle.codegen.proofs.RoomLaws.{Read, texts_read_is, texts_refusal}
 use Rattle.questions.specs.Answered.{answers_printed}
 use Rattle.questions.specs.Steps.Asked.{answer_held, last_answer}
 use Rattle.questions.specs.Steps.Explainer.{open_line, printed_of, given_of, IsAnswered, Starts}
@@ -78,14 +78,14 @@ answered_waits old new a = waits_alone new.maker.now new.site.now new.image.now 
 
 -- ---- before any input
 
-module _ (maker site : List ℕ) (m : ℕ) (p : Policy) (r : read_texts maker site ≡ reading m p) where
+module _ (maker site : List ℕ) (p : Policy) (r : read_texts maker site ≡ Ok p) where
   module _ (first second words : List ℕ) (n : ℕ) (q : Question) (held waits : List ℕ) (f : first ≡ maker) (s : second ≡ site) (w : words ≡ image_of newest_form p)
       (z : n ≡ 0) (b : q ≡ start_question) (u : waits ≡ []) (long : length held ≡ 1025) where
     all_answered : (λ rest. waits ++ answers_to_end first second words n (held_by q held) rest) ≡ answers_printed maker site
-    all_answered = rw (f, s, w, z, b, u) (starts_answered maker site m p r held long)
+    all_answered = rw (f, s, w, z, b, u) (starts_answered maker site p r held long)
 
     all_due : (λ rest. waits ++ answers_so_far first second words n (held_by q held) rest) ≡ answers_due maker site
-    all_due = rw (f, s, w, z, b, u) (starts_due maker site m p r held long)
+    all_due = rw (f, s, w, z, b, u) (starts_due maker site p r held long)
 
   module _ (e : Explainer) (words : List ℕ) (s : Starts e maker site words) (w : words ≡ image_of newest_form p) where
     none : take e.used e.out ≡ []
@@ -108,5 +108,5 @@ module _ (maker site buffer : List ℕ) (room : length buffer ≡ 13064) (answer
   pub image_read : (size : ℕ) → answer ≡ Ok size → Read (read_texts maker site) after size
   image_read size e = subst (λ (l : List ℕ). Read (read_texts maker site) l size) (sym b) (texts_read_is maker site buffer room size (sym a ∙ e))
 
-  pub texts_refused : (x : Refusal) → answer ≡ Err x → read_texts maker site ≡ stopped x
-  texts_refused x e = texts_stopped maker site buffer room x (sym a ∙ e)
+  pub texts_refused : (x : Refusal) → answer ≡ Err x → read_texts maker site ≡ Err x
+  texts_refused x e = texts_refusal maker site buffer room x (sym a ∙ e)

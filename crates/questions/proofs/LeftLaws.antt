@@ -1,12 +1,14 @@
 -- What is answered along the rest of the input is what is printed for it by lines.
+use Rattle.std.specs.Prelude.{Result, Ok}
 use Rattle.std.proofs.Common.{◌≡◌, ℕ, Bool, true, false, cond, eqb, List, [], ◌∷◌, ◌++◌, length, take, refl, sym, ap, ap₂, ◌∙◌, append_assoc, eqb-true, fold}
 use Rattle.std.proofs.lemmas.Bool.{not-true}
 use Rattle.std.proofs.lemmas.List.Sums.{fold-append}
 use Rattle.policy.proofs.ListLaws.{and_out, all_append}
 use Rattle.policy.specs.List.{all}
 use Rattle.policy.specs.Policy.{Policy}
+use Rattle.policy.specs.declared.fault.Refusal.{Refusal}
 use Rattle.lexer.specs.Lines.{pieces, lines_of, take_leading, in_line}
-use Rattle.rule_text.specs.Text.{Progress, reading, read_texts}
+use Rattle.rule_text.specs.Text.{read_texts}
 use Rattle.layout.specs.Layout.{image_of}
 use Rattle.codegen.specs.Compile.{newest_form}
 use Rattle.stream.specs.Lines.{add_to_whole, whole_part}
@@ -27,7 +29,7 @@ module _ (maker site image : List ℕ) (last : ℕ → Held → List ℕ) where
   from = answers_from maker site image last
 
   along : (w rest : List ℕ) (n : ℕ) (h : Held) → all in_line w ≡ true → from n h (w ++ rest) ≡ from n (fold pushed h w) rest
-  unfolding answers_from all
+  unfolding answers_from
   along [] rest n h e = refl
   along (b ∷ w) rest n h e =
       let p = and_out (in_line b) (all in_line w) e in
@@ -75,7 +77,6 @@ snoc : (line rest : List ℕ) (b : ℕ) → (line ++ b ∷ []) ++ rest ≡ line 
 snoc line rest b = append_assoc line (b ∷ []) rest
 
 line_more : (line : List ℕ) (b : ℕ) → all in_line line ≡ true → eqb b 10 ≡ false → all in_line (line ++ b ∷ []) ≡ true
-unfolding all
 line_more line b h e = all_append in_line line (b ∷ []) h (rw e refl)
 
 behind_end : (part : List ℕ) → add_to_whole 10 part ≡ 10 ∷ part
@@ -90,7 +91,7 @@ behind_nothing : (part : List ℕ) → behind_line [] part ≡ part
 behind_nothing [] = refl
 behind_nothing (x ∷ part) = refl
 
-module _ (maker site : List ℕ) (m : ℕ) (p : Policy) (r : read_texts maker site ≡ reading m p) where
+module _ (maker site : List ℕ) (p : Policy) (r : read_texts maker site ≡ Ok p) where
   abbrev image : List ℕ
   image = image_of newest_form p
 
@@ -108,7 +109,7 @@ module _ (maker site : List ℕ) (m : ℕ) (p : Policy) (r : read_texts maker si
         → answers n (fold pushed (held_by start_question first) begins) rest ≡ answer_lines maker site n (lines_of (whole begins rest))
 
     by_byte : (b : ℕ) (rest : List ℕ) → ByLines rest → ByLines (b ∷ rest)
-    unfolding answers_from answer_lines all
+    unfolding answers_from answer_lines
     by_byte b rest same begins first n long h = go (eqb b 10) refl
       where
         line : Held
@@ -127,7 +128,7 @@ module _ (maker site : List ℕ) (m : ℕ) (p : Policy) (r : read_texts maker si
             let ten : b ≡ 10 = eqb-true b 10 e in
             let lines : lines_of (whole begins (b ∷ rest)) ≡ begins ∷ lines_of (whole [] rest) =
             ap (λ (c : ℕ). lines_of (whole begins (c ∷ rest))) ten ∙ ap lines_of (ends_line begins rest) ∙ line_ends begins (whole [] rest) h in
-            ap₂ (λ (x y : List ℕ). x ++ y) (line_answered maker site m p r (next_number n) begins line (line_says begins first long)) ended
+            ap₂ (λ (x y : List ℕ). x ++ y) (line_answered maker site p r (next_number n) begins line (line_says begins first long)) ended
             ∙ sym (ap (answer_lines maker site n) lines)
         go false e =
             ap (λ (x : Held). answers n x rest) (sym (fold-append pushed (held_by start_question first) begins (b ∷ [])))
@@ -142,17 +143,17 @@ module _ (maker site : List ℕ) (m : ℕ) (p : Policy) (r : read_texts maker si
   module _ (first : List ℕ) (long : length first ≡ 1025) where
     started : (lines : List (List ℕ)) → answer_lines maker site 0 lines ≡ answers_on maker site (read_texts maker site) lines
     unfolding answers_on
-    started lines = sym (ap (λ (s : Progress). answers_on maker site s lines) r)
+    started lines = sym (ap (λ (s : Result Policy Refusal). answers_on maker site s lines) r)
 
     pub starts_answered : (λ (rest : List ℕ). answers_to_end maker site image 0 (held_by start_question first) rest) ≡ answers_printed maker site
-    unfolding answers_printed all
+    unfolding answers_printed
     starts_answered =
         pointwise _ (answers_printed maker site)
-        (λ rest. by_lines (last_answer maker site image) (λ begins rest. begins ++ rest) (last_answered maker site m p r) (λ begins rest. refl)
+        (λ rest. by_lines (last_answer maker site image) (λ begins rest. begins ++ rest) (last_answered maker site p r) (λ begins rest. refl)
         (λ begins rest b e. snoc begins rest b) rest [] first 0 long refl ∙ started (lines_of rest))
 
     pub starts_due : (λ (rest : List ℕ). answers_so_far maker site image 0 (held_by start_question first) rest) ≡ answers_due maker site
-    unfolding answers_due answers_printed all answer_lines lines_of pieces
+    unfolding answers_due answers_printed answer_lines lines_of pieces
     starts_due =
         pointwise _ (answers_due maker site)
         (λ rest. by_lines (λ n h. []) (λ begins rest. behind_line begins (whole_part rest)) (λ n first long begins h. refl)

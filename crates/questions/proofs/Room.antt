@@ -1,14 +1,15 @@
 -- The buffers of the program are long enough: of each text 32,769 bytes, of an answer 32,802, of a refusal 64.
-use Rattle.std.proofs.Common.{ℕ, min, ◌^◌, ◌≤◌, ◌<◌, Bool, true, false, List, ◌⊎◌, inl, inr, ◌≡◌, refl, sym, ap, ap₂, ◌∙◌, arith, ltb, take_all, ltb-true, ltb-false, length, take, Result, Ok, Err}
-use Rattle.policy.specs.Fault.{refusal, within}
+use Rattle.std.proofs.Common.{ℕ, min, ◌^◌, ◌≤◌, ◌<◌, List, ◌≡◌, refl, sym, ap, ap₂, ◌∙◌, arith, take_all, length, take, Result, Ok, Err}
+use Rattle.policy.proofs.ResultLaws.{and_then_ok, in_text_ok}
+use Rattle.policy.specs.Fault.{in_text}
 use Rattle.policy.specs.Policy.{Policy}
-use Rattle.policy.specs.declared.fault.Fault.{Fault}
 use Rattle.policy.specs.declared.fault.Refusal.{Refusal}
 use Rattle.policy.specs.declared.fault.Source.{Source}
 use Rattle.lexer.specs.Byte.{bytes}
 use Rattle.lexer.specs.Lines.{lines_of}
-use Rattle.rule_text.specs.Text.{Progress, reading, stopped, empty_policy, in_text, read_text, read_site, read_texts}
-use Rattle.acceptance.proofs.Cut.{long_stops, texts_cut}
+use Rattle.rule_text.proofs.ReadLaws.{behind_read}
+use Rattle.rule_text.specs.Text.{empty_policy, read_text_behind, read_text, read_texts}
+use Rattle.acceptance.proofs.Cut.{texts_cut}
 use Rattle.acceptance.proofs.Locations.{locations_small}
 use Rattle.explanation.proofs.SizeLaws.{said_size, said_size_on}
 use Rattle.explanation.specs.Part.{of_maker, of_site}
@@ -25,58 +26,35 @@ use Rattle.questions.specs.Answered.{quoted_line, explained_line, answers_on, an
 -- ---- texts
 
 module _ (maker site : List ℕ) where
-  record Refused : Type 0 where
-    why : Refusal
-    read : read_texts maker site ≡ stopped why
-
-  -- a text that is too long is refused
-  short-or-refused : ((length maker ≤ 32768) × (length site ≤ 32768)) ⊎ Refused
-  unfolding read_texts read_site read_text in_text
-  short-or-refused = go (ltb 32768 (length maker)) refl (ltb 32768 (length site)) refl (read_text maker) refl
-    where
-      go : (b : Bool) → ltb 32768 (length maker) ≡ b → (c : Bool) → ltb 32768 (length site) ≡ c → (s : Progress) → read_text maker ≡ s
-          → ((length maker ≤ 32768) × (length site ≤ 32768)) ⊎ Refused
-      go false m false s p e = inl (ltb-false 32768 (length maker) m, ltb-false 32768 (length site) s)
-      go true m c s p e =
-          inr (record {
-            why = within Source.Maker (refusal Fault.TooLong 0);
-            read = ap (λ (x : Progress). read_site (in_text Source.Maker x) site) (long_stops empty_policy maker (ltb-true 32768 (length maker) m));
-          })
-      go false m true s (stopped r) e = inr (record { why = r; read = ap (λ (x : Progress). read_site x site) e })
-      go false m true s (reading n p) e =
-          inr (record {
-            why = within Source.Site (refusal Fault.TooLong 0);
-            read = ap (λ (x : Progress). read_site x site) e ∙ ap (in_text Source.Site) (long_stops p site (ltb-true 32768 (length site) s));
-          })
-
-  -- so texts that are accepted are not too long
-  pub accepted-short : {n : ℕ} {p : Policy} → read_texts maker site ≡ reading n p → (length maker ≤ 32768) × (length site ≤ 32768)
-  accepted-short {n} {p} e = go short-or-refused
-    where
-      go : ((length maker ≤ 32768) × (length site ≤ 32768)) ⊎ Refused → (length maker ≤ 32768) × (length site ≤ 32768)
-      go (inl h) = h
-      go (inr r) = let q : stopped r.why ≡ reading n p = sym r.read ∙ e in cc
+  -- texts that are accepted are not too long
+  pub accepted-short : {p : Policy} → read_texts maker site ≡ Ok p → (length maker ≤ 32768) × (length site ≤ 32768)
+  unfolding read_texts read_text
+  accepted-short {p} e =
+      let k = and_then_ok (λ (a : Policy). in_text Source.Site (read_text_behind a site)) (read_text maker) p e in
+      let m = in_text_ok Source.Maker (read_text_behind empty_policy maker) k.0 k.1 in
+      let s = in_text_ok Source.Site (read_text_behind k.0 site) p k.2 in
+      ((behind_read empty_policy maker k.0 m).0, (behind_read k.0 site p s).0)
 
   -- of a text over its length 32,769 bytes are enough
   pub answers_cut : (input : List ℕ) → answers_printed (take 32769 maker) (take 32769 site) input ≡ answers_printed maker site input
   unfolding answers_printed answers_on
   answers_cut input =
-      ap (λ (s : Progress). answers_on (take 32769 maker) (take 32769 site) s (lines_of input)) (texts_cut maker site) ∙ go short-or-refused
+      ap (λ (r : Result Policy Refusal). answers_on (take 32769 maker) (take 32769 site) r (lines_of input)) (texts_cut maker site) ∙ go (read_texts maker site) refl
     where
-      go : ((length maker ≤ 32768) × (length site ≤ 32768)) ⊎ Refused
-          → answers_on (take 32769 maker) (take 32769 site) (read_texts maker site) (lines_of input) ≡ answers_on maker site (read_texts maker site) (lines_of input)
-      go (inl (m, s)) =
-          ap₂ (λ (x y : List ℕ). answers_on x y (read_texts maker site) (lines_of input)) (take_all 32769 maker (omega arith)) (take_all 32769 site (omega arith))
-      go (inr r) = rw r.read
+      go : (r : Result Policy Refusal) → read_texts maker site ≡ r → answers_on (take 32769 maker) (take 32769 site) r (lines_of input) ≡ answers_on maker site r (lines_of input)
+      go (Ok p) e =
+          let h = accepted-short e in
+          ap₂ (λ (x y : List ℕ). answers_on x y (Ok p) (lines_of input)) (take_all 32769 maker (omega arith)) (take_all 32769 site (omega arith))
+      go (Err x) e = refl
 
   -- ---- a refusal
 
-  pub refusal_whole : (x : Refusal) → read_texts maker site ≡ stopped x → (out after : List ℕ) (end : ℕ) → 64 ≤ length out
+  pub refusal_whole : (x : Refusal) → read_texts maker site ≡ Err x → (out after : List ℕ) (end : ℕ) → 64 ≤ length out
       → (end ≡ behind out 0 (texts_refusal_line x)) × (after ≡ appended out 0 (texts_refusal_line x)) → (input : List ℕ) → take end after ≡ answers_printed maker site input
   unfolding answers_printed answers_on
   refusal_whole x e out after end room p input =
       put_take out 0 (texts_refusal_line x) after end (omega (arith, texts_refusal_short x (omega (arith, locations_small maker site x e)))) p
-      ∙ sym (ap (λ (s : Progress). answers_on maker site s (lines_of input)) e)
+      ∙ sym (ap (λ (s : Result Policy Refusal). answers_on maker site s (lines_of input)) e)
 
 -- ---- an answer
 

@@ -1,28 +1,30 @@
 -- What is held of a question answers it as the whole line does, and what the program prints for all of its input.
+use Rattle.std.specs.Prelude.{Option, Some, None, Result, Ok}
 use Rattle.policy.specs.Fault.{refusal}
 use Rattle.std.proofs.Common.{ℕ, ◌+◌, ◌*◌, ◌-◌, min, ◌≤◌, ◌<◌, Bool, true, false, not, cond, ◌&&◌, ◌||◌, List, [], ◌∷◌, ◌++◌, append_assoc, append-nil, ◌⊎◌, inl, inr, ◌≡◌, refl, sym, ap, ap₂, ◌∙◌, add-one, arith, lt-ltb, le-ltb, ltb-true, ltb-false, eqb-true, eqb, ltb, length, take, set, length-set, length-append, length-take, take_all, take-suc-set, length-take-le, fold, Err}
 use Rattle.std.proofs.lemmas.Bool.{not-true}
 use Rattle.std.proofs.lemmas.List.Sums.{fold-append}
 use Rattle.std.proofs.Math.Path.{subst⁻¹}
-use Rattle.std.proofs.Math.Option.{Option, none, some}
 use Rattle.std.proofs.Math.Seq.{take-append-le, take-append-add}
 use Rattle.policy.proofs.ListLaws.{and_in, and_out, all_append}
 use Rattle.policy.specs.declared.fault.Fault.{Fault}
 use Rattle.policy.specs.List.{all}
 use Rattle.policy.specs.Number.{check_action}
 use Rattle.policy.specs.Policy.{Policy}
+use Rattle.policy.specs.Result.{result_and_then}
+use Rattle.policy.specs.declared.fault.Refusal.{Refusal}
 use Rattle.lexer.specs.Byte.{is_space, is_digit}
 use Rattle.lexer.specs.Lines.{prepend, pieces, lines_of, take_leading, in_line}
 use Rattle.lexer.specs.Number.{decimal_from, is_empty, number_of}
 use Rattle.lexer.specs.Token.{named}
 use Rattle.epoch_line.specs.Epoch.{read_epoch}
-use Rattle.rule_text.specs.Text.{Progress, reading, stopped, read_texts}
+use Rattle.rule_text.specs.Text.{read_texts}
 use Rattle.acceptance.proofs.Accepted.{texts_acceptable}
 use Rattle.layout.specs.Layout.{image_of}
 use Rattle.codegen.specs.Compile.{newest_form}
 use Rattle.explanation.proofs.WhyLaws.{on_image_is, same_action}
 use Rattle.explanation.specs.Steps.On.{explained_on}
-use Rattle.explanation.specs.Why.{on_epoch, on_both_texts, explained}
+use Rattle.explanation.specs.Why.{on_epoch, explained}
 use Rattle.questions.specs.Answered.{in_word, word_of, epoch_part, no_action, explained_line, answer_for, question_answer, answer_lines, answers_on, answers_printed}
 use Rattle.questions.proofs.LineLaws.{push_length}
 use Rattle.questions.specs.Steps.Asked.{answer_held, Asked, begun, took, answers, last_answer}
@@ -41,18 +43,18 @@ stays_other (b ∷ w) = stays_other w
 
 -- the number that a word is read as
 pub number_in : Token → Option ℕ
-number_in Token.Empty = none
-number_in Token.Letter = none
-number_in Token.Zero = some 0
-number_in (Token.Number n) = some n
-number_in Token.Other = none
+number_in Token.Empty = None
+number_in Token.Letter = None
+number_in Token.Zero = Some 0
+number_in (Token.Number n) = Some n
+number_in Token.Other = None
 
 -- numbers that name the same action, or none
 pub Agrees : Option ℕ → Option ℕ → Type 0
-Agrees none none = Unit {0}
-Agrees none (some v) = ⊥
-Agrees (some n) none = ⊥
-Agrees (some n) (some v) = check_action n ≡ check_action v
+Agrees None None = Unit {0}
+Agrees None (Some v) = ⊥
+Agrees (Some n) None = ⊥
+Agrees (Some n) (Some v) = check_action n ≡ check_action v
 
 -- the same number, or both over 63
 Like : ℕ → ℕ → Type 0
@@ -73,13 +75,13 @@ like_more n v b l = go (ltb n 64) refl l
     go false h (inl e) = let k = ltb-false n 64 h in inr (k, omega arith)
     go false h (inr (i, j)) = inr (i, omega arith)
 
-digits : (ds : List ℕ) (n v : ℕ) → Like n v → Agrees (number_in (fold scan_byte (Token.Number n) ds)) (cond (all is_digit ds) (some (decimal_from v ds)) none)
-unfolding number_in Agrees scan_byte next_digit decimal_from all
+digits : (ds : List ℕ) (n v : ℕ) → Like n v → Agrees (number_in (fold scan_byte (Token.Number n) ds)) (cond (all is_digit ds) (Some (decimal_from v ds)) None)
+unfolding number_in Agrees scan_byte next_digit decimal_from
 digits [] n v l = like_check n v l
 digits (d ∷ ds) n v l = go (is_digit d) (digits ds (more_digits n d) (v * 10 + (d - 48)) (like_more n v d l))
   where
-    go : (x : Bool) → Agrees (number_in (fold scan_byte (Token.Number (more_digits n d)) ds)) (cond (all is_digit ds) (some (decimal_from (v * 10 + (d - 48)) ds)) none)
-        → Agrees (number_in (fold scan_byte (cond x (Token.Number (more_digits n d)) Token.Other) ds)) (cond (x && all is_digit ds) (some (decimal_from (v * 10 + (d - 48)) ds)) none)
+    go : (x : Bool) → Agrees (number_in (fold scan_byte (Token.Number (more_digits n d)) ds)) (cond (all is_digit ds) (Some (decimal_from (v * 10 + (d - 48)) ds)) None)
+        → Agrees (number_in (fold scan_byte (cond x (Token.Number (more_digits n d)) Token.Other) ds)) (cond (x && all is_digit ds) (Some (decimal_from (v * 10 + (d - 48)) ds)) None)
     go true h = h
     go false h = rw (stays_other ds) tt
 
@@ -93,7 +95,7 @@ or_any true false = refl
 or_any false b = refl
 
 letter_number : (w : List ℕ) → Agrees (number_in (fold scan_byte Token.Letter w)) (number_of w)
-unfolding number_in Agrees scan_byte first_digit number_of all decimal_from Like
+unfolding number_in Agrees scan_byte first_digit number_of decimal_from Like
 letter_number [] = tt
 letter_number (d ∷ ds) = go (eqb d 48) (is_digit d) refl refl ds
   where
@@ -101,7 +103,7 @@ letter_number (d ∷ ds) = go (eqb d 48) (is_digit d) refl refl ds
     zero_digit e = rw e
 
     go : (x y : Bool) → eqb d 48 ≡ x → is_digit d ≡ y → (ds : List ℕ)
-        → Agrees (number_in (fold scan_byte (cond x Token.Zero (cond y (Token.Number (d - 48)) Token.Other)) ds)) (cond ((y && all is_digit ds) && (is_empty ds || not x)) (some (decimal_from (0 * 10 + (d - 48)) ds)) none)
+        → Agrees (number_in (fold scan_byte (cond x Token.Zero (cond y (Token.Number (d - 48)) Token.Other)) ds)) (cond ((y && all is_digit ds) && (is_empty ds || not x)) (Some (decimal_from (0 * 10 + (d - 48)) ds)) None)
     go true true e f [] = let k : d ≡ 48 = eqb-true d 48 e in rw k refl
     go true true e f (c ∷ cs) = rw (stays_other cs, and_none (true && (is_digit c && all is_digit cs))) tt
     go true false e f ds = let k : d ≡ 48 = eqb-true d 48 e in let w : false ≡ true = sym f ∙ zero_digit k in let z : ◌≡◌ {A = ℕ} 0 1 = cc in absurd (omega arith)
@@ -116,7 +118,7 @@ unfolding number_in Agrees scan_byte named
 word_number [] = tt
 word_number (b ∷ w) = go (eqb b 65)
   where
-    go : (x : Bool) → Agrees (number_in (fold scan_byte (cond x Token.Letter Token.Other) w)) (cond x (number_of w) none)
+    go : (x : Bool) → Agrees (number_in (fold scan_byte (cond x Token.Letter Token.Other) w)) (cond x (number_of w) None)
     go true = letter_number w
     go false = rw (stays_other w) tt
 
@@ -125,7 +127,7 @@ word_number (b ∷ w) = go (eqb b 65)
 -- bytes without a space
 word_held : (w : List ℕ) (t : Token) (held : List ℕ) → all in_word w ≡ true
     → fold pushed (held_by (record { token = t; spaced = false; count = 0 }) held) w ≡ held_by (record { token = fold scan_byte t w; spaced = false; count = 0 }) held
-unfolding all pushed
+unfolding pushed
 word_held [] t held h = refl
 word_held (b ∷ w) t held h =
     let p = and_out (in_word b) (all in_word w) h in
@@ -212,7 +214,7 @@ split (b ∷ s) = go (is_space b) refl (split s)
     go false e (spaced f) = spaced (rw e (ap (λ (t : List ℕ). b ∷ t) f))
 
 word_words : (line : List ℕ) → all in_word (word_of line) ≡ true
-unfolding word_of all
+unfolding word_of
 word_words [] = refl
 word_words (b ∷ s) = go (is_space b) refl (word_words s)
   where
@@ -263,12 +265,12 @@ long_refused e h = rw (lt-ltb 1024 (length e) h)
 
 module _ (maker site : List ℕ) where
   epoch_counts : (d e : List ℕ) (n : ℕ) → read_epoch d ≡ read_epoch e → explained maker site d n ≡ explained maker site e n
-  unfolding explained on_both_texts
+  unfolding explained
   epoch_counts d e n h = go (read_texts maker site)
     where
-      go : (s : Progress) → on_both_texts maker site d n s ≡ on_both_texts maker site e n s
-      go (stopped r) = refl
-      go (reading k p) = ap (on_epoch maker site p n) h
+      go : (r : Result Policy Refusal) → result_and_then (λ (p : Policy). on_epoch maker site p n (read_epoch d)) r ≡ result_and_then (λ (p : Policy). on_epoch maker site p n (read_epoch e)) r
+      go (Ok p) = ap (on_epoch maker site p n) h
+      go (Err r) = refl
 
   answer_cut : (x : Option ℕ) (e : List ℕ) → answer_for maker site x (take 1025 e) ≡ answer_for maker site x e
   unfolding answer_for no_action
@@ -276,23 +278,23 @@ module _ (maker site : List ℕ) where
     where
       go : (x : Option ℕ) → (take 1025 e ≡ e) ⊎ ((1024 < length (take 1025 e)) × (1024 < length e)) → answer_for maker site x (take 1025 e) ≡ answer_for maker site x e
       go x (inl h) = ap (answer_for maker site x) h
-      go (some n) (inr (h, k)) = epoch_counts (take 1025 e) e n (long_refused (take 1025 e) h ∙ sym (long_refused e k))
-      go none (inr (h, k)) = rw (lt-ltb 1024 (length (take 1025 e)) h, lt-ltb 1024 (length e) k)
+      go (Some n) (inr (h, k)) = epoch_counts (take 1025 e) e n (long_refused (take 1025 e) h ∙ sym (long_refused e k))
+      go None (inr (h, k)) = rw (lt-ltb 1024 (length (take 1025 e)) h, lt-ltb 1024 (length e) k)
 
   answer_agrees : (x y : Option ℕ) (e : List ℕ) → Agrees x y → answer_for maker site x e ≡ answer_for maker site y e
   unfolding answer_for Agrees
-  answer_agrees none none e h = refl
-  answer_agrees none (some v) e h = absurd h
-  answer_agrees (some n) none e h = absurd h
-  answer_agrees (some n) (some v) e h = same_action maker site e n v h
+  answer_agrees None None e h = refl
+  answer_agrees None (Some v) e h = absurd h
+  answer_agrees (Some n) None e h = absurd h
+  answer_agrees (Some n) (Some v) e h = same_action maker site e n v h
 
-  module _ (m : ℕ) (p : Policy) (r : read_texts maker site ≡ reading m p) where
+  module _ (p : Policy) (r : read_texts maker site ≡ Ok p) where
     abbrev image : List ℕ
     image = image_of newest_form p
 
     on_texts : (e : List ℕ) (n : ℕ) → explained_on maker site e n image ≡ explained maker site e n
-    unfolding explained on_both_texts
-    on_texts e n = on_image_is maker site e n p (texts_acceptable maker site m p r) ∙ sym (ap (on_both_texts maker site e n) r)
+    unfolding explained
+    on_texts e n = on_image_is maker site e n p (texts_acceptable maker site p r) ∙ sym (ap (result_and_then (λ (q : Policy). on_epoch maker site q n (read_epoch e))) r)
 
     answer_on_is : (t : Token) (e : List ℕ) → answer_on maker site image t e ≡ answer_for maker site (number_in t) e
     unfolding answer_on answer_for number_in
@@ -316,21 +318,20 @@ module _ (maker site : List ℕ) where
 -- ---- all of the input
 
 pub line_ends : (l rest : List ℕ) → all in_line l ≡ true → lines_of (l ++ 10 ∷ rest) ≡ l ∷ lines_of rest
-unfolding lines_of pieces prepend all
+unfolding lines_of pieces prepend
 line_ends [] rest h = refl
 line_ends (b ∷ l) rest h =
     let p = and_out (in_line b) (all in_line l) h in
     rw (not-true (eqb b 10) p.0) (ap (prepend b) (line_ends l rest p.1))
 
 line_open : (b : ℕ) (l : List ℕ) → all in_line (b ∷ l) ≡ true → lines_of (b ∷ l) ≡ (b ∷ l) ∷ []
-unfolding lines_of pieces prepend all
+unfolding lines_of pieces prepend
 line_open b [] h = let p = and_out (in_line b) true h in rw (not-true (eqb b 10) p.0)
 line_open b (c ∷ l) h =
     let p = and_out (in_line b) (all in_line (c ∷ l)) h in
     rw (not-true (eqb b 10) p.0) (ap (prepend b) (line_open c l p.1))
 
 pub while_passes : (p : ℕ → Bool) (s : List ℕ) → all p (take_leading p s) ≡ true
-unfolding all
 while_passes p [] = refl
 while_passes p (b ∷ s) = go (p b) refl (while_passes p s)
   where
@@ -428,7 +429,7 @@ pub fold_length : (l : List ℕ) (h : Held) → length (fold pushed h l).held �
 fold_length [] h = refl
 fold_length (b ∷ l) h = fold_length l (pushed h b) ∙ push_length h b
 
-module _ (maker site : List ℕ) (m : ℕ) (p : Policy) (r : read_texts maker site ≡ reading m p) where
+module _ (maker site : List ℕ) (p : Policy) (r : read_texts maker site ≡ Ok p) where
   -- where the input ends, the open line is answered if it has a byte
   pub last_answered : (n : ℕ) (first : List ℕ) → length first ≡ 1025 → (begins : List ℕ) → all in_line begins ≡ true
       → last_answer maker site (image_of newest_form p) n (fold pushed (held_by start_question first) begins) ≡ answer_lines maker site n (lines_of (begins ++ []))
@@ -440,7 +441,7 @@ module _ (maker site : List ℕ) (m : ℕ) (p : Policy) (r : read_texts maker si
       let opened : is_open h.question ≡ true = open_bytes l (pushed start b) (open_byte start b) in
       let lines : lines_of ((b ∷ l) ++ []) ≡ (b ∷ l) ∷ [] = ap lines_of (append-nil (b ∷ l)) ∙ line_open b l line in
       ap (λ (x : Bool). cond x (answer_held maker site (image_of newest_form p) n h) []) opened
-      ∙ line_answered maker site m p r (next_number n) (b ∷ l) h (line_says (b ∷ l) first long)
+      ∙ line_answered maker site p r (next_number n) (b ∷ l) h (line_says (b ∷ l) first long)
       ∙ sym (ap (answer_lines maker site n) lines ∙ append-nil (explained_line (next_number n) (question_answer maker site (b ∷ l))))
 
   -- what the calls led to: the open line is held, and the rest of the input is answered behind what was printed
@@ -455,7 +456,7 @@ module _ (maker site : List ℕ) (m : ℕ) (p : Policy) (r : read_texts maker si
   -- what is printed for the open line
   answers_open : (consumed printed : List ℕ) (n k : ℕ) (h : Held) (q : Reached consumed printed n h) → question_line maker site (image_of newest_form p) k h.question h.held ≡ explained_line k (question_answer maker site q.begins)
   answers_open consumed printed n k h q =
-      line_answered maker site m p r k q.begins h (rw q.holds (line_says q.begins q.first q.long))
+      line_answered maker site p r k q.begins h (rw q.holds (line_says q.begins q.first q.long))
 
   module _ (consumed printed : List ℕ) (n : ℕ) (h : Held) (q : Reached consumed printed n h) (chunk : List ℕ) where
     abbrev w : List ℕ
@@ -479,7 +480,7 @@ module _ (maker site : List ℕ) (m : ℕ) (p : Policy) (r : read_texts maker si
     -- and ends
     ended : Reached (consumed ++ (w ++ 10 ∷ [])) (printed ++ answer_held maker site (image_of newest_form p) n (bytes_taken h.question h.held chunk)) (next_number n)
         (held_by start_question (bytes_taken h.question h.held chunk).held)
-    unfolding answer_lines all
+    unfolding answer_lines
     ended =
         let x = onward in
         let held' : List ℕ = (bytes_taken h.question h.held chunk).held in
@@ -502,7 +503,6 @@ module _ (maker site : List ℕ) (m : ℕ) (p : Policy) (r : read_texts maker si
   -- ---- every way that the calls may go
 
   reached : (consumed printed : List ℕ) (n : ℕ) (h : Held) → Asked maker site (image_of newest_form p) consumed printed n h → Reached consumed printed n h
-  unfolding all
   reached _ _ _ _ (begun {held} long) = record { first = held; long = long; begins = []; line = refl; holds = refl; prints = λ rest. refl }
   reached _ _ _ _ (took {consumed} {printed} {n} {h} chunk a e) =
       subst⁻¹ (λ (s : List ℕ). Reached (consumed ++ s) printed n (bytes_taken h.question h.held chunk)) (chunk_inside h.question h.held chunk e)
@@ -521,4 +521,4 @@ module _ (maker site : List ℕ) (m : ℕ) (p : Policy) (r : read_texts maker si
       let last : last_answer maker site (image_of newest_form p) n h ≡ answer_lines maker site n (lines_of (q.begins ++ [])) =
       ap (last_answer maker site (image_of newest_form p) n) q.holds ∙ last_answered n q.first q.long q.begins q.line in
       ap (λ (s : List ℕ). printed ++ s) last ∙ sym (q.prints []) ∙ ap (λ (s : List ℕ). answer_lines maker site 0 (lines_of s)) (append-nil consumed)
-      ∙ sym (ap (λ (s : Progress). answers_on maker site s (lines_of consumed)) r)
+      ∙ sym (ap (λ (s : Result Policy Refusal). answers_on maker site s (lines_of consumed)) r)

@@ -1,6 +1,8 @@
 -- What a run on two texts leaves, by how it ends.
-use Rattle.std.specs.Prelude.{◌≡◌, ℕ, List, take}
-use Rattle.rule_text.specs.Text.{Progress, reading, stopped, read_texts}
+use Rattle.std.specs.Prelude.{◌≡◌, ℕ, List, take, Result, Ok, Err}
+use Rattle.policy.specs.Policy.{Policy}
+use Rattle.policy.specs.declared.fault.Refusal.{Refusal}
+use Rattle.rule_text.specs.Text.{read_texts}
 use Rattle.report.specs.Report.{texts_refusal_line}
 use Rattle.stream.specs.declared.failure.Failure.{Failure}
 use Rattle.stream.specs.Event.{GoOn, Fails}
@@ -17,14 +19,14 @@ module _ (maker site : List ℕ) where
   answers_due input = answers_printed maker site (whole_part input)
 
 -- what was read of the texts; and with it all questions were answered. Of refused texts the refusal was written, and nothing was read
-abbrev pub AnswersTexts : Progress → (maker site : List ℕ) (old new : Known) → Type 0
-AnswersTexts (stopped r) maker site old new = Sends (GoOn 0) old new (texts_refusal_line r)
-AnswersTexts (reading n policy) maker site old new = AnswersAll (answers_printed maker site) (answers_due maker site) old new
+abbrev pub AnswersTexts : Result Policy Refusal → (maker site : List ℕ) (old new : Known) → Type 0
+AnswersTexts (Err r) maker site old new = Sends (GoOn 0) old new (texts_refusal_line r)
+AnswersTexts (Ok policy) maker site old new = AnswersAll (answers_printed maker site) (answers_due maker site) old new
 
 -- or a call failed. Of refused texts a front of the refusal was written, and nothing was read
-abbrev pub QuestionsEndBy : Failure → Progress → (maker site : List ℕ) (old new : Known) → Type 0
-QuestionsEndBy e (stopped r) maker site old new = IsWriteFailure e × ((n : ℕ) × Sends (Fails e) old new (take n (texts_refusal_line r)))
-QuestionsEndBy e (reading n policy) maker site old new = EndsBy e (answers_due maker site) (answers_printed maker site) old new
+abbrev pub QuestionsEndBy : Failure → Result Policy Refusal → (maker site : List ℕ) (old new : Known) → Type 0
+QuestionsEndBy e (Err r) maker site old new = IsWriteFailure e × ((n : ℕ) × Sends (Fails e) old new (take n (texts_refusal_line r)))
+QuestionsEndBy e (Ok policy) maker site old new = EndsBy e (answers_due maker site) (answers_printed maker site) old new
 
 -- ---- the texts are inputs, too
 

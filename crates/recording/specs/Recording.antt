@@ -1,5 +1,5 @@
 -- What is known of a tape, and what an echo of its input leaves.
-use Rattle.std.specs.Prelude.{◌≡◌, ℕ, Bool, cond, List, ◌∷◌, ◌++◌, take, drop, map, Some}
+use Rattle.std.specs.Prelude.{◌≡◌, ℕ, Bool, List, ◌∷◌, ◌++◌, take, drop, map, Some, if◌then◌else◌}
 use Rattle.stream.specs.Event.{Event, came, went, came_in, went_out, IsRead}
 use Rattle.stream.specs.Machine.{Known}
 use Rattle.recording.specs.declared.tape.Call.{Call}
@@ -7,7 +7,7 @@ use Rattle.recording.specs.declared.tape.Log.{Log}
 use Rattle.recording.specs.declared.tape.Tape.{Tape}
 
 abbrev pub call_event : Bool → List ℕ → Event
-call_event read bytes = cond read (came bytes) (went bytes)
+call_event read bytes = if read then came bytes else went bytes
 
 abbrev pub event_of : Call → Event
 event_of call = call_event call.read (take call.count call.bytes)

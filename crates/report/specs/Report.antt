@@ -1,6 +1,6 @@
 -- The lines that the programs print (docs/REFERENCE.md, "The programs").
-use Prim.Native.Char.{code}
-use Rattle.std.specs.Prelude.{ℕ, zero, suc, ◌+◌, ◌%◌, ◌^◌, cond, List, [], ◌∷◌, ◌++◌}
+use Rattle.std.specs.Str.{byte}
+use Rattle.std.specs.Prelude.{ℕ, zero, suc, ◌+◌, ◌%◌, ◌^◌, List, [], ◌∷◌, ◌++◌, if◌then◌else◌}
 use Rattle.lexer.specs.Byte.{bytes}
 use Rattle.output.specs.Number.{decimal, hex_word}
 use Rattle.policy.specs.Fault.{fault_number, source_number}
@@ -19,18 +19,18 @@ next_number n = (n + 1) % 2 ^ 64
 -- the members of a set among the k numbers from n on, by rising number
 unfoldable pub members_from : ℕ → ℕ → ℕ → List ℕ
 members_from zero n s = []
-members_from (suc k) n s = cond (has s n) (n ∷ []) [] ++ members_from k (suc n) s
+members_from (suc k) n s = (if has s n then n ∷ [] else []) ++ members_from k (suc n) s
 
 unfoldable pub action_name : ℕ → List ℕ
-action_name n = code "A" ∷ decimal n
+action_name n = byte "A" ∷ decimal n
 
 -- each after a comma
 unfoldable pub further_names : List ℕ → List ℕ
 further_names [] = []
-further_names (n ∷ ns) = code "," ∷ action_name n ++ further_names ns
+further_names (n ∷ ns) = byte "," ∷ action_name n ++ further_names ns
 
 unfoldable pub action_names : List ℕ → List ℕ
-action_names [] = code "-" ∷ []
+action_names [] = byte "-" ∷ []
 action_names (n ∷ ns) = action_name n ++ further_names ns
 
 unfoldable pub action_list : ActionSet → List ℕ

@@ -1,5 +1,5 @@
 //! The actions of a set, by rising number.
-ghost use Rattle.std.specs.Prelude.{◌≡◌, cond, [], ◌∷◌, ◌++◌};
+ghost use Rattle.std.specs.Prelude.{◌≡◌, if◌then◌else◌, [], ◌∷◌, ◌++◌};
 ghost use Rattle.output.specs.Sink.{fed};
 ghost use Rattle.report.specs.Report.{action_name, action_list};
 
@@ -16,7 +16,7 @@ fn put_name<S: Sink>(sink: &mut S, number: u8)
 
 /// A comma stands before each but the first.
 fn put_member<S: Sink>(sink: &mut S, number: u8, first: bool)
-    ensures { sink.new ≡ fed S.taken sink.old (cond first [] (44 ∷ []) ++ action_name number) }
+    ensures { sink.new ≡ fed S.taken sink.old ((if first then [] else 44 ∷ []) ++ action_name number) }
 {
     if !first {
         sink.put(b",");

@@ -1,39 +1,39 @@
 -- Laws of reading a text line by line.
-use Rattle.std.specs.Prelude.{Some, None, Result, Ok, Err}
+use Rattle.std.specs.Prelude.{Option, Some, None, Result, Ok, Err}
+use Rattle.std.specs.Result.{result_map_both}
 use Rattle.std.proofs.lemmas.List.{map-append}
-use Rattle.std.proofs.Common.{ℕ, suc, ◌+◌, ◌<◌, ◌≤◌, Bool, true, false, cond, List, [], ◌∷◌, ◌++◌, map, ◌≡◌, refl, sym, ap, ap₂, ◌∙◌, add-one, arith, lt-ltb, le-ltb, ltb-true, ltb-false, length, length-append, fold}
+use Rattle.std.proofs.Common.{ℕ, suc, ◌+◌, ◌<◌, ◌≤◌, Bool, true, false, cond, List, [], ◌∷◌, ◌++◌, map, ◌≡◌, refl, sym, ap, ◌∙◌, add-one, arith, lt-ltb, le-ltb, ltb-true, ltb-false, length, length-append}
 use Rattle.std.proofs.Math.Dec.{ltb}
 use Rattle.std.proofs.Math.ListN.{length-map}
 use Rattle.policy.proofs.ListLaws.{or_out}
-use Rattle.policy.specs.Fault.{refusal}
-use Rattle.policy.specs.Limits.{crowded, rule_limit, constraint_limit, head_limit, comparison_limit}
-use Rattle.policy.specs.Line.{PolicyLine, rule, constraint, heads_of, comparisons_of, ending_of, operand_constants, constant_count}
-use Rattle.line_value.specs.Value.{line_of, line_value, count_up_to, head, no_comparison}
+use Rattle.policy.specs.Fault.{refusal, within, located, in_text}
+use Rattle.policy.specs.Limits.{crowded, rule_limit, constraint_limit, line_limit, head_limit, comparison_limit}
+use Rattle.policy.specs.Line.{PolicyLine, rule, constraint, heads_of, comparisons_of, ending_of, operand_constants, constant_count, line_part, part_get, part_set}
+use Rattle.policy.specs.Result.{result_and_then}
 use Rattle.policy.specs.Policy.{Policy}
 use Rattle.policy.specs.declared.comparison.Comparison.{Comparison}
 use Rattle.policy.specs.declared.comparison.Operand.{Operand}
 use Rattle.policy.specs.declared.fault.Fault.{Fault}
 use Rattle.policy.specs.declared.fault.Refusal.{Refusal}
 use Rattle.policy.specs.declared.fault.Source.{Source}
-use Rattle.policy.specs.declared.line.Ending.{Ending}
+use Rattle.policy.specs.declared.line.Part.{Part}
+use Rattle.policy.specs.declared.line.PerPart.{PerPart}
 use Rattle.line_value.specs.declared.Line.{Line}
 use Rattle.syntax.proofs.AnswerLaws.{lines_here, next_shorter, Accepted, read_refused, read_skipped, read_accepted}
-use Rattle.syntax.proofs.JudgeLaws.{padded_whole, accepted_uncrowded}
-use Rattle.rule_text.specs.Answer.{total, counts_in, counts_of, text_read_of, text_read, texts_read}
-use Rattle.rule_text.specs.Steps.Counting.{no_lines, no_counts, Counting, going, halted, counted_step, plus, stepped, count_line, counted_before, count_from, count_behind, count_read, sourced_in}
+use Rattle.syntax.proofs.JudgeLaws.{accepted_uncrowded}
+use Rattle.rule_text.specs.Answer.{total, counts_in, counts_of, counted, text_read, texts_read}
+use Rattle.rule_text.specs.Steps.Counting.{no_lines, no_counts, plus, count_more, count_line, counted_before, count_lines, count_behind}
 use Rattle.syntax.specs.Answer.{next_line, line_read}
-use Rattle.rule_text.specs.Steps.Tally.{Within, Small, Counted, with_line, tally_as, tallied_by}
+use Rattle.rule_text.specs.Steps.Tally.{Within, Small, with_line, tally_as, tallied_by}
 use Rattle.lexer.specs.Lines.{pieces, lines_of, first_line}
-use Rattle.syntax.specs.Judge.{LineAnswer, skipped, refused, accepted, line_answer}
-use Rattle.rule_text.specs.Text.{Progress, reading, stopped, with_rule, with_constraint, advance, read_next_line, empty_policy, text_limit, read_text_behind, in_text, read_text, read_site, read_texts}
+use Rattle.syntax.specs.Judge.{line_answer}
+use Rattle.rule_text.specs.Text.{has_room, with_line as line_added, with_any_line, read_line, read_lines, empty_policy, text_limit, read_text_behind, read_text, read_texts}
 use Rattle.rule_text.specs.declared.LineCounts.{LineCounts}
-use Rattle.rule_text.specs.declared.TextCounts.{TextCounts}
+
+abbrev Counts : Type 0
+Counts = PerPart LineCounts
 
 -- ---- counting instead of collecting
-
-view : Progress → Counting
-view (reading n p) = going n (counts_of p)
-view (stopped r) = halted r
 
 total_snoc : (count : PolicyLine → ℕ) (ls : List PolicyLine) (l : PolicyLine) → total count (ls ++ l ∷ []) ≡ total count ls + count l
 unfolding total
@@ -45,45 +45,43 @@ unfolding counts_in
 counts_snoc ls l =
     rw (length-append ls (l ∷ []), total_snoc (λ (x : PolicyLine). length (heads_of x)) ls l, total_snoc (λ (x : PolicyLine). length (comparisons_of x)) ls l, total_snoc (λ (x : PolicyLine). constant_count (comparisons_of x)) ls l)
 
-view_line : (s : Progress) (line : List ℕ) → view (read_next_line s line) ≡ count_line (view s) line
-unfolding read_next_line view count_line counted_step stepped advance tally_as ending_of counts_of counts_in
-view_line (stopped r) line = refl
-view_line (reading n p) line = go (line_answer line)
+-- a line counts as it is added: there is room for it or not, and the counts with it are those of the policy with it
+room_counts : (p : Policy) (l : PolicyLine) → ltb (part_get (counts_of p) (line_part l)).lines (line_limit (line_part l)) ≡ has_room p l
+unfolding counts_of counts_in ending_of
+room_counts p (rule r) = ap (λ (n : ℕ). ltb n rule_limit) (length-map p.rules rule)
+room_counts p (constraint c) = ap (λ (n : ℕ). ltb n constraint_limit) (length-map p.constraints constraint)
+
+added_counts : (p : Policy) (l : PolicyLine) → part_set (counts_of p) (line_part l) (plus (part_get (counts_of p) (line_part l)) l) ≡ counts_of (line_added p l)
+unfolding counts_of ending_of line_added
+added_counts p (rule r) = rw (map-append rule p.rules (r ∷ []), counts_snoc (map rule p.rules) (rule r))
+added_counts p (constraint c) = rw (map-append constraint p.constraints (c ∷ []), counts_snoc (map constraint p.constraints) (constraint c))
+
+more_counts : (p : Policy) (o : Option PolicyLine) → count_more (counts_of p) o ≡ result_map_both counts_of (λ f. f) (with_any_line p o)
+unfolding count_more with_any_line tally_as
+more_counts p None = refl
+more_counts p (Some l) = rw (room_counts p l, added_counts p l) (go (has_room p l))
   where
-    go : (a : LineAnswer) → view (advance n p a) ≡ counted_step n (stepped (counts_of p) a)
-    go skipped = ap (λ (k : ℕ). going k (counts_of p)) (sym (add-one n))
-    go (refused f) = refl
-    go (accepted (rule r)) = room (ltb (length p.rules) rule_limit) ∙ ap (λ (k : ℕ). counted_step n (cond (ltb k rule_limit) (Ok more) (Err Fault.TooManyLines))) (sym (length-map p.rules rule))
-      where
-        more : TextCounts
-        more = record { rules = plus (counts_of p).rules (rule r); constraints = (counts_of p).constraints }
+    go : (b : Bool) → cond b (Ok (counts_of (line_added p l))) (Err Fault.TooManyLines) ≡ result_map_both counts_of (λ f. f) (cond b (Ok (line_added p l)) (Err Fault.TooManyLines))
+    go true = refl
+    go false = refl
 
-        made : counts_of (with_rule p r) ≡ more
-        made = rw (map-append rule p.rules (r ∷ []), counts_snoc (map rule p.rules) (rule r))
+line_counts : (p : Policy) (line : List ℕ) → count_line (counts_of p) line ≡ result_map_both counts_of (λ f. f) (read_line p line)
+unfolding count_line read_line
+line_counts p line = go (line_answer line)
+  where
+    go : (a : Result (Option PolicyLine) Fault) → result_and_then (count_more (counts_of p)) a ≡ result_map_both counts_of (λ f. f) (result_and_then (with_any_line p) a)
+    go (Ok o) = more_counts p o
+    go (Err f) = refl
 
-        room : (b : Bool) → view (cond b (reading (suc n) (with_rule p r)) (stopped (refusal Fault.TooManyLines n))) ≡ counted_step n (cond b (Ok more) (Err Fault.TooManyLines))
-        room true = ap₂ going (sym (add-one n)) made
-        room false = refl
-    go (accepted (constraint x)) = room (ltb (length p.constraints) constraint_limit) ∙ ap (λ (k : ℕ). counted_step n (cond (ltb k constraint_limit) (Ok more) (Err Fault.TooManyLines))) (sym (length-map p.constraints constraint))
-      where
-        more : TextCounts
-        more = record { rules = (counts_of p).rules; constraints = plus (counts_of p).constraints (constraint x) }
-
-        made : counts_of (with_constraint p x) ≡ more
-        made = rw (map-append constraint p.constraints (x ∷ []), counts_snoc (map constraint p.constraints) (constraint x))
-
-        room : (b : Bool) → view (cond b (reading (suc n) (with_constraint p x)) (stopped (refusal Fault.TooManyLines n))) ≡ counted_step n (cond b (Ok more) (Err Fault.TooManyLines))
-        room true = ap₂ going (sym (add-one n)) made
-        room false = refl
-
-view_lines : (s : Progress) (ls : List (List ℕ)) → view (fold read_next_line s ls) ≡ fold count_line (view s) ls
-view_lines s [] = refl
-view_lines s (l ∷ ls) = view_lines (read_next_line s l) ls ∙ ap (λ (x : Counting). fold count_line x ls) (view_line s l)
-
-stays : (r : Refusal) (ls : List (List ℕ)) → fold count_line (halted r) ls ≡ halted r
-unfolding count_line
-stays r [] = refl
-stays r (l ∷ ls) = stays r ls
+lines_counts : (ls : List (List ℕ)) (n : ℕ) (p : Policy) → count_lines n (counts_of p) ls ≡ counted (read_lines n p ls)
+unfolding count_lines read_lines
+lines_counts [] n p = refl
+lines_counts (l ∷ ls) n p = rw (line_counts p l) (go (read_line p l) (lines_counts ls))
+  where
+    go : (r : Result Policy Fault) → ((m : ℕ) (q : Policy) → count_lines m (counts_of q) ls ≡ counted (read_lines m q ls))
+        → result_and_then (λ (d : Counts). count_lines (n + 1) d ls) (located n (result_map_both counts_of (λ f. f) r)) ≡ counted (result_and_then (λ (q : Policy). read_lines (suc n) q ls) (located n r))
+    go (Ok q) later = rw add-one (later (suc n) q)
+    go (Err f) later = refl
 
 -- ---- the counts of an accepted line
 
@@ -95,19 +93,6 @@ uncrowded : (l : PolicyLine) → crowded l ≡ false → Uncrowded l
 unfolding crowded
 uncrowded l h = let p = or_out (ltb head_limit (length (heads_of l))) (ltb comparison_limit (length (comparisons_of l))) h in record { heads = p.0; comparisons = p.1 }
 
-few_counted : {A : Type 0} (limit : ℕ) (xs : List A) → length xs ≤ limit → count_up_to limit xs ≡ length xs
-unfolding count_up_to
-few_counted limit xs h = omega arith
-
-value_counts : (c : LineCounts) (l : PolicyLine) → Uncrowded l → with_line c (line_value l) ≡ plus c l
-unfolding with_line line_value line_of
-value_counts c l u =
-    let i : length (heads_of l) ≤ 8 = ltb-false head_limit (length (heads_of l)) u.heads in
-    let j : length (comparisons_of l) ≤ 4 = ltb-false comparison_limit (length (comparisons_of l)) u.comparisons in
-    let m : count_up_to head_limit (map head (heads_of l)) ≡ length (heads_of l) = few_counted head_limit (map head (heads_of l)) (omega (arith, length-map (heads_of l) head)) ∙ length-map (heads_of l) head in
-    let n : count_up_to comparison_limit (comparisons_of l) ≡ length (comparisons_of l) = few_counted comparison_limit (comparisons_of l) j in
-    rw (padded_whole comparison_limit no_comparison (comparisons_of l) u.comparisons, m, n)
-
 few_constants : (cs : List Comparison) → constant_count cs ≤ length cs
 unfolding constant_count
 few_constants [] = omega arith
@@ -117,80 +102,77 @@ few_constants (c ∷ cs) = go c.operand (few_constants cs)
     go (Operand.Constant k) h = omega arith
     go (Operand.Reading r) h = omega arith
 
-within_more : (limit : ℕ) (c : LineCounts) (l : PolicyLine) → Uncrowded l → Within limit c → ltb c.lines limit ≡ true → Within limit (plus c l)
-within_more limit c l u w e =
+within_more : (c : LineCounts) (l : PolicyLine) → Uncrowded l → Within rule_limit c → c.lines < rule_limit → Within rule_limit (plus c l)
+within_more c l u w e =
     let i : length (heads_of l) ≤ 8 = ltb-false head_limit (length (heads_of l)) u.heads in
     let j : length (comparisons_of l) ≤ 4 = ltb-false comparison_limit (length (comparisons_of l)) u.comparisons in
     let k = few_constants (comparisons_of l) in
-    let m = ltb-true c.lines limit e in
     record { lines = omega arith; heads = omega (arith, w.heads); comparisons = omega (arith, w.comparisons); constants = omega (arith, w.constants) }
 
-small_step : (c d : TextCounts) (l : PolicyLine) (e : Ending) → Uncrowded l → Small c → tally_as e c (plus c.rules l) (plus c.constraints l) ≡ Ok d → Small d
-unfolding tally_as
-small_step c d l (Ending.Causes a) u s = go (ltb c.rules.lines rule_limit) refl
-  where
-    go : (b : Bool) → ltb c.rules.lines rule_limit ≡ b → cond b (Ok (record { rules = plus c.rules l; constraints = c.constraints })) (Err Fault.TooManyLines) ≡ Ok d → Small d
-    go true p q = rw (← made q) (record { rules = within_more rule_limit c.rules l u s.rules p; constraints = s.constraints })
-      where
-        made : ◌≡◌ {A = Result TextCounts Fault} (Ok (record { rules = plus c.rules l; constraints = c.constraints })) (Ok d) → record { rules = plus c.rules l; constraints = c.constraints } ≡ d
-        made k = cc
-    go false p q = let z : ◌≡◌ {A = ℕ} 0 1 = cc in absurd (omega arith)
-small_step c d l Ending.Never u s = go (ltb c.constraints.lines constraint_limit) refl
-  where
-    go : (b : Bool) → ltb c.constraints.lines constraint_limit ≡ b → cond b (Ok (record { rules = c.rules; constraints = plus c.constraints l })) (Err Fault.TooManyLines) ≡ Ok d → Small d
-    go true p q = rw (← made q) (record { rules = s.rules; constraints = within_more constraint_limit c.constraints l u s.constraints p })
-      where
-        made : ◌≡◌ {A = Result TextCounts Fault} (Ok (record { rules = c.rules; constraints = plus c.constraints l })) (Ok d) → record { rules = c.rules; constraints = plus c.constraints l } ≡ d
-        made k = cc
-    go false p q = let z : ◌≡◌ {A = ℕ} 0 1 = cc in absurd (omega arith)
-
 -- the counts stay small
-small_more : (c d : TextCounts) (line : List ℕ) → Small c → stepped c (line_answer line) ≡ Ok d → Small d
-unfolding stepped
+small_line : (c d : Counts) (l : PolicyLine) → Uncrowded l → Small c → tally_as (line_part l) c (plus (part_get c (line_part l)) l) ≡ Ok d → Small d
+unfolding tally_as
+small_line c d l u s = go (line_part l)
+  where
+    go : (part : Part) → cond (ltb (part_get c part).lines (line_limit part)) (Ok (part_set c part (plus (part_get c part) l))) (Err Fault.TooManyLines) ≡ Ok d → Small d
+    go part = room (ltb (part_get c part).lines (line_limit part)) refl
+      where
+        below : ltb (part_get c part).lines (line_limit part) ≡ true → (part_get c part).lines < rule_limit
+        below e = few part (ltb-true _ _ e)
+          where
+            few : (q : Part) → (part_get c part).lines < line_limit q → (part_get c part).lines < rule_limit
+            few Part.Rules h = h
+            few Part.Constraints h = omega arith
+
+        with_it : Within rule_limit (plus (part_get c part) l) → (q k : Part) → Within rule_limit (part_get (part_set c q (plus (part_get c part) l)) k)
+        with_it w Part.Rules Part.Rules = w
+        with_it w Part.Rules Part.Constraints = s Part.Constraints
+        with_it w Part.Constraints Part.Rules = s Part.Rules
+        with_it w Part.Constraints Part.Constraints = w
+
+        room : (b : Bool) → ltb (part_get c part).lines (line_limit part) ≡ b → cond b (Ok (part_set c part (plus (part_get c part) l))) (Err Fault.TooManyLines) ≡ Ok d → Small d
+        room true e q =
+            let i : part_set c part (plus (part_get c part) l) ≡ d = cc in
+            rw (← i) (with_it (within_more (part_get c part) l u (s part) (below e)) part)
+        room false e q = let z : ⊥ = cc in absurd z
+
+small_more : (c d : Counts) (line : List ℕ) → Small c → count_line c line ≡ Ok d → Small d
+unfolding count_line count_more
 small_more c d line s = go (line_answer line) (accepted_uncrowded line)
   where
-    go : (a : LineAnswer) → ((l : PolicyLine) → a ≡ accepted l → crowded l ≡ false) → stepped c a ≡ Ok d → Small d
-    go skipped h q = let e : c ≡ d = cc in rw (← e) s
-    go (refused f) h q = let w : ◌≡◌ {A = ℕ} 0 1 = cc in absurd (omega arith)
-    go (accepted l) h q = small_step c d l (ending_of l) (uncrowded l (h l refl)) s q
+    go : (a : Result (Option PolicyLine) Fault) → ((l : PolicyLine) → a ≡ Ok (Some l) → crowded l ≡ false) → result_and_then (count_more c) a ≡ Ok d → Small d
+    go (Ok None) h q = let e : c ≡ d = cc in rw (← e) s
+    go (Ok (Some l)) h q = small_line c d l (uncrowded l (h l refl)) s q
+    go (Err f) h q = let z : ⊥ = cc in absurd z
 
 -- ---- one line of a text
 
-module _ (c : TextCounts) (text : List ℕ) where
-  abbrev more : Result TextCounts Fault
-  more = stepped c (line_answer (first_line text))
+module _ (c : Counts) (text : List ℕ) where
+  -- what is answered of it, with the lines behind it
+  abbrev more : Result (Counts × List ℕ) Fault
+  more = counted_before (next_line text) (count_line c (first_line text))
 
-  pub step_refused : (f : Fault) → Err f ≡ line_read text → Err f ≡ counted_before (next_line text) more
-  unfolding stepped counted_before
+  pub step_refused : (f : Fault) → Err f ≡ line_read text → Err f ≡ more
+  unfolding count_line
   step_refused f q = rw (read_refused text f q)
 
-  pub step_skipped : (rest : List ℕ) → Ok (None, rest) ≡ line_read text → Ok (c, rest) ≡ counted_before (next_line text) more
-  unfolding stepped counted_before
+  pub step_skipped : (rest : List ℕ) → Ok (None, rest) ≡ line_read text → Ok (c, rest) ≡ more
+  unfolding count_line count_more
   step_skipped rest q = let k = read_skipped text rest q in rw (k.0, k.1)
 
   module _ (l : Line) (rest : List ℕ) (q : Ok (Some l, rest) ≡ line_read text) where
     read : Accepted text l rest
     read = read_accepted text l rest q
 
-    pub step_counted : Counted l
-    unfolding line_value line_of count_up_to
-    step_counted = rw read.value (record { heads = omega arith; comparisons = omega arith })
+    step_taken : tallied_by c l ≡ count_line c (first_line text)
+    unfolding count_line count_more tallied_by with_line
+    step_taken = ap (tallied_by c) read.value ∙ ap (result_and_then (count_more c)) (sym read.answer)
 
-    pub step_taken : tallied_by c l ≡ more
-    unfolding stepped tallied_by line_value line_of
-    step_taken =
-        let u = uncrowded read.line (accepted_uncrowded (first_line text) read.line read.answer) in
-        ap (tallied_by c) read.value
-        ∙ ap₂ (tally_as (ending_of read.line) c) (value_counts c.rules read.line u) (value_counts c.constraints read.line u)
-        ∙ ap (stepped c) (sym read.answer)
-
-    pub step_full : (f : Fault) → tallied_by c l ≡ Err f → Err f ≡ counted_before (next_line text) more
-    unfolding counted_before
+    pub step_full : (f : Fault) → tallied_by c l ≡ Err f → Err f ≡ more
     step_full f k = rw (sym step_taken ∙ k)
 
-    module _ (d : TextCounts) (k : tallied_by c l ≡ Ok d) where
-      pub step_more : Ok (d, rest) ≡ counted_before (next_line text) more
-      unfolding counted_before
+    module _ (d : Counts) (k : tallied_by c l ≡ Ok d) where
+      pub step_more : Ok (d, rest) ≡ more
       step_more = rw (sym step_taken ∙ k, read.behind)
 
       pub step_small : Small c → Small d
@@ -198,140 +180,127 @@ module _ (c : TextCounts) (text : List ℕ) where
 
 -- ---- a turn of reading
 
-module _ (n : ℕ) (c : TextCounts) where
-  pub count_end : (text : List ℕ) → length text ≡ 0 → count_from n c text ≡ going n c
-  unfolding count_from lines_of pieces
+module _ (n : ℕ) (c : Counts) where
+  pub count_end : (text : List ℕ) → length text ≡ 0 → count_lines n c (lines_of text) ≡ Ok c
+  unfolding count_lines lines_of pieces
   count_end [] h = refl
   count_end (b ∷ s) h = absurd (omega arith)
 
   module _ (text : List ℕ) (h : 0 < length text) where
-    abbrev counts : Result TextCounts Fault
-    counts = stepped c (line_answer (first_line text))
+    here : count_lines n c (lines_of text) ≡ result_and_then (λ (d : Counts). count_lines (n + 1) d (lines_of (next_line text))) (located n (count_line c (first_line text)))
+    unfolding count_lines
+    here = ap (count_lines n c) (lines_here text h)
 
-    here : count_from n c text ≡ fold count_line (counted_step n counts) (lines_of (next_line text))
-    unfolding count_from count_line
-    here = ap (fold count_line (going n c)) (lines_here text h)
-
-    pub count_stop : (f : Fault) → Err f ≡ counted_before (next_line text) counts → count_from n c text ≡ halted (refusal f n)
-    unfolding counted_before counted_step
-    count_stop f q = here ∙ go counts q
+    pub count_stop : (f : Fault) → Err f ≡ more c text → count_lines n c (lines_of text) ≡ Err (refusal f n)
+    count_stop f q = here ∙ go (count_line c (first_line text)) q
       where
-        go : (r : Result TextCounts Fault) → Err f ≡ counted_before (next_line text) r → fold count_line (counted_step n r) (lines_of (next_line text)) ≡ halted (refusal f n)
-        go (Ok d) k = cc
-        go (Err g) k = let e : f ≡ g = cc in rw e (stays (refusal g n) (lines_of (next_line text)))
+        go : (r : Result Counts Fault) → Err f ≡ counted_before (next_line text) r
+            → result_and_then (λ (d : Counts). count_lines (n + 1) d (lines_of (next_line text))) (located n r) ≡ Err (refusal f n)
+        go (Ok d) k = let z : ⊥ = cc in absurd z
+        go (Err g) k = let e : f ≡ g = cc in rw e
 
-    module _ (d : TextCounts) (rest : List ℕ) (q : Ok (d, rest) ≡ counted_before (next_line text) counts) where
-      pub count_go : count_from n c text ≡ count_from (n + 1) d rest
-      unfolding counted_before counted_step count_from
-      count_go = here ∙ go counts q
+    module _ (d : Counts) (rest : List ℕ) (q : Ok (d, rest) ≡ more c text) where
+      pub count_behind_line : rest ≡ next_line text
+      count_behind_line = go (count_line c (first_line text)) q
         where
-          go : (r : Result TextCounts Fault) → Ok (d, rest) ≡ counted_before (next_line text) r → fold count_line (counted_step n r) (lines_of (next_line text)) ≡ fold count_line (going (n + 1) d) (lines_of rest)
+          go : (r : Result Counts Fault) → Ok (d, rest) ≡ counted_before (next_line text) r → rest ≡ next_line text
+          go (Ok e) k = let p : (d, rest) ≡ (e, next_line text) = cc in ap (λ (r : Counts × List ℕ). r.1) p
+          go (Err g) k = let z : ⊥ = cc in absurd z
+
+      pub count_go : count_lines n c (lines_of text) ≡ count_lines (n + 1) d (lines_of rest)
+      count_go = here ∙ go (count_line c (first_line text)) q
+        where
+          go : (r : Result Counts Fault) → Ok (d, rest) ≡ counted_before (next_line text) r
+              → result_and_then (λ (d : Counts). count_lines (n + 1) d (lines_of (next_line text))) (located n r) ≡ count_lines (n + 1) d (lines_of rest)
           go (Ok e) k =
               let p : (d, rest) ≡ (e, next_line text) = cc in
-              ap (λ (r : TextCounts × List ℕ). fold count_line (going (n + 1) r.0) (lines_of r.1)) (sym p)
-          go (Err g) k = cc
+              ap (λ (r : Counts × List ℕ). count_lines (n + 1) r.0 (lines_of r.1)) (sym p)
+          go (Err g) k = let z : ⊥ = cc in absurd z
 
       pub count_shorter : length rest < length text
-      unfolding counted_before
-      count_shorter = go counts q
-        where
-          go : (r : Result TextCounts Fault) → Ok (d, rest) ≡ counted_before (next_line text) r → length rest < length text
-          go (Ok e) k =
-              let p : (d, rest) ≡ (e, next_line text) = cc in
-              let i : rest ≡ next_line text = ap (λ (r : TextCounts × List ℕ). r.1) p in
-              rw i (next_shorter text h)
-          go (Err g) k = let w : ◌≡◌ {A = ℕ} 0 1 = cc in absurd (omega arith)
+      count_shorter = rw count_behind_line (next_shorter text h)
 
--- ---- the answer
-
-pub going_read : (n : ℕ) (c : TextCounts) → count_read (going n c) ≡ Ok c
-unfolding count_read
-going_read n c = refl
-
-pub halted_read : (r : Refusal) → count_read (halted r) ≡ Err r
-unfolding count_read
-halted_read r = refl
+-- ---- the lines of a text behind others
 
 none_within : (limit : ℕ) → Within limit no_lines
 none_within limit = record { lines = omega arith; heads = omega arith; comparisons = omega arith; constants = omega arith }
 
 pub none_small : Small no_counts
-none_small = record { rules = none_within rule_limit; constraints = none_within constraint_limit }
+none_small Part.Rules = none_within rule_limit
+none_small Part.Constraints = none_within rule_limit
 
--- ---- the lines of a text behind others
-
-module _ (c : TextCounts) (text : List ℕ) where
-  pub behind_long : text_limit < length text → Err (refusal Fault.TooLong 0) ≡ count_read (count_behind c text)
-  unfolding count_behind count_read
+module _ (c : Counts) (text : List ℕ) where
+  pub behind_long : text_limit < length text → Err (refusal Fault.TooLong 0) ≡ count_behind c text
+  unfolding count_behind
   behind_long h = rw (lt-ltb text_limit (length text) h)
 
-  pub behind_short : length text ≤ text_limit → count_read (count_from 1 c text) ≡ count_read (count_behind c text)
+  pub behind_short : length text ≤ text_limit → count_lines 1 c (lines_of text) ≡ count_behind c text
   unfolding count_behind
   behind_short h = rw (le-ltb text_limit (length text) h)
 
 -- the counts behind a policy are those of what is read behind it
-counts_behind : (p : Policy) (text : List ℕ) → count_behind (counts_of p) text ≡ view (read_text_behind p text)
-unfolding count_behind read_text_behind count_from view
-counts_behind p text = go (ltb text_limit (length text))
+behind_counts : (p : Policy) (text : List ℕ) → count_behind (counts_of p) text ≡ counted (read_text_behind p text)
+unfolding count_behind read_text_behind
+behind_counts p text = rw (lines_counts (lines_of text) 1 p) (go (ltb text_limit (length text)))
   where
-    go : (b : Bool) → cond b (halted (refusal Fault.TooLong 0)) (fold count_line (going 1 (counts_of p)) (lines_of text)) ≡ view (cond b (stopped (refusal Fault.TooLong 0)) (fold read_next_line (reading 1 p) (lines_of text)))
+    go : (b : Bool) → cond b (Err (refusal Fault.TooLong 0)) (counted (read_lines 1 p (lines_of text))) ≡ counted (cond b (Err (refusal Fault.TooLong 0)) (read_lines 1 p (lines_of text)))
     go true = refl
-    go false = sym (view_lines (reading 1 p) (lines_of text))
+    go false = refl
 
-source_view : (source : Source) (s : Progress) → sourced_in source (count_read (view s)) ≡ text_read_of (in_text source s)
-unfolding sourced_in count_read view in_text text_read_of
-source_view source (reading n p) = refl
-source_view source (stopped r) = refl
+-- and a refusal of it is in the same text
+source_counts : (source : Source) (p : Policy) (text : List ℕ) → in_text source (count_behind (counts_of p) text) ≡ counted (in_text source (read_text_behind p text))
+source_counts source p text = rw (behind_counts p text) (go (read_text_behind p text))
+  where
+    go : (r : Result Policy Refusal) → in_text source (counted r) ≡ counted (in_text source r)
+    go (Ok q) = refl
+    go (Err x) = refl
 
--- what is answered of a text behind a policy
-read_behind : (source : Source) (p : Policy) (text : List ℕ) → sourced_in source (count_read (count_behind (counts_of p) text)) ≡ text_read_of (in_text source (read_text_behind p text))
-read_behind source p text = ap (λ (k : Counting). sourced_in source (count_read k)) (counts_behind p text) ∙ source_view source (read_text_behind p text)
+-- as the code says it
+pub put_in_text : (source : Source) (r answer : Result Counts Refusal) → ((c : Counts) → r ≡ Ok c → answer ≡ Ok c) → ((x : Refusal) → r ≡ Err x → answer ≡ Err (within source x)) → answer ≡ in_text source r
+put_in_text source (Ok c) answer same refused = same c refl
+put_in_text source (Err x) answer same refused = refused x refl
 
-pub text_read_is : (text : List ℕ) → sourced_in Source.Maker (count_read (count_behind no_counts text)) ≡ text_read text
+pub text_counts : (text : List ℕ) → in_text Source.Maker (count_behind no_counts text) ≡ text_read text
 unfolding text_read read_text counts_of counts_in total
-text_read_is text = read_behind Source.Maker empty_policy text
+text_counts text = source_counts Source.Maker empty_policy text
 
--- ---- two texts
+-- two texts: the site's behind the maker's
+texts_counts : (maker site : List ℕ) → result_and_then (λ (c : Counts). in_text Source.Site (count_behind c site)) (text_read maker) ≡ texts_read maker site
+unfolding text_read texts_read read_texts
+texts_counts maker site = go (read_text maker)
+  where
+    go : (r : Result Policy Refusal) → result_and_then (λ (c : Counts). in_text Source.Site (count_behind c site)) (counted r)
+        ≡ counted (result_and_then (λ (p : Policy). in_text Source.Site (read_text_behind p site)) r)
+    go (Ok p) = source_counts Source.Site p site
+    go (Err x) = refl
 
 module _ (maker site : List ℕ) where
-  pub maker_refused : (r : Refusal) → text_read maker ≡ Err r → Err r ≡ texts_read maker site
-  unfolding text_read texts_read read_texts read_site text_read_of
-  maker_refused r e = go (read_text maker) e
-    where
-      go : (s : Progress) → text_read_of s ≡ Err r → Err r ≡ text_read_of (read_site s site)
-      go (reading n p) k = let w : ◌≡◌ {A = ℕ} 0 1 = cc in absurd (omega arith)
-      go (stopped x) k = sym k
+  pub maker_refused : (x : Refusal) → text_read maker ≡ Err x → Err x ≡ texts_read maker site
+  maker_refused x e = sym (ap (result_and_then (λ (c : Counts). in_text Source.Site (count_behind c site))) e) ∙ texts_counts maker site
 
-  pub site_read : (c : TextCounts) → text_read maker ≡ Ok c → sourced_in Source.Site (count_read (count_behind c site)) ≡ texts_read maker site
-  unfolding text_read texts_read read_texts read_site text_read_of
-  site_read c e = go (read_text maker) e
-    where
-      go : (s : Progress) → text_read_of s ≡ Ok c → sourced_in Source.Site (count_read (count_behind c site)) ≡ text_read_of (read_site s site)
-      go (reading n p) k = let q : counts_of p ≡ c = cc in rw (← q) (read_behind Source.Site p site)
-      go (stopped x) k = let w : ◌≡◌ {A = ℕ} 0 1 = cc in absurd (omega arith)
+  pub site_counts : (c : Counts) → text_read maker ≡ Ok c → in_text Source.Site (count_behind c site) ≡ texts_read maker site
+  site_counts c e = sym (ap (result_and_then (λ (d : Counts). in_text Source.Site (count_behind d site))) e) ∙ texts_counts maker site
 
 -- ---- the counts of a text that is read are no more than its lines may have
 
-lines_small : (ls : List (List ℕ)) (n m : ℕ) (c d : TextCounts) → Small c → fold count_line (going n c) ls ≡ going m d → Small d
-unfolding count_line counted_step
-lines_small [] n m c d s e = let q : c ≡ d = cc in rw (← q) s
-lines_small (l ∷ ls) n m c d s e = go (stepped c (line_answer l)) refl (λ x. lines_small ls (n + 1) m x d) e
+lines_small : (ls : List (List ℕ)) (n : ℕ) (c d : Counts) → Small c → count_lines n c ls ≡ Ok d → Small d
+unfolding count_lines
+lines_small [] n c d s e = let q : c ≡ d = cc in rw (← q) s
+lines_small (l ∷ ls) n c d s e = go (count_line c l) refl (lines_small ls) e
   where
-    go : (t : Result TextCounts Fault) → stepped c (line_answer l) ≡ t → ((x : TextCounts) → Small x → fold count_line (going (n + 1) x) ls ≡ going m d → Small d) → fold count_line (counted_step n t) ls ≡ going m d → Small d
-    go (Ok x) q later k = later x (small_more c x l s q) k
-    go (Err f) q later k =
-        let h : halted (refusal f n) ≡ going m d = sym (stays (refusal f n) ls) ∙ k in
-        let w : ◌≡◌ {A = ℕ} 0 1 = cc in
-        absurd (omega arith)
+    go : (r : Result Counts Fault) → count_line c l ≡ r → ((m : ℕ) (x y : Counts) → Small x → count_lines m x ls ≡ Ok y → Small y)
+        → result_and_then (λ (d : Counts). count_lines (n + 1) d ls) (located n r) ≡ Ok d → Small d
+    go (Ok x) q later k = later (n + 1) x d (small_more c x l s q) k
+    go (Err f) q later k = let z : ⊥ = cc in absurd z
 
-pub read_small : (text : List ℕ) (c : TextCounts) → text_read text ≡ Ok c → Small c
-unfolding count_behind count_from sourced_in count_read
-read_small text c e = go (ltb text_limit (length text)) (text_read_is text ∙ e)
+pub read_small : (text : List ℕ) (c : Counts) → text_read text ≡ Ok c → Small c
+unfolding count_behind
+read_small text c e = go (ltb text_limit (length text)) (text_counts text ∙ e)
   where
-    kept : (k : Counting) → sourced_in Source.Maker (count_read k) ≡ Ok c → ((n : ℕ) (d : TextCounts) → k ≡ going n d → Small d) → Small c
-    kept (going n d) q s = let m : d ≡ c = cc in rw (← m) (s n d refl)
-    kept (halted r) q s = let w : ◌≡◌ {A = ℕ} 0 1 = cc in absurd (omega arith)
+    lines : (r : Result Counts Refusal) → count_lines 1 no_counts (lines_of text) ≡ r → in_text Source.Maker r ≡ Ok c → Small c
+    lines (Ok d) q k = let i : d ≡ c = cc in rw (← i) (lines_small (lines_of text) 1 no_counts d none_small q)
+    lines (Err x) q k = let z : ⊥ = cc in absurd z
 
-    go : (b : Bool) → sourced_in Source.Maker (count_read (cond b (halted (refusal Fault.TooLong 0)) (fold count_line (going 1 no_counts) (lines_of text)))) ≡ Ok c → Small c
-    go true q = kept (halted (refusal Fault.TooLong 0)) q (λ n d h. absurd (let w : ◌≡◌ {A = ℕ} 0 1 = cc in omega arith))
-    go false q = kept (fold count_line (going 1 no_counts) (lines_of text)) q (λ n d h. lines_small (lines_of text) 1 n no_counts d none_small h)
+    go : (b : Bool) → in_text Source.Maker (cond b (Err (refusal Fault.TooLong 0)) (count_lines 1 no_counts (lines_of text))) ≡ Ok c → Small c
+    go true q = let z : ⊥ = cc in absurd z
+    go false q = lines (count_lines 1 no_counts (lines_of text)) refl q

@@ -1,13 +1,12 @@
 -- What `read_text` and `read_texts` answer for every text, by `Text`: the refusal with its location, or the counts of what was read.
-use Rattle.std.specs.Prelude.{Result, Ok, Err}
-use Rattle.std.specs.Prelude.{ℕ, ◌+◌, List, [], ◌∷◌, map, length}
-use Rattle.std.proofs.Math.Option.{Option, none, some}
+use Rattle.std.specs.Prelude.{ℕ, ◌+◌, List, [], ◌∷◌, map, length, Result}
+use Rattle.std.specs.Result.{result_map_both}
 use Rattle.policy.specs.Line.{PolicyLine, rule, constraint, heads_of, comparisons_of, constant_count}
 use Rattle.policy.specs.Policy.{Policy}
 use Rattle.policy.specs.declared.fault.Refusal.{Refusal}
-use Rattle.rule_text.specs.Text.{Progress, reading, stopped, read_text, read_texts}
+use Rattle.policy.specs.declared.line.PerPart.{PerPart}
+use Rattle.rule_text.specs.Text.{read_text, read_texts}
 use Rattle.rule_text.specs.declared.LineCounts.{LineCounts}
-use Rattle.rule_text.specs.declared.TextCounts.{TextCounts}
 
 unfoldable pub total : (PolicyLine → ℕ) → List PolicyLine → ℕ
 total count [] = 0
@@ -23,19 +22,15 @@ counts_in ls =
       constants = total (λ (l : PolicyLine). constant_count (comparisons_of l)) ls;
     }
 
-unfoldable pub counts_of : Policy → TextCounts
+unfoldable pub counts_of : Policy → PerPart LineCounts
 counts_of p = record { rules = counts_in (map rule p.rules); constraints = counts_in (map constraint p.constraints) }
 
-unfoldable pub text_read_of : Progress → Result TextCounts Refusal
-text_read_of (reading n p) = Ok (counts_of p)
-text_read_of (stopped r) = Err r
+-- the counts in place of the policy
+abbrev pub counted : Result Policy Refusal → Result (PerPart LineCounts) Refusal
+counted read = result_map_both counts_of (λ refusal. refusal) read
 
-unfoldable pub text_read : List ℕ → Result TextCounts Refusal
-text_read text = text_read_of (read_text text)
+unfoldable pub text_read : List ℕ → Result (PerPart LineCounts) Refusal
+text_read text = counted (read_text text)
 
-unfoldable pub texts_read : List ℕ → List ℕ → Result TextCounts Refusal
-texts_read maker site = text_read_of (read_texts maker site)
-
-abbrev pub refusal_in_text : Result TextCounts Refusal → Option Refusal
-refusal_in_text (Err r) = some r
-refusal_in_text (Ok c) = none
+unfoldable pub texts_read : List ℕ → List ℕ → Result (PerPart LineCounts) Refusal
+texts_read maker site = counted (read_texts maker site)

@@ -54,7 +54,6 @@ module _ (rs : Readings) (s : ActionSet) (ws : List ℕ) where
       goes_on = turn (constraint_test rs s) ws at w next (operation_of w) within this refl holds h e
 
       run_word : holds_from at ≡ ends_constraint w || holds_from next
-      unfolding any
       run_word = ap (any ends_constraint) goes_on
 
       fetch_word : tried_from at ≡ fetches_of (operation_of w) + cond (ends_constraint w) 0 (tried_from next)
@@ -93,7 +92,6 @@ module _ (rs : Readings) (s : ActionSet) (ws : List ℕ) where
     beyond = at + 1 + constants_behind (operation_of w) + cond (constraint_test rs s (operation_of w) w (get_or ws (at + 1) 0)) 0 (skip_of w)
 
     pub constraints_last : holds_from at ≡ ends_constraint w
-    unfolding any
     constraints_last = ⊎_elim
         (λ e. ap (any ends_constraint) (last_turn (constraint_test rs s) ws at w 0 (operation_of w) within this e) ∙ or-false (ends_constraint w))
         (λ n. run_word at w beyond within this _ refl refl ∙ ap (λ (b : Bool). b || holds_from beyond) n ∙ sym n) way
@@ -112,7 +110,6 @@ module _ (rs : Readings) (s : ActionSet) (ws : List ℕ) where
 
   module _ (at : ℕ) (past : length ws ≤ at) where
     pub constraints_end : holds_from at ≡ false
-    unfolding any
     constraints_end = ap (any ends_constraint) (ran_end (constraint_test rs s) ws at past)
 
     pub fetch_end : tried_from at ≡ 0

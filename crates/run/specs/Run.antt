@@ -1,8 +1,8 @@
 -- What words do when they are run, by their operations and skips, and how many are fetched. Any words can be run.
-use Rattle.std.specs.Prelude.{ℕ, zero, suc, ◌+◌, Bool, true, false, not, cond, get_or, List, [], ◌∷◌, fold}
+use Rattle.std.specs.Prelude.{ℕ, zero, suc, ◌+◌, Bool, true, false, not, List, [], ◌∷◌, fold, if◌then◌else◌, slice_index_or}
 use Rattle.policy.specs.Comparison.{comparison_holds}
 use Rattle.policy.specs.declared.epoch.Readings.{Readings}
-use Rattle.policy.specs.List.{any}
+use Rattle.std.specs.List.{list_any}
 use Rattle.policy.specs.Set.{ActionSet, has_event, no_actions, has_action, insert_action}
 use Rattle.policy.specs.declared.line.Part.{Part}
 use Rattle.policy.specs.declared.set.Events.{Events}
@@ -19,7 +19,7 @@ constants_behind _ = 0
 
 -- how many of the words behind a word are passed over: its constant always, and where its test fails as many more as its skip tells
 abbrev pub passes : Bool → Operation → ℕ → ℕ
-passes holds op w = constants_behind op + cond holds 0 (skip_of w)
+passes holds op w = constants_behind op + (if holds then 0 else skip_of w)
 
 -- the words that are run, one after another, with the number of words still to pass over. Whether the test of a word holds is told
 -- by its operation, itself and the word behind it.
@@ -27,7 +27,7 @@ module _ (test : Operation → ℕ → ℕ → Bool) where
   unfoldable pub ran : ℕ → List ℕ → List ℕ
   ran n [] = []
   ran (suc n) (w ∷ ws) = ran n ws
-  ran zero (w ∷ ws) = w ∷ ran (passes (test (operation_of w) w (get_or ws 0 0)) (operation_of w) w) ws
+  ran zero (w ∷ ws) = w ∷ ran (passes (test (operation_of w) w (slice_index_or ws 0 0)) (operation_of w) w) ws
 
 -- ---- tests
 
@@ -70,7 +70,7 @@ ends_constraint w = is_never (operation_of w)
 
 -- whether the end of some constraint is run
 unfoldable pub run_constraints : Readings → ActionSet → List ℕ → Bool
-run_constraints rs s ws = any ends_constraint (ran (constraint_test rs s) 0 ws)
+run_constraints rs s ws = list_any ends_constraint (ran (constraint_test rs s) 0 ws)
 
 -- ---- how many words are fetched
 
@@ -85,7 +85,7 @@ fetches (w ∷ ws) = fetches_of (operation_of w) + fetches ws
 -- the words of a list up to the first that passes a test, that one included
 unfoldable pub up_to : (ℕ → Bool) → List ℕ → List ℕ
 up_to test [] = []
-up_to test (w ∷ ws) = w ∷ cond (test w) [] (up_to test ws)
+up_to test (w ∷ ws) = w ∷ (if test w then [] else up_to test ws)
 
 -- how many words the run of rules fetches
 unfoldable pub rule_fetches : Events → Readings → List ℕ → ℕ

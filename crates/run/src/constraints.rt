@@ -1,5 +1,5 @@
 //! The constraint part of an image.
-ghost use Rattle.std.specs.Prelude.{◌≡◌, ◌<◌, ◌≤◌, length, get_or, true, MatchOption};
+ghost use Rattle.std.specs.Prelude.{◌≡◌, ◌<◌, ◌≤◌, length, slice_index_or, true, MatchOption};
 ghost use Rattle.word.specs.Chunk.{words_in};
 ghost use Rattle.policy.specs.Epoch.{viewed};
 ghost use Rattle.operation.specs.Fields.{operation_of};
@@ -51,7 +51,7 @@ fn test_constraint(
     readings: ReadingView<'_>,
 ) -> Option<Tested>
     requires { behind < length words.now }
-    ensures { MatchOption result (ends_constraint word ≡ true) (IsTestOf (viewed readings.entry) set word (get_or (words_in words.now) behind 0) behind) }
+    ensures { MatchOption result (ends_constraint word ≡ true) (IsTestOf (viewed readings.entry) set word (slice_index_or (words_in words.now) behind 0) behind) }
 {
     let part = Part::Constraints;
     if is_against_constant(word) {

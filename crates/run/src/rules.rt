@@ -1,5 +1,5 @@
 //! The rule part of an image.
-ghost use Rattle.std.specs.Prelude.{◌≡◌, ◌≤◌, get_or, length, MatchOption};
+ghost use Rattle.std.specs.Prelude.{◌≡◌, ◌≤◌, slice_index_or, length, MatchOption};
 ghost use Rattle.word.specs.Chunk.{words_in};
 ghost use Rattle.policy.specs.Epoch.{viewed};
 ghost use Rattle.operation.specs.Fields.{operation_of};
@@ -39,7 +39,7 @@ fn test_rule(
     readings: ReadingView<'_>,
 ) -> Option<Tested>
     requires { behind ≤ length words.now }
-    ensures { MatchOption result (AsksNothing events (viewed readings.entry) word (get_or (words_in words.now) behind 0)) (IsTestIn events (viewed readings.entry) word (get_or (words_in words.now) behind 0) behind) }
+    ensures { MatchOption result (AsksNothing events (viewed readings.entry) word (slice_index_or (words_in words.now) behind 0)) (IsTestIn events (viewed readings.entry) word (slice_index_or (words_in words.now) behind 0) behind) }
 {
     let part = Part::Rules;
     if is_present(word) {

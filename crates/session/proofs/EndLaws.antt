@@ -2,11 +2,11 @@
 use Rattle.std.specs.Prelude.{Result, Ok, Err, IfOk}
 use Rattle.std.proofs.lemmas.Result.{IfOk-at_ok}
 use Rattle.std.proofs.Common.{◌≡◌, ℕ, ◌+◌, ◌-◌, ◌<◌, ◌≤◌, List, [], ◌++◌, length, take, drop, sym, refl, ap, ◌∙◌, ap₂, append-nil, arith, length-take-le, take-add, drop_at}
-use Rattle.policy.specs.List.{any}
+use Rattle.policy.specs.Policy.{Policy}
 use Rattle.policy.specs.declared.fault.Refusal.{Refusal}
 use Rattle.policy.specs.declared.mode.Mode.{Mode}
 use Rattle.lexer.specs.Lines.{pieces, lines_of}
-use Rattle.rule_text.specs.Text.{Progress, read_text}
+use Rattle.rule_text.specs.Text.{read_text}
 use Rattle.codegen.specs.Compile.{compiled}
 use Rattle.monitor.specs.Decision.{decision_in}
 use Rattle.monitor.specs.declared.decision.Actions.{Actions}
@@ -18,7 +18,7 @@ use Rattle.session.specs.Steps.Ended.{TextEnded, LineEnded}
 use Rattle.session.specs.declared.state.Phase.{Phase}
 use Rattle.session.specs.declared.state.State.{State}
 use Rattle.output.proofs.RoomLaws.{put_end, put_take}
-use Rattle.codegen.proofs.RoomLaws.{Read, compiled_stopped, compiled_read}
+use Rattle.codegen.proofs.RoomLaws.{Read, compiled_refusal, compiled_read}
 use Rattle.report.proofs.LengthLaws.{refusal_short}
 use Rattle.session.proofs.LengthLaws.{decision_short}
 
@@ -37,19 +37,19 @@ module _ (text : List ℕ) (mode : Mode) (s : State) (image out : List ℕ) (ans
     (within : IfOk answer (λ size. size ≤ length image')) (kept : length image' ≡ length image) (long : length image ≡ 13064) (out_long : length out ≡ 65536) (room : Room s) where
   prints_refusal : (x : Refusal) → answer ≡ Err x → (t : Session) → printed_for text t ≡ refusal_line x
   unfolding printed_for answers_to
-  prints_refusal x e t = ap (λ (p : Progress). answers_to p t) (compiled_stopped text image long x (sym made ∙ e))
+  prints_refusal x e t = ap (λ (p : Result Policy Refusal). answers_to p t) (compiled_refusal text image long x (sym made ∙ e))
 
   prints_epochs : (size : ℕ) → answer ≡ Ok size → (epochs : List (List ℕ)) → printed_for text (with_epochs [] mode epochs) ≡ epoch_lines mode (take size image') 0 epochs
   unfolding printed_for answers_to
   prints_epochs size e epochs =
       let r : Read (read_text text) (compiled text image).buffer size = compiled_read text image long size (sym made ∙ e) in
-      ap (λ (p : Progress). answers_to p (with_epochs [] mode epochs)) r.read
+      ap (λ (p : Result Policy Refusal). answers_to p (with_epochs [] mode epochs)) r.read
       ∙ ap (λ (bytes : List ℕ). epoch_lines mode bytes 0 epochs) (sym (ap (take size) wrote ∙ r.image))
 
   pub text_refused : (x : Refusal) (out' : List ℕ) (end : ℕ) → answer ≡ Err x → x.location < 18446744073709551616
       → Put out s.used (refusal_line x) out' end
       → TextEnded text mode s out (record { phase = Phase.Over; mode = mode; start = 0; count = 0; epochs = 0; size = 0; used = end }) image' out'
-  unfolding owed left_in Fitting TracksIn any
+  unfolding owed left_in Fitting TracksIn
   text_refused x out' end e small p =
       let short : length (refusal_line x) ≤ 64 = refusal_short x small in
       let fits : s.used + length (refusal_line x) ≤ length out = omega arith in
@@ -76,7 +76,7 @@ module _ (text : List ℕ) (mode : Mode) (s : State) (image out : List ℕ) (ans
 
   pub text_accepted : (size : ℕ) → answer ≡ Ok size
       → TextEnded text mode s out (record { phase = Phase.Epochs; mode = mode; start = 0; count = 0; epochs = 0; size = size; used = s.used }) image' out
-  unfolding owed left_in Fitting TracksIn any epoch_lines lines_of pieces
+  unfolding owed left_in Fitting TracksIn epoch_lines lines_of pieces
   text_accepted size e =
       let k : size ≤ length image' = IfOk-at_ok (λ n. n ≤ length image') e within in
       record {

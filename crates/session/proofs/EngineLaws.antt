@@ -1,12 +1,13 @@
 -- Laws of an engine: a state with its buffers, which tells of what was seen as much as counts.
+use Rattle.std.specs.Prelude.{Some, None, is_some}
+use Rattle.std.specs.Option.{option_or}
 use Rattle.std.proofs.Common.{◌≡◌, ℕ, ◌-◌, ◌<◌, ◌≤◌, Bool, true, false, cond, eqb, ltb, List, [], ◌∷◌, ◌++◌, length, take, sym, refl, ap, ◌∙◌, ap₂, subst, append-nil, arith, length-append, length-take-le, take_all, ltb-false, ltb-true}
 use Rattle.std.specs.Io.{StartsWith}
-use Rattle.std.proofs.Math.Option.{none, some, or_else}
 use Rattle.stream.specs.Lines.{due_for, whole_part}
 use Rattle.stream.proofs.LineLaws.{due_emptied}
 use Rattle.stream.proofs.MachineLaws.{starts_append}
 use Rattle.session.specs.Printed.{mode_of, printed, due}
-use Rattle.session.specs.Steps.Owed.{printed_behind, current, left_in, owed, Good, Seen, see_byte, see, nothing_seen, picked, given_for, seen_in, seen_by, Room, TracksIn, Tracks, Took, start_state, emptied}
+use Rattle.session.specs.Steps.Owed.{printed_behind, current, left_in, owed, Good, Seen, see_byte, see, nothing_seen, given_for, seen_in, seen_by, Room, TracksIn, Tracks, Took, start_state, emptied}
 use Rattle.session.specs.Steps.Kept.{Starting}
 use Rattle.session.specs.declared.state.Phase.{Phase}
 use Rattle.session.specs.declared.state.State.{State}
@@ -32,9 +33,9 @@ alike_byte y x b a = go (eqb b 10)
     same = ap mode_of (sym (append-nil y.tail)) ∙ a.line [] ∙ ap mode_of (append-nil x.tail)
 
     go : (t : Bool)
-        → Alike (cond {A = Seen} t (record { ran = or_else y.ran (mode_of y.tail); tail = [] }) (record { ran = y.ran; tail = y.tail ++ b ∷ [] }))
-        (cond {A = Seen} t (record { ran = or_else x.ran (mode_of x.tail); tail = [] }) (record { ran = x.ran; tail = x.tail ++ b ∷ [] }))
-    go true = record { ran = ap₂ or_else a.ran same; line = λ l. refl }
+        → Alike (cond {A = Seen} t (record { ran = option_or y.ran (mode_of y.tail); tail = [] }) (record { ran = y.ran; tail = y.tail ++ b ∷ [] }))
+        (cond {A = Seen} t (record { ran = option_or x.ran (mode_of x.tail); tail = [] }) (record { ran = x.ran; tail = x.tail ++ b ∷ [] }))
+    go true = record { ran = ap₂ option_or a.ran same; line = λ l. refl }
     go false = record { ran = a.ran; line = λ l. ap mode_of (snoc y.tail l b) ∙ a.line (b ∷ l) ∙ ap mode_of (sym (snoc x.tail l b)) }
 
 alike_ran : (y x : Seen) (bytes : List ℕ) → Alike y x → (see y bytes).ran ≡ (see x bytes).ran
@@ -53,13 +54,13 @@ held_line k tail l h = go (ltb k (length tail)) refl
         ∙ sym (long_none (tail ++ l) (omega (arith, length-append tail l)))
     go false e = ap (λ (x : List ℕ). mode_of (x ++ l)) (take_all k tail (ltb-false k (length tail) e))
 
-picked_same : (p : Phase) (x : Seen) (s : State) (held : List ℕ) → TracksIn p x s held → (bytes : List ℕ) → picked (see x bytes).ran ≡ picked (see (seen_in p s held) bytes).ran
+picked_same : (p : Phase) (x : Seen) (s : State) (held : List ℕ) → TracksIn p x s held → (bytes : List ℕ) → is_some (see x bytes).ran ≡ is_some (see (seen_in p s held) bytes).ran
 unfolding TracksIn seen_in
 picked_same Phase.Text x s held (ran, line, first) bytes =
-    ap picked (sym (alike_ran (record { ran = none; tail = current s held }) x bytes
+    ap is_some (sym (alike_ran (record { ran = None; tail = current s held }) x bytes
     (record { ran = sym ran; line = λ l. ap (λ (c : List ℕ). mode_of (c ++ l)) line ∙ held_line (32780 - s.start) x.tail l (omega arith) })))
-picked_same Phase.Epochs x s held (ran, line) bytes = ap picked (ran_stays_all x bytes ran ∙ sym (ran_stays_all (record { ran = some s.mode; tail = current s held }) bytes refl))
-picked_same Phase.Over x s held ran bytes = ap picked (ran_stays_all x bytes ran ∙ sym (ran_stays_all (record { ran = some s.mode; tail = [] }) bytes refl))
+picked_same Phase.Epochs x s held (ran, line) bytes = ap is_some (ran_stays_all x bytes ran ∙ sym (ran_stays_all (record { ran = Some s.mode; tail = current s held }) bytes refl))
+picked_same Phase.Over x s held ran bytes = ap is_some (ran_stays_all x bytes ran ∙ sym (ran_stays_all (record { ran = Some s.mode; tail = [] }) bytes refl))
 
 -- ---- what a state tells
 
@@ -84,8 +85,8 @@ module _ (s : State) (held image out : List ℕ) where
   unfolding given_for
   given_same x h bytes = go (whole_part bytes)
     where
-      go : (part : List ℕ) → due_for (λ lines. picked (see x lines).ran) (owed s held image out) (take s.used out) part
-          ≡ due_for (λ lines. picked (see (seen_by s held) lines).ran) (owed s held image out) (take s.used out) part
+      go : (part : List ℕ) → due_for (λ lines. is_some (see x lines).ran) (owed s held image out) (take s.used out) part
+          ≡ due_for (λ lines. is_some (see (seen_by s held) lines).ran) (owed s held image out) (take s.used out) part
       go [] = refl
       go (b ∷ part) = ap (λ (t : Bool). cond t (owed s held image out (b ∷ part)) (take s.used out)) (picked_same s.phase x s held h (b ∷ part))
 
@@ -111,7 +112,7 @@ module _ (s : State) (held image out : List ℕ) where
   -- at any view of what was seen, and at the one that the state tells
   pub given_emptied : (x : Seen) (rest : List ℕ) → given_for x s held image out rest ≡ take s.used out ++ given_for x (emptied s) held image out rest
   unfolding given_for
-  given_emptied x rest = due_emptied (λ lines. picked (see x lines).ran) (owed s held image out) (owed (emptied s) held image out) (take s.used out) owed_emptied rest
+  given_emptied x rest = due_emptied (λ lines. is_some (see x lines).ran) (owed s held image out) (owed (emptied s) held image out) (take s.used out) owed_emptied rest
 
   pub given_none : (x : Seen) → given_for x s held image out [] ≡ take s.used out
   unfolding given_for
@@ -138,7 +139,7 @@ module _ (s : State) (held image out : List ℕ) where
 
   pub empty_room : Good s held image out → given_for (seen_by s held) s held image out [] ≡ [] → Room s
   empty_room g e =
-      let none : length (take s.used out) ≡ 0 = ap length (sym (given_none (seen_by s held)) ∙ e) in
+      let None : length (take s.used out) ≡ 0 = ap length (sym (given_none (seen_by s held)) ∙ e) in
       omega (arith, length-take-le s.used out (omega (arith, g.used, g.out_long)))
 
   pub starting_emptied : Starting s.phase s → Starting s.phase (emptied s)

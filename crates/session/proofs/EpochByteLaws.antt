@@ -1,6 +1,6 @@
 -- Laws of a byte of an epoch line.
+use Rattle.std.specs.Prelude.{Option, Some, None}
 use Rattle.std.proofs.Common.{◌≡◌, ℕ, ◌<◌, ◌≤◌, List, [], ◌∷◌, ◌++◌, length, take, set, sym, refl, ap, ◌∙◌, subst, append_assoc, arith, length-drop, length-set, length-take}
-use Rattle.std.proofs.Math.Option.{Option, none, some}
 use Rattle.policy.specs.declared.mode.Mode.{Mode}
 use Rattle.lexer.specs.Lines.{lines_of}
 use Rattle.monitor.specs.Decision.{decision_in}
@@ -31,7 +31,7 @@ module _ (s : State) (held image out : List ℕ) (g : Good s held image out) (t 
 
   -- a byte that is held, and one for which there is no room
   grown_tracks : (b : ℕ) → s.count < 1025 → (b ≡ 10 → ⊥) → {line : List ℕ} → line ≡ current s held ++ b ∷ [] → (x : Seen) → TracksIn Phase.Epochs x s held
-      → ((see_byte x b).ran ≡ some s.mode) × (line ≡ take 1025 (see_byte x b).tail)
+      → ((see_byte x b).ran ≡ Some s.mode) × (line ≡ take 1025 (see_byte x b).tail)
   unfolding TracksIn
   grown_tracks b c n e x (ran, line) = (
     ran_stays x b ran,
@@ -39,7 +39,7 @@ module _ (s : State) (held image out : List ℕ) (g : Good s held image out) (t 
   )
 
   full_tracks : (b : ℕ) → 1025 ≤ s.count → (b ≡ 10 → ⊥) → (x : Seen) → TracksIn Phase.Epochs x s held
-      → ((see_byte x b).ran ≡ some s.mode) × (current s held ≡ take 1025 (see_byte x b).tail)
+      → ((see_byte x b).ran ≡ Some s.mode) × (current s held ≡ take 1025 (see_byte x b).tail)
   unfolding TracksIn
   full_tracks b c n x (ran, line) = (
     ran_stays x b ran,
@@ -122,7 +122,7 @@ module _ (s : State) (held image out : List ℕ) (g : Good s held image out) (t 
             (ran_stays x 10 (tracks_at Phase.Epochs x s held t h).0, ap (λ (y : Seen). take 1025 y.tail) (sym (see_end x)));
         open_line = λ n. absurd (n refl);
         quiet = λ x h q.
-            let z : ◌≡◌ {A = Option Mode} none (some s.mode) = sym q ∙ ran_stays x 10 (tracks_at Phase.Epochs x s held t h).0 in
+            let z : ◌≡◌ {A = Option Mode} None (Some s.mode) = sym q ∙ ran_stays x 10 (tracks_at Phase.Epochs x s held t h).0 in
             cc;
         good = decided_good out' r.used d.out_long d.used;
       }))

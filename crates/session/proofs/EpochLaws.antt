@@ -6,7 +6,6 @@ use Rattle.policy.specs.declared.fault.Fault.{Fault}
 use Rattle.policy.specs.declared.mode.Mode.{Mode}
 use Rattle.lexer.specs.Lines.{pieces, lines_of}
 use Rattle.epoch_line.specs.Epoch.{read_epoch}
-use Rattle.word.specs.Word.{words_of}
 use Rattle.image.specs.Load.{load}
 use Rattle.monitor.specs.Decision.{on_image, decision_in}
 use Rattle.monitor.specs.declared.decision.Actions.{Actions}

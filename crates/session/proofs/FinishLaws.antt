@@ -1,6 +1,6 @@
 -- Laws of the end of the input.
+use Rattle.std.specs.Prelude.{Some, None}
 use Rattle.std.proofs.Common.{◌≡◌, ℕ, List, [], ◌∷◌, ◌++◌, length, take, sym, refl, ap, ◌∙◌, subst, append-nil, arith, take-append-drop, take-take}
-use Rattle.std.proofs.Math.Option.{none, some}
 use Rattle.policy.specs.declared.mode.Mode.{Mode}
 use Rattle.lexer.specs.Lines.{pieces, lines_of}
 use Rattle.monitor.specs.Decision.{decision_in}
@@ -49,17 +49,17 @@ module _ (s : State) (held image out : List ℕ) (g : Good s held image out) whe
             ∙ ap (λ (x : List ℕ). take s.used out ++ x) (sym (ap (printed_behind (take s.start held)) (append-nil (current s held)) ∙ e))
             ∙ sym (owed_text s held image out [] t);
         tracks = λ x h.
-            let y : Seen = record { ran = some mode; tail = [] } in
+            let y : Seen = record { ran = Some mode; tail = [] } in
             tracked y r held (d.tracks held y refl refl);
         good = good;
       }
 
-  pub finish_run : (mode : Mode) (r : State) (image' out' : List ℕ) → s.phase ≡ Phase.Text → mode_of (current s held) ≡ some mode
+  pub finish_run : (mode : Mode) (r : State) (image' out' : List ℕ) → s.phase ≡ Phase.Text → mode_of (current s held) ≡ Some mode
       → TextEnded (take s.start held) mode s out r image' out' → Finished s held image out r image' out'
   finish_run mode r image' out' t e d =
       finished_text (take s.start held) mode r image' out' t d (end_run (take s.start held) (current s held) mode g.one_line e)
 
-  pub finish_text : (mode : Mode) (r : State) (image' out' : List ℕ) → s.phase ≡ Phase.Text → mode_of (current s held) ≡ none
+  pub finish_text : (mode : Mode) (r : State) (image' out' : List ℕ) → s.phase ≡ Phase.Text → mode_of (current s held) ≡ None
       → TextEnded (take s.count held) mode s out r image' out' → Finished s held image out r image' out'
   finish_text mode r image' out' t e d =
       let all : take s.start held ++ current s held ≡ take s.count held = ap (λ (x : List ℕ). x ++ current s held) (sym (take-take s.start s.count held g.ordered)) ∙ take-append-drop s.start (take s.count held) in
@@ -93,7 +93,7 @@ module _ (s : State) (held image out : List ℕ) (g : Good s held image out) whe
     where
       line_tracked : Tracks (seen_by (after_decision s r.used) held) (after_decision s r.used) held
       line_tracked =
-          let y : Seen = record { ran = some s.mode; tail = [] } in
+          let y : Seen = record { ran = Some s.mode; tail = [] } in
           tracked y (after_decision s r.used) held (at_tracks Phase.Epochs y (after_decision s r.used) held t (refl, refl))
 
   pub finish_over : s.phase ≡ Phase.Over → Finished s held image out s image out

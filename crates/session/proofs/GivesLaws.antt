@@ -1,18 +1,18 @@
 -- Laws of what is due before the input has ended.
+use Rattle.std.specs.Prelude.{Option, Some, None, is_some}
 use Rattle.std.proofs.Common.{◌≡◌, ℕ, ◌-◌, true, false, ◌==◌, List, [], ◌∷◌, ◌++◌, take, sym, refl, ap, ◌∙◌, append-nil, arith, take-take, eqb-true}
 use Rattle.std.proofs.lemmas.Bool.{eqb-false}
-use Rattle.std.proofs.Math.Option.{Option, none, some}
 use Rattle.policy.specs.declared.mode.Mode.{Mode}
 use Rattle.lexer.specs.Lines.{pieces, lines_of}
 use Rattle.stream.proofs.LineLaws.{due_byte}
 use Rattle.session.specs.Printed.{epoch_lines}
-use Rattle.session.specs.Steps.Owed.{left_in, owed, Good, Seen, see_byte, see, picked, given_for, seen_in, seen_by, TracksIn, Tracks, Took}
+use Rattle.session.specs.Steps.Owed.{left_in, owed, Good, Seen, see_byte, see, given_for, seen_in, seen_by, TracksIn, Tracks, Took}
 use Rattle.session.specs.declared.state.Phase.{Phase}
 use Rattle.session.specs.declared.state.State.{State}
 use Rattle.session.proofs.SeenLaws.{see_end, ran_stays}
 
 -- nothing is left to be printed for lines that have ended
-pub none_left : {mode : Mode} (p : Phase) (x : Seen) (s : State) (held image : List ℕ) → TracksIn p x s held → x.ran ≡ some mode → x.tail ≡ []
+pub none_left : {mode : Mode} (p : Phase) (x : Seen) (s : State) (held image : List ℕ) → TracksIn p x s held → x.ran ≡ Some mode → x.tail ≡ []
     → left_in p s held image [] ≡ []
 unfolding TracksIn left_in epoch_lines lines_of pieces
 none_left Phase.Text x s held image (ran, line, first) r e = let z : ◌≡◌ {A = ℕ} 0 1 = cc in absurd (omega arith)
@@ -22,22 +22,22 @@ none_left Phase.Over x s held image ran r e = refl
 
 -- ---- the mode that was picked
 
-pub picked_some : (o : Option Mode) → picked o ≡ true → (mode : Mode) × (o ≡ some mode)
-picked_some none e = cc
-picked_some (some mode) e = (mode, refl)
+pub picked_some : (o : Option Mode) → is_some o ≡ true → (mode : Mode) × (o ≡ Some mode)
+picked_some None e = cc
+picked_some (Some mode) e = (mode, refl)
 
-pub picked_none : (o : Option Mode) → picked o ≡ false → o ≡ none
-picked_none none e = refl
-picked_none (some mode) e = cc
+pub picked_none : (o : Option Mode) → is_some o ≡ false → o ≡ None
+picked_none None e = refl
+picked_none (Some mode) e = cc
 
-pub ran_stays_all : {mode : Mode} (x : Seen) (bytes : List ℕ) → x.ran ≡ some mode → (see x bytes).ran ≡ some mode
+pub ran_stays_all : {mode : Mode} (x : Seen) (bytes : List ℕ) → x.ran ≡ Some mode → (see x bytes).ran ≡ Some mode
 ran_stays_all x [] e = e
 ran_stays_all x (b ∷ bytes) e = ran_stays_all (see_byte x b) bytes (ran_stays x b e)
 
 -- where none was picked, none was before
-none_before : (x : Seen) (bytes : List ℕ) (o : Option Mode) → x.ran ≡ o → (see x bytes).ran ≡ none → x.ran ≡ none
-none_before x bytes none e h = e
-none_before x bytes (some mode) e h = let z : ◌≡◌ {A = Option Mode} none (some mode) = sym h ∙ ran_stays_all x bytes e in cc
+none_before : (x : Seen) (bytes : List ℕ) (o : Option Mode) → x.ran ≡ o → (see x bytes).ran ≡ None → x.ran ≡ None
+none_before x bytes None e h = e
+none_before x bytes (Some mode) e h = let z : ◌≡◌ {A = Option Mode} None (Some mode) = sym h ∙ ran_stays_all x bytes e in cc
 
 -- what a state tells is tracked as what was seen is
 tracked_in : (p : Phase) (x : Seen) (s : State) (held : List ℕ) → TracksIn p x s held → TracksIn p (seen_in p s held) s held
@@ -58,12 +58,12 @@ pub record Byte (s : State) (held image out : List ℕ) (b : ℕ) (r : State) (h
   pub tracks : (x : Seen) → Tracks x s held → Tracks (see_byte x b) r held'
   -- no more waits than before, unless the byte ends a line and a mode was picked
   pub open_line : (b ≡ 10 → ⊥) → take r.used out' ≡ take s.used out
-  pub quiet : (x : Seen) → Tracks x s held → (see_byte x b).ran ≡ none → take r.used out' ≡ take s.used out
+  pub quiet : (x : Seen) → Tracks x s held → (see_byte x b).ran ≡ None → take r.used out' ≡ take s.used out
   pub good : Good r held' image' out'
 
 module _ (s : State) (held image out : List ℕ) (b : ℕ) (r : State) (held' image' out' : List ℕ) (p : Byte s held image out b r held' image' out') where
   module _ (x : Seen) (h : Tracks x s held) where
-    all_waits : (b == 10) ≡ true → picked (see_byte x b).ran ≡ true → take r.used out' ≡ owed r held' image' out' []
+    all_waits : (b == 10) ≡ true → is_some (see_byte x b).ran ≡ true → take r.used out' ≡ owed r held' image' out' []
     unfolding owed
     all_waits ten e =
         let (mode, ran) = picked_some (see_byte x b).ran e in
@@ -73,7 +73,7 @@ module _ (s : State) (held image out : List ℕ) (b : ℕ) (r : State) (held' im
     byte_gives : (rest : List ℕ) → given_for (see_byte x b) r held' image' out' rest ≡ given_for x s held image out (b ∷ rest)
     unfolding given_for
     byte_gives rest =
-        sym (due_byte (λ lines. picked (see x lines).ran) (λ lines. picked (see (see_byte x b) lines).ran) (owed s held image out) (owed r held' image' out')
+        sym (due_byte (λ lines. is_some (see x lines).ran) (λ lines. is_some (see (see_byte x b) lines).ran) (owed s held image out) (owed r held' image' out')
         (take s.used out) (take r.used out') b (λ rest. sym (p.owes rest)) (λ rest. refl) all_waits
         (λ rest e. p.quiet x h (none_before (see_byte x b) rest _ refl (picked_none _ e))) (λ e. p.open_line (eqb-false b 10 e)) rest)
 

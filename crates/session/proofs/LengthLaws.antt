@@ -9,7 +9,6 @@ use Rattle.policy.specs.declared.mode.Mode.{Mode}
 use Rattle.policy.proofs.SetLaws.{has_difference, has_empty}
 use Rattle.lexer.specs.Byte.{bytes}
 use Rattle.epoch_line.specs.Epoch.{read_epoch}
-use Rattle.word.specs.Word.{words_of}
 use Rattle.image.specs.Load.{load, Contents}
 use Rattle.monitor.proofs.FewLaws.{visited_few}
 use Rattle.monitor.specs.Decision.{proposed_by, proposed_with_by, kept_by, yielded_by, clash_by, kept_events_by, reduced_by, reduction_by, decided_by, on_image, decision_in, answer_of, visited_in}

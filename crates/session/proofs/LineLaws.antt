@@ -18,11 +18,9 @@ OneLine l = any (eqb 10) l ≡ false
 
 module _ (b : ℕ) (l : List ℕ) (h : OneLine (b ∷ l)) where
   line_head : eqb b 10 ≡ false
-  unfolding any
   line_head = ne_eqb b 10 (λ p. eqb-false 10 b (or_first (eqb 10 b) (any (eqb 10) l) h) (sym p))
 
   line_tail : OneLine l
-  unfolding any
   line_tail = or_second (eqb 10 b) (any (eqb 10) l) h
 
 abbrev glue : List ℕ → List (List ℕ) → List (List ℕ)
@@ -68,7 +66,6 @@ lines_last b bs h =
     ap lines_of (sym (append-nil (b ∷ bs))) ∙ lines_begun b bs [] h ∙ ap (λ (x : List ℕ). x ∷ []) (append-nil (b ∷ bs))
 
 pub empty_line : OneLine []
-unfolding any
 empty_line = refl
 
 or_both : (a b : Bool) → a ≡ false → b ≡ false → (a || b) ≡ false
@@ -76,7 +73,6 @@ or_both a b p q = rw p q
 
 -- a line with a byte more
 pub line_more : (l : List ℕ) (b : ℕ) → OneLine l → (b ≡ 10 → ⊥) → OneLine (l ++ b ∷ [])
-unfolding any
 line_more [] b h n = or_both (eqb 10 b) false (ne_eqb 10 b (λ e. n (sym e))) refl
 line_more (x ∷ l) b h n = go (eqb 10 x) (any (eqb 10) l) (line_more l b) h
   where

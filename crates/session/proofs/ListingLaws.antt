@@ -9,14 +9,14 @@ use Rattle.word.specs.Word.{words_of}
 use Rattle.layout.specs.Layout.{image_of}
 use Rattle.word.proofs.WordLaws.{words_length}
 use Rattle.acceptance.proofs.Accepted.{accepted_acceptable, texts_acceptable}
-use Rattle.rule_text.specs.Text.{Progress, reading, stopped, read_text, read_texts}
+use Rattle.rule_text.specs.Text.{read_text, read_texts}
 use Rattle.codegen.specs.Compile.{newest_form, output_of, compiled, compiled_texts}
 use Rattle.output.specs.Number.{hex_digits}
 use Rattle.report.specs.Report.{word_line, refusal_line, texts_refusal_line}
 use Rattle.output.specs.Sink.{fed, fed-none}
 use Rattle.output.proofs.SinkLaws.{fed_then}
 use Rattle.session.specs.Listed.{word_lines, listing_of, listed, listed_texts}
-use Rattle.codegen.proofs.RoomLaws.{Read, image_small, output_stopped, output_read}
+use Rattle.codegen.proofs.RoomLaws.{Read, image_small, output_refusal, output_read}
 use Rattle.acceptance.proofs.Locations.{location_small, locations_small}
 use Rattle.report.proofs.LengthLaws.{refusal_short, texts_refusal_short}
 
@@ -49,11 +49,11 @@ lines_length (w ∷ ws) = simp (length-append, hex_length 8 w, lines_length ws) 
 
 -- ---- what a compilation lists
 
-module _ (refused : Refusal → List ℕ) (s : Progress) (keeps : (n : ℕ) (p : Policy) → s ≡ reading n p → Acceptable p) (image : List ℕ) (answer : Result ℕ Refusal)
+module _ (refused : Refusal → List ℕ) (s : Result Policy Refusal) (keeps : (p : Policy) → s ≡ Ok p → Acceptable p) (image : List ℕ) (answer : Result ℕ Refusal)
     (image' : List ℕ) (made : answer ≡ (output_of s image).answer) (wrote : image' ≡ (output_of s image).buffer) (long : length image ≡ 13064) where
   refusal_listed : (x : Refusal) → answer ≡ Err x → refused x ≡ listing_of refused s
   unfolding listing_of
-  refusal_listed x e = sym (ap (listing_of refused) (output_stopped s keeps image long x (sym made ∙ e)))
+  refusal_listed x e = sym (ap (listing_of refused) (output_refusal s keeps image long x (sym made ∙ e)))
 
   image_listed : (size : ℕ) → answer ≡ Ok size → word_lines (words_of (take size image')) ≡ listing_of refused s
   unfolding listing_of
@@ -86,14 +86,14 @@ module _ (maker site image : List ℕ) (answer : Result ℕ Refusal) (image' : L
 image_lines : (image : List ℕ) → length image ≤ 13064 → length (word_lines (words_of image)) ≤ 29394
 image_lines image h = omega (arith, lines_length (words_of image), words_length image)
 
-module _ (refused : Refusal → List ℕ) (s : Progress) (keeps : (n : ℕ) (p : Policy) → s ≡ reading n p → Acceptable p) where
-  listing_short : ((x : Refusal) → s ≡ stopped x → length (refused x) ≤ 64) → length (listing_of refused s) ≤ 29394
+module _ (refused : Refusal → List ℕ) (s : Result Policy Refusal) (keeps : (p : Policy) → s ≡ Ok p → Acceptable p) where
+  listing_short : ((x : Refusal) → s ≡ Err x → length (refused x) ≤ 64) → length (listing_of refused s) ≤ 29394
   unfolding listing_of
   listing_short short = go s refl
     where
-      go : (p : Progress) → s ≡ p → length (listing_of refused p) ≤ 29394
-      go (stopped x) e = omega (arith, short x e)
-      go (reading n p) e = image_lines (image_of newest_form p) (image_small p (keeps n p e))
+      go : (p : Result Policy Refusal) → s ≡ p → length (listing_of refused p) ≤ 29394
+      go (Err x) e = omega (arith, short x e)
+      go (Ok p) e = image_lines (image_of newest_form p) (image_small p (keeps p e))
 
 pub listed_short : (text : List ℕ) → length (listed text) ≤ 29394
 unfolding listed

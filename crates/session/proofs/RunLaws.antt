@@ -1,6 +1,6 @@
 -- Laws of the lines that pick a mode.
+use Rattle.std.specs.Prelude.{Some, None}
 use Rattle.std.proofs.Common.{◌≡◌, ℕ, suc, ◌<◌, Bool, true, false, ◌&&◌, eqb, List, [], ◌∷◌, length, refl, sym, ap, ◌∙◌, arith}
-use Rattle.std.proofs.Math.Option.{none, some}
 use Rattle.std.specs.Cmp.Lexicographic.{pointwise}
 use Prim.Native.String.{String}
 use Rattle.policy.specs.declared.mode.Mode.{Mode}
@@ -39,18 +39,18 @@ unfolding is
 word_long word line h = same_long line (bytes word) (λ e. omega arith)
 
 module _ (line : List ℕ) where
-  pub picks_actions : is "run" line ≡ true → mode_of line ≡ some Mode.Actions
+  pub picks_actions : is "run" line ≡ true → mode_of line ≡ Some Mode.Actions
   unfolding mode_of
   picks_actions e = rw e
 
-  pub picks_events : is "run" line ≡ false → is "run events" line ≡ true → mode_of line ≡ some Mode.Events
+  pub picks_events : is "run" line ≡ false → is "run events" line ≡ true → mode_of line ≡ Some Mode.Events
   unfolding mode_of
   picks_events e f = rw (e, f)
 
-  pub picks_none : is "run" line ≡ false → is "run events" line ≡ false → mode_of line ≡ none
+  pub picks_none : is "run" line ≡ false → is "run events" line ≡ false → mode_of line ≡ None
   unfolding mode_of
   picks_none e f = rw (e, f)
 
-  pub long_none : 10 < length line → mode_of line ≡ none
+  pub long_none : 10 < length line → mode_of line ≡ None
   unfolding bytes
   long_none h = picks_none (word_long "run" line (omega arith)) (word_long "run events" line h)

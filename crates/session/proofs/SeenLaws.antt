@@ -1,6 +1,7 @@
 -- Laws of what was seen of the input: the held part of a line tells what the line tells.
+use Rattle.std.specs.Prelude.{Some}
+use Rattle.std.specs.Option.{option_or}
 use Rattle.std.proofs.Common.{◌≡◌, ℕ, ◌<◌, ◌≤◌, min, Bool, true, false, cond, eqb, ltb, List, [], ◌∷◌, ◌++◌, length, take, sym, refl, ap, ◌∙◌, subst, arith, length-append, length-take, take_all, ltb-false, ltb-true, ne_eqb}
-use Rattle.std.proofs.Math.Option.{some, or_else}
 use Rattle.std.proofs.Math.Seq.{take-append-le}
 use Prim.Native.String.{String}
 use Rattle.policy.specs.declared.mode.Mode.{Mode}
@@ -46,7 +47,7 @@ module _ (k : ℕ) (tail line : List ℕ) (e : line ≡ take k tail) where
 
 -- ---- a byte
 
-pub see_end : (x : Seen) → see_byte x 10 ≡ record { ran = or_else x.ran (mode_of x.tail); tail = [] }
+pub see_end : (x : Seen) → see_byte x 10 ≡ record { ran = option_or x.ran (mode_of x.tail); tail = [] }
 unfolding see_byte
 see_end x = refl
 
@@ -55,11 +56,11 @@ unfolding see_byte
 see_other x b n = rw (ne_eqb b 10 n)
 
 -- the mode that was picked stays
-pub ran_stays : {mode : Mode} (x : Seen) (b : ℕ) → x.ran ≡ some mode → (see_byte x b).ran ≡ some mode
-unfolding see_byte or_else
+pub ran_stays : {mode : Mode} (x : Seen) (b : ℕ) → x.ran ≡ Some mode → (see_byte x b).ran ≡ Some mode
+unfolding see_byte
 ran_stays {mode} x b e = go (eqb b 10)
   where
-    go : (t : Bool) → (cond {A = Seen} t (record { ran = or_else x.ran (mode_of x.tail); tail = [] }) (record { ran = x.ran; tail = x.tail ++ b ∷ [] })).ran ≡ some mode
+    go : (t : Bool) → (cond {A = Seen} t (record { ran = option_or x.ran (mode_of x.tail); tail = [] }) (record { ran = x.ran; tail = x.tail ++ b ∷ [] })).ran ≡ Some mode
     go true = rw e
     go false = e
 

@@ -1,12 +1,14 @@
 -- Laws of the text: what the next bytes do to it, and where it ends.
+use Rattle.std.specs.Prelude.{Some, None, Result, Ok, Err}
 use Rattle.std.proofs.Common.{◌≡◌, ℕ, ◌+◌, ◌<◌, ◌≤◌, Bool, true, false, ltb, List, [], ◌∷◌, ◌++◌, length, sym, refl, ap, ◌∙◌, append_assoc, append-nil, arith, length-append, ltb-false, ltb-true, lt-ltb}
-use Rattle.std.proofs.Math.Option.{none, some, Option-elim}
 use Rattle.policy.specs.Fault.{refusal}
+use Rattle.policy.specs.Policy.{Policy}
+use Rattle.policy.specs.declared.fault.Refusal.{Refusal}
 use Rattle.policy.specs.declared.fault.Fault.{Fault}
 use Rattle.policy.specs.declared.mode.Mode.{Mode}
 use Rattle.lexer.specs.Byte.{bytes, bytes_equal, is}
 use Rattle.lexer.specs.Lines.{pieces, lines_of}
-use Rattle.rule_text.specs.Text.{Progress, reading, stopped, read_text_behind, in_text, read_text}
+use Rattle.rule_text.specs.Text.{read_text_behind, read_text}
 use Rattle.report.specs.Report.{refusal_line}
 use Rattle.session.specs.Printed.{Session, text_only, with_epochs, mode_of, to_text, split_at_run, ended, text_part, epoch_lines, answers_to, printed_for}
 use Rattle.session.specs.Steps.Owed.{printed_behind}
@@ -18,12 +20,12 @@ by_split : (done rest : List ℕ) (s : Session) → split_at_run (lines_of rest)
 unfolding printed_behind
 by_split done rest s e = ap (λ (x : Session). printed_for (done ++ text_part rest x) x) e
 
-split_run : (line : List ℕ) (lines : List (List ℕ)) (mode : Mode) → mode_of line ≡ some mode → split_at_run (line ∷ lines) ≡ with_epochs [] mode lines
-unfolding split_at_run Option-elim
+split_run : (line : List ℕ) (lines : List (List ℕ)) (mode : Mode) → mode_of line ≡ Some mode → split_at_run (line ∷ lines) ≡ with_epochs [] mode lines
+unfolding split_at_run
 split_run line lines mode e = rw e
 
-split_other : (line : List ℕ) (lines : List (List ℕ)) → mode_of line ≡ none → split_at_run (line ∷ lines) ≡ to_text line (split_at_run lines)
-unfolding split_at_run Option-elim
+split_other : (line : List ℕ) (lines : List (List ℕ)) → mode_of line ≡ None → split_at_run (line ∷ lines) ≡ to_text line (split_at_run lines)
+unfolding split_at_run
 split_other line lines e = rw e
 
 -- what is printed for a text goes by the lines behind it
@@ -32,29 +34,29 @@ unfolding printed_for answers_to to_text
 to_text_is text line text_only = refl
 to_text_is text line (with_epochs t mode es) = go (read_text text)
   where
-    go : (p : Progress) → answers_to p (with_epochs (line ∷ t) mode es) ≡ answers_to p (with_epochs t mode es)
-    go (stopped r) = refl
-    go (reading n policy) = refl
+    go : (p : Result Policy Refusal) → answers_to p (with_epochs (line ∷ t) mode es) ≡ answers_to p (with_epochs t mode es)
+    go (Err r) = refl
+    go (Ok policy) = refl
 
 -- and by none in any mode
 pub no_epochs : (text : List ℕ) (mode : Mode) → printed_for text (with_epochs [] mode []) ≡ printed_for text text_only
 unfolding printed_for answers_to epoch_lines
 no_epochs text mode = go (read_text text)
   where
-    go : (p : Progress) → answers_to p (with_epochs [] mode []) ≡ answers_to p text_only
-    go (stopped r) = refl
-    go (reading n policy) = refl
+    go : (p : Result Policy Refusal) → answers_to p (with_epochs [] mode []) ≡ answers_to p text_only
+    go (Err r) = refl
+    go (Ok policy) = refl
 
 module _ (done line : List ℕ) (h : OneLine line) where
   -- the text ends before the line
-  pub behind_run : (rest : List ℕ) (mode : Mode) → mode_of line ≡ some mode
+  pub behind_run : (rest : List ℕ) (mode : Mode) → mode_of line ≡ Some mode
       → printed_behind done (line ++ 10 ∷ rest) ≡ printed_for done (with_epochs [] mode (lines_of rest))
   unfolding text_part ended
   behind_run rest mode e =
       by_split done (line ++ 10 ∷ rest) (with_epochs [] mode (lines_of rest)) (ap split_at_run (lines_ended line rest h) ∙ split_run line (lines_of rest) mode e)
       ∙ ap (λ (x : List ℕ). printed_for x (with_epochs [] mode (lines_of rest))) (append-nil done)
 
-  split_ended : (rest : List ℕ) (s : Session) → mode_of line ≡ none → split_at_run (lines_of rest) ≡ s → split_at_run (lines_of (line ++ 10 ∷ rest)) ≡ to_text line s
+  split_ended : (rest : List ℕ) (s : Session) → mode_of line ≡ None → split_at_run (lines_of rest) ≡ s → split_at_run (lines_of (line ++ 10 ∷ rest)) ≡ to_text line s
   split_ended rest s e q = ap split_at_run (lines_ended line rest h) ∙ split_other line (lines_of rest) e ∙ ap (to_text line) q
 
   regroup : (x : List ℕ) → done ++ (line ++ 10 ∷ x) ≡ (done ++ line ++ 10 ∷ []) ++ x
@@ -66,7 +68,7 @@ module _ (done line : List ℕ) (h : OneLine line) where
   text_same rest (with_epochs t mode es) = regroup (ended t)
 
   -- a line more of the text
-  pub behind_line_is : (rest : List ℕ) → mode_of line ≡ none
+  pub behind_line_is : (rest : List ℕ) → mode_of line ≡ None
       → printed_behind done (line ++ 10 ∷ rest) ≡ printed_behind (done ++ line ++ 10 ∷ []) rest
   behind_line_is rest e =
       let s : Session = split_at_run (lines_of rest) in
@@ -74,19 +76,19 @@ module _ (done line : List ℕ) (h : OneLine line) where
       ∙ to_text_is (done ++ text_part (line ++ 10 ∷ rest) (to_text line s)) line s ∙ ap (λ (x : List ℕ). printed_for x s) (text_same rest s)
       ∙ sym (by_split (done ++ line ++ 10 ∷ []) rest s refl)
 
-empty_none : mode_of [] ≡ none
+empty_none : mode_of [] ≡ None
 unfolding mode_of is bytes bytes_equal
 empty_none = refl
 
 -- the input ends in the line
-pub end_run : (done line : List ℕ) (mode : Mode) → OneLine line → mode_of line ≡ some mode → printed_behind done line ≡ printed_for done (with_epochs [] mode [])
+pub end_run : (done line : List ℕ) (mode : Mode) → OneLine line → mode_of line ≡ Some mode → printed_behind done line ≡ printed_for done (with_epochs [] mode [])
 unfolding text_part ended
 end_run done [] mode h e = let z : ◌≡◌ {A = ℕ} 0 1 = cc empty_none in absurd (omega arith)
 end_run done (b ∷ bs) mode h e =
     by_split done (b ∷ bs) (with_epochs [] mode []) (ap split_at_run (lines_last b bs h) ∙ split_run (b ∷ bs) [] mode e)
     ∙ ap (λ (x : List ℕ). printed_for x (with_epochs [] mode [])) (append-nil done)
 
-pub end_text : (done line : List ℕ) → OneLine line → mode_of line ≡ none → printed_behind done line ≡ printed_for (done ++ line) text_only
+pub end_text : (done line : List ℕ) → OneLine line → mode_of line ≡ None → printed_behind done line ≡ printed_for (done ++ line) text_only
 unfolding text_part to_text split_at_run lines_of pieces
 end_text done [] h e = by_split done [] text_only refl
 end_text done (b ∷ bs) h e =
@@ -95,7 +97,7 @@ end_text done (b ∷ bs) h e =
 -- ---- a text that is too long, whatever follows
 
 text_long : (text : List ℕ) (s : Session) → 32768 < length text → printed_for text s ≡ refusal_line (refusal Fault.TooLong 0)
-unfolding printed_for answers_to read_text read_text_behind in_text refusal_line
+unfolding printed_for answers_to read_text read_text_behind refusal_line
 text_long text s h = rw (lt-ltb 32768 (length text) h)
 
 covers : (line rest : List ℕ) → OneLine line → 10 < length line

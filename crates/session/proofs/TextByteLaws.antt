@@ -1,6 +1,7 @@
 -- Laws of a byte of the text.
+use Rattle.std.specs.Prelude.{Option, Some, None}
+use Rattle.std.specs.Option.{option_or}
 use Rattle.std.proofs.Common.{◌≡◌, ℕ, ◌+◌, ◌-◌, ◌<◌, ◌≤◌, min, List, [], ◌∷◌, ◌++◌, length, take, set, sym, refl, ap, ◌∙◌, ap₂, arith, length-append, length-drop, length-set, length-take, length-take-le}
-use Rattle.std.proofs.Math.Option.{Option, none, some, or_else}
 use Rattle.std.proofs.Math.Seq.{take-nil}
 use Rattle.policy.specs.Fault.{refusal}
 use Rattle.policy.specs.declared.fault.Fault.{Fault}
@@ -38,13 +39,13 @@ module _ (s : State) (held image out : List ℕ) (g : Good s held image out) (t 
   -- what the held part of the line tells
 
   line_seen : (x : Seen) → TracksIn Phase.Text x s held → (see_byte x 10).ran ≡ mode_of (current s held)
-  unfolding TracksIn or_else
+  unfolding TracksIn
   line_seen x (ran, line, first) =
-      ap (λ (y : Seen). y.ran) (see_end x) ∙ ap (λ (o : Option Mode). or_else o (mode_of x.tail)) ran
+      ap (λ (y : Seen). y.ran) (see_end x) ∙ ap (λ (o : Option Mode). option_or o (mode_of x.tail)) ran
       ∙ sym (held_mode (32780 - s.start) x.tail (current s held) line (omega (arith, first)))
 
   -- the next line starts, and nothing of it is held
-  line_tracks : (n : ℕ) (held' : List ℕ) → n ≤ 32769 → mode_of (current s held) ≡ none → (x : Seen) → Tracks x s held → Tracks (see_byte x 10) (starting_at n s) held'
+  line_tracks : (n : ℕ) (held' : List ℕ) → n ≤ 32769 → mode_of (current s held) ≡ None → (x : Seen) → Tracks x s held → Tracks (see_byte x 10) (starting_at n s) held'
   unfolding TracksIn
   line_tracks n held' k e x h =
       at_tracks Phase.Text (see_byte x 10) (starting_at n s) held' t (
@@ -61,7 +62,7 @@ module _ (s : State) (held image out : List ℕ) (g : Good s held image out) (t 
 
   -- ---- the line that picks a mode
 
-  pub text_run : (mode : Mode) (r : State) (image' out' : List ℕ) → mode_of (current s held) ≡ some mode → TextEnded (take s.start held) mode s out r image' out'
+  pub text_run : (mode : Mode) (r : State) (image' out' : List ℕ) → mode_of (current s held) ≡ Some mode → TextEnded (take s.start held) mode s out r image' out'
       → Took s held image out (10 ∷ []) r held image' out'
   text_run mode r image' out' e ended' =
       took_byte s held image out 10 r held image' out'
@@ -74,7 +75,7 @@ module _ (s : State) (held image out : List ℕ) (g : Good s held image out) (t 
             ended'.tracks held (see_byte x 10) (line_seen x (tracks_at Phase.Text x s held t h) ∙ e) (ap (λ (y : Seen). y.tail) (see_end x));
         open_line = λ n. absurd (n refl);
         quiet = λ x h q.
-            let z : ◌≡◌ {A = Option Mode} none (some mode) = sym q ∙ line_seen x (tracks_at Phase.Text x s held t h) ∙ e in
+            let z : ◌≡◌ {A = Option Mode} None (Some mode) = sym q ∙ line_seen x (tracks_at Phase.Text x s held t h) ∙ e in
             cc;
         good = ended'.good held g.held_long;
       })
@@ -82,7 +83,7 @@ module _ (s : State) (held image out : List ℕ) (g : Good s held image out) (t 
   -- ---- a byte that is held
 
   byte_tracks : (b : ℕ) → s.count < 32780 → (b ≡ 10 → ⊥) → {line : List ℕ} → line ≡ current s held ++ b ∷ [] → (x : Seen) → TracksIn Phase.Text x s held
-      → ((see_byte x b).ran ≡ none) × (line ≡ take (32780 - s.start) (see_byte x b).tail) × (s.start ≤ 32769)
+      → ((see_byte x b).ran ≡ None) × (line ≡ take (32780 - s.start) (see_byte x b).tail) × (s.start ≤ 32769)
   unfolding TracksIn
   byte_tracks b c n e x (ran, line, first) = (
     ap (λ (y : Seen). y.ran) (see_other x b n) ∙ ran,
@@ -131,7 +132,7 @@ module _ (s : State) (held image out : List ℕ) (g : Good s held image out) (t 
         used = g.used;
       }
 
-  line_counted : mode_of (current s held) ≡ none → s.count < 32769
+  line_counted : mode_of (current s held) ≡ None → s.count < 32769
       → Byte s held image out 10 (starting_at (s.count + 1) s) (set held s.count 10) image out
   line_counted e h =
       let k : s.count < length held = rw g.held_long (omega arith) in
@@ -172,7 +173,7 @@ module _ (s : State) (held image out : List ℕ) (g : Good s held image out) (t 
       let c : s.count ≤ 32780 = at_most in
       full_text (take s.start held) (current s held) rest g.one_line (held_length ∙ omega arith)
 
-  line_over : mode_of (current s held) ≡ none → 32769 ≤ s.count
+  line_over : mode_of (current s held) ≡ None → 32769 ≤ s.count
       → (rest : List ℕ) → printed_behind (take s.start held) (current s held ++ 10 ∷ rest) ≡ refusal_line (refusal Fault.TooLong 0)
   line_over e h rest =
       behind_line_is (take s.start held) (current s held) g.one_line rest e
@@ -187,8 +188,8 @@ module _ (s : State) (held image out : List ℕ) (g : Good s held image out) (t 
   unfolding TracksIn
   full_tracks b c n x h = at_tracks Phase.Text (see_byte x b) s held t (go (tracks_at Phase.Text x s held t h))
     where
-      go : (x.ran ≡ none) × (current s held ≡ take (32780 - s.start) x.tail) × (s.start ≤ 32769)
-          → ((see_byte x b).ran ≡ none) × (current s held ≡ take (32780 - s.start) (see_byte x b).tail) × (s.start ≤ 32769)
+      go : (x.ran ≡ None) × (current s held ≡ take (32780 - s.start) x.tail) × (s.start ≤ 32769)
+          → ((see_byte x b).ran ≡ None) × (current s held ≡ take (32780 - s.start) (see_byte x b).tail) × (s.start ≤ 32769)
       go (ran, line, first) = (
         ap (λ (y : Seen). y.ran) (see_other x b n) ∙ ran,
         held_stays (32780 - s.start) x.tail (current s held) line b (omega (arith, line_held, g.ordered)) ∙ ap (λ (y : Seen). take (32780 - s.start) y.tail) (sym (see_other x b n)),
@@ -202,7 +203,7 @@ module _ (s : State) (held image out : List ℕ) (g : Good s held image out) (t 
   text_pushed b r held' n (full h e k) = rw (e, k) (took_byte _ _ _ _ _ _ _ _ _ (text_over b s t refl (λ rest. all_full h (b ∷ rest)) (all_full h) (full_tracks b h n) g))
 
   -- the end of a line that picks none
-  pub text_line : (r : State) (held' : List ℕ) → mode_of (current s held) ≡ none → Pushed 32769 s 10 held r held'
+  pub text_line : (r : State) (held' : List ℕ) → mode_of (current s held) ≡ None → Pushed 32769 s 10 held r held'
       → Took s held image out (10 ∷ []) (line_behind r) held' image out
   text_line r held' e (room h q k) =
       let m : min (s.count + 1) 32769 ≡ s.count + 1 = omega arith in

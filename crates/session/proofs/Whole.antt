@@ -1,7 +1,7 @@
 -- However the input is cut into chunks and whenever the output is handed out, what all calls of a session hand out together is
 -- what the definition prints for the input. And what the compiler lists is what its definition says.
+use Rattle.std.specs.Prelude.{Some}
 use Rattle.std.proofs.Common.{◌≡◌, ℕ, ◌≤◌, List, [], ◌++◌, length, take, sym, ap, ◌∙◌, append_assoc, append-nil, arith}
-use Rattle.std.proofs.Math.Option.{some}
 use Rattle.policy.specs.declared.mode.Mode.{Mode}
 use Rattle.acceptance.proofs.Cut.{text_cut, texts_cut}
 use Rattle.output.specs.Buffer.{appended, behind}
@@ -31,7 +31,7 @@ all_printed c last all = represents_all _ _ _ _ _ _ (represented c) last all
 -- the answers are there as soon as they can be: once the line that picks the mode has ended and no line has begun behind the last
 -- line end, all that is printed for the input so far was handed out or waits
 pub answers_wait : {consumed handed held image out : List ℕ} {s : State} {mode : Mode} → Called consumed handed s held image out
-    → (see nothing_seen consumed).ran ≡ some mode → (see nothing_seen consumed).tail ≡ [] → handed ++ take s.used out ≡ printed consumed
+    → (see nothing_seen consumed).ran ≡ Some mode → (see nothing_seen consumed).tail ≡ [] → handed ++ take s.used out ≡ printed consumed
 unfolding owed
 answers_wait {consumed} {handed} {held} {image} {out} {s} c r e =
     let w = represented c in

@@ -1,11 +1,12 @@
 -- What the engine prints for all of its input (docs/REFERENCE.md, "The programs").
+use Rattle.policy.specs.Policy.{Policy}
 use Rattle.policy.specs.declared.fault.Refusal.{Refusal}
-use Rattle.std.specs.Prelude.{ℕ, ◌+◌, ◌%◌, ◌^◌, Bool, true, false, cond, List, [], ◌∷◌, ◌++◌, Result, Ok, Err}
-use Rattle.std.proofs.Math.Option.{Option, none, some, Option-elim}
+use Rattle.std.specs.Prelude.{ℕ, Bool, true, false, List, [], ◌∷◌, ◌++◌, Result, Ok, Err, Option, Some, None, if◌then◌else◌}
+use Rattle.std.specs.Option.{option_map_or}
 use Rattle.policy.specs.declared.mode.Mode.{Mode}
 use Rattle.lexer.specs.Byte.{is}
 use Rattle.lexer.specs.Lines.{lines_of}
-use Rattle.rule_text.specs.Text.{Progress, reading, stopped, read_text}
+use Rattle.rule_text.specs.Text.{read_text}
 use Rattle.layout.specs.Layout.{image_of}
 use Rattle.codegen.specs.Compile.{newest_form}
 use Rattle.monitor.specs.Decision.{decision_in}
@@ -16,7 +17,7 @@ use Rattle.report.specs.Report.{refusal_line, accept_line, refused_line, next_nu
 -- ---- a line `run` picks the first mode, and a line `run events` in its place the second
 
 unfoldable pub mode_of : List ℕ → Option Mode
-mode_of line = cond (is "run" line) (some Mode.Actions) (cond (is "run events" line) (some Mode.Events) none)
+mode_of line = if is "run" line then Some Mode.Actions else (if is "run events" line then Some Mode.Events else None)
 
 -- ---- the first line of exactly the three bytes `run` or the ten bytes `run events` ends the text; without one all input is text
 
@@ -31,7 +32,7 @@ to_text line (with_epochs text mode epochs) = with_epochs (line ∷ text) mode e
 
 unfoldable pub split_at_run : List (List ℕ) → Session
 split_at_run [] = text_only
-split_at_run (line ∷ lines) = Option-elim (mode_of line) (to_text line (split_at_run lines)) (λ mode. with_epochs [] mode lines)
+split_at_run (line ∷ lines) = option_map_or (λ mode. with_epochs [] mode lines) (mode_of line) (to_text line (split_at_run lines))
 
 -- lines with their line ends
 unfoldable pub ended : List (List ℕ) → List ℕ
@@ -55,10 +56,10 @@ epoch_lines mode image n (line ∷ lines) = decision_line (next_number n) (decis
 
 -- ---- a refused text prints its refusal line and nothing else
 
-unfoldable pub answers_to : Progress → Session → List ℕ
-answers_to (stopped r) s = refusal_line r
-answers_to (reading n policy) text_only = []
-answers_to (reading n policy) (with_epochs text mode epochs) = epoch_lines mode (image_of newest_form policy) 0 epochs
+unfoldable pub answers_to : Result Policy Refusal → Session → List ℕ
+answers_to (Err r) s = refusal_line r
+answers_to (Ok policy) text_only = []
+answers_to (Ok policy) (with_epochs text mode epochs) = epoch_lines mode (image_of newest_form policy) 0 epochs
 
 -- the bytes of the text are told apart from its lines, of which the last may lack its end
 unfoldable pub printed_for : List ℕ → Session → List ℕ

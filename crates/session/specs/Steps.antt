@@ -5,6 +5,5 @@ pub mod Owed
 pub mod Kept
 pub mod Engine
 pub mod Compiler
-pub mod Picked
 pub mod Held
 pub mod Ended

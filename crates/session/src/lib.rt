@@ -17,7 +17,6 @@ pub use compiler::{TextsFailure, list_input, list_texts};
 pub use engine::answer_epochs;
 use epoch::{end_line, line_byte};
 use image::IMAGE_SIZE;
-use mode::Picked;
 use policy::Mode;
 use state::{HELD_SIZE, OUT_SIZE, Phase, ROOM_LIMIT, State};
 use text::{at_run, end_text, text_byte};
@@ -109,9 +108,9 @@ pub(crate) fn finish(
     match state.phase {
         Phase::Text => {
             match at_run(state, held) {
-                Picked::Mode(mode) => end_text(state, mode, state.start, held, image, out),
+                Some(mode) => end_text(state, mode, state.start, held, image, out),
                 // No epoch follows: the mode does not matter.
-                Picked::Nothing => end_text(state, Mode::Actions, state.count, held, image, out),
+                None => end_text(state, Mode::Actions, state.count, held, image, out),
             }
         }
         Phase::Epochs => {

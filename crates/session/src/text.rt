@@ -3,21 +3,20 @@ ghost use Rattle.std.specs.Prelude.{◌≡◌, ◌≤◌, [], ◌∷◌, length,
 ghost use Rattle.session.specs.Printed.{mode_of};
 ghost use Rattle.session.specs.Steps.Owed.{current, Good, Room, Took};
 ghost use Rattle.session.specs.Steps.Held.{line_behind};
-ghost use Rattle.session.specs.Steps.Picked.{mode_in};
 ghost use Rattle.session.specs.Steps.Ended.{TextEnded};
 ghost use Rattle.session.specs.declared.state.Phase.{Phase};
 
-use crate::mode::{Picked, pick_mode};
+use crate::mode::pick_mode;
 use crate::state::{HELD_SIZE, OUT_SIZE, Phase, State, TEXT_HELD, push};
 use image::IMAGE_SIZE;
 use output::Page;
 use policy::Mode;
 
 /// What the current line of the text picks.
-pub(crate) fn at_run(state: State, held: &[u8]) -> Picked
+pub(crate) fn at_run(state: State, held: &[u8]) -> Option<Mode>
     requires ordered { state.start ≤ state.count }
     requires inside { state.count ≤ length held.now }
-    ensures { mode_in result ≡ mode_of (current state held.now) }
+    ensures { result ≡ mode_of (current state held.now) }
 {
     let start = state.start;
     let count = state.count;
@@ -100,7 +99,7 @@ pub(crate) fn text_byte(
         return push(state, byte, HELD_SIZE, held);
     }
     match at_run(state, held) {
-        Picked::Mode(mode) => end_text(state, mode, state.start, held, image, out),
-        Picked::Nothing => line_behind(push(state, byte, TEXT_HELD, held)),
+        Some(mode) => end_text(state, mode, state.start, held, image, out),
+        None => line_behind(push(state, byte, TEXT_HELD, held)),
     }
 }

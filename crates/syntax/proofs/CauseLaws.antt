@@ -1,7 +1,6 @@
 -- Laws of reading `causes`, the action and the condition of a rule, and of telling the two shapes apart.
-use Rattle.std.specs.Prelude.{Option as Maybe, Some, None, option_map}
+use Rattle.std.specs.Prelude.{Some, None, option_map, Option}
 use Rattle.std.proofs.Common.{ℕ, Bool, true, false, cond, List, [], ◌∷◌, ◌≡◌, refl, sym, ap, ap₂, ◌∙◌, arith}
-use Rattle.std.proofs.Math.Option.{some}
 use Rattle.std.proofs.Math.Dec.{ltb}
 use Rattle.policy.specs.Limits.{ending_in_range}
 use Rattle.policy.specs.Number.{check_action}
@@ -22,7 +21,7 @@ use Rattle.syntax.specs.Steps.Draft.{end_as, ending_into}
 use Rattle.syntax.specs.Steps.Outcome.{condition_outcome, caused, cause_outcome, line_outcome}
 use Rattle.syntax.specs.declared.draft.Draft.{Draft}
 
-named_solid : (letter : ℕ) (t : Token) (n : ℕ) → named letter t ≡ some n → is_empty t ≡ false
+named_solid : (letter : ℕ) (t : Token) (n : ℕ) → named letter t ≡ Some n → is_empty t ≡ false
 unfolding named
 named_solid letter [] n e = let w : ◌≡◌ {A = ℕ} 0 1 = cc in absurd (omega arith)
 named_solid letter (b ∷ t) n e = refl
@@ -37,7 +36,7 @@ ending_clipped v n e = ap (λ (k : ℕ). option_map Ending.Causes (check_action 
     go false = refl
 
 module _ (d : Draft) (text : List ℕ) where
-  abbrev outcome : Maybe (Draft × List ℕ)
+  abbrev outcome : Option (Draft × List ℕ)
   outcome = cause_outcome d (behind_line text) (tokens_in text)
 
   pub cause_absent : keyword_in (without_spaces text) (bytes "causes") ≡ None → outcome ≡ None
@@ -74,7 +73,7 @@ module _ (d : Draft) (text : List ℕ) where
 -- ---- the shape of the line, by its first token
 
 module _ (d : Draft) (text : List ℕ) (h : is_empty (token_in text) ≡ false) where
-  abbrev line : Maybe (Draft × List ℕ)
+  abbrev line : Option (Draft × List ℕ)
   line = line_outcome d (behind_line text) (line_from (tokens_in text))
 
   pub line_never : (b : List ℕ) → keyword_in text (bytes "never") ≡ Some b → line ≡ line_outcome d (behind_line b) (after constraint_after (joined action_of (tokens_in b)))

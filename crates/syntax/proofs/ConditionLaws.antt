@@ -1,7 +1,6 @@
 -- Laws of reading the condition of a line, one comparison after another.
-use Rattle.std.specs.Prelude.{Option as Maybe, Some, None}
+use Rattle.std.specs.Prelude.{Some, None, Option}
 use Rattle.std.proofs.Common.{ℕ, ◌<◌, Bool, true, false, cond, List, [], ◌∷◌, ◌≡◌, refl, sym, ap, ap₂, ◌∙◌, arith, length}
-use Rattle.std.proofs.Math.Option.{Option, none, some, or_else}
 use Rattle.policy.specs.Limits.{comparison_in_range}
 use Rattle.policy.specs.declared.comparison.Comparison.{Comparison}
 use Rattle.policy.specs.declared.comparison.Relation.{Relation}
@@ -23,57 +22,57 @@ use Rattle.syntax.specs.declared.draft.Draft.{Draft}
 -- ---- a list of comparisons
 
 module _ (r q o : Token) where
-  list_bad : comparison_of r q o ≡ none → (ts : List Token) → comparisons_from (r ∷ q ∷ o ∷ ts) ≡ none
+  list_bad : comparison_of r q o ≡ None → (ts : List Token) → comparisons_from (r ∷ q ∷ o ∷ ts) ≡ None
   unfolding comparisons_from both
   list_bad e [] = rw e
   list_bad e (t ∷ ts) = rw e (go (is "," t))
     where
-      go : (b : Bool) → ◌≡◌ {A = Option (List Comparison)} (cond b none none) none
+      go : (b : Bool) → ◌≡◌ {A = Option (List Comparison)} (cond b None None) None
       go true = refl
       go false = refl
 
-  module _ (x : Comparison) (e : comparison_of r q o ≡ some x) where
-    list_alone : comparisons_from (r ∷ q ∷ o ∷ []) ≡ some (x ∷ [])
+  module _ (x : Comparison) (e : comparison_of r q o ≡ Some x) where
+    list_alone : comparisons_from (r ∷ q ∷ o ∷ []) ≡ Some (x ∷ [])
     unfolding comparisons_from
     list_alone = rw e
 
-    list_more : (ts : List Token) → comparisons_from (r ∷ q ∷ o ∷ bytes "," ∷ ts) ≡ both ◌∷◌ (some x) (comparisons_from ts)
+    list_more : (ts : List Token) → comparisons_from (r ∷ q ∷ o ∷ bytes "," ∷ ts) ≡ both ◌∷◌ (Some x) (comparisons_from ts)
     unfolding comparisons_from is bytes bytes_equal
     list_more ts = rw e
 
-    list_broken : (t : Token) (ts : List Token) → bytes_equal t (bytes ",") ≡ false → comparisons_from (r ∷ q ∷ o ∷ t ∷ ts) ≡ none
+    list_broken : (t : Token) (ts : List Token) → bytes_equal t (bytes ",") ≡ false → comparisons_from (r ∷ q ∷ o ∷ t ∷ ts) ≡ None
     unfolding comparisons_from is
     list_broken t ts h = rw h
 
 -- one comparison more
-comparison_more : (d : Draft) (behind : List ℕ) (x : Comparison) (o : Option (List Comparison)) → condition_outcome d behind (both ◌∷◌ (some x) o) ≡ condition_outcome (push_comparison d (kept comparison_in_range x)) behind o
+comparison_more : (d : Draft) (behind : List ℕ) (x : Comparison) (o : Option (List Comparison)) → condition_outcome d behind (both ◌∷◌ (Some x) o) ≡ condition_outcome (push_comparison d (kept comparison_in_range x)) behind o
 unfolding condition_outcome comparisons_into both
-comparison_more d behind x none = refl
-comparison_more d behind x (some cs) = refl
+comparison_more d behind x None = refl
+comparison_more d behind x (Some cs) = refl
 
 -- each token of a comparison has a byte
-no_relation : (r : Option Reading) (o : Option Operand) → comparison_by r none o ≡ none
-no_relation none o = refl
-no_relation (some r) o = refl
+no_relation : (r : Option Reading) (o : Option Operand) → comparison_by r None o ≡ None
+no_relation None o = refl
+no_relation (Some r) o = refl
 
-no_operand : (r : Option Reading) (q : Option Relation) → comparison_by r q none ≡ none
-no_operand none q = refl
-no_operand (some r) none = refl
-no_operand (some r) (some q) = refl
+no_operand : (r : Option Reading) (q : Option Relation) → comparison_by r q None ≡ None
+no_operand None q = refl
+no_operand (Some r) None = refl
+no_operand (Some r) (Some q) = refl
 
 module _ (q : Token) (x : Comparison) where
-  solid_reading : (r o : Token) → comparison_of r q o ≡ some x → is_empty r ≡ false
+  solid_reading : (r o : Token) → comparison_of r q o ≡ Some x → is_empty r ≡ false
   unfolding comparison_of reading_of named
   solid_reading [] o e = let w : ◌≡◌ {A = ℕ} 0 1 = cc in absurd (omega arith)
   solid_reading (b ∷ r) o e = refl
 
-solid_relation : (r q o : Token) (x : Comparison) → comparison_of r q o ≡ some x → is_empty q ≡ false
+solid_relation : (r q o : Token) (x : Comparison) → comparison_of r q o ≡ Some x → is_empty q ≡ false
 unfolding comparison_of relation_of is bytes bytes_equal
 solid_relation r [] o x e = let w : ◌≡◌ {A = ℕ} 0 1 = cc (sym e ∙ no_relation (reading_of r) (operand_of o)) in absurd (omega arith)
 solid_relation r (b ∷ q) o x e = refl
 
-solid_operand : (r q o : Token) (x : Comparison) → comparison_of r q o ≡ some x → is_empty o ≡ false
-unfolding comparison_of operand_of reading_of named or_else decimal_of hexadecimal_of constant_of
+solid_operand : (r q o : Token) (x : Comparison) → comparison_of r q o ≡ Some x → is_empty o ≡ false
+unfolding comparison_of operand_of reading_of named decimal_of hexadecimal_of constant_of
 solid_operand r q [] x e = let w : ◌≡◌ {A = ℕ} 0 1 = cc (sym e ∙ no_operand (reading_of r) (relation_of q)) in absurd (omega arith)
 solid_operand r q (b ∷ o) x e = refl
 
@@ -89,16 +88,16 @@ module _ (d : Draft) (text : List ℕ) where
   abbrev three : Option Comparison
   three = comparison_of (first_token text) (first_token second) (first_token third)
 
-  abbrev outcome : Maybe (Draft × List ℕ)
+  abbrev outcome : Option (Draft × List ℕ)
   outcome = condition_outcome d (behind_line text) (comparisons_from (tokens_in text))
 
   pub comparisons_failed : comparison_in (without_spaces text) ≡ None → outcome ≡ None
   unfolding condition_outcome comparisons_from comparison_in
   comparisons_failed q =
       let bad = list_bad (first_token text) (first_token second) (first_token third) (part_none comparison_in_range (behind_first third) three q) (tokens_in (behind_first third)) in
-      ap (condition_outcome d (behind_line text)) (by_first text (λ ts. comparisons_from ts ≡ none) refl (by_first second (λ ts. comparisons_from (first_token text ∷ ts) ≡ none) refl (by_first third (λ ts. comparisons_from (first_token text ∷ first_token second ∷ ts) ≡ none) refl bad)))
+      ap (condition_outcome d (behind_line text)) (by_first text (λ ts. comparisons_from ts ≡ None) refl (by_first second (λ ts. comparisons_from (first_token text ∷ ts) ≡ None) refl (by_first third (λ ts. comparisons_from (first_token text ∷ first_token second ∷ ts) ≡ None) refl bad)))
 
-  module _ (part : Maybe Comparison) (e : List ℕ) (q : comparison_in (without_spaces text) ≡ Some (part, e)) where
+  module _ (part : Option Comparison) (e : List ℕ) (q : comparison_in (without_spaces text) ≡ Some (part, e)) where
     found : Parted Comparison comparison_in_range (behind_first third) three part e
     unfolding comparison_in
     found = part_some comparison_in_range (behind_first third) three part e q
@@ -122,14 +121,14 @@ module _ (d : Draft) (text : List ℕ) where
     line : behind_line text ≡ behind_line e
     line = sym s1.line ∙ sym s2.line ∙ sym s3.line ∙ ap behind_line (sym found.behind)
 
-    turn : (o : Option (List Comparison)) → comparisons_from (first_token text ∷ first_token second ∷ first_token third ∷ tokens_in e) ≡ both ◌∷◌ (some found.part) o → outcome ≡ condition_outcome (push_comparison d part) (behind_line e) o
-    turn o h = ap₂ (condition_outcome d) line (ap comparisons_from tokens ∙ h) ∙ comparison_more d (behind_line e) found.part o ∙ ap (λ (m : Maybe Comparison). condition_outcome (push_comparison d m) (behind_line e) o) (sym found.made)
+    turn : (o : Option (List Comparison)) → comparisons_from (first_token text ∷ first_token second ∷ first_token third ∷ tokens_in e) ≡ both ◌∷◌ (Some found.part) o → outcome ≡ condition_outcome (push_comparison d part) (behind_line e) o
+    turn o h = ap₂ (condition_outcome d) line (ap comparisons_from tokens ∙ h) ∙ comparison_more d (behind_line e) found.part o ∙ ap (λ (m : Option Comparison). condition_outcome (push_comparison d m) (behind_line e) o) (sym found.made)
 
     pub comparisons_done : is_empty (first_token e) ≡ true → outcome ≡ Some (push_comparison d part, without_spaces e)
     unfolding condition_outcome comparisons_into both
     comparisons_done h =
         let k : Ended e = ended e h in
-        turn (some []) (ap (λ (ts : List Token). comparisons_from (first_token text ∷ first_token second ∷ first_token third ∷ ts)) k.tokens ∙ list_alone (first_token text) (first_token second) (first_token third) found.part found.is)
+        turn (Some []) (ap (λ (ts : List Token). comparisons_from (first_token text ∷ first_token second ∷ first_token third ∷ ts)) k.tokens ∙ list_alone (first_token text) (first_token second) (first_token third) found.part found.is)
         ∙ ap (λ (l : List ℕ). Some (push_comparison d part, l)) k.line
 
     pub comparisons_broken : is_empty (first_token e) ≡ false → keyword_in (without_spaces e) (bytes ",") ≡ None → outcome ≡ None
@@ -157,7 +156,7 @@ module _ (d : Draft) (text : List ℕ) where
 -- ---- the condition
 
 module _ (d : Draft) (text : List ℕ) where
-  abbrev condition : Maybe (Draft × List ℕ)
+  abbrev condition : Option (Draft × List ℕ)
   condition = condition_outcome d (behind_line text) (condition_from (tokens_in text))
 
   pub condition_none : is_empty (first_token text) ≡ true → condition ≡ Some (d, without_spaces text)

@@ -1,8 +1,9 @@
 -- Laws of a draft that is filled part by part: what it holds where each part is in range, and that it says where one isn't.
-use Rattle.std.specs.Prelude.{Some, None}
-use Rattle.std.proofs.lemmas.List.{map-append}
-use Rattle.std.proofs.Common.{Bool, true, false, ◌&&◌, cond, List, [], ◌∷◌, ◌++◌, append-nil, append_assoc, map, ◌≡◌, refl, sym, ap, ◌∙◌}
-use Rattle.std.proofs.Math.Bool.{and-true, and-false}
+use Rattle.std.specs.Prelude.{Option as Maybe, Some, None, fold}
+use Rattle.std.proofs.Common.{ℕ, ◌<◌, Bool, true, false, ◌&&◌, ◌||◌, cond, List, [], ◌∷◌, ◌++◌, append-nil, append_assoc, ◌≡◌, refl, sym, ap, ◌∙◌, arith, ltb-true, ltb-false, length, length-append, length-take, take, take_all}
+use Rattle.std.proofs.Math.Bool.{and-true, and-false, or-false, and_assoc}
+use Rattle.std.proofs.Math.Seq.{take-append-le}
+use Rattle.std.proofs.Math.Dec.{ltb}
 use Rattle.policy.proofs.ListLaws.{and_out}
 use Rattle.policy.specs.Limits.{in_range, comparison_in_range, ending_in_range, head_limit, comparison_limit}
 use Rattle.policy.specs.Line.{PolicyLine, heads_of, comparisons_of, ending_of}
@@ -10,43 +11,60 @@ use Rattle.policy.specs.List.{all}
 use Rattle.policy.specs.declared.comparison.Comparison.{Comparison}
 use Rattle.policy.specs.declared.line.Ending.{Ending}
 use Rattle.policy.specs.declared.line.Test.{Test}
-use Rattle.line_value.proofs.LineLaws.{push_item_is, push_count_is}
-use Rattle.line_value.specs.Value.{line_of, line_value, head, no_head, no_comparison}
-use Rattle.line_value.specs.declared.Line.{Line}
-use Rattle.token.specs.Steps.PartIn.{test_in_range}
-use Rattle.syntax.specs.Steps.Draft.{new_draft, with_head, with_comparison, push_head, push_comparison, end_as, heads_into, comparisons_into, ending_into, line_into}
+use Rattle.token.specs.Steps.PartIn.{kept, test_in_range}
+use Rattle.syntax.specs.Steps.Draft.{new_draft, with_item, more_crowded, push_head, push_comparison, end_as, heads_into, comparisons_into, ending_into, line_into}
 use Rattle.syntax.specs.declared.draft.Draft.{Draft}
 
--- ---- whether each part is in range
+-- ---- a list with one item more, up to a limit
 
-heads_range : (d : Draft) (ts : List Test) → (heads_into d ts).in_range ≡ d.in_range && all test_in_range ts
-unfolding heads_into push_head all
-heads_range d [] = sym (and-true d.in_range)
-heads_range d (t ∷ ts) =
-    elim (test_in_range t) as (λ x. (heads_into (push_head d (cond x (Some t) None)) ts).in_range ≡ d.in_range && (x && all test_in_range ts)) [
-      | true ↦ heads_range (push_head d (Some t)) ts
-      | false ↦ heads_range (push_head d None) ts ∙ sym (and-false d.in_range)
-    ]
+module _ {A : Type 0} (limit : ℕ) (xs : List A) (x : A) where
+  held_more : with_item limit (take limit xs) x ≡ take limit (xs ++ x ∷ [])
+  held_more = go (ltb (length (take limit xs)) limit) refl
+    where
+      go : (b : Bool) → ltb (length (take limit xs)) limit ≡ b → cond b (take limit xs ++ x ∷ []) (take limit xs) ≡ take limit (xs ++ x ∷ [])
+      go true e =
+          let h : length xs < limit = omega (arith, ltb-true (length (take limit xs)) limit e, length-take limit xs) in
+          rw (take_all limit xs (omega arith), take_all limit (xs ++ x ∷ []) (omega (arith, length-append xs (x ∷ [])))) refl
+      go false e = sym (take-append-le limit xs (x ∷ []) (omega (arith, ltb-false (length (take limit xs)) limit e, length-take limit xs)))
 
-comparisons_range : (d : Draft) (cs : List Comparison) → (comparisons_into d cs).in_range ≡ d.in_range && all comparison_in_range cs
-unfolding comparisons_into push_comparison all
-comparisons_range d [] = sym (and-true d.in_range)
-comparisons_range d (c ∷ cs) =
-    elim (comparison_in_range c) as (λ x. (comparisons_into (push_comparison d (cond x (Some c) None)) cs).in_range ≡ d.in_range && (x && all comparison_in_range cs)) [
-      | true ↦ comparisons_range (push_comparison d (Some c)) cs
-      | false ↦ comparisons_range (push_comparison d None) cs ∙ sym (and-false d.in_range)
-    ]
+  crowded_more : (k : Bool) → more_crowded limit (k || ltb limit (length xs)) (take limit xs) ≡ k || ltb limit (length (xs ++ x ∷ []))
+  crowded_more k = rw (length-append xs (x ∷ []), length-take limit xs) (grind arith)
 
-ending_range : (d : Draft) (e : Ending) → (ending_into d e).in_range ≡ d.in_range && ending_in_range e
-unfolding ending_into end_as
-ending_range d e =
-    elim (ending_in_range e) as (λ x. (end_as d (cond x (Some e) None)).in_range ≡ d.in_range && x) [ true ↦ sym (and-true d.in_range) | false ↦ sym (and-false d.in_range) ]
+-- ---- parts one behind another
+
+module _ {A : Type 0} (ok : A → Bool) (push : Draft → Maybe A → Draft) where
+  abbrev into : Draft → List A → Draft
+  into d xs = fold (λ (d : Draft) (x : A). push d (kept ok x)) d xs
+
+  -- whether each is in range
+  module _ (out : (d : Draft) → (push d None).in_range ≡ false) (more : (d : Draft) (x : A) → (push d (Some x)).in_range ≡ d.in_range) where
+    one_range : (d : Draft) (x : A) → (push d (kept ok x)).in_range ≡ d.in_range && ok x
+    one_range d x = go (ok x)
+      where
+        go : (b : Bool) → (push d (cond b (Some x) None)).in_range ≡ d.in_range && b
+        go true = more d x ∙ sym (and-true d.in_range)
+        go false = out d ∙ sym (and-false d.in_range)
+
+    all_range : (d : Draft) (xs : List A) → (into d xs).in_range ≡ d.in_range && all ok xs
+    all_range d [] = sym (and-true d.in_range)
+    all_range d (x ∷ xs) = all_range (push d (kept ok x)) xs ∙ rw (one_range d x) (simp and_assoc)
+
+  -- what is held where they are
+  module _ (held : List A → Draft) (more : (xs : List A) (x : A) → push (held xs) (Some x) ≡ held (xs ++ x ∷ [])) where
+    all_held : (xs ys : List A) → all ok ys ≡ true → into (held xs) ys ≡ held (xs ++ ys)
+    all_held xs [] h = ap held (sym (append-nil xs))
+    all_held xs (y ∷ ys) h =
+        let p = and_out (ok y) (all ok ys) h in
+        rw p.0 (ap (λ (d : Draft). into d ys) (more xs y) ∙ all_held (xs ++ y ∷ []) ys p.1 ∙ ap held (append_assoc xs (y ∷ []) ys))
+
+-- ---- a whole line
 
 pub line_range : (l : PolicyLine) → (line_into new_draft l).in_range ≡ in_range l
-unfolding line_into in_range test_in_range
+unfolding line_into heads_into comparisons_into ending_into push_head push_comparison end_as in_range test_in_range
 line_range l =
-    comparisons_range (ending_into (heads_into new_draft (heads_of l)) (ending_of l)) (comparisons_of l)
-    ∙ ap (λ (x : Bool). x && all comparison_in_range (comparisons_of l)) (ending_range (heads_into new_draft (heads_of l)) (ending_of l) ∙ ap (λ (x : Bool). x && ending_in_range (ending_of l)) (heads_range new_draft (heads_of l)))
+    all_range comparison_in_range push_comparison (λ d. refl) (λ d c. refl) _ (comparisons_of l)
+    ∙ ap (λ (x : Bool). x && all comparison_in_range (comparisons_of l))
+    (one_range ending_in_range end_as (λ d. refl) (λ d e. refl) _ (ending_of l) ∙ ap (λ (x : Bool). x && ending_in_range (ending_of l)) (all_range test_in_range push_head (λ d. refl) (λ d t. refl) new_draft (heads_of l)))
     ∙ order (all test_in_range (heads_of l)) (ending_in_range (ending_of l)) (all comparison_in_range (comparisons_of l))
   where
     order : (a b c : Bool) → ((true && a) && b) && c ≡ (a && c) && b
@@ -56,36 +74,32 @@ line_range l =
     order true false false = refl
     order false b c = refl
 
--- ---- what is held where they are
+-- the draft of a line in range with these parts
+abbrev pub draft_of : List Test → List Comparison → Ending → Draft
+draft_of ts cs e =
+    record {
+      line = record { heads = take head_limit ts; comparisons = take comparison_limit cs; ending = e };
+      in_range = true;
+      crowded = ltb head_limit (length ts) || ltb comparison_limit (length cs);
+    }
 
-heads_held : (ok : Bool) (xs ts : List Test) (cs : List Comparison) (e : Ending) → all test_in_range ts ≡ true → heads_into (record { line = line_of xs cs e; in_range = ok }) ts ≡ record { line = line_of (xs ++ ts) cs e; in_range = ok }
-unfolding heads_into push_head all line_of
-heads_held ok xs [] cs e h = ap (λ (ys : List Test). record { line = line_of ys cs e; in_range = ok }) (sym (append-nil xs))
-heads_held ok xs (t ∷ ts) cs e h =
-    let p = and_out (test_in_range t) (all test_in_range ts) h in
-    rw p.0
-    (ap (λ (l : Line). heads_into (record { line = l; in_range = ok }) ts) pushed
-    ∙ heads_held ok (xs ++ t ∷ []) ts cs e p.1 ∙ ap (λ (ys : List Test). record { line = line_of ys cs e; in_range = ok }) (append_assoc xs (t ∷ []) ts))
-  where
-    pushed : with_head (line_of xs cs e) (head t) ≡ line_of (xs ++ t ∷ []) cs e
-    pushed = rw (push_item_is head_limit no_head (map head xs) (head t), push_count_is head_limit no_head (map head xs) (head t), map-append head xs (t ∷ []))
+abbrev headed : List Test → Draft
+headed ts = record { line = record { heads = take head_limit ts; comparisons = []; ending = Ending.Never }; in_range = true; crowded = ltb head_limit (length ts) }
 
-comparisons_held : (ok : Bool) (ts : List Test) (xs cs : List Comparison) (e : Ending) → all comparison_in_range cs ≡ true → comparisons_into (record { line = line_of ts xs e; in_range = ok }) cs ≡ record { line = line_of ts (xs ++ cs) e; in_range = ok }
-unfolding comparisons_into push_comparison all line_of
-comparisons_held ok ts xs [] e h = ap (λ (ys : List Comparison). record { line = line_of ts ys e; in_range = ok }) (sym (append-nil xs))
-comparisons_held ok ts xs (c ∷ cs) e h =
-    let p = and_out (comparison_in_range c) (all comparison_in_range cs) h in
-    rw p.0
-    (ap (λ (l : Line). comparisons_into (record { line = l; in_range = ok }) cs) pushed
-    ∙ comparisons_held ok ts (xs ++ c ∷ []) cs e p.1 ∙ ap (λ (ys : List Comparison). record { line = line_of ts ys e; in_range = ok }) (append_assoc xs (c ∷ []) cs))
-  where
-    pushed : with_comparison (line_of ts xs e) c ≡ line_of ts (xs ++ c ∷ []) e
-    pushed = rw (push_item_is comparison_limit no_comparison xs c, push_count_is comparison_limit no_comparison xs c)
-
-pub line_held : (l : PolicyLine) → in_range l ≡ true → line_into new_draft l ≡ record { line = line_value l; in_range = true }
-unfolding line_into in_range line_value ending_into end_as line_of test_in_range
+pub line_held : (l : PolicyLine) → in_range l ≡ true → line_into new_draft l ≡ draft_of (heads_of l) (comparisons_of l) (ending_of l)
+unfolding line_into heads_into comparisons_into ending_into push_head push_comparison end_as in_range test_in_range
 line_held l h =
     let p = and_out (all test_in_range (heads_of l) && all comparison_in_range (comparisons_of l)) (ending_in_range (ending_of l)) h in
     let q = and_out (all test_in_range (heads_of l)) (all comparison_in_range (comparisons_of l)) p.0 in
-    ap (λ (d : Draft). comparisons_into (ending_into d (ending_of l)) (comparisons_of l)) (heads_held true [] (heads_of l) [] Ending.Never q.0)
-    ∙ rw p.1 (comparisons_held true (heads_of l) [] (comparisons_of l) (ending_of l) q.1)
+    ap (λ (d : Draft). comparisons_into (ending_into d (ending_of l)) (comparisons_of l)) (all_held test_in_range push_head headed head_more [] (heads_of l) q.0)
+    ∙ rw p.1 (start ∙ all_held comparison_in_range push_comparison (λ cs. draft_of (heads_of l) cs (ending_of l)) comparison_more [] (comparisons_of l) q.1)
+  where
+    head_more : (ts : List Test) (t : Test) → push_head (headed ts) (Some t) ≡ headed (ts ++ t ∷ [])
+    head_more ts t = rw (held_more head_limit ts t, crowded_more head_limit ts t false) refl
+
+    comparison_more : (cs : List Comparison) (c : Comparison) → push_comparison (draft_of (heads_of l) cs (ending_of l)) (Some c) ≡ draft_of (heads_of l) (cs ++ c ∷ []) (ending_of l)
+    comparison_more cs c = rw (held_more comparison_limit cs c, crowded_more comparison_limit cs c (ltb head_limit (length (heads_of l)))) refl
+
+    start : comparisons_into (record { line = record { heads = take head_limit (heads_of l); comparisons = []; ending = ending_of l }; in_range = true; crowded = ltb head_limit (length (heads_of l)) }) (comparisons_of l)
+        ≡ comparisons_into (draft_of (heads_of l) [] (ending_of l)) (comparisons_of l)
+    start = ap (λ (b : Bool). comparisons_into (record { line = record { heads = take head_limit (heads_of l); comparisons = []; ending = ending_of l }; in_range = true; crowded = b }) (comparisons_of l)) (sym (or-false (ltb head_limit (length (heads_of l)))))

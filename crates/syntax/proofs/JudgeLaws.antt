@@ -1,19 +1,17 @@
 -- Laws of judging a line: by its draft as by the line.
-use Rattle.std.specs.Prelude.{Option as Maybe, Some, None, Result, Ok, Err}
-use Rattle.std.proofs.Common.{ℕ, suc, ◌-◌, ◌<◌, ◌≤◌, min, Bool, true, false, not, ◌&&◌, cond, List, [], ◌∷◌, ◌++◌, map, ◌≡◌, refl, sym, ap, ap₂, ◌∙◌, arith, lt-ltb, le-ltb, ltb-true, ltb-false, eq-eqb, length, take, replicate, take_all, take_at}
-use Rattle.std.proofs.Math.Option.{Option, none, some}
+use Rattle.std.specs.Prelude.{Some, None, Result, Ok, Err, Option}
+use Rattle.std.proofs.Common.{ℕ, ◌<◌, Bool, true, false, not, ◌&&◌, cond, List, [], ◌∷◌, map, ◌≡◌, refl, sym, ap, ap₂, ◌∙◌, arith, ltb-false, eq-eqb, length, take, take_all}
 use Rattle.std.proofs.Math.Dec.{eqb, ltb}
-use Rattle.std.proofs.Math.ListN.{get_or, length-map}
-use Rattle.policy.proofs.ListLaws.{and_out, true_false}
+use Rattle.std.proofs.Math.ListN.{get_or}
+use Rattle.policy.proofs.ListLaws.{and_out, or_out, true_false}
 use Rattle.policy.proofs.SeenLaws.{seen_repeats}
-use Rattle.policy.specs.Limits.{in_range, crowded, repeated, test_number, head_number, comparison_in_range, ending_in_range, head_limit, comparison_limit}
+use Rattle.policy.specs.Limits.{in_range, crowded, repeated, test_number, comparison_in_range, ending_in_range, head_limit, comparison_limit}
 use Rattle.policy.specs.Steps.Seen.{seen_in}
 use Rattle.policy.specs.Line.{PolicyLine, heads_of, comparisons_of, ending_of}
-use Rattle.line_value.specs.Value.{line_of, line_value, padded, count_up_to, head, no_head}
+use Rattle.line_value.specs.Value.{line_value}
 use Rattle.policy.specs.List.{all}
 use Rattle.policy.specs.Number.{set_limit}
 use Rattle.policy.specs.declared.fault.Fault.{Fault}
-use Rattle.policy.specs.declared.line.Head.{Head}
 use Rattle.line_value.specs.declared.Line.{Line}
 use Rattle.policy.specs.declared.line.Test.{Test}
 use Rattle.lexer.proofs.TokenLaws.{tokens_after_spaces, line_past_spaces, tokens_first}
@@ -21,134 +19,112 @@ use Rattle.lexer.specs.Lines.{tokens_of, behind_line, without_end}
 use Rattle.lexer.specs.Number.{is_empty}
 use Rattle.lexer.specs.Steps.Scan.{in_token, token_in, without_spaces, tokens_in}
 use Rattle.token.specs.Steps.PartIn.{test_in_range}
-use Rattle.syntax.proofs.DraftLaws.{line_range, line_held}
+use Rattle.syntax.proofs.DraftLaws.{line_range, draft_of, line_held}
 use Rattle.syntax.proofs.FrontLaws.{ended}
 use Rattle.syntax.specs.Answer.{line_result, line_read}
 use Rattle.syntax.specs.Grammar.{line_from}
-use Rattle.syntax.specs.Judge.{LineAnswer, skipped, refused, accepted, judge_line, is_comment, tokens_answer, line_answer}
+use Rattle.syntax.specs.Judge.{judge_line, is_comment, tokens_answer, line_answer}
 use Rattle.syntax.specs.Steps.Draft.{new_draft, line_into}
 use Rattle.syntax.specs.Steps.Judged.{judged}
 use Rattle.syntax.specs.Steps.Outcome.{line_outcome}
 use Rattle.syntax.specs.declared.draft.Draft.{Draft}
 
--- ---- counts and repeats of a value
-
-counted_over : {A : Type 0} (limit : ℕ) (xs : List A) → ltb limit (count_up_to limit xs) ≡ ltb limit (length xs)
-unfolding count_up_to
-counted_over limit xs = go (ltb limit (length xs)) refl
-  where
-    go : (b : Bool) → ltb limit (length xs) ≡ b → ltb limit (min (length xs) (suc limit)) ≡ b
-    go true e = let l = ltb-true limit (length xs) e in lt-ltb limit (min (length xs) (suc limit)) (omega arith)
-    go false e = let l = ltb-false limit (length xs) e in le-ltb limit (min (length xs) (suc limit)) (omega arith)
-
-pub padded_whole : {A : Type 0} (limit : ℕ) (filler : A) (xs : List A) → ltb limit (length xs) ≡ false → take (count_up_to limit xs) (padded limit filler xs) ≡ xs
-unfolding padded count_up_to
-padded_whole limit filler xs e =
-    let l : length xs ≤ limit = ltb-false limit (length xs) e in
-    let k : length xs ≡ min (length xs) (suc limit) = omega arith in
-    ap (λ (s : List _). take (min (length xs) (suc limit)) (s ++ replicate (limit - length xs) filler)) (take_all limit xs l)
-    ∙ take_at xs (replicate (limit - length xs) filler) (min (length xs) (suc limit)) k
-
-numbers : (ts : List Test) → map head_number (map head ts) ≡ map test_number ts
-numbers [] = refl
-numbers (t ∷ ts) = ap (λ (l : List ℕ). test_number t ∷ l) (numbers ts)
+-- ---- the line of a draft, or its first fault
 
 all_numbers : (ts : List Test) → all (λ (n : ℕ). ltb n set_limit) (map test_number ts) ≡ all test_in_range ts
-unfolding all test_in_range
+unfolding test_in_range
 all_numbers [] = refl
 all_numbers (t ∷ ts) = ap (λ (b : Bool). ltb (test_number t) 64 && b) (all_numbers ts)
 
-value_repeats : (l : PolicyLine) → in_range l ≡ true → ltb head_limit (length (heads_of l)) ≡ false → seen_in 0 (map head_number (take (line_value l).head_count (line_value l).heads)) ≡ repeated l
-unfolding line_value line_of repeated in_range test_in_range
-value_repeats l h k =
+value_repeats : (l : PolicyLine) → in_range l ≡ true → seen_in 0 (map test_number (heads_of l)) ≡ repeated l
+unfolding repeated in_range test_in_range
+value_repeats l h =
     let p = and_out (all test_in_range (heads_of l) && all comparison_in_range (comparisons_of l)) (ending_in_range (ending_of l)) h in
     let q = and_out (all test_in_range (heads_of l)) (all comparison_in_range (comparisons_of l)) p.0 in
-    let m : ltb head_limit (length (map head (heads_of l))) ≡ false = ap (ltb head_limit) (length-map (heads_of l) head) ∙ k in
-    ap (λ (s : List Head). seen_in 0 (map head_number s)) (padded_whole head_limit no_head (map head (heads_of l)) m)
-    ∙ ap (seen_in 0) (numbers (heads_of l)) ∙ seen_repeats (map test_number (heads_of l)) (all_numbers (heads_of l) ∙ q.0)
+    seen_repeats (map test_number (heads_of l)) (all_numbers (heads_of l) ∙ q.0)
 
--- ---- the line of a draft, or its first fault
+-- the line with as many parts as a line may have
+abbrev first_parts : PolicyLine → Line
+first_parts l = record { heads = take head_limit (heads_of l); comparisons = take comparison_limit (comparisons_of l); ending = ending_of l }
 
-value_of : LineAnswer → Result Line Fault
-value_of skipped = Err Fault.Syntax
-value_of (refused f) = Err f
-value_of (accepted l) = Ok (line_value l)
+-- the value of a line that is not crowded holds all of it
+held_whole : (l : PolicyLine) → crowded l ≡ false → first_parts l ≡ line_value l
+unfolding crowded
+held_whole l h =
+    let p = or_out (ltb head_limit (length (heads_of l))) (ltb comparison_limit (length (comparisons_of l))) h in
+    rw (take_all head_limit (heads_of l) (ltb-false head_limit (length (heads_of l)) p.0), take_all comparison_limit (comparisons_of l) (ltb-false comparison_limit (length (comparisons_of l)) p.1)) refl
 
-over_heads : (l : PolicyLine) → ltb head_limit (line_value l).head_count ≡ ltb head_limit (length (heads_of l))
-unfolding line_value line_of
-over_heads l = counted_over head_limit (map head (heads_of l)) ∙ ap (ltb head_limit) (length-map (heads_of l) head)
+value_of : Result (Option PolicyLine) Fault → Result Line Fault
+value_of (Ok None) = Err Fault.Syntax
+value_of (Err f) = Err f
+value_of (Ok (Some l)) = Ok (line_value l)
 
-over_comparisons : (l : PolicyLine) → ltb comparison_limit (line_value l).comparison_count ≡ ltb comparison_limit (length (comparisons_of l))
-unfolding line_value line_of
-over_comparisons l = counted_over comparison_limit (comparisons_of l)
-
-draft_judged : (l : PolicyLine) → judged (line_into new_draft l) ≡ value_of (judge_line (some l))
+draft_judged : (l : PolicyLine) → judged (line_into new_draft l) ≡ value_of (judge_line (Some l))
 unfolding judged judge_line value_of crowded
 draft_judged l =
-    elim (in_range l) as (λ x. in_range l ≡ x → judged (line_into new_draft l) ≡ value_of (cond (not x) (refused Fault.OutOfRange) (cond (crowded l) (refused Fault.TooManyParts) (cond (repeated l) (refused Fault.Duplicate) (accepted l))))) [
+    elim (in_range l) as (λ x. in_range l ≡ x → judged (line_into new_draft l) ≡ value_of (cond (not x) (Err Fault.OutOfRange) (cond (crowded l) (Err Fault.TooManyParts) (cond (repeated l) (Err Fault.Duplicate) (Ok (Some l)))))) [
       | true ↦ λ h. ap judged (line_held l h) ∙ inside h
       | false ↦ λ h. rw (line_range l, h)
     ] refl
   where
-    inside : in_range l ≡ true → judged (record { line = line_value l; in_range = true }) ≡ value_of (cond (crowded l) (refused Fault.TooManyParts) (cond (repeated l) (refused Fault.Duplicate) (accepted l)))
-    inside h = go (ltb head_limit (length (heads_of l))) refl (ltb comparison_limit (length (comparisons_of l))) refl
-      where
-        twice : (b : Bool) → cond b (Err Fault.Duplicate) (Ok (line_value l)) ≡ value_of (cond b (refused Fault.Duplicate) (accepted l))
-        twice true = refl
-        twice false = refl
+    twice : (b : Bool) → cond b (Err Fault.Duplicate) (Ok (line_value l)) ≡ value_of (cond b (Err Fault.Duplicate) (Ok (Some l)))
+    twice true = refl
+    twice false = refl
 
-        go : (x : Bool) → ltb head_limit (length (heads_of l)) ≡ x → (y : Bool) → ltb comparison_limit (length (comparisons_of l)) ≡ y → judged (record { line = line_value l; in_range = true }) ≡ value_of (cond (crowded l) (refused Fault.TooManyParts) (cond (repeated l) (refused Fault.Duplicate) (accepted l)))
-        go true p y q = rw (over_heads l, p)
-        go false p true q = rw (over_heads l, over_comparisons l, p, q)
-        go false p false q = rw (over_heads l, over_comparisons l, p, q, value_repeats l h p) (twice (repeated l))
+    inside : in_range l ≡ true → judged (draft_of (heads_of l) (comparisons_of l) (ending_of l)) ≡ value_of (cond (crowded l) (Err Fault.TooManyParts) (cond (repeated l) (Err Fault.Duplicate) (Ok (Some l))))
+    inside h = go (crowded l) refl
+      where
+        drafted : Bool → Line → Draft
+        drafted x v = record { line = v; in_range = true; crowded = x }
+
+        go : (x : Bool) → crowded l ≡ x → judged (draft_of (heads_of l) (comparisons_of l) (ending_of l)) ≡ value_of (cond x (Err Fault.TooManyParts) (cond (repeated l) (Err Fault.Duplicate) (Ok (Some l))))
+        go true e = ap (λ (x : Bool). judged (drafted x (first_parts l))) e
+        go false e = ap (λ (x : Bool). judged (drafted x (first_parts l))) e ∙ ap (λ (v : Line). judged (drafted false v)) (held_whole l e) ∙ rw (value_repeats l h) (twice (repeated l))
 
 -- a line that was read, with what stands behind it
-with_rest : List ℕ → Result Line Fault → Result (Maybe Line × List ℕ) Fault
+with_rest : List ℕ → Result Line Fault → Result (Option Line × List ℕ) Fault
 with_rest rest (Err f) = Err f
 with_rest rest (Ok l) = Ok (Some l, rest)
 
 -- a line that is judged is accepted in range, or refused
 pub data Judged (o : Option PolicyLine) : Type 0 where
-  yes_line : (l : PolicyLine) → o ≡ some l → in_range l ≡ true → crowded l ≡ false → repeated l ≡ false → judge_line o ≡ accepted l → Judged o
-  no_line : (f : Fault) → judge_line o ≡ refused f → Judged o
+  yes_line : (l : PolicyLine) → o ≡ Some l → in_range l ≡ true → crowded l ≡ false → repeated l ≡ false → judge_line o ≡ Ok (Some l) → Judged o
+  no_line : (f : Fault) → judge_line o ≡ Err f → Judged o
 
 pub judged_cases : (o : Option PolicyLine) → Judged o
 unfolding judge_line
-judged_cases none = no_line Fault.Syntax refl
-judged_cases (some l) = go (in_range l) refl (crowded l) refl (repeated l) refl
+judged_cases None = no_line Fault.Syntax refl
+judged_cases (Some l) = go (in_range l) refl (crowded l) refl (repeated l) refl
   where
-    go : (a : Bool) → in_range l ≡ a → (b : Bool) → crowded l ≡ b → (c : Bool) → repeated l ≡ c → Judged (some l)
+    go : (a : Bool) → in_range l ≡ a → (b : Bool) → crowded l ≡ b → (c : Bool) → repeated l ≡ c → Judged (Some l)
     go true p true q c r = no_line Fault.TooManyParts (rw (p, q))
     go true p false q true r = no_line Fault.Duplicate (rw (p, q, r))
     go true p false q false r = yes_line l refl p q r (rw (p, q, r))
     go false p b q c r = no_line Fault.OutOfRange (rw p)
 
 -- what is answered of a line that is judged
-judged_answer : (rest : List ℕ) (l : PolicyLine) → line_result rest (judge_line (some l)) ≡ with_rest rest (value_of (judge_line (some l)))
+judged_answer : (rest : List ℕ) (l : PolicyLine) → line_result rest (judge_line (Some l)) ≡ with_rest rest (value_of (judge_line (Some l)))
 unfolding line_result with_rest value_of
-judged_answer rest l = go (judged_cases (some l))
+judged_answer rest l = go (judged_cases (Some l))
   where
-    go : Judged (some l) → line_result rest (judge_line (some l)) ≡ with_rest rest (value_of (judge_line (some l)))
+    go : Judged (Some l) → line_result rest (judge_line (Some l)) ≡ with_rest rest (value_of (judge_line (Some l)))
     go (yes_line m p _ _ _ k) = rw k
     go (no_line f k) = rw k
 
 -- an accepted line is not crowded
-pub accepted_uncrowded : (line : List ℕ) (l : PolicyLine) → line_answer line ≡ accepted l → crowded l ≡ false
+pub accepted_uncrowded : (line : List ℕ) (l : PolicyLine) → line_answer line ≡ Ok (Some l) → crowded l ≡ false
 unfolding line_answer tokens_answer
 accepted_uncrowded line l = go (tokens_of line)
   where
-    of_judge : (o : Option PolicyLine) → Judged o → judge_line o ≡ accepted l → crowded l ≡ false
-    of_judge o (yes_line m p h c _ k) q = ap crowded (same (sym q ∙ k)) ∙ c
-      where
-        same : accepted l ≡ accepted m → l ≡ m
-        same e = cc
-    of_judge o (no_line f k) q = let w : ◌≡◌ {A = ℕ} 0 1 = cc in absurd (omega arith)
+    of_judge : (o : Option PolicyLine) → Judged o → judge_line o ≡ Ok (Some l) → crowded l ≡ false
+    of_judge o (yes_line m p h c _ k) q = let e : l ≡ m = cc in ap crowded e ∙ c
+    of_judge o (no_line f k) q = let w : ⊥ = cc in absurd w
 
-    go : (ts : List (List ℕ)) → tokens_answer ts ≡ accepted l → crowded l ≡ false
+    go : (ts : List (List ℕ)) → tokens_answer ts ≡ Ok (Some l) → crowded l ≡ false
     go [] q = let w : ◌≡◌ {A = ℕ} 0 1 = cc in absurd (omega arith)
     go (t ∷ ts) q = comment (is_comment t) q
       where
-        comment : (b : Bool) → cond b skipped (judge_line (line_from (t ∷ ts))) ≡ accepted l → crowded l ≡ false
+        comment : (b : Bool) → cond b (Ok None) (judge_line (line_from (t ∷ ts))) ≡ Ok (Some l) → crowded l ≡ false
         comment true k = let w : ◌≡◌ {A = ℕ} 0 1 = cc in absurd (omega arith)
         comment false k = of_judge (line_from (t ∷ ts)) (judged_cases (line_from (t ∷ ts))) k
 
@@ -169,12 +145,12 @@ module _ (text : List ℕ) where
   line_blank h = ap₂ (λ l ts. line_result (without_end l) (tokens_answer ts)) (ended text h).line (ended text h).tokens
 
   module _ (h : is_empty (token_in start) ≡ false) where
-    by_tokens : line_read text ≡ line_result (without_end (behind_line start)) (cond (eqb (get_or start 0 0) 35) skipped (judge_line (line_from (tokens_in start))))
+    by_tokens : line_read text ≡ line_result (without_end (behind_line start)) (cond (eqb (get_or start 0 0) 35) (Ok None) (judge_line (line_from (tokens_in start))))
     unfolding line_read line_answer tokens_in tokens_answer
     by_tokens =
         ap₂ (λ l ts. line_result (without_end l) (tokens_answer ts)) (sym (line_past_spaces text)) (sym (tokens_after_spaces text))
         ∙ ap (λ ts. line_result (without_end (behind_line start)) (tokens_answer ts)) (tokens_first start h)
-        ∙ ap₂ (λ b ts. line_result (without_end (behind_line start)) (cond b skipped (judge_line (line_from ts)))) (comment_byte start h) (sym (tokens_first start h))
+        ∙ ap₂ (λ b ts. line_result (without_end (behind_line start)) (cond b (Ok None) (judge_line (line_from ts)))) (comment_byte start h) (sym (tokens_first start h))
 
     pub line_comment : get_or start 0 0 ≡ 35 → line_read text ≡ Ok (None, without_end (behind_line start))
     unfolding line_result
@@ -189,8 +165,8 @@ module _ (text : List ℕ) where
       line_misshapen e = line_other ∙ go (line_from (tokens_in start)) e
         where
           go : (o : Option PolicyLine) → None ≡ line_outcome new_draft (behind_line start) o → line_result (without_end (behind_line start)) (judge_line o) ≡ Err Fault.Syntax
-          go none k = refl
-          go (some l) k = cc
+          go None k = refl
+          go (Some l) k = cc
 
       module _ (d : Draft) (rest : List ℕ) (e : Some (d, rest) ≡ line_outcome new_draft (behind_line start) (line_from (tokens_in start))) where
         parted : (r : Result Line Fault) → judged d ≡ r → line_read text ≡ with_rest (without_end rest) r
@@ -198,8 +174,8 @@ module _ (text : List ℕ) where
         parted r k = line_other ∙ go (line_from (tokens_in start)) e
           where
             go : (o : Option PolicyLine) → Some (d, rest) ≡ line_outcome new_draft (behind_line start) o → line_result (without_end (behind_line start)) (judge_line o) ≡ with_rest (without_end rest) r
-            go none m = cc
-            go (some l) m =
+            go None m = cc
+            go (Some l) m =
                 let p : (d, rest) ≡ (line_into new_draft l, behind_line start) = cc in
                 let i : rest ≡ behind_line start = ap (λ (x : Draft × List ℕ). x.1) p in
                 let j : d ≡ line_into new_draft l = ap (λ (x : Draft × List ℕ). x.0) p in

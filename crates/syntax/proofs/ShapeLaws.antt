@@ -1,8 +1,6 @@
 -- Laws of the two shapes: the parts that were read are those of the line.
 use Rattle.std.proofs.Common.{ℕ, Bool, true, false, cond, List, [], ◌∷◌, map, ◌≡◌, refl, sym, ap, ◌∙◌}
-use Rattle.std.specs.Prelude.{Option as Maybe, Some, None}
-use Rattle.std.proofs.Math.Option.{Option, none, some}
-use Rattle.std.proofs.Math.Option
+use Rattle.std.specs.Prelude.{Some, None, Option, option_map}
 use Rattle.policy.specs.Limits.{ending_in_range}
 use Rattle.policy.specs.Line.{PolicyLine, heads_of, comparisons_of, ending_of}
 use Rattle.policy.specs.declared.comparison.Comparison.{Comparison}
@@ -26,22 +24,22 @@ mapped : {A B : Type 0} → (A → B) → Joined A → Joined B
 mapped f j = record { items = map f j.items; rest = j.rest }
 
 module _ {A B : Type 0} (f : A → B) (item : Token → Option A) where
-  joined_map : (ts : List Token) → joined (λ (t : Token). Option.map f (item t)) ts ≡ Option.map (mapped f) (joined item ts)
+  joined_map : (ts : List Token) → joined (λ (t : Token). option_map f (item t)) ts ≡ option_map (mapped f) (joined item ts)
   unfolding joined mapped both
   joined_map [] = refl
   joined_map (t ∷ []) = go (item t)
     where
-      go : (o : Option A) → Option.map (last []) (Option.map f o) ≡ Option.map (mapped f) (Option.map (last []) o)
-      go none = refl
-      go (some x) = refl
+      go : (o : Option A) → option_map (last []) (option_map f o) ≡ option_map (mapped f) (option_map (last []) o)
+      go None = refl
+      go (Some x) = refl
   joined_map (t ∷ s ∷ ts) = go (is "&" s) (item t) (joined item ts) (joined_map ts)
     where
-      go : (b : Bool) (o : Option A) (j : Option (Joined A)) → joined (λ (u : Token). Option.map f (item u)) ts ≡ Option.map (mapped f) j → cond b (both before (Option.map f o) (joined (λ (u : Token). Option.map f (item u)) ts)) (Option.map (last (s ∷ ts)) (Option.map f o)) ≡ Option.map (mapped f) (cond b (both before o j) (Option.map (last (s ∷ ts)) o))
-      go true none j h = refl
-      go true (some x) none h = rw h
-      go true (some x) (some y) h = rw h
-      go false none j h = refl
-      go false (some x) j h = refl
+      go : (b : Bool) (o : Option A) (j : Option (Joined A)) → joined (λ (u : Token). option_map f (item u)) ts ≡ option_map (mapped f) j → cond b (both before (option_map f o) (joined (λ (u : Token). option_map f (item u)) ts)) (option_map (last (s ∷ ts)) (option_map f o)) ≡ option_map (mapped f) (cond b (both before o j) (option_map (last (s ∷ ts)) o))
+      go true None j h = refl
+      go true (Some x) None h = rw h
+      go true (Some x) (Some y) h = rw h
+      go false None j h = refl
+      go false (Some x) j h = refl
 
 -- ---- the parts of a line, from its heads on
 
@@ -50,9 +48,9 @@ module _ (d : Draft) (behind : List ℕ) where
   unfolding line_outcome condition_outcome constraint_after line_into ending_into ending_in_range heads_of comparisons_of ending_of
   never_parts actions ts = go (condition_from ts)
     where
-      go : (o : Option (List Comparison)) → line_outcome d behind (Option.map (never actions) o) ≡ condition_outcome (end_as (heads_into d (map Test.Member actions)) (Some Ending.Never)) behind o
-      go none = refl
-      go (some cs) = refl
+      go : (o : Option (List Comparison)) → line_outcome d behind (option_map (never actions) o) ≡ condition_outcome (end_as (heads_into d (map Test.Member actions)) (Some Ending.Never)) behind o
+      go None = refl
+      go (Some cs) = refl
 
   rule_parts : (literals : List Literal) (ts : List Token) → line_outcome d behind (rule_after literals ts) ≡ cause_outcome (heads_into d (map Test.Occurs literals)) behind ts
   unfolding line_outcome cause_outcome caused rule_after both condition_outcome line_into heads_of comparisons_of ending_of
@@ -60,35 +58,35 @@ module _ (d : Draft) (behind : List ℕ) where
   rule_parts literals (t ∷ []) = refl
   rule_parts literals (t ∷ u ∷ ts) = go (is "causes" t) (action_of u) (condition_from ts)
     where
-      go : (b : Bool) (x : Option Action) (o : Option (List Comparison)) → line_outcome d behind (cond b (both (causes literals) x o) none) ≡ cond b (caused (heads_into d (map Test.Occurs literals)) behind x o) None
-      go true none o = refl
-      go true (some a) none = refl
-      go true (some a) (some cs) = refl
+      go : (b : Bool) (x : Option Action) (o : Option (List Comparison)) → line_outcome d behind (cond b (both (causes literals) x o) None) ≡ cond b (caused (heads_into d (map Test.Occurs literals)) behind x o) None
+      go true None o = refl
+      go true (Some a) None = refl
+      go true (Some a) (Some cs) = refl
       go false x o = refl
 
   -- the heads that were read, against those of the line
   module _ {A : Type 0} (f : A → Test) (tail : List A → List Token → Option PolicyLine) (o : Option (Joined A)) where
-    heads_no : none ≡ heads_outcome d behind (Option.map (mapped f) o) → line_outcome d behind (after tail o) ≡ None
+    heads_no : None ≡ heads_outcome d behind (option_map (mapped f) o) → line_outcome d behind (after tail o) ≡ None
     unfolding heads_outcome line_outcome after
     heads_no q = go o q
       where
-        go : (x : Option (Joined A)) → none ≡ heads_outcome d behind (Option.map (mapped f) x) → line_outcome d behind (after tail x) ≡ None
-        go none p = refl
-        go (some j) p = cc
+        go : (x : Option (Joined A)) → None ≡ heads_outcome d behind (option_map (mapped f) x) → line_outcome d behind (after tail x) ≡ None
+        go None p = refl
+        go (Some j) p = cc
 
-    heads_yes : (e : Draft) (rest : List ℕ) → heads_read (Some (e, rest)) ≡ heads_outcome d behind (Option.map (mapped f) o) → (made : Draft → List ℕ → List Token → Maybe (Draft × List ℕ))
+    heads_yes : (e : Draft) (rest : List ℕ) → heads_read (Some (e, rest)) ≡ heads_outcome d behind (option_map (mapped f) o) → (made : Draft → List ℕ → List Token → Option (Draft × List ℕ))
         → ((j : Joined A) → line_outcome d behind (tail j.items j.rest) ≡ made (heads_into d (map f j.items)) behind j.rest) → line_outcome d behind (after tail o) ≡ made e (behind_line rest) (tokens_in rest)
     unfolding heads_read heads_outcome line_outcome after mapped
     heads_yes e rest q made law = go o q
       where
-        go : (x : Option (Joined A)) → some (record { draft = e; tokens = tokens_in rest; behind = behind_line rest }) ≡ heads_outcome d behind (Option.map (mapped f) x) → line_outcome d behind (after tail x) ≡ made e (behind_line rest) (tokens_in rest)
-        go none p = cc
-        go (some j) p = law j ∙ ap made_of (sym (same p))
+        go : (x : Option (Joined A)) → Some (record { draft = e; tokens = tokens_in rest; behind = behind_line rest }) ≡ heads_outcome d behind (option_map (mapped f) x) → line_outcome d behind (after tail x) ≡ made e (behind_line rest) (tokens_in rest)
+        go None p = cc
+        go (Some j) p = law j ∙ ap made_of (sym (same p))
           where
-            made_of : HeadsRead → Maybe (Draft × List ℕ)
+            made_of : HeadsRead → Option (Draft × List ℕ)
             made_of v = made v.draft v.behind v.tokens
 
-            same : {x y : HeadsRead} → some x ≡ some y → x ≡ y
+            same : {x y : HeadsRead} → Some x ≡ Some y → x ≡ y
             same h = cc
 
 module _ (d : Draft) (text : List ℕ) where
@@ -101,11 +99,11 @@ module _ (d : Draft) (text : List ℕ) where
   abbrev literals : Option (Joined Literal)
   literals = joined literal_of (tokens_in text)
 
-  actions_read : heads_outcome d behind (joined (test_of true) (tokens_in text)) ≡ heads_outcome d behind (Option.map (mapped Test.Member) actions)
+  actions_read : heads_outcome d behind (joined (test_of true) (tokens_in text)) ≡ heads_outcome d behind (option_map (mapped Test.Member) actions)
   unfolding test_of
   actions_read = ap (heads_outcome d behind) (joined_map Test.Member action_of (tokens_in text))
 
-  literals_read : heads_outcome d behind (joined (test_of false) (tokens_in text)) ≡ heads_outcome d behind (Option.map (mapped Test.Occurs) literals)
+  literals_read : heads_outcome d behind (joined (test_of false) (tokens_in text)) ≡ heads_outcome d behind (option_map (mapped Test.Occurs) literals)
   unfolding test_of
   literals_read = ap (heads_outcome d behind) (joined_map Test.Occurs literal_of (tokens_in text))
 

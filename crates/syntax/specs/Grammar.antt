@@ -1,7 +1,6 @@
 -- The two shapes of a line, over its tokens. Numbers of any size and lists of any length have
 -- the right shape; ranges and counts are tested afterwards.
-use Rattle.std.specs.Prelude.{cond, List, [], ◌∷◌}
-use Rattle.std.proofs.Math.Option.{Option, none, some, map}
+use Rattle.std.specs.Prelude.{List, [], ◌∷◌, Option, Some, None, option_map, option_and_then, if◌then◌else◌}
 use Rattle.policy.specs.Line.{PolicyLine, rule, constraint}
 use Rattle.policy.specs.declared.comparison.Comparison.{Comparison}
 use Rattle.policy.specs.declared.comparison.Literal.{Literal}
@@ -15,13 +14,13 @@ abbrev single : Comparison → List Comparison
 single c = c ∷ []
 
 unfoldable pub comparisons_from : List Token → Option (List Comparison)
-comparisons_from (r ∷ relation ∷ o ∷ []) = map single (comparison_of r relation o)
-comparisons_from (r ∷ relation ∷ o ∷ t ∷ ts) = cond (is "," t) (both ◌∷◌ (comparison_of r relation o) (comparisons_from ts)) none
-comparisons_from _ = none
+comparisons_from (r ∷ relation ∷ o ∷ []) = option_map single (comparison_of r relation o)
+comparisons_from (r ∷ relation ∷ o ∷ t ∷ ts) = if is "," t then both ◌∷◌ (comparison_of r relation o) (comparisons_from ts) else None
+comparisons_from _ = None
 
 unfoldable pub condition_from : List Token → Option (List Comparison)
-condition_from [] = some []
-condition_from (t ∷ ts) = cond (is "if" t) (comparisons_from ts) none
+condition_from [] = Some []
+condition_from (t ∷ ts) = if is "if" t then comparisons_from ts else None
 
 -- ---- one or more items joined by `&`, and the tokens behind them
 
@@ -38,9 +37,9 @@ module _ {A : Type 0} where
 
 module _ {A : Type 0} (item : Token → Option A) where
   unfoldable pub joined : List Token → Option (Joined A)
-  joined [] = none
-  joined (t ∷ []) = map (last []) (item t)
-  joined (t ∷ s ∷ ts) = cond (is "&" s) (both before (item t) (joined ts)) (map (last (s ∷ ts)) (item t))
+  joined [] = None
+  joined (t ∷ []) = option_map (last []) (item t)
+  joined (t ∷ s ∷ ts) = if is "&" s then both before (item t) (joined ts) else option_map (last (s ∷ ts)) (item t)
 
 -- ---- the two shapes
 
@@ -49,20 +48,19 @@ causes literals action comparisons = rule (record { literals = literals; action 
 
 -- what follows the literals of a rule
 unfoldable pub rule_after : List Literal → List Token → Option PolicyLine
-rule_after literals (t ∷ a ∷ ts) = cond (is "causes" t) (both (causes literals) (action_of a) (condition_from ts)) none
-rule_after _ _ = none
+rule_after literals (t ∷ a ∷ ts) = if is "causes" t then both (causes literals) (action_of a) (condition_from ts) else None
+rule_after _ _ = None
 
 abbrev pub never : List Action → List Comparison → PolicyLine
 never actions comparisons = constraint (record { actions = actions; comparisons = comparisons })
 
 unfoldable pub constraint_after : List Action → List Token → Option PolicyLine
-constraint_after actions ts = map (never actions) (condition_from ts)
+constraint_after actions ts = option_map (never actions) (condition_from ts)
 
 module _ {A : Type 0} where
   unfoldable pub after : (List A → List Token → Option PolicyLine) → Option (Joined A) → Option PolicyLine
-  after f none = none
-  after f (some j) = f j.items j.rest
+  after f o = option_and_then (λ (j : Joined A). f j.items j.rest) o
 
 unfoldable pub line_from : List Token → Option PolicyLine
-line_from [] = none
-line_from (t ∷ ts) = cond (is "never" t) (after constraint_after (joined action_of ts)) (after rule_after (joined literal_of (t ∷ ts)))
+line_from [] = None
+line_from (t ∷ ts) = if is "never" t then after constraint_after (joined action_of ts) else after rule_after (joined literal_of (t ∷ ts))

@@ -1,26 +1,19 @@
 //! A line as it is read, part by part, before it is judged.
-ghost use Rattle.std.specs.Prelude.{◌≡◌, ◌≤◌};
+ghost use Rattle.std.specs.Prelude.{◌≡◌};
 ghost use Rattle.std.specs.Result.{result_map_both};
-ghost use Rattle.line_value.specs.Steps.Push.{push_count};
 ghost use Rattle.syntax.specs.Steps.Draft.{new_draft, push_head, push_comparison, end_as};
 ghost use Rattle.syntax.specs.Steps.Judged.{judged};
 
 use line_value::Line;
-use policy::{COMPARISON_LIMIT, Comparison, Ending, Fault, HEAD_LIMIT, Head, Test};
+use policy::{COMPARISON_LIMIT, Comparison, Ending, Fault, HEAD_LIMIT, Test};
 
-/// The parts that were read, and whether each number of them is in range. A part that is out of range is not held.
-#[derive(Clone, Copy)]
+/// The parts that were read, whether each number of them is in range, and whether there were more parts than a line may have. A part
+/// that is out of range, or for which there is no room, is not held.
+#[derive(Drop)]
 pub struct Draft {
     pub line: Line,
     pub in_range: bool,
-}
-
-// A count of parts, which stops at one past the limit.
-fn one_more(n: usize, limit: usize) -> usize
-    requires { limit ≤ 8 }
-    ensures { result ≡ push_count limit n }
-{
-    if n <= limit { n + 1 } else { n }
+    pub crowded: bool,
 }
 
 impl Draft {
@@ -30,6 +23,7 @@ impl Draft {
         Draft {
             line: Line::new(),
             in_range: true,
+            crowded: false,
         }
     }
 
@@ -42,11 +36,11 @@ impl Draft {
             self.in_range = false;
             return;
         };
-        let count = self.line.head_count;
-        if count < HEAD_LIMIT {
-            self.line.heads[count] = Head(test);
+        if self.line.heads.len() < HEAD_LIMIT {
+            self.line.heads.push(test);
+        } else {
+            self.crowded = true;
         }
-        self.line.head_count = one_more(count, HEAD_LIMIT);
     }
 
     // One comparison more.
@@ -58,11 +52,11 @@ impl Draft {
             self.in_range = false;
             return;
         };
-        let count = self.line.comparison_count;
-        if count < COMPARISON_LIMIT {
-            self.line.comparisons[count] = comparison;
+        if self.line.comparisons.len() < COMPARISON_LIMIT {
+            self.line.comparisons.push(comparison);
+        } else {
+            self.crowded = true;
         }
-        self.line.comparison_count = one_more(count, COMPARISON_LIMIT);
     }
 
     #[tactic(auto, unfolding(crate::specs::Steps::Draft::end_as))]
@@ -80,14 +74,13 @@ impl Draft {
     pub(crate) fn judged(&self) -> Result<(), Fault>
         ensures { result_map_both (λ _. self.now.line) (λ fault. fault) result ≡ judged self.now }
     {
-        let line = &self.line;
         if !self.in_range {
             return Err(Fault::OutOfRange);
         }
-        if HEAD_LIMIT < line.head_count || COMPARISON_LIMIT < line.comparison_count {
+        if self.crowded {
             return Err(Fault::TooManyParts);
         }
-        if line.has_repeats() {
+        if self.line.has_repeats() {
             return Err(Fault::Duplicate);
         }
         Ok(())

@@ -19,7 +19,6 @@ use policy::{Action, Ending, Fault};
 use token::{comparison, head};
 
 // The literals of a rule or the actions of a constraint, joined by `&`.
-#[tactic(auto, unfolding(policy::specs::List::all))]
 fn read_heads<'a>(draft: &mut Draft, text: &'a [u8], never: bool) -> Option<&'a [u8]>
     ensures { heads_read (option_map (λ rest. (draft.new, rest.now)) result)
         ≡ heads_outcome draft.old (behind_line text.now) (joined (test_of never) (tokens_in text.now)) }
@@ -37,7 +36,6 @@ fn read_heads<'a>(draft: &mut Draft, text: &'a [u8], never: bool) -> Option<&'a 
 }
 
 // The comparisons of a line, joined by `,`, to the end of the line.
-#[tactic(auto, unfolding(policy::specs::List::all))]
 fn read_comparisons<'a>(draft: &mut Draft, text: &'a [u8]) -> Option<&'a [u8]>
     ensures { option_map (λ rest. (draft.new, rest.now)) result
         ≡ condition_outcome draft.old (behind_line text.now) (comparisons_from (tokens_in text.now)) }
@@ -55,7 +53,6 @@ fn read_comparisons<'a>(draft: &mut Draft, text: &'a [u8]) -> Option<&'a [u8]>
 }
 
 // The condition of a line: `if` and comparisons, or nothing, to the end of the line.
-#[tactic(auto, unfolding(policy::specs::List::all))]
 fn read_condition<'a>(draft: &mut Draft, text: &'a [u8]) -> Option<&'a [u8]>
     ensures { option_map (λ rest. (draft.new, rest.now)) result
         ≡ condition_outcome draft.old (behind_line text.now) (condition_from (tokens_in text.now)) }
@@ -75,7 +72,6 @@ fn ending(n: u32) -> Option<Ending>
 }
 
 // `causes`, the action and the condition of a rule whose literals were read.
-#[tactic(auto, unfolding(policy::specs::List::all))]
 fn read_cause<'a>(draft: &mut Draft, text: &'a [u8]) -> Option<&'a [u8]>
     ensures { option_map (λ rest. (draft.new, rest.now)) result
         ≡ cause_outcome draft.old (behind_line text.now) (tokens_in text.now) }
@@ -104,7 +100,6 @@ fn read_constraint<'a>(draft: &mut Draft, text: &'a [u8]) -> Option<&'a [u8]>
 }
 
 // The line whose first token stands in front.
-#[tactic(auto, unfolding(policy::specs::List::all))]
 fn read_parts<'a>(draft: &mut Draft, text: &'a [u8]) -> Option<&'a [u8]>
     requires { is_empty (token_in text.now) ≡ false }
     ensures { option_map (λ rest. (draft.new, rest.now)) result

@@ -2,13 +2,12 @@
 use Rattle.std.proofs.Common.{ℕ, zero, suc, ◌-◌, ◌<◌, ◌≤◌, Bool, true, false, ◌&&◌, cond, List, [], ◌∷◌, ◌≡◌, refl, sym, ap, ◌∙◌, arith, le-leb, eqb-true, ne_eqb, leb-true, leb-false, ℤ, pos, negsuc, ◌-ℤ◌, length, take, drop, w32, SFits, of_z, to_z, to_z-of_z}
 use Rattle.std.proofs.lemmas.Bool.{lt-leb}
 use Rattle.std.proofs.lemmas.List.{take_rest}
-use Rattle.std.specs.Prelude.{Option as Maybe, Some, None, option_map, option_and_then}
-use Rattle.std.proofs.Math.Option.{Option, none, some}
+use Rattle.std.specs.Prelude.{Some, None, option_map, option_and_then, Option}
 use Rattle.std.proofs.Math.Dec.{eqb, leb}
 use Rattle.policy.specs.Limits.{is_reading_value}
-use Rattle.lexer.specs.Number.{number_of, positive, negative, decimal_of}
-use Rattle.lexer.specs.Steps.Scan.{in_token, token_in, behind_token, clip, number_before, number_in}
-use Rattle.token.specs.Steps.PartIn.{kept, part_before, positive_in, negative_in, decimal_in}
+use Rattle.lexer.specs.Number.{number_of, negative, decimal_of}
+use Rattle.lexer.specs.Steps.Scan.{in_token, token_in, behind_token, clip, clipped_before, number_in}
+use Rattle.token.specs.Steps.PartIn.{kept, kept_before, positive_in, negative_in, decimal_in}
 
 -- ---- the machine's signed values
 
@@ -97,40 +96,40 @@ negative_clipped n = go (leb n 2147483647) refl
 -- ---- the decimal constant in front, by its number
 
 pub positive_by_number : (text : List ℕ) → positive_in text ≡ option_map (λ (r : ℕ × List ℕ). (kept is_reading_value (pos r.0), r.1)) (number_in text)
-unfolding positive_in number_in number_before part_before positive
+unfolding positive_in number_in
 positive_by_number text = go (number_of (token_in text))
   where
-    go : (o : Option ℕ) → part_before is_reading_value (behind_token text) (positive o) ≡ option_map (λ (r : ℕ × List ℕ). (kept is_reading_value (pos r.0), r.1)) (number_before (behind_token text) o)
-    go none = refl
-    go (some n) = ap (λ (m : Maybe ℤ). Some (m, behind_token text)) (sym (positive_clipped n))
+    go : (o : Option ℕ) → option_map (kept_before is_reading_value (behind_token text)) (option_map pos o) ≡ option_map (λ (r : ℕ × List ℕ). (kept is_reading_value (pos r.0), r.1)) (option_map (clipped_before (behind_token text)) o)
+    go None = refl
+    go (Some n) = ap (λ (m : Option ℤ). Some (m, behind_token text)) (sym (positive_clipped n))
 
 -- a constant behind a minus, where its number is not 0
-abbrev pub behind_minus : ℕ × List ℕ → Maybe (Maybe ℤ × List ℕ)
+abbrev pub behind_minus : ℕ × List ℕ → Option (Option ℤ × List ℕ)
 behind_minus r = cond (eqb r.0 0) None (Some (kept is_reading_value (negsuc (r.0 - 1)), r.1))
 
 pub negative_by_number : (text : List ℕ) → negative_in text ≡ option_and_then behind_minus (number_in text)
-unfolding negative_in number_in number_before part_before negative
+unfolding negative_in number_in negative
 negative_by_number text = go (number_of (token_in text))
   where
-    go : (o : Option ℕ) → part_before is_reading_value (behind_token text) (negative o) ≡ option_and_then behind_minus (number_before (behind_token text) o)
-    go none = refl
-    go (some zero) = refl
-    go (some (suc n)) = rw (ne_eqb (clip (suc n)) 0 (λ e. omega arith)) (ap (λ (m : Maybe ℤ). Some (m, behind_token text)) (sym (negative_clipped n)))
+    go : (o : Option ℕ) → option_map (kept_before is_reading_value (behind_token text)) (negative o) ≡ option_and_then behind_minus (option_map (clipped_before (behind_token text)) o)
+    go None = refl
+    go (Some zero) = refl
+    go (Some (suc n)) = rw (ne_eqb (clip (suc n)) 0 (λ e. omega arith)) (ap (λ (m : Option ℤ). Some (m, behind_token text)) (sym (negative_clipped n)))
 
 abbrev pub starts_minus : List ℕ → Bool
 starts_minus [] = false
 starts_minus (b ∷ s) = eqb b 45
 
 pub decimal_by_sign : (text : List ℕ) → decimal_in text ≡ cond (starts_minus text) (negative_in (take (length text - 1) (drop 1 text))) (positive_in text)
-unfolding decimal_in negative_in positive_in decimal_of number_of positive
+unfolding decimal_in negative_in positive_in decimal_of number_of
 decimal_by_sign [] = refl
 decimal_by_sign (b ∷ s) =
     rw (take_rest (b ∷ s) 1)
     (elim (eqb b 45) as (λ x. eqb b 45 ≡ x → decimal_in (b ∷ s) ≡ cond x (negative_in s) (positive_in (b ∷ s))) [
       | true ↦ λ e. rw (eqb-true b 45 e)
-      | false ↦ λ e. ap (part_before is_reading_value (behind_token (b ∷ s))) (unsigned (in_token b) e)
+      | false ↦ λ e. ap (option_map (kept_before is_reading_value (behind_token (b ∷ s)))) (unsigned (in_token b) e)
     ] refl)
   where
-    unsigned : (x : Bool) → eqb b 45 ≡ false → decimal_of (cond x (b ∷ token_in s) []) ≡ positive (number_of (cond x (b ∷ token_in s) []))
+    unsigned : (x : Bool) → eqb b 45 ≡ false → decimal_of (cond x (b ∷ token_in s) []) ≡ option_map pos (number_of (cond x (b ∷ token_in s) []))
     unsigned true e = rw e
     unsigned false e = refl

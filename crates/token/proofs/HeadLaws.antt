@@ -1,23 +1,22 @@
 -- Laws of reading a literal of a rule, or an action of a constraint.
-use Rattle.std.specs.Prelude.{Option as Maybe, Some, None, option_map}
+use Rattle.std.specs.Prelude.{Some, None, option_map, Option}
 use Rattle.std.proofs.Common.{ℕ, ◌-◌, Bool, true, false, cond, List, [], ◌∷◌, ◌≡◌, refl, sym, ap, ◌∙◌, arith, eqb-true, length, take, drop}
 use Rattle.std.proofs.lemmas.List.{take_rest}
-use Rattle.std.proofs.Math.Option.{Option, none, some, map}
 use Rattle.std.proofs.Math.Dec.{eqb, ltb}
 use Rattle.policy.specs.Limits.{test_number}
 use Rattle.policy.specs.Number.{check_event, check_action}
 use Rattle.policy.specs.declared.line.Test.{Test}
 use Rattle.lexer.specs.Token.{named, literal_as, literal_of, action_of}
-use Rattle.lexer.specs.Steps.Scan.{in_token, token_in, behind_token, number_before, name_in, event_in, action_in}
+use Rattle.lexer.specs.Steps.Scan.{in_token, token_in, behind_token, clipped_before, name_in, event_in, action_in}
 use Rattle.token.proofs.PartLaws.{below, below_clipped, map_map, mapped}
-use Rattle.token.specs.Steps.PartIn.{part_before, test_in_range, test_of, literal_with, occurs_in, head_in}
+use Rattle.token.specs.Steps.PartIn.{kept_before, test_in_range, test_of, literal_with, occurs_in, head_in}
 
 -- a test of a number, read from a clipped number as from the number
-module _ (f : ℕ → Test) (t : (n : ℕ) → test_number (f n) ≡ n) (made : ℕ → Maybe Test) (same : (n : ℕ) → made n ≡ below 64 (omega arith) f n) (rest : List ℕ) where
-  test_by_number : (o : Option ℕ) → part_before test_in_range rest (map f o) ≡ option_map (λ (r : ℕ × List ℕ). (made r.0, r.1)) (number_before rest o)
-  unfolding part_before test_in_range number_before
-  test_by_number none = refl
-  test_by_number (some n) = rw (t n) (ap (λ (m : Maybe Test). Some (m, rest)) (sym (same _ ∙ below_clipped 64 (omega arith) f n)))
+module _ (f : ℕ → Test) (t : (n : ℕ) → test_number (f n) ≡ n) (made : ℕ → Option Test) (same : (n : ℕ) → made n ≡ below 64 (omega arith) f n) (rest : List ℕ) where
+  test_by_number : (o : Option ℕ) → option_map (kept_before test_in_range rest) (option_map f o) ≡ option_map (λ (r : ℕ × List ℕ). (made r.0, r.1)) (option_map (clipped_before rest) o)
+  unfolding test_in_range
+  test_by_number None = refl
+  test_by_number (Some n) = rw (t n) (ap (λ (m : Option Test). Some (m, rest)) (sym (same _ ∙ below_clipped 64 (omega arith) f n)))
 
 abbrev member : ℕ → Test
 member n = Test.Member (record { 0 = n })
@@ -44,7 +43,7 @@ literal_below negated n = go (ltb n 64)
 pub member_by_name : (text : List ℕ) → head_in text true ≡ option_map (λ (r : ℕ × List ℕ). (option_map Test.Member (check_action r.0), r.1)) (action_in text)
 unfolding head_in test_of action_of name_in
 member_by_name text =
-    ap (part_before test_in_range (behind_token text)) (map_map (λ (n : ℕ). record { 0 = n }) Test.Member (named 65 (token_in text)))
+    ap (option_map (kept_before test_in_range (behind_token text))) (map_map (λ (n : ℕ). record { 0 = n }) Test.Member (named 65 (token_in text)))
     ∙ test_by_number member member_number (λ (n : ℕ). option_map Test.Member (check_action n)) (λ n. mapped Test.Member (ltb n 64) (record { 0 = n })) (behind_token text) (named 65 (token_in text))
 
 pub occurs_by_name : (text : List ℕ) (negated : Bool) → occurs_in text negated ≡ option_map (λ (r : ℕ × List ℕ). (literal_with negated (check_event r.0), r.1)) (event_in text)
@@ -61,10 +60,10 @@ literal_by_sign [] = refl
 literal_by_sign (b ∷ s) =
     rw (take_rest (b ∷ s) 1)
     (elim (eqb b 33) as (λ x. eqb b 33 ≡ x → head_in (b ∷ s) false ≡ cond x (occurs_in s true) (occurs_in (b ∷ s) false)) [
-      | true ↦ λ e. rw (eqb-true b 33 e) (ap (part_before test_in_range (behind_token s)) (map_map (literal_as true) Test.Occurs (named 69 (token_in s))))
-      | false ↦ λ e. ap (part_before test_in_range (behind_token (b ∷ s))) (plain (in_token b) e)
+      | true ↦ λ e. rw (eqb-true b 33 e) (ap (option_map (kept_before test_in_range (behind_token s))) (map_map (literal_as true) Test.Occurs (named 69 (token_in s))))
+      | false ↦ λ e. ap (option_map (kept_before test_in_range (behind_token (b ∷ s)))) (plain (in_token b) e)
     ] refl)
   where
-    plain : (x : Bool) → eqb b 33 ≡ false → map Test.Occurs (literal_of (cond x (b ∷ token_in s) [])) ≡ map (literal false) (named 69 (cond x (b ∷ token_in s) []))
+    plain : (x : Bool) → eqb b 33 ≡ false → option_map Test.Occurs (literal_of (cond x (b ∷ token_in s) [])) ≡ option_map (literal false) (named 69 (cond x (b ∷ token_in s) []))
     plain true e = rw e (map_map (literal_as false) Test.Occurs (named 69 (b ∷ token_in s)))
     plain false e = refl

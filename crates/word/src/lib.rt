@@ -1,7 +1,7 @@
 //! Words of 32 bits in a slice of bytes, most significant byte first. Start with specs/Word.antt.
 #![tactic(auto)]
 
-ghost use Rattle.std.specs.Prelude.{◌≡◌, [], ◌∷◌, ◌/◌, ◌-◌, ◌<◌, ◌≤◌, length, get_or};
+ghost use Rattle.std.specs.Prelude.{◌≡◌, [], ◌∷◌, ◌/◌, ◌-◌, ◌<◌, ◌≤◌, length, slice_index_or};
 ghost use Rattle.word.specs.Word.{words_of, between};
 ghost use Rattle.word.specs.Chunk.{words_in};
 ghost use Rattle.word.specs.Steps.Write.{fits, put_words};
@@ -32,14 +32,14 @@ pub fn words(bytes: &[u8]) -> &[[u8; 4]]
 /// The word at an index that is there.
 pub fn nth_word(words: &[[u8; 4]], index: usize) -> u32
     requires { index < length words.now }
-    ensures { result ≡ get_or (words_in words.now) index 0 }
+    ensures { result ≡ slice_index_or (words_in words.now) index 0 }
 {
     u32::from_be_bytes(words[index])
 }
 
 /// The word at an index, 0 past the last.
 pub fn nth_word_or_zero(words: &[[u8; 4]], index: usize) -> u32
-    ensures { result ≡ get_or (words_in words.now) index 0 }
+    ensures { result ≡ slice_index_or (words_in words.now) index 0 }
 {
     if index < words.len() {
         nth_word(words, index)

@@ -1,7 +1,7 @@
 -- How the code goes over a line, word by word. That this finds the lines that `line_at` finds, and their values, is proved
 -- (`scan_line_is` in proofs/ScanLines.antt, `line_from_is` in proofs/ReadLaws.antt): a reader need not believe this file.
-use Rattle.std.specs.Prelude.{ℕ, zero, suc, ◌+◌, ◌-◌, ◌*◌, ◌/◌, ◌%◌, ◌^◌, ◌<◌, ◌≤◌, ◌≡◌, Bool, true, false, not, cond, ◌&&◌, ◌||◌, List, [], ◌∷◌, map, fold, eqb, ltb, leb, length, take, drop, get_or, set}
-use Rattle.line_value.specs.Value.{head, line_of}
+use Rattle.std.specs.Prelude.{ℕ, zero, suc, ◌+◌, ◌-◌, ◌*◌, ◌/◌, ◌%◌, ◌^◌, ◌<◌, ◌≤◌, ◌≡◌, Bool, true, false, not, ◌&&◌, ◌||◌, if◌then◌else◌, List, [], ◌∷◌, ◌++◌, map, fold, length, take, drop, ◌==◌, nat_lt, nat_le, slice_index_or}
+use Rattle.line_value.specs.Value.{no_parts}
 use Rattle.policy.specs.Line.{operand_constants}
 use Rattle.policy.specs.Limits.{head_limit, comparison_limit, repeats}
 use Rattle.policy.specs.Set.{insert}
@@ -19,20 +19,8 @@ use Rattle.policy.specs.declared.line.Part.{Part}
 unfoldable pub is_head : Part → Operation → Bool
 is_head Part.Rules Operation.Present = true
 is_head Part.Rules Operation.Absent = true
-is_head Part.Rules Operation.AgainstConstant = false
-is_head Part.Rules Operation.AgainstReading = false
-is_head Part.Rules Operation.Proposes = false
-is_head Part.Rules Operation.Member = false
-is_head Part.Rules Operation.Never = false
-is_head Part.Rules Operation.Unknown = false
-is_head Part.Constraints Operation.Present = false
-is_head Part.Constraints Operation.Absent = false
-is_head Part.Constraints Operation.AgainstConstant = false
-is_head Part.Constraints Operation.AgainstReading = false
-is_head Part.Constraints Operation.Proposes = false
 is_head Part.Constraints Operation.Member = true
-is_head Part.Constraints Operation.Never = false
-is_head Part.Constraints Operation.Unknown = false
+is_head _ _ = false
 
 -- ---- words by one comparison: each less the word that is expected, and turned
 
@@ -70,17 +58,17 @@ ending_numbers Part.Constraints = 1
 
 -- the ending word of a line: the action of a rule is free, all other bits are given
 unfoldable pub is_ending : Part → ℕ → Bool
-is_ending Part.Rules w = eqb (opcode_of w) (opcode Operation.Proposes) && eqb (w % 2 ^ 22) 0
-is_ending Part.Constraints w = eqb w (ending_word Ending.Never)
+is_ending Part.Rules w = opcode_of w == opcode Operation.Proposes && w % 2 ^ 22 == 0
+is_ending Part.Constraints w = w == ending_word Ending.Never
 
 -- whether the word w may stand as a head, with `left` words of the line behind it
 unfoldable pub head_sound : Part → ℕ → ℕ → Bool
-head_sound part w left = eqb (w % 2 ^ 22) left && is_head part (operation_of w)
+head_sound part w left = w % 2 ^ 22 == left && is_head part (operation_of w)
 
 -- how many heads there are, of n words before the ending word
 unfoldable pub count_heads : Part → ℕ → List ℕ → ℕ
 count_heads part zero ws = 0
-count_heads part (suc n) ws = cond (head_sound part (get_or ws 0 0) (suc n)) (suc (count_heads part n (drop 1 ws))) 0
+count_heads part (suc n) ws = if head_sound part (slice_index_or ws 0 0) (suc n) then suc (count_heads part n (drop 1 ws)) else 0
 
 -- the numbers of so many heads, and as a set
 abbrev pub head_numbers : ℕ → List ℕ → List ℕ
@@ -90,45 +78,40 @@ abbrev pub numbers_of : List ℕ → ℕ
 numbers_of ns = fold insert 0 ns
 
 unfoldable pub constant_sound : ℕ → ℕ → Bool
-constant_sound w left = ltb (first_of w) 16 && ltb (relation_code_of w) 6 && eqb (second_of w) 0 && eqb (w % 2 ^ 13 + 1) left && ltb 1 left
+constant_sound w left = nat_lt (first_of w) 16 && nat_lt (relation_code_of w) 6 && second_of w == 0 && w % 2 ^ 13 + 1 == left && nat_lt 1 left
 
 unfoldable pub reading_sound : ℕ → ℕ → Bool
-reading_sound w left = ltb (first_of w) 16 && ltb (relation_code_of w) 6 && ltb (second_of w) 16 && eqb (w % 2 ^ 13) left
+reading_sound w left = nat_lt (first_of w) 16 && nat_lt (relation_code_of w) 6 && nat_lt (second_of w) 16 && w % 2 ^ 13 == left
 
 -- how many words the comparison has that w begins; 0 where none may stand
 unfoldable pub length_by : Operation → ℕ → ℕ → ℕ
-length_by Operation.AgainstConstant w left = cond (constant_sound w left) 2 0
-length_by Operation.AgainstReading w left = cond (reading_sound w left) 1 0
-length_by Operation.Present w left = 0
-length_by Operation.Absent w left = 0
-length_by Operation.Proposes w left = 0
-length_by Operation.Member w left = 0
-length_by Operation.Never w left = 0
-length_by Operation.Unknown w left = 0
+length_by Operation.AgainstConstant w left = if constant_sound w left then 2 else 0
+length_by Operation.AgainstReading w left = if reading_sound w left then 1 else 0
+length_by _ w left = 0
 
 unfoldable pub comparison_length : ℕ → ℕ → ℕ
 comparison_length w left = length_by (operation_of w) w left
 
 -- the words behind the comparison that words begin with
 pub record IsBehind (ws behind : List ℕ) : Type 0 where
-  pub some : 0 < comparison_length (get_or ws 0 0) (length ws)
-  pub inside : comparison_length (get_or ws 0 0) (length ws) ≤ length ws
-  pub behind_it : behind ≡ drop (comparison_length (get_or ws 0 0) (length ws)) ws
+  pub some : 0 < comparison_length (slice_index_or ws 0 0) (length ws)
+  pub inside : comparison_length (slice_index_or ws 0 0) (length ws) ≤ length ws
+  pub behind_it : behind ≡ drop (comparison_length (slice_index_or ws 0 0) (length ws)) ws
 
 -- whether comparisons, at most so many, fill n words
 unfoldable pub comparisons_fill : ℕ → ℕ → List ℕ → Bool
-comparisons_fill zero n ws = eqb n 0
+comparisons_fill zero n ws = n == 0
 comparisons_fill (suc room) n ws =
-    eqb n 0
-    || (not (eqb (comparison_length (get_or ws 0 0) n) 0)
-    && comparisons_fill room (n - comparison_length (get_or ws 0 0) n) (drop (comparison_length (get_or ws 0 0) n) ws))
+    n == 0
+    || (not (comparison_length (slice_index_or ws 0 0) n == 0)
+    && comparisons_fill room (n - comparison_length (slice_index_or ws 0 0) n) (drop (comparison_length (slice_index_or ws 0 0) n) ws))
 
 -- how many words the line at the start has; 0 where none stands there. The first word's skip says how many follow it
 unfoldable pub scan_line : Part → List ℕ → ℕ
 scan_line part ws =
-    let n : ℕ = skip_of (get_or ws 0 0) in
+    let n : ℕ = skip_of (slice_index_or ws 0 0) in
     let h : ℕ = count_heads part n ws in
-    cond (ltb n (length ws) && is_ending part (get_or ws n 0) && ltb 0 h && leb h 8 && not (repeats (head_numbers h ws)) && comparisons_fill 4 (n - h) (drop h ws)) (n + 1) 0
+    if nat_lt n (length ws) && is_ending part (slice_index_or ws n 0) && nat_lt 0 h && nat_le h 8 && not (repeats (head_numbers h ws)) && comparisons_fill 4 (n - h) (drop h ws) then n + 1 else 0
 
 -- ---- the value of a line, word by word
 
@@ -144,27 +127,18 @@ part_of Operation.Never w k = LinePart.Ending Ending.Never
 part_of Operation.Unknown w k = LinePart.Nothing
 
 unfoldable pub line_part_at : List ℕ → ℕ → LinePart
-line_part_at ws at = part_of (operation_of (get_or ws at 0)) (get_or ws at 0) (get_or ws (at + 1) 0)
+line_part_at ws at = part_of (operation_of (slice_index_or ws at 0)) (slice_index_or ws at 0) (slice_index_or ws (at + 1) 0)
 
 -- how many constants follow the word
 unfoldable pub constants_of : LinePart → ℕ
-constants_of (LinePart.Head t) = 0
 constants_of (LinePart.Comparison c) = operand_constants c.operand
-constants_of (LinePart.Ending e) = 0
-constants_of LinePart.Nothing = 0
+constants_of _ = 0
 
 -- a line with one part more, where there is room for it
 unfoldable pub with_part : LinePart → Line → Line
-with_part (LinePart.Head t) l =
-    cond (ltb l.head_count head_limit)
-    (record { heads = set l.heads l.head_count (head t); head_count = l.head_count + 1; comparisons = l.comparisons; comparison_count = l.comparison_count; ending = l.ending })
-    l
-with_part (LinePart.Comparison c) l =
-    cond (ltb l.comparison_count comparison_limit)
-    (record { heads = l.heads; head_count = l.head_count; comparisons = set l.comparisons l.comparison_count c; comparison_count = l.comparison_count + 1; ending = l.ending })
-    l
-with_part (LinePart.Ending e) l =
-    record { heads = l.heads; head_count = l.head_count; comparisons = l.comparisons; comparison_count = l.comparison_count; ending = e }
+with_part (LinePart.Head t) l = if nat_lt (length l.heads) head_limit then (record { heads = l.heads ++ t ∷ []; comparisons = l.comparisons; ending = l.ending }) else l
+with_part (LinePart.Comparison c) l = if nat_lt (length l.comparisons) comparison_limit then (record { heads = l.heads; comparisons = l.comparisons ++ c ∷ []; ending = l.ending }) else l
+with_part (LinePart.Ending e) l = record { heads = l.heads; comparisons = l.comparisons; ending = e }
 with_part LinePart.Nothing l = l
 
 -- with the parts of more words, of which the first k are constants
@@ -175,4 +149,4 @@ with_words l zero (w ∷ ws) = with_words (with_part (line_part_at (w ∷ ws) 0)
 
 -- the line that words say
 abbrev pub value_from : List ℕ → Line
-value_from ws = with_words (line_of [] [] Ending.Never) 0 ws
+value_from ws = with_words no_parts 0 ws

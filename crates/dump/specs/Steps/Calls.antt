@@ -1,6 +1,6 @@
 -- What the functions do: with a byte of the input, with the bytes of a chunk, and at the end of the input.
 use Rattle.policy.specs.declared.fault.Refusal.{Refusal}
-use Rattle.std.specs.Prelude.{ℕ, ◌+◌, ◌*◌, ◌/◌, ◌%◌, ◌^◌, min, true, false, cond, ◌&&◌, ◌||◌, List, [], ◌∷◌, length, take, ◌==◌, nat_le, nat_lt, fold, Result, Ok, Err}
+use Rattle.std.specs.Prelude.{ℕ, ◌+◌, ◌*◌, ◌/◌, ◌%◌, ◌^◌, min, true, false, ◌&&◌, ◌||◌, List, [], ◌∷◌, length, take, ◌==◌, nat_le, nat_lt, fold, Result, Ok, Err, if◌then◌else◌}
 use Rattle.lexer.specs.Byte.{is_line_end, hex_value}
 use Rattle.word.specs.Steps.Write.{fits, put_words}
 use Rattle.policy.specs.Fault.{refusal}
@@ -39,18 +39,17 @@ with_word s count = record { lines = next_number s.lines; words = count; digits 
 unfoldable pub line_ended : Held → Held
 line_ended h =
     let s : State = h.state in
-    cond (s.digits == 8)
-    (held (with_word s (cond (fits h.image s.words 1) (s.words + 1) s.words)) (put_words h.image s.words (s.value ∷ [])))
-    (held (broken s) h.image)
+    if s.digits == 8 then held (with_word s (if fits h.image s.words 1 then s.words + 1 else s.words)) (put_words h.image s.words (s.value ∷ []))
+    else held (broken s) h.image
 
 -- a byte of the open line that has the value as a digit
 unfoldable pub digit_taken : State → ℕ → State
-digit_taken s d = cond (nat_lt d 16 && nat_lt s.digits 8) (with_digit s d) (broken s)
+digit_taken s d = if nat_lt d 16 && nat_lt s.digits 8 then with_digit s d else broken s
 
 unfoldable pub stepped : Held → ℕ → Held
 stepped h b =
-    cond h.state.broken h
-    (cond (is_line_end b) (line_ended h) (held (digit_taken h.state (hex_value b)) h.image))
+    if h.state.broken then h
+    else (if is_line_end b then line_ended h else held (digit_taken h.state (hex_value b)) h.image)
 
 -- the bytes of a chunk
 abbrev pub held_behind : Held → List ℕ → Held
@@ -58,7 +57,7 @@ held_behind h chunk = fold stepped h chunk
 
 -- the input has ended: an open line has ended with it
 unfoldable pub closed : Held → Held
-closed h = cond (h.state.broken || h.state.digits == 0) h (line_ended h)
+closed h = if h.state.broken || h.state.digits == 0 then h else line_ended h
 
 -- the bytes of the words that are held
 abbrev pub image_held : Held → List ℕ
@@ -69,11 +68,11 @@ image_held h = take (min h.state.words (length h.image / 4) * 4) h.image
 -- as `loaded_answer`, but a text that has no room is refused
 unfoldable pub answer_within : ℕ → Result Contents Refusal → List ℕ → List ℕ
 answer_within room (Err r) text = image_refusal_line r
-answer_within room (Ok contents) text = cond (nat_le (length text) room) text (image_refusal_line (refusal Fault.BufferTooSmall 0))
+answer_within room (Ok contents) text = if nat_le (length text) room then text else image_refusal_line (refusal Fault.BufferTooSmall 0)
 
 unfoldable pub image_within : ℕ → List ℕ → List ℕ
 image_within room image = answer_within room (load image) (text_of (policy_in image))
 
 -- the line behind those that were read is no word, or all are
 unfoldable pub finished : ℕ → Held → List ℕ
-finished room h = cond h.state.broken (not_word_line (next_number h.state.lines)) (image_within room (image_held h))
+finished room h = if h.state.broken then not_word_line (next_number h.state.lines) else image_within room (image_held h)

@@ -1,18 +1,13 @@
 -- The words of a line's value, as the code writes them. That the value of a line has the line's words is proved (`value_words_is` in
 -- proofs/LayoutLaws.antt).
-use Rattle.std.specs.Prelude.{ℕ, ◌-◌, List, [], ◌∷◌, map, take}
-use Rattle.policy.specs.declared.line.Head.{Head}
+use Rattle.std.specs.Prelude.{ℕ, ◌-◌, List, [], ◌∷◌}
 use Rattle.line_value.specs.declared.Line.{Line}
 use Rattle.policy.specs.declared.line.Test.{Test}
 use Rattle.operation.specs.Parts.{test_word}
 use Rattle.layout.specs.Layout.{part_words}
 
-unfoldable pub tests_of : List Head → List Test
-tests_of hs = map (λ (h : Head). h.0) hs
-
--- the parts that a value holds are those up to its counts
 unfoldable pub value_words : Line → List ℕ
-value_words l = part_words (tests_of (take l.head_count l.heads)) (take l.comparison_count l.comparisons) l.ending
+value_words l = part_words l.heads l.comparisons l.ending
 
 -- the words of the heads alone, in a line of so many words from the first of them on
 unfoldable pub head_words : List Test → ℕ → List ℕ

@@ -1,7 +1,6 @@
 -- What stands in front of a text, and what is left behind it.
-use Prim.Native.Char.{code}
-use Rattle.std.specs.Prelude.{ℕ, ◌%◌, ◌^◌, min, Bool, false, not, cond, List, [], ◌∷◌, Option as Maybe, Some, None}
-use Rattle.std.proofs.Math.Option.{Option, none, some}
+use Rattle.std.specs.Str.{byte}
+use Rattle.std.specs.Prelude.{ℕ, ◌%◌, ◌^◌, min, Bool, false, not, List, [], ◌∷◌, Some, None, Option, option_map, if◌then◌else◌}
 use Rattle.lexer.specs.Byte.{bytes_equal, is_space, ends_token, is_digit, is_hex_digit}
 use Rattle.lexer.specs.Token.{named}
 use Rattle.lexer.specs.Lines.{tokens_of, take_leading, drop_leading, first_line}
@@ -21,8 +20,8 @@ abbrev pub without_spaces : List ℕ → List ℕ
 without_spaces text = drop_leading is_space text
 
 -- what stands behind the token in front, if it is the keyword
-unfoldable pub keyword_in : List ℕ → List ℕ → Maybe (List ℕ)
-keyword_in text keyword = cond (bytes_equal (token_in text) keyword) (Some (behind_token text)) None
+unfoldable pub keyword_in : List ℕ → List ℕ → Option (List ℕ)
+keyword_in text keyword = if bytes_equal (token_in text) keyword then Some (behind_token text) else None
 
 -- ---- numbers: those past every limit are all read as one
 
@@ -32,10 +31,9 @@ clip_limit = 3000000000
 abbrev pub clip : ℕ → ℕ
 clip n = min n clip_limit
 
--- a number that was read, if it was, and what stands behind it
-unfoldable pub number_before : List ℕ → Option ℕ → Maybe (ℕ × List ℕ)
-number_before rest none = None
-number_before rest (some n) = Some (clip n, rest)
+-- a number, and what stands behind it
+abbrev pub clipped_before : List ℕ → ℕ → ℕ × List ℕ
+clipped_before rest n = (clip n, rest)
 
 -- the value of further digits in front, behind those of a value, and what stands behind them
 abbrev pub further_digits : ℕ → List ℕ → ℕ × List ℕ
@@ -46,29 +44,29 @@ starts_digit [] = false
 starts_digit (b ∷ s) = is_digit b
 
 -- the number that the digits in front are
-unfoldable pub digits_in : List ℕ → Maybe (ℕ × List ℕ)
-digits_in text = number_before (drop_leading is_digit text) (number_of (take_leading is_digit text))
+unfoldable pub digits_in : List ℕ → Option (ℕ × List ℕ)
+digits_in text = option_map (clipped_before (drop_leading is_digit text)) (number_of (take_leading is_digit text))
 
 -- the hexadecimal digits in front: the value of the last eight of them, and what stands behind them
 abbrev pub hex_digits_in : List ℕ → ℕ × List ℕ
 hex_digits_in text = (hex_number (take_leading is_hex_digit text) % 2 ^ 32, drop_leading is_hex_digit text)
 
 -- the number that the token in front is
-unfoldable pub number_in : List ℕ → Maybe (ℕ × List ℕ)
-number_in text = number_before (behind_token text) (number_of (token_in text))
+unfoldable pub number_in : List ℕ → Option (ℕ × List ℕ)
+number_in text = option_map (clipped_before (behind_token text)) (number_of (token_in text))
 
 -- a letter and a number, as a whole token
-unfoldable pub name_in : List ℕ → ℕ → Maybe (ℕ × List ℕ)
-name_in text letter = number_before (behind_token text) (named letter (token_in text))
+unfoldable pub name_in : List ℕ → ℕ → Option (ℕ × List ℕ)
+name_in text letter = option_map (clipped_before (behind_token text)) (named letter (token_in text))
 
-abbrev pub event_in : List ℕ → Maybe (ℕ × List ℕ)
-event_in text = name_in text (code "E")
+abbrev pub event_in : List ℕ → Option (ℕ × List ℕ)
+event_in text = name_in text (byte "E")
 
-abbrev pub action_in : List ℕ → Maybe (ℕ × List ℕ)
-action_in text = name_in text (code "A")
+abbrev pub action_in : List ℕ → Option (ℕ × List ℕ)
+action_in text = name_in text (byte "A")
 
-abbrev pub reading_in : List ℕ → Maybe (ℕ × List ℕ)
-reading_in text = name_in text (code "R")
+abbrev pub reading_in : List ℕ → Option (ℕ × List ℕ)
+reading_in text = name_in text (byte "R")
 
 -- the tokens of the first line
 unfoldable pub tokens_in : List ℕ → List (List ℕ)

@@ -1,10 +1,9 @@
 -- The text of a line's value, as the code appends it. That the value of a line has the line's text is proved (`value_text_is` in
 -- proofs/ValueLaws.antt).
-use Prim.Native.Char.{code}
-use Rattle.std.specs.Prelude.{ℕ, List, [], ◌∷◌, ◌++◌, take}
+use Rattle.std.specs.Prelude.{ℕ, List, [], ◌∷◌, ◌++◌}
+use Rattle.std.specs.Str.{byte}
 use Rattle.policy.specs.declared.comparison.Comparison.{Comparison}
 use Rattle.policy.specs.declared.line.Ending.{Ending}
-use Rattle.policy.specs.declared.line.Head.{Head}
 use Rattle.policy.specs.declared.line.Test.{Test}
 use Rattle.line_value.specs.declared.Line.{Line}
 use Rattle.lexer.specs.Byte.{bytes}
@@ -16,7 +15,7 @@ test_token (Test.Occurs l) = literal_token l
 test_token (Test.Member a) = action_token a
 
 unfoldable pub comparison_text : Comparison → List ℕ
-comparison_text c = reading_token c.reading ++ code " " ∷ relation_token c.relation ++ code " " ∷ operand_token c.operand
+comparison_text c = reading_token c.reading ++ byte " " ∷ relation_token c.relation ++ byte " " ∷ operand_token c.operand
 
 module _ {A : Type 0} (text : A → List ℕ) where
   -- one text after another: `first` stands before the first of them, `next` before each other
@@ -24,15 +23,11 @@ module _ {A : Type 0} (text : A → List ℕ) where
   linked first next [] = []
   linked first next (x ∷ xs) = first ++ text x ++ linked next next xs
 
-abbrev pub head_text : Head → List ℕ
-head_text h = test_token h.0
+abbrev pub heads_text : List Test → List ℕ
+heads_text ts = linked test_token [] (bytes " & ") ts
 
--- the parts that a value holds are those up to its counts
-unfoldable pub heads_text : Line → List ℕ
-heads_text l = linked head_text [] (bytes " & ") (take l.head_count l.heads)
-
-unfoldable pub condition_text : Line → List ℕ
-condition_text l = linked comparison_text (bytes " if ") (bytes " , ") (take l.comparison_count l.comparisons)
+abbrev pub condition_text : List Comparison → List ℕ
+condition_text cs = linked comparison_text (bytes " if ") (bytes " , ") cs
 
 -- with the line's end
 unfoldable pub ending_text : Ending → List ℕ → List ℕ → List ℕ
@@ -40,4 +35,4 @@ ending_text (Ending.Causes a) heads condition = heads ++ bytes " causes " ++ act
 ending_text Ending.Never heads condition = bytes "never " ++ heads ++ condition ++ 10 ∷ []
 
 unfoldable pub value_text : Line → List ℕ
-value_text l = ending_text l.ending (heads_text l) (condition_text l)
+value_text l = ending_text l.ending (heads_text l.heads) (condition_text l.comparisons)

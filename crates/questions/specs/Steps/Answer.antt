@@ -9,11 +9,9 @@ use Rattle.questions.specs.declared.line.Token.{Token}
 
 module _ (maker site image : List ℕ) where
   unfoldable pub answer_on : Token → List ℕ → Result Explanation Refusal
-  answer_on Token.Empty epoch = Err (no_action epoch)
-  answer_on Token.Letter epoch = Err (no_action epoch)
   answer_on Token.Zero epoch = explained_on maker site epoch 0 image
   answer_on (Token.Number n) epoch = explained_on maker site epoch n image
-  answer_on Token.Other epoch = Err (no_action epoch)
+  answer_on _ epoch = Err (no_action epoch)
 
   unfoldable pub question_line : ℕ → Question → List ℕ → List ℕ
   question_line n q held = explained_line n (answer_on q.token (take (min q.count (length held)) held))

@@ -1,6 +1,6 @@
 -- The calls that take questions and answer them, on an input that comes in chunks of any sizes: what was consumed and what was printed
 -- by all of them together, how many questions were answered, and what is held of the open line.
-use Rattle.std.specs.Prelude.{ℕ, true, false, cond, List, [], ◌++◌, ◌≡◌, length, take}
+use Rattle.std.specs.Prelude.{ℕ, true, false, List, [], ◌++◌, ◌≡◌, length, take, if◌then◌else◌}
 use Rattle.report.specs.Report.{next_number}
 use Rattle.questions.specs.Steps.Answer.{question_line}
 use Rattle.questions.specs.Steps.Held.{start_question, is_open, Held, held_by, bytes_taken, line_taken}
@@ -24,4 +24,4 @@ module _ (maker site image : List ℕ) where
 
   -- what is printed where the input has ended: the open line is a question too
   abbrev pub last_answer : ℕ → Held → List ℕ
-  last_answer n h = cond (is_open h.question) (answer_held n h) []
+  last_answer n h = if is_open h.question then answer_held n h else []

@@ -1,6 +1,6 @@
 -- A question byte by byte, and what is held of it.
-use Prim.Native.Char.{code}
-use Rattle.std.specs.Prelude.{ℕ, ◌+◌, ◌*◌, ◌-◌, Bool, true, false, cond, eqb, ltb, length, set, List, fold}
+use Rattle.std.specs.Str.{byte}
+use Rattle.std.specs.Prelude.{ℕ, ◌+◌, ◌*◌, ◌-◌, Bool, true, false, ◌||◌, length, set, List, fold, ◌==◌, nat_lt, if◌then◌else◌}
 use Rattle.lexer.specs.Byte.{is_space, is_digit}
 use Rattle.lexer.specs.Lines.{take_leading, in_line}
 use Rattle.questions.specs.declared.line.Question.{Question}
@@ -8,35 +8,31 @@ use Rattle.questions.specs.declared.line.Taken.{Taken}
 use Rattle.questions.specs.declared.line.Token.{Token}
 
 unfoldable pub first_digit : ℕ → Token
-first_digit b = cond (eqb b (code "0")) Token.Zero (cond (is_digit b) (Token.Number (b - code "0")) Token.Other)
+first_digit b = if b == byte "0" then Token.Zero else (if is_digit b then Token.Number (b - byte "0") else Token.Other)
 
 -- a number over 63 stays over 63
 unfoldable pub more_digits : ℕ → ℕ → ℕ
-more_digits n b = cond (ltb n 64) (n * 10 + (b - code "0")) n
+more_digits n b = if nat_lt n 64 then n * 10 + (b - byte "0") else n
 
 unfoldable pub next_digit : ℕ → ℕ → Token
-next_digit n b = cond (is_digit b) (Token.Number (more_digits n b)) Token.Other
+next_digit n b = if is_digit b then Token.Number (more_digits n b) else Token.Other
 
 unfoldable pub scan_byte : Token → ℕ → Token
-scan_byte Token.Empty b = cond (eqb b (code "A")) Token.Letter Token.Other
+scan_byte Token.Empty b = if b == byte "A" then Token.Letter else Token.Other
 scan_byte Token.Letter b = first_digit b
 scan_byte (Token.Number n) b = next_digit n b
-scan_byte Token.Zero b = Token.Other
-scan_byte Token.Other b = Token.Other
+scan_byte _ b = Token.Other
 
 abbrev pub start_question : Question
 start_question = record { token = Token.Empty; spaced = false; count = 0 }
 
 unfoldable pub has_byte : Token → Bool
 has_byte Token.Empty = false
-has_byte Token.Letter = true
-has_byte Token.Zero = true
-has_byte (Token.Number n) = true
-has_byte Token.Other = true
+has_byte _ = true
 
 -- the line has a byte
 unfoldable pub is_open : Question → Bool
-is_open q = cond q.spaced true (has_byte q.token)
+is_open q = q.spaced || has_byte q.token
 
 -- the question and the bytes that are held of its epoch line
 pub record Held : Type 0 where
@@ -49,15 +45,15 @@ held_by q held = record { question = q; held = held }
 -- one byte more of the epoch line, where there is room for it
 unfoldable pub kept : Held → ℕ → Held
 kept h b =
-    cond (ltb h.question.count (length h.held))
-    (held_by (record { token = h.question.token; spaced = true; count = h.question.count + 1 }) (set h.held h.question.count b)) h
+    if nat_lt h.question.count (length h.held) then held_by (record { token = h.question.token; spaced = true; count = h.question.count + 1 }) (set h.held h.question.count b)
+    else h
 
 -- one byte more of the line
 unfoldable pub pushed : Held → ℕ → Held
 pushed h b =
-    cond h.question.spaced (kept h b)
-    (cond (is_space b) (held_by (record { token = h.question.token; spaced = true; count = h.question.count }) h.held)
-    (held_by (record { token = scan_byte h.question.token b; spaced = false; count = h.question.count }) h.held))
+    if h.question.spaced then kept h b
+    else (if is_space b then held_by (record { token = h.question.token; spaced = true; count = h.question.count }) h.held
+    else held_by (record { token = scan_byte h.question.token b; spaced = false; count = h.question.count }) h.held)
 
 -- the bytes of a chunk up to the end of the line
 unfoldable pub bytes_taken : Question → List ℕ → List ℕ → Held
@@ -66,4 +62,4 @@ bytes_taken q held chunk = fold pushed (held_by q held) (take_leading in_line ch
 unfoldable pub line_taken : Question → List ℕ → List ℕ → Taken
 line_taken q held chunk =
     let n : ℕ = length (take_leading in_line chunk) in
-    record { question = (bytes_taken q held chunk).question; taken = cond (ltb n (length chunk)) (n + 1) n; ended = ltb n (length chunk) }
+    record { question = (bytes_taken q held chunk).question; taken = if nat_lt n (length chunk) then n + 1 else n; ended = nat_lt n (length chunk) }

@@ -2,8 +2,7 @@ use Rattle.std.specs.Prelude.{Ok, Err}
 use Rattle.std.proofs.Common.{◌<◌, ◌≡◌, sym, ap, ◌∙◌, arith, length}
 use Rattle.policy.specs.Fault.{refusal}
 use Rattle.policy.specs.declared.fault.Fault.{Fault}
-use Rattle.rule_text.specs.Steps.Counting.{count_read}
-use Rattle.rule_text.proofs.TextLaws.{behind_long, behind_short, halted_read, going_read, count_stop, count_shorter, count_go, count_end}
+use Rattle.rule_text.proofs.TextLaws.{behind_long, behind_short, count_stop, count_shorter, count_go, count_end}
 use Rattle.rule_text.proofs.read_behind.Goals as goal
 
 pub returns-then-text-gt-TEXT_LIMIT : goal.returns-then-text-gt-TEXT_LIMIT
@@ -14,7 +13,7 @@ returns-in_err-more c =
     let h : 0 < length c.loop-rest.rest.now = grind arith in
     let k : (f : Fault) × ((c.step.result ≡ Err f) × (c.from_residual.result ≡ Err (refusal f c.loop-rest.number))) = grind arith in
     let q = rw k.1.0 at c.step.ensures.answer in
-    k.1.1 ∙ sym (halted_read _) ∙ ap count_read (sym (c.loop-rest.invariant.same ∙ count_stop _ _ _ h _ q)) ∙ behind_short _ c.args.text.now c.if-text-gt-TEXT_LIMIT.false
+    k.1.1 ∙ sym (c.loop-rest.invariant.same ∙ count_stop _ _ _ h _ q) ∙ behind_short _ c.args.text.now c.if-text-gt-TEXT_LIMIT.false
 
 pub loop-rest-smaller : goal.loop-rest-smaller
 loop-rest-smaller c =
@@ -37,4 +36,4 @@ loop-rest-preserved c =
 pub returns : goal.returns
 returns c =
     let h : length c.loop-rest.rest.now ≡ 0 = grind arith in
-    sym (going_read c.loop-rest.number c.loop-rest.counts) ∙ ap count_read (sym (c.loop-rest.invariant.same ∙ count_end c.loop-rest.number c.loop-rest.counts c.loop-rest.rest.now h)) ∙ behind_short _ c.args.text.now c.if-text-gt-TEXT_LIMIT.false
+    sym (c.loop-rest.invariant.same ∙ count_end c.loop-rest.number c.loop-rest.counts c.loop-rest.rest.now h) ∙ behind_short _ c.args.text.now c.if-text-gt-TEXT_LIMIT.false

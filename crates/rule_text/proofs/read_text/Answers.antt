@@ -1,7 +1,8 @@
-use Rattle.std.proofs.Common.{ap, ◌∙◌}
-use Rattle.rule_text.specs.Steps.Counting.{sourced_in}
-use Rattle.rule_text.proofs.TextLaws.{text_read_is}
+use Rattle.std.proofs.Common.{arith, ap, ◌∙◌}
+use Rattle.policy.specs.Fault.{in_text}
+use Rattle.policy.specs.declared.fault.Source.{Source}
+use Rattle.rule_text.proofs.TextLaws.{put_in_text, text_counts}
 use Rattle.rule_text.proofs.read_text.Goals as goal
 
 pub returns : goal.returns
-returns c = c.sourced.ensures ∙ ap (sourced_in _) c.read_behind-read.ensures ∙ text_read_is _
+returns c = put_in_text Source.Maker c.read_behind.result _ (λ x e. grind arith) (λ x e. grind arith) ∙ ap (in_text Source.Maker) c.read_behind.ensures ∙ text_counts _

@@ -1,15 +1,12 @@
 use Rattle.std.proofs.Common.{◌≡◌, sym, arith}
 use Rattle.std.specs.Prelude.{Err}
-use Rattle.rule_text.proofs.TextLaws.{step_refused, step_skipped, step_counted, step_full, step_more, step_small}
+use Rattle.rule_text.proofs.TextLaws.{step_refused, step_skipped, step_full, step_more, step_small}
 use Rattle.rule_text.proofs.step.Goals as goal
 
 pub returns-in_err-line-clause-answer : goal.returns-in_err-line-clause-answer
 returns-in_err-line-clause-answer c =
     let r : c.from_residual.result ≡ Err c.in_err-line.field-0.0 = grind arith in
     rw r (step_refused c.args.counts c.args.text.now _ c.in_err-line.ensures)
-
-pub tallied-requires-clause-counted : goal.tallied-requires-clause-counted
-tallied-requires-clause-counted c = step_counted c.args.counts c.args.text.now _ _ (rw c.in-Some.is at c.in_ok-line.ensures)
 
 pub returns-in_err-tallied-in-Some-clause-answer : goal.returns-in_err-tallied-in-Some-clause-answer
 returns-in_err-tallied-in-Some-clause-answer c =

@@ -1,5 +1,5 @@
 -- What the functions answer for the test of a word, and where a trial is left.
-use Rattle.std.specs.Prelude.{ℕ, ◌+◌, ◌-◌, Bool, true, false, cond, List, ltb, get_or, length, ◌≡◌}
+use Rattle.std.specs.Prelude.{ℕ, ◌+◌, ◌-◌, Bool, true, false, List, length, ◌≡◌, nat_lt, if◌then◌else◌, slice_index_or}
 use Rattle.policy.specs.declared.epoch.Readings.{Readings}
 use Rattle.policy.specs.Set.{ActionSet}
 use Rattle.policy.specs.declared.set.Events.{Events}
@@ -48,6 +48,5 @@ is_constant_operation _ = false
 -- the answer of a trial that was left at a word, before which as many words were fetched as lie between `from` and it
 unfoldable pub left_at : List ℕ → ℕ → ℕ → Trial
 left_at ws at from =
-    cond (ltb at (length ws))
-    (record { conflict = ends_constraint (get_or ws at 0); words = at + fetches_of (operation_of (get_or ws at 0)) - from })
-    (record { conflict = false; words = at - from })
+    if nat_lt at (length ws) then record { conflict = ends_constraint (slice_index_or ws at 0); words = at + fetches_of (operation_of (slice_index_or ws at 0)) - from }
+    else record { conflict = false; words = at - from }

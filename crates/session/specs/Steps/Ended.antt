@@ -1,6 +1,5 @@
 -- What is answered where the text or an epoch line is complete.
-use Rattle.std.specs.Prelude.{◌≡◌, ℕ, ◌≤◌, List, [], ◌++◌, length, take}
-use Rattle.std.proofs.Math.Option.{some}
+use Rattle.std.specs.Prelude.{◌≡◌, ℕ, ◌≤◌, List, [], ◌++◌, length, take, Some}
 use Rattle.policy.specs.declared.mode.Mode.{Mode}
 use Rattle.lexer.specs.Lines.{lines_of}
 use Rattle.monitor.specs.Decision.{decision_in}
@@ -14,7 +13,7 @@ pub record TextEnded (text : List ℕ) (mode : Mode) (s : State) (out : List ℕ
   pub owes : (held rest : List ℕ) → owed r held image' out' rest ≡ take s.used out ++ printed_for text (with_epochs [] mode (lines_of rest))
   pub good : (held : List ℕ) → length held ≡ 32780 → Good r held image' out'
   -- behind the line that picks the mode
-  pub tracks : (held : List ℕ) (x : Seen) → x.ran ≡ some mode → x.tail ≡ [] → Tracks x r held
+  pub tracks : (held : List ℕ) (x : Seen) → x.ran ≡ Some mode → x.tail ≡ [] → Tracks x r held
   -- the end of the input adds nothing
   pub quiet : (held : List ℕ) → left_in r.phase r held image' [] ≡ []
 

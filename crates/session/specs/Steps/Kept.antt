@@ -1,5 +1,5 @@
 -- What a session keeps beside `Good`, each in at most one way.
-use Rattle.std.specs.Prelude.{ℕ, ◌≤◌, List}
+use Rattle.std.specs.Prelude.{ℕ, ◌≤◌, List, ⊤}
 use denote.Struct.Props.{props}
 use Rattle.session.specs.Steps.Owed.{Fitting, Good}
 use Rattle.session.specs.declared.state.Phase.{Phase}
@@ -8,8 +8,7 @@ use Rattle.session.specs.declared.state.State.{State}
 -- a line of the text starts behind one byte more than the full length, or before
 unfoldable pub Starting : Phase → State → Type 0
 Starting Phase.Text s = s.start ≤ 32769
-Starting Phase.Epochs s = Unit {0}
-Starting Phase.Over s = Unit {0}
+Starting _ s = ⊤
 
 pub Starting_prop : (p : Phase) (s : State) → IsProp (Starting p s)
 unfolding Starting

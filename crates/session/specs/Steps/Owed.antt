@@ -1,8 +1,8 @@
 -- What the calls of a session keep to: with the bytes that wait in `out`, a state owes what is printed for the input
 -- that is left.
-use Rattle.std.specs.Prelude.{◌≡◌, ℕ, ◌-◌, ◌<◌, ◌≤◌, Bool, true, false, cond, List, [], ◌∷◌, ◌++◌, length, take, drop, ◌==◌, nat_eq, fold}
-use Rattle.std.proofs.Math.Option.{Option, none, some, or_else}
-use Rattle.policy.specs.List.{any}
+use Rattle.std.specs.Prelude.{◌≡◌, ℕ, ◌-◌, ◌<◌, ◌≤◌, false, List, [], ◌∷◌, ◌++◌, length, take, drop, ◌==◌, nat_eq, fold, Option, Some, None, is_some, if◌then◌else◌}
+use Rattle.std.specs.Option.{option_or}
+use Rattle.std.specs.List.{list_any}
 use Rattle.policy.specs.declared.mode.Mode.{Mode}
 use Rattle.lexer.specs.Lines.{lines_of}
 use Rattle.stream.specs.Lines.{due_by_lines}
@@ -38,7 +38,7 @@ pub record Good (s : State) (held image out : List ℕ) : Type 0 where
   pub out_long : length out ≡ 65536
   pub ordered : s.start ≤ s.count
   pub fitting : Fitting s.phase s
-  pub one_line : any (nat_eq 10) (current s held) ≡ false
+  pub one_line : list_any (nat_eq 10) (current s held) ≡ false
   pub sized : s.size ≤ 13064
   pub used : s.used ≤ 65536
 
@@ -55,39 +55,35 @@ pub record Seen : Type 0 where
   pub tail : List ℕ
 
 abbrev pub nothing_seen : Seen
-nothing_seen = record { ran = none; tail = [] }
+nothing_seen = record { ran = None; tail = [] }
 
 unfoldable pub see_byte : Seen → ℕ → Seen
-see_byte x byte = cond (byte == 10) (record { ran = or_else x.ran (mode_of x.tail); tail = [] }) (record { ran = x.ran; tail = x.tail ++ byte ∷ [] })
+see_byte x byte = if byte == 10 then record { ran = option_or x.ran (mode_of x.tail); tail = [] } else record { ran = x.ran; tail = x.tail ++ byte ∷ [] }
 
 abbrev pub see : Seen → List ℕ → Seen
 see x bytes = fold see_byte x bytes
 
 -- a state is past the text exactly if a mode was picked, which it then has; and it holds the start of the open line
 unfoldable pub TracksIn : Phase → Seen → State → List ℕ → Type 0
-TracksIn Phase.Text x s held = (x.ran ≡ none) × (current s held ≡ take (32780 - s.start) x.tail) × (s.start ≤ 32769)
-TracksIn Phase.Epochs x s held = (x.ran ≡ some s.mode) × (current s held ≡ take 1025 x.tail)
-TracksIn Phase.Over x s held = x.ran ≡ some s.mode
+TracksIn Phase.Text x s held = (x.ran ≡ None) × (current s held ≡ take (32780 - s.start) x.tail) × (s.start ≤ 32769)
+TracksIn Phase.Epochs x s held = (x.ran ≡ Some s.mode) × (current s held ≡ take 1025 x.tail)
+TracksIn Phase.Over x s held = x.ran ≡ Some s.mode
 
 abbrev pub Tracks : Seen → State → List ℕ → Type 0
 Tracks x s held = TracksIn s.phase x s held
 
 -- ---- what is due before the input has ended
 
-abbrev pub picked : Option Mode → Bool
-picked none = false
-picked (some mode) = true
-
 -- all that is to be handed out, if these bytes come and more may follow: what waits, or, once a line that picks a mode has ended, what is
 -- printed for the lines that have ended
 unfoldable pub given_for : Seen → State → List ℕ → List ℕ → List ℕ → List ℕ → List ℕ
-given_for x s held image out bytes = due_by_lines (λ lines. picked (see x lines).ran) (owed s held image out) (take s.used out) bytes
+given_for x s held image out bytes = due_by_lines (λ lines. is_some (see x lines).ran) (owed s held image out) (take s.used out) bytes
 
 -- a state that tracks what was seen tells as much of it as counts
 unfoldable pub seen_in : Phase → State → List ℕ → Seen
-seen_in Phase.Text s held = record { ran = none; tail = current s held }
-seen_in Phase.Epochs s held = record { ran = some s.mode; tail = current s held }
-seen_in Phase.Over s held = record { ran = some s.mode; tail = [] }
+seen_in Phase.Text s held = record { ran = None; tail = current s held }
+seen_in Phase.Epochs s held = record { ran = Some s.mode; tail = current s held }
+seen_in Phase.Over s held = record { ran = Some s.mode; tail = [] }
 
 abbrev pub seen_by : State → List ℕ → Seen
 seen_by s held = seen_in s.phase s held

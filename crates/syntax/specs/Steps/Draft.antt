@@ -1,66 +1,52 @@
 -- A line as it is read, part by part, before it is judged.
-use Rattle.std.specs.Prelude.{true, false, List, [], fold, Option as Maybe, Some, None}
+use Rattle.std.specs.Prelude.{ℕ, Bool, true, false, if◌then◌else◌, List, [], ◌∷◌, ◌++◌, fold, length, nat_lt, Option, Some, None}
 use Rattle.policy.specs.Limits.{comparison_in_range, ending_in_range, head_limit, comparison_limit}
 use Rattle.policy.specs.Line.{PolicyLine, heads_of, comparisons_of, ending_of}
 use Rattle.policy.specs.declared.comparison.Comparison.{Comparison}
 use Rattle.policy.specs.declared.line.Ending.{Ending}
-use Rattle.policy.specs.declared.line.Head.{Head}
 use Rattle.policy.specs.declared.line.Test.{Test}
-use Rattle.line_value.specs.Steps.Push.{push_item, push_count}
-use Rattle.line_value.specs.Value.{head, line_of}
-use Rattle.line_value.specs.declared.Line.{Line}
+use Rattle.line_value.specs.Value.{no_parts}
 use Rattle.token.specs.Steps.PartIn.{kept, test_in_range}
 use Rattle.syntax.specs.declared.draft.Draft.{Draft}
 
 abbrev pub new_draft : Draft
-new_draft = record { line = line_of [] [] Ending.Never; in_range = true }
+new_draft = record { line = no_parts; in_range = true; crowded = false }
 
 -- ---- one part more, none where a number of it is out of range
 
 abbrev pub out_of_range : Draft → Draft
-out_of_range d = record { line = d.line; in_range = false }
+out_of_range d = record { line = d.line; in_range = false; crowded = d.crowded }
 
-abbrev pub with_head : Line → Head → Line
-with_head l h =
-    record {
-      heads = push_item head_limit l.heads l.head_count h;
-      head_count = push_count head_limit l.head_count;
-      comparisons = l.comparisons;
-      comparison_count = l.comparison_count;
-      ending = l.ending;
-    }
+module _ {A : Type 0} (limit : ℕ) where
+  -- a list with one item more, where there is room for it
+  abbrev pub with_item : List A → A → List A
+  with_item xs x = if nat_lt (length xs) limit then xs ++ x ∷ [] else xs
 
-unfoldable pub push_head : Draft → Maybe Test → Draft
+  -- and whether there was none, now or before
+  abbrev pub more_crowded : Bool → List A → Bool
+  more_crowded crowded xs = if nat_lt (length xs) limit then crowded else true
+
+unfoldable pub push_head : Draft → Option Test → Draft
 push_head d None = out_of_range d
-push_head d (Some t) = record { line = with_head d.line (head t); in_range = d.in_range }
-
-abbrev pub with_comparison : Line → Comparison → Line
-with_comparison l c =
+push_head d (Some t) =
     record {
-      heads = l.heads;
-      head_count = l.head_count;
-      comparisons = push_item comparison_limit l.comparisons l.comparison_count c;
-      comparison_count = push_count comparison_limit l.comparison_count;
-      ending = l.ending;
+      line = record { heads = with_item head_limit d.line.heads t; comparisons = d.line.comparisons; ending = d.line.ending };
+      in_range = d.in_range;
+      crowded = more_crowded head_limit d.crowded d.line.heads;
     }
 
-unfoldable pub push_comparison : Draft → Maybe Comparison → Draft
+unfoldable pub push_comparison : Draft → Option Comparison → Draft
 push_comparison d None = out_of_range d
-push_comparison d (Some c) = record { line = with_comparison d.line c; in_range = d.in_range }
-
-abbrev pub with_ending : Line → Ending → Line
-with_ending l e =
+push_comparison d (Some c) =
     record {
-      heads = l.heads;
-      head_count = l.head_count;
-      comparisons = l.comparisons;
-      comparison_count = l.comparison_count;
-      ending = e;
+      line = record { heads = d.line.heads; comparisons = with_item comparison_limit d.line.comparisons c; ending = d.line.ending };
+      in_range = d.in_range;
+      crowded = more_crowded comparison_limit d.crowded d.line.comparisons;
     }
 
-unfoldable pub end_as : Draft → Maybe Ending → Draft
+unfoldable pub end_as : Draft → Option Ending → Draft
 end_as d None = out_of_range d
-end_as d (Some e) = record { line = with_ending d.line e; in_range = d.in_range }
+end_as d (Some e) = record { line = record { heads = d.line.heads; comparisons = d.line.comparisons; ending = e }; in_range = d.in_range; crowded = d.crowded }
 
 -- ---- the parts of a line, one behind another
 

@@ -1,4 +1,4 @@
-use Rattle.std.proofs.Common.{List, ℕ, ◌≡◌, refl, ap, ◌∙◌, length, arith}
+use Rattle.std.proofs.Common.{List, ℕ, refl, ap, ◌∙◌, length, arith}
 use Rattle.word.specs.Word.{between}
 use Rattle.word.proofs.ChunkLaws.{words_in_length}
 use Rattle.word.proofs.WordLaws.{words_length}

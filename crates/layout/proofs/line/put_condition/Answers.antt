@@ -7,21 +7,21 @@ loop-comparison-init c = condition_none _ _ _ _ _ c.requires.sized c.requires.ro
 
 pub overflow_sub-left : goal.overflow_sub-left
 overflow_sub-left c =
-    (condition_turn _ _ _ _ _ _ _ _ _ c.requires.few c.loop-comparison.invariant c.loop-comparison-test.true (ap (λ (n : _). 1 + n) c.constants-words.ensures)).enough
+    (condition_turn _ _ _ _ _ _ _ _ _ _ c.requires.few c.loop-comparison.invariant c.loop-comparison-test.true (ap (λ (n : _). 1 + n) c.constants-words.ensures)).enough
 
 pub overflow_cast-left : goal.overflow_cast-left
 overflow_cast-left c =
-    let turn = condition_turn _ _ _ _ _ _ _ _ _ c.requires.few c.loop-comparison.invariant c.loop-comparison-test.true (ap (λ (n : _). 1 + n) c.constants-words.ensures) in
+    let turn = condition_turn _ _ _ _ _ _ _ _ _ _ c.requires.few c.loop-comparison.invariant c.loop-comparison-test.true (ap (λ (n : _). 1 + n) c.constants-words.ensures) in
     record { fits = omega (arith, turn.small) }
 
 pub put_comparison-requires : goal.put_comparison-requires
 put_comparison-requires c =
-    let turn = condition_turn _ _ _ _ _ _ _ _ _ c.requires.few c.loop-comparison.invariant c.loop-comparison-test.true (ap (λ (n : _). 1 + n) c.constants-words.ensures) in
+    let turn = condition_turn _ _ _ _ _ _ _ _ _ _ c.requires.few c.loop-comparison.invariant c.loop-comparison-test.true (ap (λ (n : _). 1 + n) c.constants-words.ensures) in
     rw (← turn.sized) turn.room
 
 pub loop-comparison-preserved : goal.loop-comparison-preserved
 loop-comparison-preserved c =
-    (condition_turn _ _ _ _ _ _ _ _ _ c.requires.few c.loop-comparison.invariant c.loop-comparison-test.true (ap (λ (n : _). 1 + n) c.constants-words.ensures)).next _ c.put_comparison.ensures
+    (condition_turn _ _ _ _ _ _ _ _ _ _ c.requires.few c.loop-comparison.invariant c.loop-comparison-test.true (ap (λ (n : _). 1 + n) c.constants-words.ensures)).next _ c.put_comparison.ensures
 
 pub returns : goal.returns
 returns c = condition_all _ _ _ _ _ _ _ _ _ _ c.loop-comparison.invariant c.loop-comparison-test.false c.ending_word.ensures c.put_word.ensures.buffer

@@ -1,7 +1,7 @@
 use Rattle.std.proofs.Common.{ap, sym, ◌∙◌, Ok}
 use Rattle.policy.specs.declared.mode.Mode.{Mode}
 use Rattle.image.proofs.LoadLaws.{passed_on}
-use Rattle.image.specs.Steps.Part.{image_contents}
+use Rattle.image.specs.Taken.{image_contents}
 use Rattle.monitor.specs.Decision.{decided_by}
 use Rattle.monitor.proofs.DecideLaws.{image_refused, line_refused, line_accepted}
 use Rattle.monitor.proofs.decision.decide.Goals as goal

@@ -1,4 +1,4 @@
-use Rattle.std.proofs.Common.{ap, sym, ◌∙◌, to_z-of_z, w32, SFits, Some, rules, get_or, length, ◌≡◌}
+use Rattle.std.proofs.Common.{ap, sym, ◌∙◌, to_z-of_z, w32, SFits, Some, rules, get_or}
 use Rattle.std.proofs.Common.{refl}
 use Rattle.std.specs.Prelude.{pos, ltb}
 use Rattle.operation.proofs.HoldsLaws.{in_alphabet, value_given, value_missing}

@@ -48,8 +48,8 @@ returns-in-Ok-clause-ok g c =
     let old = g.E.Ends.known c.args.ends.now in
     let new = g.E.Ends.known c.converse.new.ends in
     subst (λ s. OnOk c.converse.result (AnswersTexts s maker site old new)) (sym read.read)
-    (subst (λ d. OnOk c.converse.result (AnswersAll (answers_printed maker site) d old new)) (start_due maker site _ _ read.read e _ c.new-explainer.ensures read.image)
-    (subst (λ p. OnOk c.converse.result (AnswersAll p (given_of e) old new)) (start_answered maker site _ _ read.read e _ c.new-explainer.ensures read.image) c.converse.ensures.ok))
+    (subst (λ d. OnOk c.converse.result (AnswersAll (answers_printed maker site) d old new)) (start_due maker site _ read.read e _ c.new-explainer.ensures read.image)
+    (subst (λ p. OnOk c.converse.result (AnswersAll p (given_of e) old new)) (start_answered maker site _ read.read e _ c.new-explainer.ensures read.image) c.converse.ensures.ok))
 
 pub returns-in-Ok-clause-err : goal.returns-in-Ok-clause-err
 returns-in-Ok-clause-err g c =
@@ -61,5 +61,5 @@ returns-in-Ok-clause-err g c =
     let old = g.E.Ends.known c.args.ends.now in
     let new = g.E.Ends.known c.converse.new.ends in
     subst (λ s. IfErr c.converse.result (λ f. QuestionsEndBy f s maker site old new)) (sym read.read)
-    (subst (λ d. IfErr c.converse.result (λ f. EndsBy f d (answers_printed maker site) old new)) (start_due maker site _ _ read.read e _ c.new-explainer.ensures read.image)
-    (subst (λ p. IfErr c.converse.result (λ f. EndsBy f (given_of e) p old new)) (start_answered maker site _ _ read.read e _ c.new-explainer.ensures read.image) c.converse.ensures.err))
+    (subst (λ d. IfErr c.converse.result (λ f. EndsBy f d (answers_printed maker site) old new)) (start_due maker site _ read.read e _ c.new-explainer.ensures read.image)
+    (subst (λ p. IfErr c.converse.result (λ f. EndsBy f (given_of e) p old new)) (start_answered maker site _ read.read e _ c.new-explainer.ensures read.image) c.converse.ensures.err))

@@ -1,5 +1,4 @@
-use Rattle.std.proofs.Common.{[], sym, ap, ◌∙◌, arith}
-use Rattle.session.specs.Steps.Picked.{mode_in}
+use Rattle.std.proofs.Common.{[], sym, ◌∙◌, arith}
 use Rattle.session.proofs.HeldLaws.{took_end, pushed_end}
 use Rattle.session.proofs.TextByteLaws.{text_count, text_run, text_line, text_pushed}
 use Rattle.session.proofs.text.text_byte.Goals as goal
@@ -17,15 +16,15 @@ end_text-requires c =
     let k = text_count _ _ _ _ c.requires.good c.requires.phase in
     record { inside = omega (arith, k, c.requires.good.ordered); image_sized = c.requires.good.image_long; out_sized = c.requires.good.out_long; room = c.requires.room }
 
-pub returns-in-Mode : goal.returns-in-Mode
-returns-in-Mode c =
+pub returns-in-Some : goal.returns-in-Some
+returns-in-Some c =
     took_end _ _ _ _ _ c.if-byte-ne10.false
     (text_run _ _ _ _ c.requires.good c.requires.phase _ _ _ _
-    (sym c.at_run.ensures ∙ ap mode_in c.in-Mode.is) c.end_text.ensures)
+    (sym c.at_run.ensures ∙ c.in-Some.is) c.end_text.ensures)
 
-pub returns-in-Nothing : goal.returns-in-Nothing
-returns-in-Nothing c =
+pub returns-in-None : goal.returns-in-None
+returns-in-None c =
     rw c.line_behind.ensures
     (took_end _ _ _ _ _ c.if-byte-ne10.false
-    (text_line _ _ _ _ c.requires.good c.requires.phase c.push-in-Nothing.result _
-    (sym c.at_run.ensures ∙ ap mode_in c.in-Nothing.is) (pushed_end _ _ [] [] _ c.if-byte-ne10.false c.push-in-Nothing.ensures)))
+    (text_line _ _ _ _ c.requires.good c.requires.phase c.push-in-None.result _
+    (sym c.at_run.ensures ∙ c.in-None.is) (pushed_end _ _ [] [] _ c.if-byte-ne10.false c.push-in-None.ensures)))

@@ -1,4 +1,4 @@
-use Rattle.std.proofs.Common.{◌≡◌, ◌<◌, [], ◌++◌, length, take, refl, arith}
+use Rattle.std.proofs.Common.{◌<◌, [], ◌++◌, length, take, refl, arith}
 use Rattle.std.proofs.lemmas.Result.{IfErr-weaker}
 use Rattle.stream.specs.Machine.{Goes, nothing_due}
 use Rattle.stream.proofs.KnownLaws.{reads_end, talks_nil}

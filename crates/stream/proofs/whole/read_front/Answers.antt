@@ -1,4 +1,4 @@
-use Rattle.std.proofs.Common.{◌≡◌, ◌+◌, ◌<◌, ℕ, List, [], ◌++◌, length, take, ap, ◌∙◌, subst, append-nil, arith, rules}
+use Rattle.std.proofs.Common.{◌≡◌, ◌+◌, ◌<◌, ℕ, [], ◌++◌, length, take, ap, ◌∙◌, subst, append-nil, arith, rules}
 use Rattle.stream.specs.declared.failure.Failure.TheVariants.{Read}
 use Rattle.stream.specs.Event.{came, GoOn, StopsAt, Fails}
 use Rattle.stream.specs.Machine.{Reads}

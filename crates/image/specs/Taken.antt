@@ -1,0 +1,8 @@
+-- What stands in an image that the code holds.
+use Rattle.word.specs.Chunk.{words_in}
+use Rattle.image.specs.Load.{Contents}
+use Rattle.image.specs.declared.taken.Image.{Image}
+
+abbrev pub image_contents : Image → Contents
+image_contents i =
+    record { rules = words_in i.rules.now; constraints = words_in i.constraints.now; rule_count = i.rule_count; constraint_count = i.constraint_count }

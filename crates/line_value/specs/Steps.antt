@@ -1,2 +1,0 @@
--- Mechanism of the code, which laws tie to the definitions above: a reader need not believe it.
-pub mod Push
