@@ -27,9 +27,10 @@ use Rattle.word.specs.Word.{Bytes, word_limit, words_of, word_at}
 use Rattle.image.specs.Held.{policy_in}
 use Rattle.layout.specs.Layout.{known_form, image_of}
 use Rattle.image.specs.Load.{load, Contents}
-use Rattle.exactness.proofs.Exact.{refusals, took, image_taken, image_holds, held_acceptable, one_word_changed}
+use Rattle.exactness.proofs.Exact.{refusals, took, image_taken, one_word_changed}
 use Rattle.exactness.specs.Exact.{contents_of, changed, Checked, RefusedEarly}
 use Rattle.meaning.proofs.Decided.{decided_is, image_bounded, image_refuses_in, image_decides}
+use Rattle.meaning.proofs.Taken.{Implements, written_implements, taken_implements}
 use Rattle.monitor.proofs.DecideLaws.{image_refused, line_refused}
 use Rattle.monitor.specs.Decision.{decided_by, on_image, decision_in, decision, answer_of}
 use Rattle.monitor.specs.declared.decision.Actions.{Actions}
@@ -96,32 +97,34 @@ accepted_is_best : (p : Policy) (e : Epoch) → NameActions p.constraints → Is
 accepted_is_best p e named =
     record { lowest = accepted_best p e; best = (accepted_only_best p e named (Yield.accepted p e)).1 refl; only = λ s. (accepted_only_best p e named s).0 }
 
-module _ (image : List ℕ) (bounded : Bytes image) (contents : Contents) (taken : load image ≡ Ok contents) where
-  abbrev P : Policy
-  P = policy_in image
-
+module _ (image : List ℕ) (contents : Contents) (p : Policy) (does : Implements image contents p) where
   module _ (line : List ℕ) (e : Epoch) (read : read_epoch line ≡ Ok e) where
-    -- the decision is what the policy that the image holds yields
-    pub holds_policy : answer_of (decision image line) ≡ yield_of P e
+    -- the decision is what the policy yields
+    pub holds_policy : answer_of (decision image line) ≡ yield_of p e
     unfolding cancelled
-    holds_policy = ap answer_of (decided_is image bounded contents taken line e read)
+    holds_policy = ap answer_of (decided_is image contents p does line e read)
 
-    -- and so it is a maximal action cancellation of what that policy proposes
-    pub obeys_policy : Obeys P e (answer_of (decision image line))
-    obeys_policy = subst (Obeys P e) (sym holds_policy) (record {
+    -- and so it is a maximal action cancellation of what it proposes
+    pub obeys_policy : Obeys p e (answer_of (decision image line))
+    obeys_policy = subst (Obeys p e) (sym holds_policy) (record {
       issued = not_refused;
-      maximal = maximal_cancellation P (name_actions P.constraints (held_acceptable image bounded contents taken).constraints_valid) e;
-      rest = accepted_with_cancelled P e;
-      apart = cancelled_apart P e;
-      giving_back = giving_back_violates P e;
-      lowest_first = cancelled_trial P e;
-      conservative = nothing_cancelled P e;
+      maximal = maximal_cancellation p (name_actions p.constraints does.acceptable.constraints_valid) e;
+      rest = accepted_with_cancelled p e;
+      apart = cancelled_apart p e;
+      giving_back = giving_back_violates p e;
+      lowest_first = cancelled_trial p e;
+      conservative = nothing_cancelled p e;
     })
 
-    pub best_policy : IsBest P e (answer_of (decision image line)).accepted
+    pub best_policy : IsBest p e (answer_of (decision image line)).accepted
     best_policy =
-        subst (λ (a : Answer). IsBest P e a.accepted) (sym holds_policy)
-        (accepted_is_best P e (name_actions P.constraints (held_acceptable image bounded contents taken).constraints_valid))
+        subst (λ (a : Answer). IsBest p e a.accepted) (sym holds_policy)
+        (accepted_is_best p e (name_actions p.constraints does.acceptable.constraints_valid))
+
+-- of an image that is taken, by the policy that it holds
+pub held_best : (image : List ℕ) → Bytes image → (contents : Contents) → load image ≡ Ok contents → (line : List ℕ) (e : Epoch) → read_epoch line ≡ Ok e
+    → IsBest (policy_in image) e (answer_of (decision image line)).accepted
+held_best image bounded contents taken = best_policy image contents (policy_in image) (taken_implements image bounded contents taken)
 
 -- ---- one word changed
 
@@ -150,14 +153,10 @@ module _ (form : ℕ) (known : known_form form ≡ true) (p : Policy) (ok : Acce
   written_yields line e q = ap answer_of (image_decides form known p ok line e q)
 
   pub written_obeys : (line : List ℕ) (e : Epoch) → read_epoch line ≡ Ok e → Obeys p e (answer_of (decision (image_of form p) line))
-  written_obeys line e q =
-      subst (λ (x : Policy). Obeys x e (answer_of (decision (image_of form p) line))) (image_holds form known p ok)
-      (obeys_policy (image_of form p) (image_bounded form known p ok) (contents_of p) (image_taken form known p ok) line e q)
+  written_obeys = obeys_policy (image_of form p) (contents_of p) p (written_implements form known p ok)
 
   pub written_best : (line : List ℕ) (e : Epoch) → read_epoch line ≡ Ok e → IsBest p e (answer_of (decision (image_of form p) line)).accepted
-  written_best line e q =
-      subst (λ (x : Policy). IsBest x e (answer_of (decision (image_of form p) line)).accepted) (image_holds form known p ok)
-      (best_policy (image_of form p) (image_bounded form known p ok) (contents_of p) (image_taken form known p ok) line e q)
+  written_best = best_policy (image_of form p) (contents_of p) p (written_implements form known p ok)
 
   -- with any other value in the place of one word it is refused whatever the line and its mode
   pub written_changed : (i v : ℕ) → i < length (words_of (image_of form p)) → v < word_limit → ¬ (v ≡ word_at (image_of form p) i)

@@ -20,9 +20,9 @@ use Rattle.word.specs.Word.{Bytes, words_of}
 use Rattle.image.specs.Held.{policy_in}
 use Rattle.image.specs.Load.{load, Contents}
 use Rattle.layout.specs.Layout.{known_form, image_of}
-use Rattle.exactness.proofs.Exact.{image_taken, image_holds}
 use Rattle.exactness.specs.Exact.{contents_of}
-use Rattle.meaning.proofs.Decided.{reduction_of, events_decided_are, image_bounded}
+use Rattle.meaning.proofs.Decided.{reduction_of, events_decided_are}
+use Rattle.meaning.proofs.Taken.{Implements, written_implements, taken_implements}
 use Rattle.monitor.specs.Decision.{actions_of, tried_event_words, decided_by, decision_in, answer_of}
 use Rattle.guarantees.proofs.Decisions.{refused_for, refused_cases, either_faults, not_refused}
 use Rattle.guarantees.specs.Machine.{yield_in}
@@ -58,45 +58,42 @@ module _ (p : Policy) (e : Epoch) (words : ℕ) where
 
 -- ---- an image that is taken
 
-module _ (image : List ℕ) (bounded : Bytes image) (contents : Contents) (taken : load image ≡ Ok contents) where
-  abbrev P : Policy
-  P = policy_in image
-
+module _ (image : List ℕ) (contents : Contents) (p : Policy) (does : Implements image contents p) where
   module _ (line : List ℕ) (e : Epoch) (read : read_epoch line ≡ Ok e) where
     abbrev words : ℕ
     words = tried_event_words contents.rules contents.constraints e
 
-    decided : decision_in Mode.Events image line ≡ reduction_of P e words
-    decided = events_decided_are image bounded contents taken line e read
+    decided : decision_in Mode.Events image line ≡ reduction_of p e words
+    decided = events_decided_are image contents p does line e read
 
-    -- the decision is what the policy that the image holds yields
-    pub reduces_policy : answer_of (decision_in Mode.Events image line) ≡ yield_in Mode.Events P e
-    reduces_policy = ap answer_of decided ∙ answer_is P e words
+    -- the decision is what the policy yields
+    pub reduces_policy : answer_of (decision_in Mode.Events image line) ≡ yield_in Mode.Events p e
+    reduces_policy = ap answer_of decided ∙ answer_is p e words
 
     -- it is refused for a conflict exactly if no reduction of the epoch is free of conflict
-    pub conflict_exactly : (decision_in Mode.Events image line ≡ Err (refusal Fault.Unavoidable 0)) ↔ ¬ Reducible P.constraints (proposed_with P.rules) e
+    pub conflict_exactly : (decision_in Mode.Events image line ≡ Err (refusal Fault.Unavoidable 0)) ↔ ¬ Reducible p.constraints (proposed_with p.rules) e
     conflict_exactly = (
-      (λ h. (unavoidable_exactly P e).0 (refuses_out P e words (refusal Fault.Unavoidable 0) (sym decided ∙ h)).0),
-      λ h. decided ∙ refuses_in_is P e words ((unavoidable_exactly P e).1 h),
+      (λ h. (unavoidable_exactly p e).0 (refuses_out p e words (refusal Fault.Unavoidable 0) (sym decided ∙ h)).0),
+      λ h. decided ∙ refuses_in_is p e words ((unavoidable_exactly p e).1 h),
     )
 
     -- otherwise the kept events are a maximal such reduction, and what they propose is issued
-    pub obeys_events : Reducible P.constraints (proposed_with P.rules) e → ObeysEvents P e (kept_events P e) (answer_of (decision_in Mode.Events image line))
+    pub obeys_events : Reducible p.constraints (proposed_with p.rules) e → ObeysEvents p e (kept_events p e) (answer_of (decision_in Mode.Events image line))
     unfolding issued
     obeys_events r =
-        let avoidable = reducible_avoids P e r in
+        let avoidable = reducible_avoids p e r in
         let inside = line_inside line e read in
-        subst (ObeysEvents P e (kept_events P e)) (sym (reduces_policy ∙ issued_is P e words avoidable)) (record {
+        subst (ObeysEvents p e (kept_events p e)) (sym (reduces_policy ∙ issued_is p e words avoidable)) (record {
           issued = not_refused;
-          maximal = kept_maximal P e inside avoidable;
+          maximal = kept_maximal p e inside avoidable;
           accepts = refl;
-          within = issued_within P e;
-          satisfies = issued_satisfies P e avoidable;
-          rest = issued_with_withheld P e;
-          apart = withheld_apart P e;
-          giving_back = giving_back_clashes P e inside;
-          own_trial = dropped_trial P e inside;
-          conservative = λ clean. (all_kept P e inside clean, nothing_withheld P e inside clean);
+          within = issued_within p e;
+          satisfies = issued_satisfies p e avoidable;
+          rest = issued_with_withheld p e;
+          apart = withheld_apart p e;
+          giving_back = giving_back_clashes p e inside;
+          own_trial = dropped_trial p e inside;
+          conservative = λ clean. (all_kept p e inside clean, nothing_withheld p e inside clean);
         })
 
 -- ---- refusals in either mode
@@ -106,17 +103,20 @@ pub refused_exactly : (mode : Mode) (image line : List ℕ) → Bytes image → 
 unfolding decided_by
 refused_exactly mode image line bounded r = (λ h. ⊎_elim as_first (λ x. epoch_case mode h x.0 x.1 x.2 x.3 x.4) (refused_cases mode image line r h), back)
   where
+    does : (contents : Contents) → load image ≡ Ok contents → Implements image contents (policy_in image)
+    does contents t = taken_implements image bounded contents t
+
     epoch_case : (m : Mode) → decision_in m image line ≡ Err r → (contents : Contents) → load image ≡ Ok contents → (e : Epoch) → read_epoch line ≡ Ok e
         → decided_by m contents e ≡ Err r → RefusedIn m image line r
     epoch_case Mode.Actions h contents t e q d = let z : ◌≡◌ {A = ℕ} 0 1 = cc in absurd (omega arith)
     epoch_case Mode.Events h contents t e q d =
-        let w = refuses_out (policy_in image) e (words image bounded contents t line e q) r (sym (decided image bounded contents t line e q) ∙ h) in
+        let w = refuses_out (policy_in image) e (words image contents (policy_in image) (does contents t) line e q) r (sym (decided image contents (policy_in image) (does contents t) line e q) ∙ h) in
         for_conflict refl contents t e q ((unavoidable_exactly (policy_in image) e).0 w.0) w.1
 
     back : RefusedIn mode image line r → decision_in mode image line ≡ Err r
     back (as_first f) = refused_for mode image line r f
     back (for_conflict m contents t e q none w) =
-        ap (λ (x : Mode). decision_in x image line) m ∙ (conflict_exactly image bounded contents t line e q).1 none ∙ ap Err (sym w)
+        ap (λ (x : Mode). decision_in x image line) m ∙ (conflict_exactly image contents (policy_in image) (does contents t) line e q).1 none ∙ ap Err (sym w)
 
 -- and under which faults, at which locations
 pub decision_faults : (mode : Mode) (image line : List ℕ) → Bytes image → (r : Refusal) → decision_in mode image line ≡ Err r → OfDecisionIn mode (length (words_of image)) r
@@ -132,20 +132,14 @@ module _ (form : ℕ) (known : known_form form ≡ true) (p : Policy) (ok : Acce
   abbrev image : List ℕ
   image = image_of form p
 
-  holds : policy_in image ≡ p
-  holds = image_holds form known p ok
+  written : Implements image (contents_of p) p
+  written = written_implements form known p ok
 
   pub written_reduces : answer_of (decision_in Mode.Events image line) ≡ yield_in Mode.Events p e
-  written_reduces =
-      reduces_policy image (image_bounded form known p ok) (contents_of p) (image_taken form known p ok) line e read
-      ∙ ap (λ (x : Policy). yield_in Mode.Events x e) holds
+  written_reduces = reduces_policy image (contents_of p) p written line e read
 
   pub written_conflict : (decision_in Mode.Events image line ≡ Err (refusal Fault.Unavoidable 0)) ↔ ¬ Reducible p.constraints (proposed_with p.rules) e
-  written_conflict =
-      subst (λ (x : Policy). (decision_in Mode.Events image line ≡ Err (refusal Fault.Unavoidable 0)) ↔ ¬ Reducible x.constraints (proposed_with x.rules) e) holds
-      (conflict_exactly image (image_bounded form known p ok) (contents_of p) (image_taken form known p ok) line e read)
+  written_conflict = conflict_exactly image (contents_of p) p written line e read
 
   pub written_obeys_events : Reducible p.constraints (proposed_with p.rules) e → ObeysEvents p e (kept_events p e) (answer_of (decision_in Mode.Events image line))
-  written_obeys_events =
-      subst (λ (x : Policy). Reducible x.constraints (proposed_with x.rules) e → ObeysEvents x e (kept_events x e) (answer_of (decision_in Mode.Events image line))) holds
-      (obeys_events image (image_bounded form known p ok) (contents_of p) (image_taken form known p ok) line e read)
+  written_obeys_events = obeys_events image (contents_of p) p written line e read

@@ -18,7 +18,7 @@ use Rattle.image.specs.Check.{form_byte, rule_count, constraint_count, counts_fi
 use Rattle.image.specs.Load.{load, Contents}
 use Rattle.exactness.proofs.Exact.{took}
 use Rattle.meaning.proofs.Fetched.{taken_rules_fetch, taken_trial_fetch}
-use Rattle.meaning.proofs.Taken.{taken_rules_run}
+use Rattle.meaning.proofs.Taken.{taken_rules_run, taken_implements}
 use Rattle.exactness.proofs.ImageLaws.{rules_size, constraints_size}
 use Rattle.image.proofs.HeldLaws.{counts_add}
 use Rattle.monitor.proofs.DecideLaws.{line_refused, line_accepted}
@@ -64,7 +64,7 @@ module _ (image : List ℕ) (bounded : Bytes image) (contents : Contents) (taken
         go (Ok e) q =
             let v : visited_in (decision image line) ≡ visited_by contents.rules contents.constraints e = ap visited_in (sym (line_accepted Mode.Actions image line contents taken e q)) in
             let s : decided_actions (answer_of (decision image line)) ≡ proposed_by contents.rules e =
-            ap decided_actions (holds_policy image bounded contents taken line e q) ∙ accepted_with_cancelled (policy_in image) e
+            ap decided_actions (holds_policy image contents (policy_in image) (taken_implements image bounded contents taken) line e q) ∙ accepted_with_cancelled (policy_in image) e
             ∙ sym (taken_rules_run image bounded contents taken (all_events e.events) e.readings) in
             omega (arith, v, issued_words e, ap (λ (x : ActionSet). size x.bits * N) s)
 

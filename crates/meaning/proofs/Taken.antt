@@ -1,15 +1,31 @@
--- What the words of an image that the loader took do is what the policy that it holds yields.
-use Rattle.std.proofs.Common.{ℕ, List, ◌≡◌, ap, ◌∙◌, Ok}
+-- What the words of an image do is what a policy yields: of the image that was written for it, and of one that the loader took by the policy that it holds.
+use Rattle.std.proofs.Common.{ℕ, true, List, ◌≡◌, ap, ◌∙◌, Ok}
+use Rattle.policy.specs.Limits.{Acceptable}
+use Rattle.policy.specs.Policy.{Policy}
 use Rattle.policy.specs.Set.{ActionSet}
 use Rattle.policy.specs.declared.epoch.Readings.{Readings}
 use Rattle.policy.specs.declared.set.Events.{Events}
 use Rattle.pdl.specs.Yield.{proposals, conflict}
 use Rattle.word.specs.Word.{Bytes}
+use Rattle.layout.specs.Layout.{known_form, image_of}
 use Rattle.image.specs.Held.{policy_in}
 use Rattle.image.specs.Load.{Contents, load}
-use Rattle.exactness.proofs.Exact.{held_acceptable, taken_rules, taken_constraints}
+use Rattle.exactness.proofs.Exact.{image_taken, held_acceptable, taken_rules, taken_constraints}
+use Rattle.exactness.specs.Exact.{contents_of}
 use Rattle.run.specs.Run.{run_rules, run_constraints}
 use Rattle.meaning.proofs.Meaning.{rules_run, constraints_run}
+
+-- an image whose words do what a policy yields
+pub record Implements (image : List ℕ) (contents : Contents) (p : Policy) : Type 0 where
+  pub taken : load image ≡ Ok contents
+  pub acceptable : Acceptable p
+  pub rules : (ev : Events) (rs : Readings) → run_rules ev rs contents.rules ≡ proposals p.rules ev rs
+  pub constraints : (rs : Readings) (s : ActionSet) → run_constraints rs s contents.constraints ≡ conflict p.constraints rs s
+
+-- what was written for a policy
+pub written_implements : (form : ℕ) → known_form form ≡ true → (p : Policy) → Acceptable p → Implements (image_of form p) (contents_of p) p
+written_implements form known p ok =
+    record { taken = image_taken form known p ok; acceptable = ok; rules = rules_run p ok.rules_valid; constraints = constraints_run p ok.constraints_valid }
 
 module _ (bytes : List ℕ) (bounded : Bytes bytes) (contents : Contents) (taken : load bytes ≡ Ok contents) where
   -- its rule words yield what its policy's rules propose, on any events and readings
@@ -20,3 +36,7 @@ module _ (bytes : List ℕ) (bounded : Bytes bytes) (contents : Contents) (taken
   pub taken_constraints_run : (rs : Readings) (s : ActionSet)
       → run_constraints rs s contents.constraints ≡ conflict (policy_in bytes).constraints rs s
   taken_constraints_run rs s = ap (run_constraints rs s) (taken_constraints bytes bounded contents taken) ∙ constraints_run (policy_in bytes) (held_acceptable bytes bounded contents taken).constraints_valid rs s
+
+  pub taken_implements : Implements bytes contents (policy_in bytes)
+  taken_implements =
+      record { taken = taken; acceptable = held_acceptable bytes bounded contents taken; rules = taken_rules_run; constraints = taken_constraints_run }
