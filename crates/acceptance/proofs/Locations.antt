@@ -37,26 +37,26 @@ pieces_count end (b ∷ s) = go (eqb b end) (pieces_count end s)
     go true h = omega arith
     go false h = omega (arith, prepend_count b (pieces end s))
 
-behind_location : (source : Source) (p : Policy) (text : List ℕ) (x : Refusal) → in_text source (read_text_behind p text) ≡ Err x → x.location ≤ 32769
+behind_location : (source : Source) (p : Policy) (text : List ℕ) (x : Refusal) → in_text source (read_text_behind p text) ≡ Err x → x.location ≤ suc text_limit
 unfolding read_text_behind lines_of
 behind_location source p text x e =
     let k = in_text_err source (read_text_behind p text) x e in
     rw (← k.2) (go k.0 (ltb text_limit (length text)) refl k.1)
   where
-    go : (y : Refusal) (b : Bool) → ltb text_limit (length text) ≡ b → cond b (Err (refusal Fault.TooLong 0)) (read_lines 1 p (pieces 10 text)) ≡ Err y → y.location ≤ 32769
+    go : (y : Refusal) (b : Bool) → ltb text_limit (length text) ≡ b → cond b (Err (refusal Fault.TooLong 0)) (read_lines 1 p (pieces 10 text)) ≡ Err y → y.location ≤ suc text_limit
     go y true h k = let i : refusal Fault.TooLong 0 ≡ y = cc in rw (← i) (omega arith)
     go y false h k =
-        let m : length text ≤ 32768 = ltb-false 32768 (length text) h in
+        let m : length text ≤ text_limit = ltb-false text_limit (length text) h in
         omega (arith, lines_location (pieces 10 text) 1 p y k, pieces_count 10 text)
 
-pub location_small : (text : List ℕ) (x : Refusal) → read_text text ≡ Err x → x.location ≤ 32769
+pub location_small : (text : List ℕ) (x : Refusal) → read_text text ≡ Err x → x.location ≤ suc text_limit
 unfolding read_text
 location_small text x e = behind_location Source.Maker empty_policy text x e
 
-pub locations_small : (maker site : List ℕ) (x : Refusal) → read_texts maker site ≡ Err x → x.location ≤ 32769
+pub locations_small : (maker site : List ℕ) (x : Refusal) → read_texts maker site ≡ Err x → x.location ≤ suc text_limit
 unfolding read_texts
 locations_small maker site x e = go (and_then_err (λ (p : Policy). in_text Source.Site (read_text_behind p site)) (read_text maker) x e)
   where
-    go : (read_text maker ≡ Err x) ⊎ ((p : Policy) × (read_text maker ≡ Ok p) × (in_text Source.Site (read_text_behind p site) ≡ Err x)) → x.location ≤ 32769
+    go : (read_text maker ≡ Err x) ⊎ ((p : Policy) × (read_text maker ≡ Ok p) × (in_text Source.Site (read_text_behind p site) ≡ Err x)) → x.location ≤ suc text_limit
     go (inl k) = location_small maker x k
     go (inr k) = behind_location Source.Site k.0 site x k.2

@@ -12,7 +12,7 @@ use Rattle.policy.specs.declared.fault.Source.{Source}
 use Rattle.policy.specs.declared.line.Ending.{Ending}
 use Rattle.policy.specs.declared.line.Test.{Test}
 use Rattle.exactness.proofs.Exact.{P_limit, N_limit}
-use Rattle.layout.specs.Layout.{line_words, lines_words, rule_part_words, constraint_part_words, condition_words, part_words, known_form}
+use Rattle.layout.specs.Layout.{line_words, lines_words, rule_part_words, constraint_part_words, condition_words, part_words, known_form, rule_word_limit, constraint_word_limit}
 use Rattle.operation.specs.Parts.{constant_words, comparison_word, comparison_words}
 use Rattle.image.specs.Held.{rules_in, constraints_in}
 use Rattle.acceptance.proofs.Accepted.{texts_acceptable}
@@ -107,7 +107,8 @@ lined source p text q e =
     let t = behind_read p text q (in_text_ok source (read_text_behind p text) q e) in
     record { short = t.0; lines = extends (lines_of text) 1 p q t.1 }
 
-pub record AcceptedTexts (maker site : List ℕ) (counts : PerPart LineCounts) : Type 0 where
+pub record AcceptedTexts (form : ℕ) (maker site : List ℕ) (counts : PerPart LineCounts) : Type 0 where
+  pub known : known_form form ≡ true
   pub policy : Policy
   pub read : read_texts maker site ≡ Ok policy
   pub acceptable : Acceptable policy
@@ -115,14 +116,14 @@ pub record AcceptedTexts (maker site : List ℕ) (counts : PerPart LineCounts) :
   pub site_short : length site ≤ text_limit
   pub rule_count_is : word_count counts.rules ≡ length (rule_part_words policy)
   pub constraint_count_is : word_count counts.constraints ≡ length (constraint_part_words policy)
-  pub rule_limit_is : length (rule_part_words policy) ≤ 2176
-  pub constraint_limit_is : length (constraint_part_words policy) ≤ 1088
+  pub rule_limit_is : length (rule_part_words policy) ≤ rule_word_limit form
+  pub constraint_limit_is : length (constraint_part_words policy) ≤ constraint_word_limit form
   pub rules : rules_in (lines_of_both maker site) ≡ policy.rules
   pub constraints : constraints_in (lines_of_both maker site) ≡ policy.constraints
 
-pub accepted_texts : (maker site : List ℕ) (counts : PerPart LineCounts) → texts_read maker site ≡ Ok counts → AcceptedTexts maker site counts
+pub accepted_texts : (form : ℕ) (maker site : List ℕ) (counts : PerPart LineCounts) → known_form form ≡ true → texts_read maker site ≡ Ok counts → AcceptedTexts form maker site counts
 unfolding texts_read read_texts read_text counts_of rule_part_words constraint_part_words
-accepted_texts maker site counts e =
+accepted_texts form maker site counts known e =
     let r = counted_ok (read_texts maker site) counts e in
     let p : Policy = r.0 in
     let k = and_then_ok (λ (a : Policy). in_text Source.Site (read_text_behind a site)) (read_text maker) p r.1 in
@@ -130,6 +131,7 @@ accepted_texts maker site counts e =
     let f = lined Source.Maker empty_policy maker k.0 k.1 in
     let g = lined Source.Site k.0 site p k.2 in
     record {
+      known = known;
       policy = p;
       read = r.1;
       acceptable = ok;
@@ -137,8 +139,8 @@ accepted_texts maker site counts e =
       site_short = g.short;
       rule_count_is = ap (λ (x : PerPart LineCounts). word_count x.rules) (sym r.2) ∙ lines_words_is (map rule p.rules);
       constraint_count_is = ap (λ (x : PerPart LineCounts). word_count x.constraints) (sym r.2) ∙ lines_words_is (map constraint p.constraints);
-      rule_limit_is = P_limit newest_form newest_known p ok;
-      constraint_limit_is = N_limit newest_form newest_known p ok;
+      rule_limit_is = P_limit form known p ok;
+      constraint_limit_is = N_limit form known p ok;
       rules = rules_append (accepted_lines (lines_of maker)) (accepted_lines (lines_of site))
           ∙ ap (λ (x : List Rule). x ++ rules_in (accepted_lines (lines_of site))) (sym f.lines.rules) ∙ sym g.lines.rules;
       constraints = constraints_append (accepted_lines (lines_of maker)) (accepted_lines (lines_of site))

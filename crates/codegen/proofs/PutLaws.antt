@@ -7,8 +7,9 @@ use Rattle.policy.specs.declared.line.PerPart.{PerPart}
 use Rattle.policy.specs.declared.fault.Fault.{Fault}
 use Rattle.policy.specs.declared.line.Ending.{Ending}
 use Rattle.line_value.specs.declared.Line.{Line}
+use Rattle.layout.proofs.CheckLaws.{limits_small}
 use Rattle.layout.proofs.LayoutLaws.{value_words_is}
-use Rattle.layout.specs.Layout.{line_words, check_words}
+use Rattle.layout.specs.Layout.{line_words, check_words, rule_word_limit, constraint_word_limit}
 use Rattle.layout.specs.Steps.Value.{value_words}
 use Rattle.exactness.proofs.PartLines.{line_limit_is}
 use Rattle.word.proofs.WriteLaws.{put_length}
@@ -20,7 +21,7 @@ use Rattle.syntax.proofs.AnswerLaws.{lines_here, next_shorter, read_refused, rea
 use Rattle.syntax.specs.Answer.{next_line, line_read}
 use Rattle.lexer.specs.Lines.{pieces, lines_of, first_line}
 use Rattle.syntax.specs.Judge.{line_answer}
-use Rattle.codegen.specs.Compile.{newest_form}
+use Rattle.rule_text.specs.Text.{text_limit}
 use Rattle.codegen.specs.Steps.Put.{cursors_after, cursors_behind, Near, Further, accepted_line, accepted_lines, put_lines, put_content, put_image}
 
 abbrev pub accepted_in : List ℕ → List PolicyLine
@@ -52,11 +53,11 @@ module _ (text buffer₀ : List ℕ) (start : PerPart ℕ) where
   Put cursors buffer = (cursors ≡ cursors_behind (accepted_in text) start) × (Further start cursors × (buffer ≡ put_lines (accepted_in text) start buffer₀))
 
   module _ (buffer : List ℕ) (cursors : PerPart ℕ) (rest : List ℕ) (p : Putting text buffer₀ start buffer cursors rest) where
-    pub putting_near : Near 600000 start → length text ≤ 32768 → Near 2000000 cursors
+    pub putting_near : Near 600000 start → length text ≤ text_limit → Near 2000000 cursors
     putting_near n h part = omega (arith, n part, p.near part)
 
     -- nothing is left to put
-    done : length text ≤ 32768 → accepted_in rest ≡ [] → Put cursors buffer
+    done : length text ≤ text_limit → accepted_in rest ≡ [] → Put cursors buffer
     unfolding put_lines cursors_behind
     done h e = (
       sym (ap (λ (ls : List PolicyLine). cursors_behind ls cursors) e) ∙ p.ends,
@@ -66,7 +67,7 @@ module _ (text buffer₀ : List ℕ) (start : PerPart ℕ) where
       ),
     )
 
-    pub putting_all : length text ≤ 32768 → length rest ≡ 0 → Put cursors buffer
+    pub putting_all : length text ≤ text_limit → length rest ≡ 0 → Put cursors buffer
     unfolding accepted_lines lines_of pieces
     putting_all s h = done s (none rest h)
       where
@@ -75,7 +76,7 @@ module _ (text buffer₀ : List ℕ) (start : PerPart ℕ) where
         none (b ∷ t) e = absurd (omega arith)
 
     module _ (h : 0 < length rest) where
-      pub putting_stop : length text ≤ 32768 → (f : Fault) → Err f ≡ line_read rest → Put cursors buffer
+      pub putting_stop : length text ≤ text_limit → (f : Fault) → Err f ≡ line_read rest → Put cursors buffer
       unfolding accepted_line
       putting_stop s f q = done s (here rest (Err f) h (read_refused rest f q))
 
@@ -136,18 +137,18 @@ lines_behind (l ∷ ls) ms p buffer = lines_behind ls ms (cursors_after (line_pa
 pub near_behind : (p q : PerPart ℕ) → Near 4096 p → Further p q → Near 600000 q
 near_behind p q n f part = omega (arith, n part, f part)
 
-pub image_put : (ls ms : List PolicyLine) (P N h : ℕ) (cursors : PerPart ℕ) (buffer₀ buffer₁ buffer₂ buffer₃ buffer₄ : List ℕ) → P ≤ 2176 → N ≤ 1088 → h ≡ pack_header newest_form (P % 4096) (N % 4096)
+pub image_put : (form : ℕ) (ls ms : List PolicyLine) (P N h : ℕ) (cursors : PerPart ℕ) (buffer₀ buffer₁ buffer₂ buffer₃ buffer₄ : List ℕ) → P ≤ rule_word_limit form → N ≤ constraint_word_limit form → h ≡ pack_header form (P % 4096) (N % 4096)
     → buffer₁ ≡ put_words buffer₀ 0 (h ∷ []) → cursors ≡ cursors_behind ls (record { rules = 1; constraints = 1 + P }) → buffer₂ ≡ put_lines ls (record { rules = 1; constraints = 1 + P }) buffer₁
     → buffer₃ ≡ put_lines ms cursors buffer₂
-    → buffer₄ ≡ put_words buffer₃ (1 + P + N) (check_words newest_form (take (1 + P + N) (words_of buffer₃))) → buffer₄ ≡ put_image (ls ++ ms) P N buffer₀
+    → buffer₄ ≡ put_words buffer₃ (1 + P + N) (check_words form (take (1 + P + N) (words_of buffer₃))) → buffer₄ ≡ put_image form (ls ++ ms) P N buffer₀
 unfolding put_image put_content
-image_put ls ms P N h cursors buffer₀ buffer₁ buffer₂ buffer₃ buffer₄ a b e f s g m k =
-    let p : P % 4096 ≡ P = omega arith in
-    let n : N % 4096 ≡ N = omega arith in
+image_put form ls ms P N h cursors buffer₀ buffer₁ buffer₂ buffer₃ buffer₄ a b e f s g m k =
+    let p : P % 4096 ≡ P = omega (arith, limits_small form) in
+    let n : N % 4096 ≡ N = omega (arith, limits_small form) in
     let start : PerPart ℕ = record { rules = 1; constraints = 1 + P } in
-    let head : h ≡ pack_header newest_form P N = e ∙ ap₂ (pack_header newest_form) p n in
-    let first : buffer₁ ≡ put_words buffer₀ 0 (pack_header newest_form P N ∷ []) = f ∙ ap (λ (w : ℕ). put_words buffer₀ 0 (w ∷ [])) head in
-    let content : buffer₃ ≡ put_lines (ls ++ ms) start (put_words buffer₀ 0 (pack_header newest_form P N ∷ [])) =
+    let head : h ≡ pack_header form P N = e ∙ ap₂ (pack_header form) p n in
+    let first : buffer₁ ≡ put_words buffer₀ 0 (pack_header form P N ∷ []) = f ∙ ap (λ (w : ℕ). put_words buffer₀ 0 (w ∷ [])) head in
+    let content : buffer₃ ≡ put_lines (ls ++ ms) start (put_words buffer₀ 0 (pack_header form P N ∷ [])) =
     m ∙ ap₂ (put_lines ms) s g ∙ sym (lines_behind ls ms start buffer₁) ∙ ap (put_lines (ls ++ ms) start) first
     in
-    k ∙ ap (λ (c : List ℕ). put_words c (1 + P + N) (check_words newest_form (take (1 + P + N) (words_of c)))) content
+    k ∙ ap (λ (c : List ℕ). put_words c (1 + P + N) (check_words form (take (1 + P + N) (words_of c)))) content

@@ -1,23 +1,25 @@
 //! The compiler: from a rule text, or two texts as one, to the image of their policy, in a lent buffer. Start with specs/Compile.antt.
 #![tactic(auto)]
 
-ghost use Rattle.std.specs.Prelude.{◌≡◌, ◌≤◌, length, IfOk};
+ghost use Rattle.std.specs.Prelude.{◌≡◌, ◌+◌, ◌*◌, ◌≤◌, length, IfOk};
 ghost use Rattle.word.specs.Steps.Write.{put_words};
+ghost use Rattle.layout.specs.Layout.{check_count, rule_word_limit, constraint_word_limit};
 ghost use Rattle.layout.specs.Steps.Value.{value_words};
 ghost use Rattle.lexer.specs.Lines.{lines_of};
+ghost use Rattle.rule_text.specs.Text.{text_limit};
 ghost use Rattle.policy.specs.Line.{ending_part, part_get};
-ghost use Rattle.codegen.specs.Compile.{compiled, compiled_texts};
+ghost use Rattle.codegen.specs.Compile.{newest_form, compiled, compiled_texts};
 ghost use Rattle.codegen.specs.Steps.Put.{word_count, cursors_after, cursors_behind, accepted_lines, lines_of_both, put_lines, put_image, Near, Further};
 
-use layout::{header, put_check_words, put_line};
+use layout::{check_count, header, is_known_form, put_check_words, put_line};
 use line_value::Line;
 use policy::{Fault, PerPart, Refusal};
 use rule_text::{LineCounts, read_texts};
 use syntax::read_line;
 use word::put_word;
 
-/// The form that is written.
-const FORM: u8 = 1;
+/// The form that the programs write.
+pub const NEWEST_FORM: u8 = 1;
 
 /// How many words lines take.
 fn words(counts: LineCounts) -> usize
@@ -25,6 +27,15 @@ fn words(counts: LineCounts) -> usize
     ensures { result ≡ word_count counts }
 {
     counts.lines + counts.heads + counts.comparisons + counts.constants
+}
+
+/// Bytes of an image with so many words of each part.
+fn image_size(form: u8, rule_words: usize, constraint_words: usize) -> usize
+    requires rules { rule_words ≤ rule_word_limit form }
+    requires constraints { constraint_words ≤ constraint_word_limit form }
+    ensures { result ≡ (1 + rule_words + constraint_words + check_count form) * 4 }
+{
+    (1 + rule_words + constraint_words + check_count(form)) * 4
 }
 
 /// A line put in behind those of its kind. Cursors are the words at which the next rule and the next constraint go.
@@ -43,7 +54,7 @@ fn put_next(out: &mut [u8], cursors: PerPart<usize>, line: &Line) -> PerPart<usi
 /// The lines of a text, up to the first that is refused, and the cursors behind them.
 fn put_lines(out: &mut [u8], text: &[u8], start: PerPart<usize>) -> PerPart<usize>
     requires near { Near 600000 start }
-    requires short { length text.now ≤ 32768 }
+    requires short { length text.now ≤ text_limit }
     ensures answer { result ≡ cursors_behind (accepted_lines (lines_of text.now)) start }
     ensures near { Further start result }
     ensures buffer { out.new ≡ put_lines (accepted_lines (lines_of text.now)) start out.old }
@@ -63,14 +74,21 @@ fn put_lines(out: &mut [u8], text: &[u8], start: PerPart<usize>) -> PerPart<usiz
 }
 
 /// The image of two accepted texts, for which there is room.
-fn put_image(out: &mut [u8], maker: &[u8], site: &[u8], rule_words: usize, constraint_words: usize)
-    requires maker { length maker.now ≤ 32768 }
-    requires site { length site.now ≤ 32768 }
-    requires rules { rule_words ≤ 2176 }
-    requires constraints { constraint_words ≤ 1088 }
-    ensures { out.new ≡ put_image (lines_of_both maker.now site.now) rule_words constraint_words out.old }
+fn put_image(
+    out: &mut [u8],
+    form: u8,
+    maker: &[u8],
+    site: &[u8],
+    rule_words: usize,
+    constraint_words: usize,
+)
+    requires maker { length maker.now ≤ text_limit }
+    requires site { length site.now ≤ text_limit }
+    requires rules { rule_words ≤ rule_word_limit form }
+    requires constraints { constraint_words ≤ constraint_word_limit form }
+    ensures { out.new ≡ put_image form (lines_of_both maker.now site.now) rule_words constraint_words out.old }
 {
-    put_word(out, 0, header(FORM, rule_words, constraint_words));
+    put_word(out, 0, header(form, rule_words, constraint_words));
     let middle = 1 + rule_words;
     let start = PerPart {
         rules: 1,
@@ -78,33 +96,36 @@ fn put_image(out: &mut [u8], maker: &[u8], site: &[u8], rule_words: usize, const
     };
     let behind = put_lines(out, maker, start);
     put_lines(out, site, behind);
-    put_check_words(out, FORM, middle + constraint_words);
+    put_check_words(out, form, middle + constraint_words);
 }
 
-/// Writes the image of the maker's and the site's text as one from the start of the buffer on, and answers how many bytes it has, or why
-/// there is none: a fault of a text, 1 to 6, or 15 where the buffer has too few bytes. A refusal leaves the buffer as it is, and an image
-/// what stands behind it. 13,064 bytes are enough for every image.
-pub fn compile_texts(maker: &[u8], site: &[u8], out: &mut [u8]) -> Result<usize, Refusal>
-    ensures answer { result ≡ (compiled_texts maker.now site.now out.old).answer }
-    ensures buffer { out.new ≡ (compiled_texts maker.now site.now out.old).buffer }
+/// Writes the image of the maker's and the site's text as one, in a form, from the start of the buffer on, and answers how many bytes it
+/// has, or why there is none: 8 where the form is unknown, a fault of a text, 1 to 6, or 15 where the buffer has too few bytes. A refusal
+/// leaves the buffer as it is, and an image what stands behind it. `IMAGE_SIZE` bytes of the crate image are enough for every image.
+pub fn compile_texts(form: u8, maker: &[u8], site: &[u8], out: &mut [u8]) -> Result<usize, Refusal>
+    ensures answer { result ≡ (compiled_texts form maker.now site.now out.old).answer }
+    ensures buffer { out.new ≡ (compiled_texts form maker.now site.now out.old).buffer }
     ensures within { IfOk result (λ size. size ≤ length out.new) }
 {
+    if !is_known_form(form) {
+        return Err(Fault::ImageForm.at(0));
+    }
     let counts = read_texts(maker, site)?;
     let rule_words = words(counts.rules);
     let constraint_words = words(counts.constraints);
-    let size = (rule_words + constraint_words + 2) * 4;
+    let size = image_size(form, rule_words, constraint_words);
     if out.len() < size {
         return Err(Fault::BufferTooSmall.at(0));
     }
-    put_image(out, maker, site, rule_words, constraint_words);
+    put_image(out, form, maker, site, rule_words, constraint_words);
     Ok(size)
 }
 
 /// The same of a single text, which is the maker's: the site's is empty.
-pub fn compile(text: &[u8], out: &mut [u8]) -> Result<usize, Refusal>
-    ensures answer { result ≡ (compiled text.now out.old).answer }
-    ensures buffer { out.new ≡ (compiled text.now out.old).buffer }
+pub fn compile(form: u8, text: &[u8], out: &mut [u8]) -> Result<usize, Refusal>
+    ensures answer { result ≡ (compiled form text.now out.old).answer }
+    ensures buffer { out.new ≡ (compiled form text.now out.old).buffer }
     ensures within { IfOk result (λ size. size ≤ length out.new) }
 {
-    compile_texts(text, b"", out)
+    compile_texts(form, text, b"", out)
 }

@@ -1,103 +1,45 @@
 -- The words of a line read back, and when a line stands at the start of words.
 use Rattle.std.specs.Prelude.{Option, Some, None}
-use Rattle.std.proofs.Common.{ℕ, ◌+◌, ◌<◌, Bool, true, false, cond, ◌&&◌, List, [], ◌∷◌, ◌++◌, map, ◌↔◌, ◌≡◌, refl, sym, ap, ap₂, ◌∙◌, arith, ltb-true, eqb-true, eq-eqb, length, drop}
+use Rattle.std.proofs.Common.{ℕ, Bool, true, false, cond, ◌&&◌, List, [], ◌∷◌, ◌++◌, map, ◌↔◌, ◌≡◌, refl, sym, ap, ap₂, ◌∙◌, arith, eqb-true, eq-eqb, length, drop}
 use Rattle.std.proofs.Math.Dec.{eqb}
-use Rattle.std.proofs.Math.ListN.{get_or, length-map}
 use Rattle.policy.proofs.ListLaws.{and_in, and_out, true_false}
-use Rattle.policy.specs.Limits.{valid, test_number, comparison_in_range, ending_in_range}
-use Rattle.layout.specs.Steps.Size.{comparisons_size, condition_size}
+use Rattle.policy.specs.Limits.{valid}
 use Rattle.policy.specs.Line.{PolicyLine, rule, constraint, heads_of, comparisons_of, ending_of}
-use Rattle.policy.specs.List.{all}
 use Rattle.policy.specs.declared.comparison.Comparison.{Comparison}
-use Rattle.policy.specs.declared.comparison.Literal.{Literal}
 use Rattle.policy.specs.declared.line.Ending.{Ending}
 use Rattle.policy.specs.declared.line.Test.{Test}
-use Rattle.policy.specs.declared.number.Action.{Action}
-use Rattle.operation.proofs.PartsLaws.{Written, with_constant, with_reading, written, literal_operation, literal_operation_is, literal_event, member_operation, member_action, causes_operation, causes_action, never_operation}
-use Rattle.layout.proofs.LayoutLaws.{condition_length, part_length, condition_size_limit}
-use Rattle.policy.proofs.ValidLaws.{valid_out, test_in_range}
-use Rattle.operation.specs.Parts.{test_word, comparison_words, ending_word, event_from}
-use Rattle.operation.specs.Fields.{operation_of}
-use Rattle.layout.specs.Layout.{condition_words, part_words, line_words}
+use Rattle.layout.specs.Layout.{line_words}
 use Rattle.decode.specs.Decode.{line_at}
 use Rattle.decode.specs.Stands.{in_part, Stands}
-use Rattle.decode.specs.Steps.Decoding.{add_literal, add_member, add_comparison, decode_word, decode, is_prefix, stands_at, keep_if}
-use Rattle.operation.specs.declared.operation.Operation.{Operation}
+use Rattle.decode.specs.Steps.Decoding.{said_in, add_part, decode, is_prefix, stands_at, keep_if}
+use Rattle.operation.specs.declared.said.LinePart.{LinePart}
 use Rattle.policy.specs.declared.line.Part.{Part}
+use Rattle.decode.proofs.PartLaws.{condition_parts, line_parts, line_said}
 
-decode_cons : (w : ℕ) (ws : List ℕ) → decode (w ∷ ws) ≡ decode_word (operation_of w) w (get_or ws 0 0) (decode ws) (decode (drop 1 ws))
-unfolding decode
-decode_cons w [] = refl
-decode_cons w (k ∷ ws) = refl
-
-decode_by : (w : ℕ) (ws : List ℕ) (o : Operation) → operation_of w ≡ o → decode (w ∷ ws) ≡ decode_word o w (get_or ws 0 0) (decode ws) (decode (drop 1 ws))
-decode_by w ws o q = decode_cons w ws ∙ ap (λ (x : Operation). decode_word x w (get_or ws 0 0) (decode ws) (decode (drop 1 ws))) q
-
--- ---- a line of either kind, made of heads and comparisons
-
+-- a line of either kind is made of its parts again
 module _ {X : Type 0} (line : List X → List Comparison → PolicyLine) (wrap : X → Test) (ending : Ending)
-    (front : (c : Comparison) (xs : List X) (cs : List Comparison) → add_comparison c (Some (line xs cs)) ≡ Some (line xs (c ∷ cs)))
-    (head : (x : X) (k : ℕ) (ws : List ℕ) (xs : List X) (cs : List Comparison) → test_number (wrap x) < 64 → k < 32 → decode ws ≡ Some (line xs cs) → decode (test_word (wrap x) k ∷ ws) ≡ Some (line (x ∷ xs) cs))
-    (ends : (ws : List ℕ) → decode (ending_word ending ∷ ws) ≡ Some (line [] [])) where
-  condition_decoded : (cs : List Comparison) (rest : List ℕ) → all comparison_in_range cs ≡ true → condition_size cs < 32 → decode (condition_words cs ending ++ rest) ≡ Some (line [] cs)
-  unfolding condition_words condition_size comparisons_size decode_word
-  condition_decoded [] rest r l = ends rest
-  condition_decoded (c ∷ cs) rest r l = go (condition_decoded cs rest p.1 (omega arith)) (written c (length tail) p.0 (omega (arith, condition_length cs ending)))
-    where
-      tail : List ℕ
-      tail = condition_words cs ending
+    (front : (c : Comparison) (xs : List X) (cs : List Comparison) → add_part (LinePart.Comparison c) (Some (line xs cs)) ≡ Some (line xs (c ∷ cs)))
+    (head : (x : X) (xs : List X) (cs : List Comparison) → add_part (LinePart.Head (wrap x)) (Some (line xs cs)) ≡ Some (line (x ∷ xs) cs))
+    (ends : (behind : Option PolicyLine) → add_part (LinePart.Ending ending) behind ≡ Some (line [] [])) (rest : List LinePart) where
+  condition_decoded : (cs : List Comparison) → decode (condition_parts cs ending rest) ≡ Some (line [] cs)
+  unfolding decode
+  condition_decoded [] = ends (decode rest)
+  condition_decoded (c ∷ cs) = ap (add_part (LinePart.Comparison c)) (condition_decoded cs) ∙ front c [] cs
 
-      p : (comparison_in_range c ≡ true) × (all comparison_in_range cs ≡ true)
-      p = and_out (comparison_in_range c) (all comparison_in_range cs) r
+  parts_decoded : (cs : List Comparison) (xs : List X) → decode (line_parts (map wrap xs) cs ending rest) ≡ Some (line xs cs)
+  unfolding decode
+  parts_decoded cs [] = condition_decoded cs
+  parts_decoded cs (x ∷ xs) = ap (add_part (LinePart.Head (wrap x))) (parts_decoded cs xs) ∙ head x xs cs
 
-      go : decode (tail ++ rest) ≡ Some (line [] cs) → Written c (length tail) → decode (comparison_words c (length tail) ++ tail ++ rest) ≡ Some (line [] (c ∷ cs))
-      go later (with_constant w v e o s b _ _) =
-          ap (λ (ws : List ℕ). decode (ws ++ tail ++ rest)) e ∙ decode_by w (v ∷ (tail ++ rest)) Operation.AgainstConstant o ∙ ap₂ add_comparison b later ∙ front c [] cs
-      go later (with_reading w e o s b _ _) =
-          ap (λ (ws : List ℕ). decode (ws ++ tail ++ rest)) e ∙ decode_by w (tail ++ rest) Operation.AgainstReading o ∙ ap₂ add_comparison b later ∙ front c [] cs
+made_again : (l : PolicyLine) (rest : List LinePart) → decode (line_parts (heads_of l) (comparisons_of l) (ending_of l) rest) ≡ Some l
+unfolding heads_of comparisons_of ending_of add_part
+made_again (rule r) rest =
+    parts_decoded (λ ls cs. rule (record { literals = ls; action = r.action; comparisons = cs })) Test.Occurs (Ending.Causes r.action) (λ c ls cs. refl) (λ l ls cs. refl) (λ d. refl) rest r.comparisons r.literals
+made_again (constraint k) rest =
+    parts_decoded (λ xs cs. constraint (record { actions = xs; comparisons = cs })) Test.Member Ending.Never (λ c xs cs. refl) (λ a xs cs. refl) (λ d. refl) rest k.comparisons k.actions
 
-  part_decoded : (cs : List Comparison) (xs : List X) (rest : List ℕ) → all test_in_range (map wrap xs) ≡ true → all comparison_in_range cs ≡ true → length xs + condition_size cs < 32 → decode (part_words (map wrap xs) cs ending ++ rest) ≡ Some (line xs cs)
-  unfolding part_words
-  part_decoded cs [] rest t r l = condition_decoded cs rest r (omega arith)
-  part_decoded cs (x ∷ xs) rest t r l =
-      let p = and_out (test_in_range (wrap x)) (all test_in_range (map wrap xs)) t in
-      head x (length (part_words (map wrap xs) cs ending)) (part_words (map wrap xs) cs ending ++ rest) xs cs (ltb-true (test_number (wrap x)) 64 p.0)
-      (omega (arith, part_length (map wrap xs) cs ending, length-map xs wrap))
-      (part_decoded cs xs rest p.1 r (omega arith))
-
--- ---- rules and constraints
-
-literal_decoded : (a : Action) (l : Literal) (k : ℕ) (ws : List ℕ) (ls : List Literal) (cs : List Comparison) → test_number (Test.Occurs l) < 64 → k < 32
-    → decode ws ≡ Some (rule (record { literals = ls; action = a; comparisons = cs })) → decode (test_word (Test.Occurs l) k ∷ ws) ≡ Some (rule (record { literals = l ∷ ls; action = a; comparisons = cs }))
-unfolding decode_word add_literal
-literal_decoded a l k ws ls cs h b e = decode_by (test_word (Test.Occurs l) k) ws (literal_operation l.negated) (literal_operation_is l k h b) ∙ go l.negated refl
-  where
-    w : ℕ
-    w = test_word (Test.Occurs l) k
-
-    made : (n : Bool) → l.negated ≡ n → record { event = event_from w; negated = n } ≡ l
-    made n q = λ i. record { event = literal_event l k h b i; negated = sym q i }
-
-    go : (n : Bool) → l.negated ≡ n → decode_word (literal_operation n) w (get_or ws 0 0) (decode ws) (decode (drop 1 ws)) ≡ Some (rule (record { literals = l ∷ ls; action = a; comparisons = cs }))
-    go true q = ap₂ add_literal (made true q) e
-    go false q = ap₂ add_literal (made false q) e
-
-pub decode_line : (l : PolicyLine) (rest : List ℕ) → valid l ≡ true → decode (line_words l ++ rest) ≡ Some l
-unfolding line_words heads_of comparisons_of ending_of ending_in_range decode_word add_comparison add_member
-decode_line (rule r) rest v =
-    let h = valid_out (rule r) v in
-    let c = condition_size_limit r.comparisons in
-    let n : r.action.0 < 64 = ltb-true r.action.0 64 h.ending in
-    part_decoded (λ ls cs. rule (record { literals = ls; action = r.action; comparisons = cs })) Test.Occurs (Ending.Causes r.action) (λ c ls cs. refl) (literal_decoded r.action)
-    (λ ws. decode_by (ending_word (Ending.Causes r.action)) ws Operation.Proposes (causes_operation r.action n) ∙ ap (λ (a : Action). Some (rule (record { literals = []; action = a; comparisons = [] }))) (causes_action r.action n))
-    r.comparisons r.literals rest h.tests h.comparisons (omega (arith, h.few_tests, h.few_comparisons, length-map r.literals Test.Occurs))
-decode_line (constraint k) rest v =
-    let h = valid_out (constraint k) v in
-    let c = condition_size_limit k.comparisons in
-    part_decoded (λ xs cs. constraint (record { actions = xs; comparisons = cs })) Test.Member Ending.Never (λ c xs cs. refl)
-    (λ a n ws xs cs h b e. decode_by (test_word (Test.Member a) n) ws Operation.Member (member_operation a n h b) ∙ ap₂ add_member (member_action a n h b) e)
-    (λ ws. decode_by (ending_word Ending.Never) ws Operation.Never never_operation)
-    k.comparisons k.actions rest h.tests h.comparisons (omega (arith, h.few_tests, h.few_comparisons, length-map k.actions Test.Member))
+pub decode_line : (l : PolicyLine) (rest : List ℕ) → valid l ≡ true → decode (said_in 0 (line_words l ++ rest)) ≡ Some l
+decode_line l rest v = ap decode (line_said l rest v) ∙ made_again l (said_in 0 rest)
 
 -- ---- a line at the start of words
 
@@ -124,7 +66,7 @@ line_in_is part l rest i v =
 -- what is found stands there
 pub line_out : (part : Part) (ws : List ℕ) (l : PolicyLine) → line_at part ws ≡ Some l → Stands part ws l
 unfolding line_at keep_if stands_at
-line_out part ws l e = go (decode ws) e
+line_out part ws l e = go (decode (said_in 0 ws)) e
   where
     facts : stands_at part ws l ≡ true → Stands part ws l
     facts t =

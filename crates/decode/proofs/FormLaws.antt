@@ -1,16 +1,23 @@
 -- One comparison of a word that was turned tests all of its fields but its numbers.
-use Rattle.std.proofs.Common.{ℕ, zero, suc, ◌+◌, ◌-◌, ◌*◌, ◌/◌, ◌%◌, ◌^◌, ◌≤◌, ◌<◌, Bool, true, false, ◌&&◌, ◌≡◌, refl, sym, ap, ◌∙◌, arith, ltb-true, ltb-false, lt-ltb, eqb-true, eq-eqb, ne_eqb}
+use Rattle.std.proofs.Common.{ℕ, ◌+◌, ◌-◌, ◌*◌, ◌/◌, ◌%◌, ◌^◌, ◌≤◌, ◌<◌, Bool, true, false, cond, ◌≡◌, refl, sym, ap, ◌∙◌, arith, ltb-true, ltb-false, lt-ltb, eq-eqb, ne_eqb}
 use Rattle.std.proofs.Math.Dec.{ltb, eqb}
-use Rattle.policy.proofs.ListLaws.{true_false, and_in, and_out}
+use Rattle.policy.proofs.ListLaws.{true_false}
 use Rattle.policy.specs.declared.line.Part.{Part}
 use Rattle.word.specs.Word.{word_limit}
 use Rattle.operation.proofs.OperationLaws.{operation_back, operation_number}
-use Rattle.operation.specs.Fields.{pack, opcode_of, first_of, second_of, relation_code_of}
+use Rattle.operation.specs.Fields.{InFields, pack, operation_of, opcode_of, first_of, second_of, relation_code_of}
 use Rattle.operation.specs.Operation.{operation_from}
+use Rattle.operation.specs.Parts.{test_operation, action_from}
+use Rattle.operation.specs.Said.{says_by, says}
+use Rattle.operation.proofs.SaidLaws.{Said, said_head, said_constant, said_reading, said_ending, said_nothing, said, said_by}
+use Rattle.policy.specs.declared.line.Test.{Test}
 use Rattle.operation.specs.Parts.{ending_word}
 use Rattle.operation.specs.declared.operation.Operation.{Operation}
-use Rattle.decode.specs.Steps.Scan.{less, number_lowest, relation_lowest, first_head, head_operations, first_ending, ending_numbers, is_head, is_ending, head_sound, comparison_length}
-use Rattle.decode.proofs.ScanLaws.{head_in, head_out, Sized, sized_constant, sized_reading, sized_none, sized, size_constant, size_reading}
+use Rattle.decode.specs.Steps.Scan.{less, number_lowest, relation_lowest, first_head, head_operations, first_ending, ending_numbers, is_head, ends, is_ending, head_sound, comparison_length}
+use Rattle.policy.specs.Limits.{ending_in_range}
+use Rattle.policy.specs.declared.line.Ending.{Ending}
+use Rattle.operation.proofs.FieldLaws.{opcode_pack, head_low, head_again}
+use Rattle.decode.proofs.ScanLaws.{ending_is, ending_there, head_in, head_out, Sized, sized_constant, sized_reading, sized_none, sized, size_constant, size_reading}
 
 -- ---- a word with nothing between its number and its skip
 
@@ -52,54 +59,52 @@ record HeadRange (part : Part) (first count : ℕ) : Type 0 where
   below : first < 8
   count_is : head_operations part ≡ count
   few : count ≤ 2
-  there : (n : ℕ) → first ≤ n → n < first + count → is_head part (operation_from n) ≡ true
-  back : (n : ℕ) → is_head part (operation_from n) ≡ true → (first ≤ n) × (n < first + count)
+  there : (w : ℕ) → first ≤ opcode_of w → opcode_of w < first + count → is_head part (says w 0) ≡ true
+  back : (w : ℕ) → is_head part (says w 0) ≡ true → (first ≤ opcode_of w) × (opcode_of w < first + count)
 
 rules_range : HeadRange Part.Rules 1 2
-unfolding is_head operation_from
-rules_range = record { word = refl; below = omega arith; count_is = refl; few = omega arith; there = there; back = back }
+unfolding is_head says_by operation_from test_operation
+rules_range = record { word = refl; below = omega arith; count_is = refl; few = omega arith; there = there; back = λ w h. back w h (said w 0) }
   where
-    there : (n : ℕ) → 1 ≤ n → n < 3 → is_head Part.Rules (operation_from n) ≡ true
-    there zero h l = absurd (omega arith)
-    there (suc zero) h l = refl
-    there (suc (suc zero)) h l = refl
-    there (suc (suc (suc n))) h l = absurd (omega arith)
+    there : (w : ℕ) → 1 ≤ opcode_of w → opcode_of w < 3 → is_head Part.Rules (says w 0) ≡ true
+    there w h l = go (ltb (opcode_of w) 2) refl
+      where
+        go : (b : Bool) → ltb (opcode_of w) 2 ≡ b → is_head Part.Rules (says w 0) ≡ true
+        go true e =
+            let n : opcode_of w ≡ 1 = omega (arith, ltb-true (opcode_of w) 2 e) in
+            ap (is_head Part.Rules) (said_by w 0 Operation.Present (ap operation_from n))
+        go false e =
+            let n : opcode_of w ≡ 2 = omega (arith, ltb-false (opcode_of w) 2 e) in
+            ap (is_head Part.Rules) (said_by w 0 Operation.Absent (ap operation_from n))
 
-    back : (n : ℕ) → is_head Part.Rules (operation_from n) ≡ true → (1 ≤ n) × (n < 3)
-    back zero e = absurd (true_false e refl)
-    back (suc zero) e = (omega arith, omega arith)
-    back (suc (suc zero)) e = (omega arith, omega arith)
-    back (suc (suc (suc zero))) e = absurd (true_false e refl)
-    back (suc (suc (suc (suc zero)))) e = absurd (true_false e refl)
-    back (suc (suc (suc (suc (suc zero))))) e = absurd (true_false e refl)
-    back (suc (suc (suc (suc (suc (suc zero)))))) e = absurd (true_false e refl)
-    back (suc (suc (suc (suc (suc (suc (suc zero))))))) e = absurd (true_false e refl)
-    back (suc (suc (suc (suc (suc (suc (suc (suc n)))))))) e = absurd (true_false e refl)
+    numbered_by : (w : ℕ) (b : Bool) → operation_of w ≡ cond b Operation.Absent Operation.Present → (1 ≤ opcode_of w) × (opcode_of w < 3)
+    numbered_by w true q = let n = operation_number (opcode_of w) Operation.Absent (omega arith) q in (omega (arith, n), omega (arith, n))
+    numbered_by w false q = let n = operation_number (opcode_of w) Operation.Present (omega arith) q in (omega (arith, n), omega (arith, n))
+
+    back : (w : ℕ) → is_head Part.Rules (says w 0) ≡ true → Said w 0 → (1 ≤ opcode_of w) × (opcode_of w < 3)
+    back w h (said_head (Test.Occurs l) e o n) = numbered_by w l.negated o
+    back w h (said_head (Test.Member a) e o n) = absurd (true_false h (ap (is_head Part.Rules) e))
+    back w h (said_constant e o) = absurd (true_false h (ap (is_head Part.Rules) e))
+    back w h (said_reading e o) = absurd (true_false h (ap (is_head Part.Rules) e))
+    back w h (said_ending x e r) = absurd (true_false h (ap (is_head Part.Rules) e))
+    back w h (said_nothing e) = absurd (true_false h (ap (is_head Part.Rules) e))
 
 constraints_range : HeadRange Part.Constraints 6 1
-unfolding is_head operation_from
-constraints_range = record { word = refl; below = omega arith; count_is = refl; few = omega arith; there = there; back = back }
+unfolding is_head says_by operation_from test_operation
+constraints_range = record { word = refl; below = omega arith; count_is = refl; few = omega arith; there = there; back = λ w h. back w h (said w 0) }
   where
-    there : (n : ℕ) → 6 ≤ n → n < 7 → is_head Part.Constraints (operation_from n) ≡ true
-    there zero h l = absurd (omega arith)
-    there (suc zero) h l = absurd (omega arith)
-    there (suc (suc zero)) h l = absurd (omega arith)
-    there (suc (suc (suc zero))) h l = absurd (omega arith)
-    there (suc (suc (suc (suc zero)))) h l = absurd (omega arith)
-    there (suc (suc (suc (suc (suc zero))))) h l = absurd (omega arith)
-    there (suc (suc (suc (suc (suc (suc zero)))))) h l = refl
-    there (suc (suc (suc (suc (suc (suc (suc n))))))) h l = absurd (omega arith)
+    there : (w : ℕ) → 6 ≤ opcode_of w → opcode_of w < 7 → is_head Part.Constraints (says w 0) ≡ true
+    there w h l =
+        let n : opcode_of w ≡ 6 = omega arith in
+        ap (is_head Part.Constraints) (said_by w 0 Operation.Member (ap operation_from n))
 
-    back : (n : ℕ) → is_head Part.Constraints (operation_from n) ≡ true → (6 ≤ n) × (n < 7)
-    back zero e = absurd (true_false e refl)
-    back (suc zero) e = absurd (true_false e refl)
-    back (suc (suc zero)) e = absurd (true_false e refl)
-    back (suc (suc (suc zero))) e = absurd (true_false e refl)
-    back (suc (suc (suc (suc zero)))) e = absurd (true_false e refl)
-    back (suc (suc (suc (suc (suc zero))))) e = absurd (true_false e refl)
-    back (suc (suc (suc (suc (suc (suc zero)))))) e = (omega arith, omega arith)
-    back (suc (suc (suc (suc (suc (suc (suc zero))))))) e = absurd (true_false e refl)
-    back (suc (suc (suc (suc (suc (suc (suc (suc n)))))))) e = absurd (true_false e refl)
+    back : (w : ℕ) → is_head Part.Constraints (says w 0) ≡ true → Said w 0 → (6 ≤ opcode_of w) × (opcode_of w < 7)
+    back w h (said_head (Test.Member a) e o n) = let k = operation_number (opcode_of w) Operation.Member (omega arith) o in (omega (arith, k), omega (arith, k))
+    back w h (said_head (Test.Occurs l) e o n) = absurd (true_false h (ap (is_head Part.Constraints) e))
+    back w h (said_constant e o) = absurd (true_false h (ap (is_head Part.Constraints) e))
+    back w h (said_reading e o) = absurd (true_false h (ap (is_head Part.Constraints) e))
+    back w h (said_ending x e r) = absurd (true_false h (ap (is_head Part.Constraints) e))
+    back w h (said_nothing e) = absurd (true_false h (ap (is_head Part.Constraints) e))
 
 module _ (w left t : ℕ) (h : w < word_limit) (s : left < 32) where
   head_by : (part : Part) (first count : ℕ) → HeadRange part first count → t ≡ number_lowest w (first * 2 ^ 28 + left) → t < 64 * count → (head_sound part w left ≡ true) × (t % 64 ≡ first_of w)
@@ -108,7 +113,7 @@ module _ (w left t : ℕ) (h : w < word_limit) (s : left < 32) where
       let below = r.below in
       let n = numbered w first left h below s (64 * count) t (omega arith) e l in
       let c : opcode_of w ≡ first + t / 64 = n.opcode in (
-        head_in part w left (record { operation = r.there (opcode_of w) (omega arith) (omega arith); low = n.low }),
+        head_in part w left (record { head = r.there w (omega arith) (omega arith); low = n.low }),
         sym n.number,
       )
 
@@ -121,7 +126,7 @@ module _ (w left t : ℕ) (h : w < word_limit) (s : left < 32) where
           let f = head_out part w left q in
           let few = r.few in
           let below = r.below in
-          let b = r.back (opcode_of w) f.operation in
+          let b = r.back w f.head in
           let low : first ≤ opcode_of w = b.0 in
           let high : opcode_of w < first + count = b.1 in
           let n = numbered_back w first left h below s (opcode_of w - first) (omega arith) f.low (omega arith) in
@@ -137,44 +142,57 @@ module _ (w left t : ℕ) (h : w < word_limit) (s : left < 32) where
 
 -- ---- endings
 
+alike : (b c : Bool) → (b ≡ true → c ≡ true) → (c ≡ true → b ≡ true) → b ≡ c
+alike true c f g = sym (f refl)
+alike false true f g = g refl
+alike false false f g = refl
+
 pub ending_found : (part : Part) (w : ℕ) → w < word_limit → ltb (number_lowest w (first_ending part)) (ending_numbers part) ≡ is_ending part w
-unfolding is_ending ending_word pack
-ending_found Part.Rules w h = go (ltb t 64) refl
+unfolding ends ending_word pack operation_from ending_in_range
+ending_found Part.Rules w h = alike (ltb t 64) (is_ending Part.Rules w) there back
   where
     t : ℕ
     t = number_lowest w (5 * 2 ^ 28 + 0)
 
-    go : (b : Bool) → ltb t 64 ≡ b → b ≡ eqb (opcode_of w) 5 && eqb (w % 2 ^ 22) 0
-    go true e =
+    there : ltb t 64 ≡ true → is_ending Part.Rules w ≡ true
+    there e =
         let n = numbered w 5 0 h (omega arith) (omega arith) 64 t (omega arith) refl (ltb-true t 64 e) in
         let l = ltb-true t 64 e in
         let c : opcode_of w ≡ 5 + t / 64 = n.opcode in
-        sym (and_in (eq-eqb (opcode_of w) 5 (omega arith)) (eq-eqb (w % 2 ^ 22) 0 n.low))
-    go false e = sym (none (eqb (opcode_of w) 5 && eqb (w % 2 ^ 22) 0) refl)
+        let o : operation_of w ≡ Operation.Proposes = ap operation_from {x = opcode_of w} {y = 5} (omega arith) in
+        let word : ending_word (Ending.Causes (action_from w)) ≡ w = head_again Operation.Proposes w (omega arith) h o 0 n.low in
+        ap (is_ending Part.Rules) (sym word) ∙ ending_there Part.Rules (Ending.Causes (action_from w)) refl (lt-ltb (first_of w) 64 (omega arith))
+
+    back : is_ending Part.Rules w ≡ true → ltb t 64 ≡ true
+    back e = let x = ending_is Part.Rules w e in ends_so x.ending x.kind x.sound x.word
       where
-        none : (c : Bool) → eqb (opcode_of w) 5 && eqb (w % 2 ^ 22) 0 ≡ c → c ≡ false
-        none false q = refl
-        none true q =
-            let p = and_out (eqb (opcode_of w) 5) (eqb (w % 2 ^ 22) 0) q in
-            let n = numbered_back w 5 0 h (omega arith) (omega arith) 0 (omega arith) (eqb-true (w % 2 ^ 22) 0 p.1) (eqb-true (opcode_of w) 5 p.0) in
-            absurd (omega (arith, n, ltb-false t 64 e))
-ending_found Part.Constraints w h = go (ltb t 1) refl
+        ends_so : (y : Ending) → ends Part.Rules y ≡ true → ending_in_range y ≡ true → w ≡ ending_word y → ltb t 64 ≡ true
+        ends_so (Ending.Causes a) k r q =
+            let f : InFields a.0 0 0 0 = record { first_below = ltb-true a.0 64 r; second_below = omega arith; relation_below = omega arith; skip_below = omega arith } in
+            let n = numbered_back w 5 0 h (omega arith) (omega arith) 0 (omega arith) (ap (λ (x : ℕ). x % 2 ^ 22) q ∙ head_low Operation.Proposes a.0 0 (omega arith)) (ap opcode_of q ∙ opcode_pack Operation.Proposes a.0 0 0 0 f) in
+            lt-ltb t 64 (omega (arith, n))
+        ends_so Ending.Never k r q = absurd (true_false k refl)
+ending_found Part.Constraints w h = alike (ltb t 1) (is_ending Part.Constraints w) there back
   where
     t : ℕ
     t = number_lowest w (7 * 2 ^ 28 + 0)
 
-    go : (b : Bool) → ltb t 1 ≡ b → b ≡ eqb w 1879048192
-    go true e =
+    there : ltb t 1 ≡ true → is_ending Part.Constraints w ≡ true
+    there e =
         let n = numbered w 7 0 h (omega arith) (omega arith) 1 t (omega arith) refl (ltb-true t 1 e) in
         let l = ltb-true t 1 e in
         let c : opcode_of w ≡ 7 + t / 64 = n.opcode in
         let f : first_of w ≡ t % 64 = n.number in
         let z : w % 2 ^ 22 ≡ 0 = n.low in
-        sym (eq-eqb w 1879048192 (omega arith))
-    go false e = sym (ne_eqb w 1879048192 (λ q. other (ltb-false t 1 e) q))
+        let word : ending_word Ending.Never ≡ w = omega arith in
+        ap (is_ending Part.Constraints) (sym word) ∙ ending_there Part.Constraints Ending.Never refl refl
+
+    back : is_ending Part.Constraints w ≡ true → ltb t 1 ≡ true
+    back e = let x = ending_is Part.Constraints w e in ends_so x.ending x.kind x.word
       where
-        other : 1 ≤ t → w ≡ 1879048192 → ⊥
-        other l q = omega arith
+        ends_so : (y : Ending) → ends Part.Constraints y ≡ true → w ≡ ending_word y → ltb t 1 ≡ true
+        ends_so Ending.Never k q = lt-ltb t 1 (omega arith)
+        ends_so (Ending.Causes a) k q = absurd (true_false k refl)
 
 -- ---- comparisons
 

@@ -14,7 +14,7 @@ use Rattle.decode.proofs.OnesLaws.{ones_once, ones_twice}
 use Rattle.decode.proofs.ScanLaws.{scan_by, Sized, sized_constant, sized_reading, sized_none, sized, fill_step}
 use Rattle.decode.proofs.ScanLines.{scan_line_is}
 use Rattle.decode.specs.Decode.{line_at, line_length}
-use Rattle.decode.specs.Steps.Decoding.{decode, keep_if}
+use Rattle.decode.specs.Steps.Decoding.{said_in, decode, keep_if}
 use Rattle.decode.specs.Steps.Scan.{is_ending, head_sound, count_heads, head_numbers, numbers_of, comparison_length, IsBehind, comparisons_fill}
 use Rattle.policy.specs.declared.line.Part.{Part}
 
@@ -182,7 +182,7 @@ rest_between from n ws h = ap (drop from) (take_all n ws h)
 module _ (part : Part) (ws : List ℕ) where
   -- past the last word
   pub length_none : length ws ≡ 0 → 0 ≡ line_length (line_at part ws)
-  unfolding line_length line_at keep_if decode
+  unfolding line_length line_at keep_if decode said_in
   length_none h = go ws h
     where
       go : (xs : List ℕ) → length xs ≡ 0 → 0 ≡ line_length (line_at part xs)

@@ -3,6 +3,7 @@ pub mod FormLaws
 pub mod FoundLaws
 pub mod LengthLaws
 pub mod OnesLaws
+pub mod PartLaws
 pub mod ReadLaws
 pub mod ScanLaws
 pub mod ScanLines

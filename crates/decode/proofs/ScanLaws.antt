@@ -1,5 +1,5 @@
 -- Going over a line: the words of a valid line pass, and what passes is a valid line.
-use Rattle.std.proofs.Common.{ℕ, zero, suc, ◌+◌, ◌-◌, ◌%◌, ◌^◌, ◌≤◌, ◌<◌, Bool, true, false, not, cond, ◌&&◌, List, [], ◌∷◌, ◌++◌, map, append_assoc, ◌⊎◌, inl, inr, ◌≡◌, refl, sym, ap, ap₂, ◌∙◌, arith, ltb-true, lt-ltb, eqb-true, eq-eqb, ne_eqb, le-leb, length, drop, length-append}
+use Rattle.std.proofs.Common.{ℕ, zero, suc, ◌+◌, ◌-◌, ◌%◌, ◌^◌, ◌≤◌, ◌<◌, Bool, true, false, not, cond, ◌&&◌, List, [], ◌∷◌, ◌++◌, map, append_assoc, ◌≡◌, refl, sym, ap, ap₂, ◌∙◌, arith, ltb-true, lt-ltb, eqb-true, eq-eqb, ne_eqb, le-leb, length, drop, length-append}
 use Rattle.std.proofs.Math.Dec.{ltb, leb, eqb}
 use Rattle.std.proofs.Math.ListN.{get_or}
 use Rattle.std.proofs.Math.Seq.{get_or_at}
@@ -12,67 +12,66 @@ use Rattle.policy.specs.declared.comparison.Literal.{Literal}
 use Rattle.policy.specs.declared.line.Ending.{Ending}
 use Rattle.policy.specs.declared.line.Test.{Test}
 use Rattle.policy.specs.declared.number.Action.{Action}
-use Rattle.operation.proofs.PartsLaws.{Compares, Written, with_constant, with_reading, written, test_skip, test_first, test_operation_is, test_low}
+use Rattle.operation.proofs.PartsLaws.{Compares, Written, with_constant, with_reading, written, test_skip, test_first, test_low}
 use Rattle.layout.proofs.LayoutLaws.{condition_length, part_length, condition_size_limit}
 use Rattle.policy.proofs.ValidLaws.{ValidParts, valid_out, test_in_range}
-use Rattle.operation.proofs.OperationLaws.{operation_back}
-use Rattle.operation.proofs.FieldLaws.{opcode_pack, head_low, head_again}
-use Rattle.operation.specs.Parts.{test_operation, test_word, comparison_words, ending_word}
-use Rattle.operation.specs.Operation.{opcode, operation_from}
+use Rattle.operation.specs.Parts.{test_operation, test_word, comparison_words, ending_word, constant_comparison, reading_comparison}
 use Rattle.word.specs.Word.{word_limit}
-use Rattle.operation.specs.Fields.{pack, opcode_of, operation_of, first_of, second_of, relation_code_of, skip_of}
+use Rattle.operation.specs.Fields.{operation_of, first_of, second_of, relation_code_of, skip_of}
 use Rattle.operation.specs.declared.operation.Operation.{Operation}
+use Rattle.operation.specs.declared.said.LinePart.{LinePart}
+use Rattle.operation.specs.Said.{says_by, says}
+use Rattle.operation.proofs.SaidLaws.{Said, said_head, said_constant, said_reading, said_ending, said_nothing, said, said_by, test_said, ending_said}
 use Rattle.layout.specs.Layout.{condition_words, part_words, line_words}
 use Rattle.decode.specs.Stands.{in_part}
-use Rattle.decode.specs.Steps.Scan.{is_head, is_ending, head_sound, count_heads, head_numbers, constant_sound, reading_sound, length_by, comparison_length, comparisons_fill, scan_line}
+use Rattle.decode.specs.Steps.Scan.{is_head, ends, is_ending_of, is_ending, head_sound, count_heads, head_numbers, constant_sound, reading_sound, operand_length, length_by, comparison_length, comparisons_fill, scan_line}
 use Rattle.policy.specs.declared.line.Part.{Part}
 
 -- ---- one word, from facts and to facts
 
-not_head : (part : Part) (o : Operation) → (o ≡ Operation.AgainstConstant) ⊎ (o ≡ Operation.AgainstReading) → is_head part o ≡ false
+-- what is no head
+not_head : (part : Part) → ((c : Comparison) → is_head part (LinePart.Comparison c) ≡ false) × ((e : Ending) → is_head part (LinePart.Ending e) ≡ false) × (is_head part LinePart.Nothing ≡ false)
 unfolding is_head
-not_head Part.Rules o (inl e) = rw e
-not_head Part.Rules o (inr e) = rw e
-not_head Part.Constraints o (inl e) = rw e
-not_head Part.Constraints o (inr e) = rw e
+not_head Part.Rules = (λ c. refl, λ e. refl, refl)
+not_head Part.Constraints = (λ c. refl, λ e. refl, refl)
 
 pub record HeadFacts (part : Part) (w left : ℕ) : Type 0 where
-  pub operation : is_head part (operation_of w) ≡ true
+  pub head : is_head part (says w 0) ≡ true
   pub low : w % 2 ^ 22 ≡ left
 
 pub head_in : (part : Part) (w left : ℕ) → HeadFacts part w left → head_sound part w left ≡ true
 unfolding head_sound
-head_in part w left h = rw (h.operation, eq-eqb (w % 2 ^ 22) left h.low)
+head_in part w left h = rw (h.head, eq-eqb (w % 2 ^ 22) left h.low)
 
 pub head_out : (part : Part) (w left : ℕ) → head_sound part w left ≡ true → HeadFacts part w left
 unfolding head_sound
 head_out part w left q =
-    let p = and_out (eqb (w % 2 ^ 22) left) (is_head part (operation_of w)) q in
-    record { operation = p.1; low = eqb-true (w % 2 ^ 22) left p.0 }
+    let p = and_out (eqb (w % 2 ^ 22) left) (is_head part (says w 0)) q in
+    record { head = p.1; low = eqb-true (w % 2 ^ 22) left p.0 }
 
 and-false : (b : Bool) → b && false ≡ false
 and-false true = refl
 and-false false = refl
 
-no_head_is : (part : Part) (w left : ℕ) → (operation_of w ≡ Operation.AgainstConstant) ⊎ (operation_of w ≡ Operation.AgainstReading) → head_sound part w left ≡ false
+no_head_is : (part : Part) (w left : ℕ) (c : Comparison) → says w 0 ≡ LinePart.Comparison c → head_sound part w left ≡ false
 unfolding head_sound
-no_head_is part w left o = rw (not_head part (operation_of w) o, and-false (eqb (w % 2 ^ 22) left))
+no_head_is part w left c o = rw (o, (not_head part).0 c, and-false (eqb (w % 2 ^ 22) left))
 
-pub length_by_is : (w left : ℕ) (o : Operation) → operation_of w ≡ o → comparison_length w left ≡ length_by o w left
+pub length_by_is : (w left : ℕ) (p : LinePart) → says w 0 ≡ p → comparison_length w left ≡ length_by p w left
 unfolding comparison_length
-length_by_is w left o q = ap (λ (x : Operation). length_by x w left) q
+length_by_is w left p q = ap (λ (x : LinePart). length_by x w left) q
 
 pub size_constant : (w k : ℕ) → Compares Operation.AgainstConstant w k → second_of w ≡ 0 → 0 < k → comparison_length w (k + 1) ≡ 2
-unfolding length_by constant_sound
+unfolding says_by length_by operand_length constant_sound constant_comparison
 size_constant w k h z p =
     let e : w % 2 ^ 13 + 1 ≡ k + 1 = ap (λ (n : ℕ). n + 1) h.low in
-    length_by_is w (k + 1) Operation.AgainstConstant h.operation
+    length_by_is w (k + 1) (LinePart.Comparison (constant_comparison w 0)) (said_by w 0 Operation.AgainstConstant h.operation)
     ∙ rw (lt-ltb (first_of w) 16 h.first, lt-ltb (relation_code_of w) 6 h.relation, eq-eqb (second_of w) 0 z, eq-eqb (w % 2 ^ 13 + 1) (k + 1) e, lt-ltb 1 (k + 1) (omega arith))
 
 pub size_reading : (w k : ℕ) → Compares Operation.AgainstReading w k → second_of w < 16 → comparison_length w k ≡ 1
-unfolding length_by reading_sound
+unfolding says_by length_by operand_length reading_sound reading_comparison
 size_reading w k h z =
-    length_by_is w k Operation.AgainstReading h.operation
+    length_by_is w k (LinePart.Comparison (reading_comparison w)) (said_by w 0 Operation.AgainstReading h.operation)
     ∙ rw (lt-ltb (first_of w) 16 h.first, lt-ltb (relation_code_of w) 6 h.relation, lt-ltb (second_of w) 16 z, eq-eqb (w % 2 ^ 13) k h.low)
 
 -- what a word is, by the size of its comparison
@@ -82,11 +81,11 @@ pub data Sized (w left : ℕ) : Type 0 where
   sized_none : comparison_length w left ≡ 0 → Sized w left
 
 pub sized : (w left : ℕ) → w < word_limit → Sized w left
-unfolding length_by constant_sound reading_sound
-sized w left limit = go (operation_of w) refl
+unfolding length_by operand_length constant_sound reading_sound constant_comparison reading_comparison
+sized w left limit = go (said w 0)
   where
-    constant : operation_of w ≡ Operation.AgainstConstant → (b : Bool) → constant_sound w left ≡ b → Sized w left
-    constant o true q =
+    constant : says w 0 ≡ LinePart.Comparison (constant_comparison w 0) → operation_of w ≡ Operation.AgainstConstant → (b : Bool) → constant_sound w left ≡ b → Sized w left
+    constant e o true q =
         let r = and_out (ltb (first_of w) 16 && ltb (relation_code_of w) 6 && eqb (second_of w) 0 && eqb (w % 2 ^ 13 + 1) left) (ltb 1 left) q in
         let u = and_out (ltb (first_of w) 16 && ltb (relation_code_of w) 6 && eqb (second_of w) 0) (eqb (w % 2 ^ 13 + 1) left) r.0 in
         let v = and_out (ltb (first_of w) 16 && ltb (relation_code_of w) 6) (eqb (second_of w) 0) u.0 in
@@ -95,28 +94,25 @@ sized w left limit = go (operation_of w) refl
         let n : 1 < left = ltb-true 1 left r.1 in
         sized_constant (w % 2 ^ 13)
         (record { limit = limit; operation = o; first = ltb-true (first_of w) 16 x.0; relation = ltb-true (relation_code_of w) 6 x.1; low = refl })
-        (eqb-true (second_of w) 0 v.1) (omega arith) (sym l) (length_by_is w left Operation.AgainstConstant o ∙ rw q)
-    constant o false q = sized_none (length_by_is w left Operation.AgainstConstant o ∙ rw q)
+        (eqb-true (second_of w) 0 v.1) (omega arith) (sym l) (length_by_is w left (LinePart.Comparison (constant_comparison w 0)) e ∙ rw q)
+    constant e o false q = sized_none (length_by_is w left (LinePart.Comparison (constant_comparison w 0)) e ∙ rw q)
 
-    reading : operation_of w ≡ Operation.AgainstReading → (b : Bool) → reading_sound w left ≡ b → Sized w left
-    reading o true q =
+    reading : says w 0 ≡ LinePart.Comparison (reading_comparison w) → operation_of w ≡ Operation.AgainstReading → (b : Bool) → reading_sound w left ≡ b → Sized w left
+    reading e o true q =
         let u = and_out (ltb (first_of w) 16 && ltb (relation_code_of w) 6 && ltb (second_of w) 16) (eqb (w % 2 ^ 13) left) q in
         let v = and_out (ltb (first_of w) 16 && ltb (relation_code_of w) 6) (ltb (second_of w) 16) u.0 in
         let x = and_out (ltb (first_of w) 16) (ltb (relation_code_of w) 6) v.0 in
         sized_reading
         (record { limit = limit; operation = o; first = ltb-true (first_of w) 16 x.0; relation = ltb-true (relation_code_of w) 6 x.1; low = eqb-true (w % 2 ^ 13) left u.1 })
-        (ltb-true (second_of w) 16 v.1) (length_by_is w left Operation.AgainstReading o ∙ rw q)
-    reading o false q = sized_none (length_by_is w left Operation.AgainstReading o ∙ rw q)
+        (ltb-true (second_of w) 16 v.1) (length_by_is w left (LinePart.Comparison (reading_comparison w)) e ∙ rw q)
+    reading e o false q = sized_none (length_by_is w left (LinePart.Comparison (reading_comparison w)) e ∙ rw q)
 
-    go : (o : Operation) → operation_of w ≡ o → Sized w left
-    go Operation.AgainstConstant q = constant q (constant_sound w left) refl
-    go Operation.AgainstReading q = reading q (reading_sound w left) refl
-    go Operation.Present q = sized_none (length_by_is w left Operation.Present q)
-    go Operation.Absent q = sized_none (length_by_is w left Operation.Absent q)
-    go Operation.Proposes q = sized_none (length_by_is w left Operation.Proposes q)
-    go Operation.Member q = sized_none (length_by_is w left Operation.Member q)
-    go Operation.Never q = sized_none (length_by_is w left Operation.Never q)
-    go Operation.Unknown q = sized_none (length_by_is w left Operation.Unknown q)
+    go : Said w 0 → Sized w left
+    go (said_constant e o) = constant e o (constant_sound w left) refl
+    go (said_reading e o) = reading e o (reading_sound w left) refl
+    go (said_head t e o n) = sized_none (length_by_is w left (LinePart.Head t) e)
+    go (said_ending x e r) = sized_none (length_by_is w left (LinePart.Ending x) e)
+    go (said_nothing e) = sized_none (length_by_is w left LinePart.Nothing e)
 
 -- one comparison more, of so many words
 pub fill_step : (n room k w : ℕ) (ws : List ℕ) → comparison_length w (suc n) ≡ k → 0 < k → comparisons_fill (suc room) (suc n) (w ∷ ws) ≡ comparisons_fill room (suc n - k) (drop k (w ∷ ws))
@@ -172,7 +168,7 @@ module _ (part : Part) (e : Ending) (rest : List ℕ) where
 
   -- no head stands where the comparisons begin
   condition_headless : (cs : List Comparison) (m : ℕ) → length cs ≤ 4 → all comparison_in_range cs ≡ true → length (condition_words cs e) ≡ suc m → count_heads part m (condition_words cs e ++ rest) ≡ 0
-  unfolding condition_words count_heads
+  unfolding condition_words count_heads says_by
   condition_headless [] m g r l = let z : m ≡ 0 = omega arith in rw z
   condition_headless (c ∷ cs) zero g r l = refl
   condition_headless (c ∷ cs) (suc m) g r l = go (written c (length tail) (and_out (comparison_in_range c) (all comparison_in_range cs) r).0 small)
@@ -184,18 +180,18 @@ module _ (part : Part) (e : Ending) (rest : List ℕ) where
       small = omega (arith, condition_length cs e, condition_size_limit cs)
 
       go : Written c (length tail) → count_heads part (suc m) ((comparison_words c (length tail) ++ tail) ++ rest) ≡ 0
-      go (with_constant w v q o k b h z) = rw (q, no_head_is part w (suc m) (inl h.operation))
-      go (with_reading w q o k b h z) = rw (q, no_head_is part w (suc m) (inr h.operation))
+      go (with_constant w v q o k b h z) = rw (q, no_head_is part w (suc m) (constant_comparison w 0) (said_by w 0 Operation.AgainstConstant h.operation))
+      go (with_reading w q o k b h z) = rw (q, no_head_is part w (suc m) (reading_comparison w) (said_by w 0 Operation.AgainstReading h.operation))
 
   heads_counted : (cs : List Comparison) → length cs ≤ 4 → all comparison_in_range cs ≡ true → (ts : List Test) (m : ℕ) → length ts ≤ 8
-      → all test_in_range ts ≡ true → all (λ (t : Test). is_head part (test_operation t)) ts ≡ true → length (part_words ts cs e) ≡ suc m
+      → all test_in_range ts ≡ true → all (λ (t : Test). is_head part (LinePart.Head t)) ts ≡ true → length (part_words ts cs e) ≡ suc m
       → (count_heads part m (part_words ts cs e ++ rest) ≡ length ts) × (head_numbers (length ts) (part_words ts cs e ++ rest) ≡ map test_number ts)
   unfolding part_words count_heads
   heads_counted cs f r [] m h k o l = (condition_headless cs m f r l, refl)
   heads_counted cs f r (x ∷ xs) zero h k o l = absurd (omega (arith, part_length xs cs e, condition_size_limit cs))
   heads_counted cs f r (x ∷ xs) (suc m) h k o l =
       let p = and_out (test_in_range x) (all test_in_range xs) k in
-      let q = and_out (is_head part (test_operation x)) (all (λ (t : Test). is_head part (test_operation t)) xs) o in
+      let q = and_out (is_head part (LinePart.Head x)) (all (λ (t : Test). is_head part (LinePart.Head t)) xs) o in
       let n : test_number x < 64 = ltb-true (test_number x) 64 p.0 in
       let j : length tail ≡ suc m = omega arith in
       let b : length tail < 32 = omega (arith, part_length xs cs e, condition_size_limit cs) in
@@ -203,7 +199,7 @@ module _ (part : Part) (e : Ending) (rest : List ℕ) where
       let first = test_first x (length tail) n b in
       let facts : HeadFacts part w (suc m) =
       record {
-        operation = ap (is_head part) (test_operation_is x (length tail) n b) ∙ q.0;
+        head = ap (is_head part) (test_said x (length tail) 0 n b) ∙ q.0;
         low = test_low x (length tail) n b ∙ j;
       } in
       let later = heads_counted cs f r xs m (omega arith) p.1 q.1 j in (
@@ -245,34 +241,31 @@ last_word ts cs e rest m l =
 
 -- ---- the kinds of lines
 
-kind_heads : (part : Part) (l : PolicyLine) → in_part part l ≡ true → all (λ (t : Test). is_head part (test_operation t)) (heads_of l) ≡ true
-unfolding in_part heads_of is_head test_operation
+kind_heads : (part : Part) (l : PolicyLine) → in_part part l ≡ true → all (λ (t : Test). is_head part (LinePart.Head t)) (heads_of l) ≡ true
+unfolding in_part heads_of is_head
 kind_heads Part.Rules (rule r) k = each r.literals
   where
-    one : (b : Bool) → is_head Part.Rules (cond b Operation.Absent Operation.Present) ≡ true
-    one true = refl
-    one false = refl
-
-    each : (ls : List Literal) → all (λ (t : Test). is_head Part.Rules (test_operation t)) (map Test.Occurs ls) ≡ true
+    each : (ls : List Literal) → all (λ (t : Test). is_head Part.Rules (LinePart.Head t)) (map Test.Occurs ls) ≡ true
     each [] = refl
-    each (l ∷ ls) = and_in (one l.negated) (each ls)
+    each (l ∷ ls) = each ls
 kind_heads Part.Rules (constraint c) k = absurd (true_false k refl)
 kind_heads Part.Constraints (rule r) k = absurd (true_false k refl)
 kind_heads Part.Constraints (constraint c) k = each c.actions
   where
-    each : (as' : List Action) → all (λ (t : Test). is_head Part.Constraints (test_operation t)) (map Test.Member as') ≡ true
+    each : (as' : List Action) → all (λ (t : Test). is_head Part.Constraints (LinePart.Head t)) (map Test.Member as') ≡ true
     each [] = refl
     each (a ∷ rest) = each rest
 
+pub ending_there : (part : Part) (e : Ending) → ends part e ≡ true → ending_in_range e ≡ true → is_ending part (ending_word e) ≡ true
+unfolding is_ending is_ending_of
+ending_there part e k h = ap (is_ending_of part (ending_word e)) (ending_said e 0 h) ∙ and_in k (eq-eqb (ending_word e) (ending_word e) refl)
+
 kind_ending : (part : Part) (l : PolicyLine) → in_part part l ≡ true → ending_in_range (ending_of l) ≡ true → is_ending part (ending_word (ending_of l)) ≡ true
-unfolding in_part ending_of is_ending ending_word ending_in_range
-kind_ending Part.Rules (rule r) k e =
-    let h = ltb-true r.action.0 64 e in
-    and_in (eq-eqb (opcode_of (pack Operation.Proposes r.action.0 0 0 0)) (opcode Operation.Proposes) (opcode_pack Operation.Proposes r.action.0 0 0 0 (record { first_below = h; second_below = omega arith; relation_below = omega arith; skip_below = omega arith })))
-    (eq-eqb (pack Operation.Proposes r.action.0 0 0 0 % 2 ^ 22) 0 (head_low Operation.Proposes r.action.0 0 (omega arith)))
+unfolding in_part ending_of ends
+kind_ending Part.Rules (rule r) k e = ending_there Part.Rules (Ending.Causes r.action) refl e
 kind_ending Part.Rules (constraint c) k e = absurd (true_false k refl)
 kind_ending Part.Constraints (rule r) k e = absurd (true_false k refl)
-kind_ending Part.Constraints (constraint c) k e = eq-eqb (ending_word Ending.Never) (ending_word Ending.Never) refl
+kind_ending Part.Constraints (constraint c) k e = ending_there Part.Constraints Ending.Never refl e
 
 -- ---- a valid line at the start is found
 
@@ -281,7 +274,7 @@ pub scan_by : (part : Part) (ws : List ℕ) (n : ℕ) → skip_of (get_or ws 0 0
 unfolding scan_line
 scan_by part ws n e = ap (λ (k : ℕ). cond (ltb k (length ws) && is_ending part (get_or ws k 0) && ltb 0 (count_heads part k ws) && leb (count_heads part k ws) 8 && not (repeats (head_numbers (count_heads part k ws) ws)) && comparisons_fill 4 (k - count_heads part k ws) (drop (count_heads part k ws) ws)) (k + 1) 0) e
 
-parts_found : (part : Part) (ts : List Test) (cs : List Comparison) (e : Ending) (rest : List ℕ) → ValidParts ts cs e → all (λ (t : Test). is_head part (test_operation t)) ts ≡ true → is_ending part (ending_word e) ≡ true
+parts_found : (part : Part) (ts : List Test) (cs : List Comparison) (e : Ending) (rest : List ℕ) → ValidParts ts cs e → all (λ (t : Test). is_head part (LinePart.Head t)) ts ≡ true → is_ending part (ending_word e) ≡ true
     → scan_line part (part_words ts cs e ++ rest) ≡ length (part_words ts cs e)
 unfolding part_words
 parts_found part [] cs e rest v k n = absurd (omega (arith, v.some))
@@ -339,65 +332,49 @@ pub record HeadOn (part : Part) (w : ℕ) (l : PolicyLine) : Type 0 where
   pub comparisons : comparisons_of line ≡ comparisons_of l
   pub ending : ending_of line ≡ ending_of l
   pub operation : operation_of w ≡ test_operation test
-  pub known : 0 < opcode (test_operation test)
   pub number : test_number test ≡ first_of w
 
-pub add_head : (part : Part) (w : ℕ) (l : PolicyLine) → is_head part (operation_of w) ≡ true → in_part part l ≡ true → HeadOn part w l
-unfolding is_head in_part line_words heads_of comparisons_of ending_of part_words test_operation test_number
-add_head Part.Rules w (rule r) h k = go (operation_of w) refl h
+pub add_head : (part : Part) (w : ℕ) (l : PolicyLine) → is_head part (says w 0) ≡ true → in_part part l ≡ true → HeadOn part w l
+unfolding in_part line_words heads_of comparisons_of ending_of part_words is_head
+add_head part w l h k = go (said w 0)
   where
-    made : (b : Bool) → operation_of w ≡ cond b Operation.Absent Operation.Present → 0 < opcode (cond b Operation.Absent Operation.Present) → HeadOn Part.Rules w (rule r)
-    made b e n =
-        record {
-          line = rule (record { literals = record { event = record { 0 = first_of w }; negated = b } ∷ r.literals; action = r.action; comparisons = r.comparisons });
-          test = Test.Occurs (record { event = record { 0 = first_of w }; negated = b });
-          kind = refl;
-          words = λ n q. rw q;
-          heads = refl;
-          comparisons = refl;
-          ending = refl;
-          operation = e;
-          known = n;
-          number = refl;
-        }
+    other : (p : LinePart) → says w 0 ≡ p → is_head part p ≡ false → HeadOn part w l
+    other p e f = absurd (true_false h (ap (is_head part) e ∙ f))
 
-    go : (o : Operation) → operation_of w ≡ o → is_head Part.Rules o ≡ true → HeadOn Part.Rules w (rule r)
-    go Operation.Present q e = made false q (omega arith)
-    go Operation.Absent q e = made true q (omega arith)
-    go Operation.AgainstConstant q e = absurd (true_false e refl)
-    go Operation.AgainstReading q e = absurd (true_false e refl)
-    go Operation.Proposes q e = absurd (true_false e refl)
-    go Operation.Member q e = absurd (true_false e refl)
-    go Operation.Never q e = absurd (true_false e refl)
-    go Operation.Unknown q e = absurd (true_false e refl)
-add_head Part.Rules w (constraint c) h k = absurd (true_false k refl)
-add_head Part.Constraints w (rule r) h k = absurd (true_false k refl)
-add_head Part.Constraints w (constraint c) h k = go (operation_of w) refl h
-  where
-    made : operation_of w ≡ Operation.Member → HeadOn Part.Constraints w (constraint c)
-    made e =
-        record {
-          line = constraint (record { actions = record { 0 = first_of w } ∷ c.actions; comparisons = c.comparisons });
-          test = Test.Member (record { 0 = first_of w });
-          kind = refl;
-          words = λ n q. rw q;
-          heads = refl;
-          comparisons = refl;
-          ending = refl;
-          operation = e;
-          known = omega arith;
-          number = refl;
-        }
+    on : (p : Part) (m : PolicyLine) (t : Test) → is_head p (LinePart.Head t) ≡ true → in_part p m ≡ true → operation_of w ≡ test_operation t → test_number t ≡ first_of w → HeadOn p w m
+    on Part.Rules (rule r) (Test.Occurs x) i j o n = record {
+      line = rule (record { literals = x ∷ r.literals; action = r.action; comparisons = r.comparisons });
+      test = Test.Occurs x;
+      kind = refl;
+      words = λ n q. rw q;
+      heads = refl;
+      comparisons = refl;
+      ending = refl;
+      operation = o;
+      number = n;
+    }
+    on Part.Constraints (constraint c) (Test.Member a) i j o n = record {
+      line = constraint (record { actions = a ∷ c.actions; comparisons = c.comparisons });
+      test = Test.Member a;
+      kind = refl;
+      words = λ n q. rw q;
+      heads = refl;
+      comparisons = refl;
+      ending = refl;
+      operation = o;
+      number = n;
+    }
+    on Part.Rules (rule r) (Test.Member a) i j o n = absurd (true_false i refl)
+    on Part.Rules (constraint c) t i j o n = absurd (true_false j refl)
+    on Part.Constraints (rule r) t i j o n = absurd (true_false j refl)
+    on Part.Constraints (constraint c) (Test.Occurs x) i j o n = absurd (true_false i refl)
 
-    go : (o : Operation) → operation_of w ≡ o → is_head Part.Constraints o ≡ true → HeadOn Part.Constraints w (constraint c)
-    go Operation.Member q e = made q
-    go Operation.Present q e = absurd (true_false e refl)
-    go Operation.Absent q e = absurd (true_false e refl)
-    go Operation.AgainstConstant q e = absurd (true_false e refl)
-    go Operation.AgainstReading q e = absurd (true_false e refl)
-    go Operation.Proposes q e = absurd (true_false e refl)
-    go Operation.Never q e = absurd (true_false e refl)
-    go Operation.Unknown q e = absurd (true_false e refl)
+    go : Said w 0 → HeadOn part w l
+    go (said_head t e o n) = on part l t (sym (ap (is_head part) e) ∙ h) k o n
+    go (said_constant e o) = other _ e ((not_head part).0 _)
+    go (said_reading e o) = other _ e ((not_head part).0 _)
+    go (said_ending x e r) = other _ e ((not_head part).1 x)
+    go (said_nothing e) = other _ e (not_head part).2
 
 pub record ComparisonOn (part : Part) (c : Comparison) (l : PolicyLine) : Type 0 where
   pub line : PolicyLine
@@ -426,26 +403,51 @@ pub record EndOn (part : Part) (w : ℕ) : Type 0 where
   pub comparisons : comparisons_of line ≡ []
   pub ending : ending_in_range (ending_of line) ≡ true
 
-pub end_line : (part : Part) (w : ℕ) → is_ending part w ≡ true → w < word_limit → EndOn part w
-unfolding is_ending in_part line_words heads_of comparisons_of ending_of part_words condition_words ending_word ending_in_range
-end_line Part.Rules w h l =
-    let p = and_out (eqb (opcode_of w) (opcode Operation.Proposes)) (eqb (w % 2 ^ 22) 0) h in
-    let o : operation_of w ≡ Operation.Proposes = ap operation_from (eqb-true (opcode_of w) (opcode Operation.Proposes) p.0) ∙ operation_back Operation.Proposes in
-    let e : pack Operation.Proposes (first_of w) 0 0 0 ≡ w = head_again Operation.Proposes w (omega arith) l o 0 (eqb-true (w % 2 ^ 22) 0 p.1) in
-    record {
-      line = rule (record { literals = []; action = record { 0 = first_of w }; comparisons = [] });
-      kind = refl;
-      words = ap (λ (x : ℕ). x ∷ []) e;
-      heads = refl;
-      comparisons = refl;
-      ending = lt-ltb (first_of w) 64 (omega arith);
-    }
-end_line Part.Constraints w h l =
-    record {
-      line = constraint (record { actions = []; comparisons = [] });
-      kind = refl;
-      words = ap (λ (x : ℕ). x ∷ []) (sym (eqb-true w (ending_word Ending.Never) h));
-      heads = refl;
-      comparisons = refl;
-      ending = refl;
-    }
+-- what a word is that ends a line
+pub record Ends (part : Part) (w : ℕ) : Type 0 where
+  pub ending : Ending
+  pub kind : ends part ending ≡ true
+  pub sound : ending_in_range ending ≡ true
+  pub word : w ≡ ending_word ending
+
+pub ending_is : (part : Part) (w : ℕ) → is_ending part w ≡ true → Ends part w
+unfolding is_ending is_ending_of
+ending_is part w h = go (said w 0)
+  where
+    other : (p : LinePart) → says w 0 ≡ p → is_ending_of part w p ≡ false → Ends part w
+    other p e f = absurd (true_false h (ap (is_ending_of part w) e ∙ f))
+
+    go : Said w 0 → Ends part w
+    go (said_ending x e r) =
+        let p = and_out (ends part x) (eqb w (ending_word x)) (sym (ap (is_ending_of part w) e) ∙ h) in
+        record { ending = x; kind = p.0; sound = r; word = eqb-true w (ending_word x) p.1 }
+    go (said_head t e o n) = other (LinePart.Head t) e refl
+    go (said_constant e o) = other _ e refl
+    go (said_reading e o) = other _ e refl
+    go (said_nothing e) = other LinePart.Nothing e refl
+
+pub end_line : (part : Part) (w : ℕ) → is_ending part w ≡ true → EndOn part w
+unfolding in_part line_words heads_of comparisons_of ending_of part_words condition_words ends
+end_line part w h = go part (ending_is part w h).ending (ending_is part w h).kind (ending_is part w h).sound (ending_is part w h).word
+  where
+    go : (p : Part) (e : Ending) → ends p e ≡ true → ending_in_range e ≡ true → w ≡ ending_word e → EndOn p w
+    go Part.Rules (Ending.Causes a) k r q =
+        record {
+          line = rule (record { literals = []; action = a; comparisons = [] });
+          kind = refl;
+          words = ap (λ (x : ℕ). x ∷ []) (sym q);
+          heads = refl;
+          comparisons = refl;
+          ending = r;
+        }
+    go Part.Constraints Ending.Never k r q =
+        record {
+          line = constraint (record { actions = []; comparisons = [] });
+          kind = refl;
+          words = ap (λ (x : ℕ). x ∷ []) (sym q);
+          heads = refl;
+          comparisons = refl;
+          ending = r;
+        }
+    go Part.Rules Ending.Never k r q = absurd (true_false k refl)
+    go Part.Constraints (Ending.Causes a) k r q = absurd (true_false k refl)

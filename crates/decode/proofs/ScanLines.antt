@@ -37,7 +37,7 @@ record Condition (part : Part) (room m : ℕ) (ws : List ℕ) : Type 0 where
 
 condition_end : (part : Part) (room w : ℕ) (ws : List ℕ) → is_ending part w ≡ true → w < word_limit → Condition part room 0 (w ∷ ws)
 condition_end part room w ws h l =
-    let r = end_line part w h l in
+    let r = end_line part w h in
     record {
       line = r.line;
       kind = r.kind;
@@ -147,9 +147,9 @@ tail_headless part m ws z t =
 tail_head : (part : Part) (m w : ℕ) (ws : List ℕ) → w < word_limit → HeadFacts part w (suc m) → count_heads part (suc m) (w ∷ ws) ≡ suc (count_heads part m ws)
     → Tail part m ws → Tail part (suc m) (w ∷ ws)
 tail_head part m w ws l h q t =
-    let r = add_head part w t.line h.operation t.kind in
+    let r = add_head part w t.line h.head t.kind in
     let size : suc m ≡ length (line_words t.line) = sym t.size in
-    let again : test_word r.test (suc m) ≡ w = test_again r.test w (suc m) r.known l h.low r.operation r.number in
+    let again : test_word r.test (suc m) ≡ w = test_again r.test w (suc m) l h.low r.operation r.number in
     let first : first_of w < 64 = omega arith in
     record {
       line = r.line;

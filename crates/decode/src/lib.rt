@@ -6,15 +6,12 @@ ghost use Rattle.word.specs.Word.{word_limit, Below};
 ghost use Rattle.word.specs.Chunk.{words_in};
 ghost use Rattle.operation.specs.Fields.{first_of};
 ghost use Rattle.decode.specs.Decode.{line_at, line_length};
-ghost use Rattle.decode.specs.Steps.Scan.{first_head, head_operations, first_ending, ending_numbers, number_lowest, relation_lowest, is_ending, head_sound, count_heads, head_numbers, numbers_of, comparison_length, IsBehind, comparisons_fill, line_part_at, value_from, constants_of, with_part};
+ghost use Rattle.decode.specs.Steps.Scan.{first_head, head_operations, first_ending, ending_numbers, number_lowest, relation_lowest, is_ending, head_sound, count_heads, head_numbers, numbers_of, comparison_length, IsBehind, comparisons_fill, value_from, with_part};
 
 use line_value::Line;
-use operation::{Operation, constant_comparison, first, reading_comparison, skip};
-use policy::{
-    Action, COMPARISON_LIMIT, Comparison, Ending, Event, HEAD_LIMIT, Literal, Part, Test,
-    with_member,
-};
-use word::{nth_word, nth_word_or_zero, part as part_of};
+use operation::{LinePart, Operation, part_at, skip};
+use policy::{COMPARISON_LIMIT, HEAD_LIMIT, Part, with_member};
+use word::{nth_word, part as part_of};
 
 // Numbers that a field has.
 const NUMBERS: u32 = 64;
@@ -236,58 +233,10 @@ pub fn line_length(words: &[[u8; 4]], part: Part) -> usize
     0
 }
 
-// What a word of a line stands for.
-#[derive(Clone, Copy)]
-enum LinePart {
-    Head(Test),
-    Comparison(Comparison),
-    Ending(Ending),
-    Nothing,
-}
-
-// What the word `at` stands for. The constant of a comparison is the next word.
-fn part_at(words: &[[u8; 4]], at: usize) -> LinePart
-    requires { at < length words.now }
-    ensures { result ≡ line_part_at (words_in words.now) at }
-{
-    let word = nth_word(words, at);
-    let number = first(word) as u8;
-    match Operation::of(word) {
-        Operation::Present => LinePart::Head(Test::Occurs(Literal {
-            event: Event(number),
-            negated: false,
-        })),
-        Operation::Absent => LinePart::Head(Test::Occurs(Literal {
-            event: Event(number),
-            negated: true,
-        })),
-        Operation::AgainstConstant => {
-            LinePart::Comparison(constant_comparison(word, nth_word_or_zero(words, at + 1)))
-        }
-        Operation::AgainstReading => LinePart::Comparison(reading_comparison(word)),
-        Operation::Proposes => LinePart::Ending(Ending::Causes(Action(number))),
-        Operation::Member => LinePart::Head(Test::Member(Action(number))),
-        Operation::Never => LinePart::Ending(Ending::Never),
-        Operation::Unknown => LinePart::Nothing,
-    }
-}
-
-// How many constants follow the word.
-#[tactic(auto, unfolding(crate::specs::Steps::Scan::constants_of))]
-fn constants_of(part: LinePart) -> usize
-    ensures count { result ≡ constants_of part }
-    ensures few { result ≤ 1 }
-{
-    match part {
-        LinePart::Comparison(comparison) => comparison.operand.constants(),
-        LinePart::Head(_) | LinePart::Ending(_) | LinePart::Nothing => 0,
-    }
-}
-
 // The line with one part more, where there is room for it.
 #[tactic(auto, unfolding(crate::specs::Steps::Scan::with_part))]
 fn push_part(line: &mut Line, part: LinePart)
-    ensures { line.new ≡ with_part part line.old }
+    ensures { line.new ≡ with_part line.old part }
 {
     match part {
         LinePart::Head(test) => {
@@ -314,7 +263,7 @@ pub fn read_line(words: &[[u8; 4]]) -> Line
     while at < words.len() {
         let part = part_at(words, at);
         push_part(&mut line, part);
-        at += 1 + constants_of(part);
+        at += 1 + part.constants();
     }
     line
 }

@@ -19,7 +19,7 @@ use Rattle.image.specs.Load.{load, Contents}
 use Rattle.image.proofs.LoadLaws.{size_large, load_size}
 use Rattle.exactness.specs.Exact.{RefusalOf, of_checks, of_body}
 use Rattle.exactness.proofs.Exact.{held_acceptable, refusals}
-use Rattle.printer.specs.Printed.{text_of}
+use Rattle.printer.specs.Printed.{text_of, longest_text}
 use Rattle.printer.proofs.Printing.{text_length}
 use Rattle.output.specs.Buffer.{appended, behind}
 use Rattle.output.proofs.DecimalLaws.{decimal_short}
@@ -30,6 +30,8 @@ use Rattle.dump.specs.Dump.{word_in, Dump, words, not_word, behind_words, read_w
 use Rattle.dump.specs.Steps.Calls.{Held, held, start_state, stepped, held_behind, closed, image_held, answer_within, image_within, finished}
 use Rattle.dump.specs.declared.state.State.{State}
 use Rattle.dump.proofs.ReadLaws.{kept, Stored, Ends, reads_all}
+use Rattle.dump.specs.Steps.Sizes.{dump_size}
+use Rattle.layout.specs.Layout.{size_limit}
 
 -- ---- the words that are held are those of the image, or tell that there are too many
 
@@ -44,11 +46,11 @@ stored_bytes buffer ws count image s =
     let here : image ≡ bytes_of x ++ drop (0 + length (bytes_of x)) buffer = s.stored ∙ put_in buffer 0 x (omega arith) in
     rw (size, here) (take_at (bytes_of x) (drop (0 + length (bytes_of x)) buffer) (length (bytes_of x)) refl)
 
-too_large : (image : List ℕ) → 13064 < length image → image_answer image ≡ image_refusal_line (refusal Fault.ImageSize 0)
+too_large : (image : List ℕ) → size_limit < length image → image_answer image ≡ image_refusal_line (refusal Fault.ImageSize 0)
 unfolding image_answer loaded_answer
 too_large image h = rw (sym (load_size image (sym (size_large (length image) (omega arith) h))))
 
-kept_answer : (buffer ws : List ℕ) → 13068 ≤ length buffer → image_answer (bytes_of (kept buffer ws)) ≡ image_answer (bytes_of ws)
+kept_answer : (buffer ws : List ℕ) → dump_size ≤ length buffer → image_answer (bytes_of (kept buffer ws)) ≡ image_answer (bytes_of ws)
 kept_answer buffer ws room = go (leb (length ws) (length buffer / 4)) refl
   where
     go : (b : Bool) → leb (length ws) (length buffer / 4) ≡ b → image_answer (bytes_of (kept buffer ws)) ≡ image_answer (bytes_of ws)
@@ -60,7 +62,7 @@ kept_answer buffer ws room = go (leb (length ws) (length buffer / 4)) refl
 
 -- ---- a text always has room
 
-text_short : (ws : List ℕ) → (l : Result Contents Refusal) → load (bytes_of ws) ≡ l → (room : ℕ) → 27968 ≤ room
+text_short : (ws : List ℕ) → (l : Result Contents Refusal) → load (bytes_of ws) ≡ l → (room : ℕ) → longest_text ≤ room
     → answer_within room l (text_of (policy_in (bytes_of ws))) ≡ loaded_answer l (text_of (policy_in (bytes_of ws)))
 unfolding answer_within loaded_answer
 text_short ws (Err r) e room h = refl
@@ -69,13 +71,13 @@ text_short ws (Ok contents) e room h =
     let short = text_length (policy_in image) (held_acceptable image (bytes_below ws) contents e) in
     rw (le-leb (length (text_of (policy_in image))) room (omega arith))
 
-image_whole : (ws : List ℕ) (room : ℕ) → 27968 ≤ room → image_within room (bytes_of ws) ≡ image_answer (bytes_of ws)
+image_whole : (ws : List ℕ) (room : ℕ) → longest_text ≤ room → image_within room (bytes_of ws) ≡ image_answer (bytes_of ws)
 unfolding image_within image_answer
 image_whole ws room h = text_short ws (load (bytes_of ws)) refl room h
 
 -- ---- the whole input
 
-ends_answer : (buffer : List ℕ) (d : Dump) (h : Held) (room : ℕ) → 13068 ≤ length buffer → 27968 ≤ room → Ends buffer d h
+ends_answer : (buffer : List ℕ) (d : Dump) (h : Held) (room : ℕ) → dump_size ≤ length buffer → longest_text ≤ room → Ends buffer d h
     → finished room h ≡ dump_answer d
 unfolding Ends finished dump_answer
 ends_answer buffer (words ws) h room long large (b, s) =
@@ -89,11 +91,11 @@ fed_joined h (chunk ∷ chunks) = fed_joined (held_behind h chunk) chunks ∙ sy
 
 -- ---- all of it has room
 
-sized_few : (n : ℕ) → well_sized n ≡ true → n ≤ 13064
+sized_few : (n : ℕ) → well_sized n ≡ true → n ≤ size_limit
 unfolding well_sized
-sized_few n e = leb-true n 13064 (and_out (leb 8 n) (leb n 13064) (and_out (leb 8 n && leb n 13064) (eqb (n % 4) 0) e).0).1
+sized_few n e = leb-true n size_limit (and_out (leb 8 n) (leb n size_limit) (and_out (leb 8 n && leb n size_limit) (eqb (n % 4) 0) e).0).1
 
-location_small : (image : List ℕ) (r : Refusal) → length image ≤ 13064 → RefusalOf (length (words_of image)) r
+location_small : (image : List ℕ) (r : Refusal) → length image ≤ size_limit → RefusalOf (length (words_of image)) r
     → (fault_number r.fault < 2 ^ 64) × (r.location < 2 ^ 64)
 location_small image r h (of_checks s a b c) = (omega arith, omega arith)
 location_small image r h (of_body s a b c) = (omega arith, omega (arith, words_length image))
@@ -108,15 +110,15 @@ refusal_small image r e = go (well_sized (length image)) refl
         let p : r ≡ refusal Fault.ImageSize 0 = cc in
         rw p (omega arith, omega arith)
 
-refusal_short : (r : Refusal) → fault_number r.fault < 2 ^ 64 → r.location < 2 ^ 64 → length (image_refusal_line r) ≤ 27968
+refusal_short : (r : Refusal) → fault_number r.fault < 2 ^ 64 → r.location < 2 ^ 64 → length (image_refusal_line r) ≤ longest_text
 unfolding image_refusal_line bytes
 refusal_short r f l = simp length-append (omega (arith, decimal_short (fault_number r.fault) f, decimal_short r.location l))
 
-image_short : (ws : List ℕ) → length (image_answer (bytes_of ws)) ≤ 27968
+image_short : (ws : List ℕ) → length (image_answer (bytes_of ws)) ≤ longest_text
 unfolding image_answer loaded_answer
 image_short ws = go (load (bytes_of ws)) refl
   where
-    go : (l : Result Contents Refusal) → load (bytes_of ws) ≡ l → length (loaded_answer l (text_of (policy_in (bytes_of ws)))) ≤ 27968
+    go : (l : Result Contents Refusal) → load (bytes_of ws) ≡ l → length (loaded_answer l (text_of (policy_in (bytes_of ws)))) ≤ longest_text
     go (Err r) e = let s = refusal_small (bytes_of ws) r e in refusal_short r s.0 s.1
     go (Ok contents) e = text_length (policy_in (bytes_of ws)) (held_acceptable (bytes_of ws) (bytes_below ws) contents e)
 
@@ -130,22 +132,22 @@ number_small n (line ∷ lines) m e = go (word_in line) (read_dump (next_number 
     go (Some w) (words vs) f q = let z : ◌≡◌ {A = ℕ} 0 1 = cc in absurd (omega arith)
     go (Some w) (not_word k) f q = f q
 
-line_short : (n : ℕ) → n < 2 ^ 64 → length (not_word_line n) ≤ 27968
+line_short : (n : ℕ) → n < 2 ^ 64 → length (not_word_line n) ≤ longest_text
 unfolding not_word_line bytes
 line_short n h = simp length-append (omega (arith, decimal_short n h))
 
 -- what is printed for any input is no longer than the longest text
-pub restored_short : (input : List ℕ) → length (restored input) ≤ 27968
+pub restored_short : (input : List ℕ) → length (restored input) ≤ longest_text
 unfolding restored dump_answer
 restored_short input = go (read_dump 0 (lines_of input)) refl
   where
-    go : (d : Dump) → read_dump 0 (lines_of input) ≡ d → length (dump_answer d) ≤ 27968
+    go : (d : Dump) → read_dump 0 (lines_of input) ≡ d → length (dump_answer d) ≤ longest_text
     go (words ws) e = image_short ws
     go (not_word n) e = line_short n (number_small 0 (lines_of input) n e)
 
 -- `begin`, `feed` on each chunk, and `finish`, as their contracts have it: the output holds just what is to be printed, from its start up
 -- to the position that is answered
-pub all_restored : (chunks : List (List ℕ)) (image out after : List ℕ) (end : ℕ) → 13068 ≤ length image → 27968 ≤ length out
+pub all_restored : (chunks : List (List ℕ)) (image out after : List ℕ) (end : ℕ) → dump_size ≤ length image → longest_text ≤ length out
     → end ≡ behind out 0 (finished (length out) (closed (fold held_behind (held start_state image) chunks)))
     → after ≡ appended out 0 (finished (length out) (closed (fold held_behind (held start_state image) chunks)))
     → take end after ≡ restored (flatten chunks)
@@ -162,39 +164,39 @@ all_restored chunks image out after end long large p q =
 
 -- ---- what is printed at the end of the input has room, whatever was read
 
-within_short : (image : List ℕ) → length (image_within 27968 image) ≤ 27968
+within_short : (image : List ℕ) → length (image_within longest_text image) ≤ longest_text
 unfolding image_within answer_within
 within_short image = go (load image) refl
   where
     text : List ℕ
     text = text_of (policy_in image)
 
-    go : (l : Result Contents Refusal) → load image ≡ l → length (answer_within 27968 l text) ≤ 27968
+    go : (l : Result Contents Refusal) → load image ≡ l → length (answer_within longest_text l text) ≤ longest_text
     go (Err r) e = let s = refusal_small image r e in refusal_short r s.0 s.1
-    go (Ok contents) e = fit (leb (length text) 27968) refl
+    go (Ok contents) e = fit (leb (length text) longest_text) refl
       where
-        fit : (b : Bool) → leb (length text) 27968 ≡ b → length (cond b text (image_refusal_line (refusal Fault.BufferTooSmall 0))) ≤ 27968
-        fit true t = leb-true (length text) 27968 t
+        fit : (b : Bool) → leb (length text) longest_text ≡ b → length (cond b text (image_refusal_line (refusal Fault.BufferTooSmall 0))) ≤ longest_text
+        fit true t = leb-true (length text) longest_text t
         fit false t = refusal_short (refusal Fault.BufferTooSmall 0) (omega arith) (omega arith)
 
-finished_short : (h : Held) → length (finished 27968 h) ≤ 27968
+finished_short : (h : Held) → length (finished longest_text h) ≤ longest_text
 unfolding finished
 finished_short h = go h.state.broken
   where
-    go : (b : Bool) → length (cond b (not_word_line (next_number h.state.lines)) (image_within 27968 (image_held h))) ≤ 27968
+    go : (b : Bool) → length (cond b (not_word_line (next_number h.state.lines)) (image_within longest_text (image_held h))) ≤ longest_text
     go true = line_short (next_number h.state.lines) (omega arith)
     go false = within_short (image_held h)
 
-pub finished_whole : (h : Held) (out after : List ℕ) (end : ℕ) → length out ≡ 27968
-    → (end ≡ behind out 0 (finished (length out) h)) × (after ≡ appended out 0 (finished (length out) h)) → take end after ≡ finished 27968 h
-finished_whole h out after end long p = put_take out 0 (finished 27968 h) after end (omega (arith, long, finished_short h)) (rw long at p)
+pub finished_whole : (h : Held) (out after : List ℕ) (end : ℕ) → length out ≡ longest_text
+    → (end ≡ behind out 0 (finished (length out) h)) × (after ≡ appended out 0 (finished (length out) h)) → take end after ≡ finished longest_text h
+finished_whole h out after end long p = put_take out 0 (finished longest_text h) after end (omega (arith, long, finished_short h)) (rw long at p)
 
 -- from the start of the input, what is printed is what the definition says for all of it
-start_restored : (image : List ℕ) → 13068 ≤ length image → (input : List ℕ) → finished 27968 (closed (held_behind (held start_state image) input)) ≡ restored input
+start_restored : (image : List ℕ) → dump_size ≤ length image → (input : List ℕ) → finished longest_text (closed (held_behind (held start_state image) input)) ≡ restored input
 unfolding restored
 start_restored image long input =
-    ends_answer image (read_dump 0 (lines_of input)) (closed (held_behind (held start_state image) input)) 27968 long (omega arith) (reads_all image input)
+    ends_answer image (read_dump 0 (lines_of input)) (closed (held_behind (held start_state image) input)) longest_text long (omega arith) (reads_all image input)
 
-pub starts_restored : (s : State) (image : List ℕ) → s ≡ start_state → 13068 ≤ length image
-    → (λ (input : List ℕ). finished 27968 (closed (held_behind (held s image) input))) ≡ restored
+pub starts_restored : (s : State) (image : List ℕ) → s ≡ start_state → dump_size ≤ length image
+    → (λ (input : List ℕ). finished longest_text (closed (held_behind (held s image) input))) ≡ restored
 starts_restored s image e long = rw e (λ i. λ input. start_restored image long input i)

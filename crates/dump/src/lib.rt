@@ -12,11 +12,12 @@ ghost use Rattle.dump.specs.Steps.Calls.{start_state, held, held_behind, closed,
 
 use decompile::decompile;
 pub use decompiler::restore_input;
+use image::IMAGE_SIZE;
 use output::Page;
 use state::{State, close, step};
 
 /// Bytes for the words: one word over the largest image, which tells that there are too many.
-pub(crate) const DUMP_SIZE: usize = 13068;
+pub(crate) const DUMP_SIZE: usize = IMAGE_SIZE + 4;
 
 /// The state before any input.
 pub(crate) fn begin() -> State

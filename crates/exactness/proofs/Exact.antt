@@ -1,6 +1,6 @@
 -- The loader takes exactly the images of policies that an accepted text may have, refuses others at the right location, and
 -- refuses every image in which one word was changed.
-use Rattle.std.proofs.Common.{ℕ, zero, suc, ◌+◌, ◌*◌, ◌%◌, ◌≤◌, ◌<◌, Bool, true, false, ◌&&◌, List, [], ◌∷◌, ◌++◌, map, ◌↔◌, ◌≡◌, refl, sym, ap, ap₂, ◌∙◌, subst, arith, le-leb, eq-eqb, eqb-true, length, length-set, length-append, Result, Ok, Err}
+use Rattle.std.proofs.Common.{ℕ, zero, suc, ◌+◌, ◌%◌, ◌≤◌, ◌<◌, Bool, true, false, ◌&&◌, List, [], ◌∷◌, ◌++◌, map, ◌↔◌, ◌≡◌, refl, sym, ap, ap₂, ◌∙◌, subst, arith, le-leb, eq-eqb, eqb-true, length, take, take-append-drop, length-set, length-append, Result, Ok, Err}
 use Rattle.std.proofs.Math.Dec.{leb, eqb}
 use Rattle.std.proofs.Math.ListN.{get_or, set, length-map}
 use Rattle.policy.proofs.ListLaws.{and_in, and_out}
@@ -11,27 +11,24 @@ use Rattle.policy.specs.Policy.{Policy}
 use Rattle.policy.specs.declared.fault.Fault.{Fault}
 use Rattle.policy.specs.declared.fault.Refusal.{Refusal}
 use Rattle.policy.specs.declared.fault.Source.{Source}
-use Rattle.exactness.proofs.ImageLaws.{below_append, below_cons, below_none, lines_below, rules_between, constraints_between, rules_size, constraints_size, parts_of}
-use Rattle.image.proofs.HeldLaws.{counts_add, HeldParts, held_parts, taken_parts}
+use Rattle.exactness.proofs.ImageLaws.{below_append, below_cons, lines_below, rules_between, constraints_between, rules_size, constraints_size, content_of}
+use Rattle.image.proofs.HeldLaws.{counted, HeldParts, held_parts, taken_parts}
 use Rattle.exactness.proofs.PartLines.{lines_limit, lines_found, part_whole_exactly, part_fault_exactly, rules_kind, constraints_kind, rules_back, constraints_back}
 use Rattle.decode.specs.Stands.{AreLines}
-use Rattle.layout.proofs.SumLaws.{check_word_is, check_sum, check_below, sum_append, sum_set}
+use Rattle.layout.proofs.CheckLaws.{form_below, limits_small, checks_few, size_fits, checks_length, checks_below, checks_sum, checks_found}
+use Rattle.layout.proofs.SumLaws.{sum_set}
 use Rattle.word.proofs.WordLaws.{words_length, words_below, words_of_bytes, bytes_of_words, bytes_length}
 use Rattle.layout.proofs.HeaderLaws.{header_below, form_header, rules_header, constraints_header, header_fields}
 use Rattle.word.specs.Word.{word_limit, Bytes, words_of, word_at, bytes_of, between, Below}
 use Rattle.layout.specs.Header.{pack_header, form_of, rule_count_of, constraint_count_of}
 use Rattle.image.specs.Check.{rule_count, constraint_count, form_byte, well_sized, counts_fit, sums_to_zero}
 use Rattle.image.specs.Held.{lines_in, policy_in}
-use Rattle.layout.specs.Layout.{known_form, check_count, sum, check_word, check_words, header_word, rule_part_words, constraint_part_words, content_words, image_words, image_of}
+use Rattle.layout.specs.Layout.{known_form, check_count, rule_word_limit, constraint_word_limit, size_limit, sum, check_words, header_word, rule_part_words, constraint_part_words, content_words, image_words, image_of}
 use Rattle.image.specs.Lines.{lines_from, part_lines, rule_part, constraint_part, rule_lines, constraint_lines}
 use Rattle.image.specs.Load.{Contents, body_answer, load_words, load}
 use Rattle.exactness.specs.Exact.{IsImage, contents_of, changed, Checked, RefusedEarly, RefusalOf, of_checks, of_body}
 use Rattle.exactness.specs.ImageFault.{NoLineAt, ImageFault, wrong_size, unknown_form, wrong_count, wrong_sum, no_rule, no_constraint}
 use Rattle.policy.specs.declared.line.Part.{Part}
-
-known_one : (form : ℕ) → known_form form ≡ true → form ≡ 1
-unfolding known_form
-known_one form k = eqb-true form 1 k
 
 -- ---- the image of an acceptable policy
 
@@ -42,42 +39,49 @@ module _ (form : ℕ) (known : known_form form ≡ true) (p : Policy) (ok : Acce
   abbrev N : ℕ
   N = length (constraint_part_words p)
 
-  pub P_limit : P ≤ 2176
+  pub P_limit : P ≤ rule_word_limit form
   unfolding rule_part_words
   P_limit = omega (arith, lines_limit (map rule p.rules) ok.rules_valid, length-map p.rules rule, ok.few_rules)
 
-  pub N_limit : N ≤ 1088
+  pub N_limit : N ≤ constraint_word_limit form
   unfolding constraint_part_words
   N_limit = omega (arith, lines_limit (map constraint p.constraints) ok.constraints_valid, length-map p.constraints constraint, ok.few_constraints)
 
+  P_small : P < 4096
+  P_small = omega (arith, P_limit, limits_small form)
+
+  N_small : N < 4096
+  N_small = omega (arith, N_limit, limits_small form)
+
   form_small : form < 256
-  form_small = omega (arith, known_one form known)
+  form_small = form_below form known
 
   pub content_below : Below word_limit (content_words form p)
   unfolding content_words header_word rule_part_words constraint_part_words
   content_below =
-      below_cons word_limit (pack_header form P N) (rule_part_words p ++ constraint_part_words p) (header_below form P N form_small (omega (arith, P_limit)) (omega (arith, N_limit)))
+      below_cons word_limit (pack_header form P N) (rule_part_words p ++ constraint_part_words p) (header_below form P N form_small P_small N_small)
       (below_append word_limit (rule_part_words p) (constraint_part_words p) (lines_below (map rule p.rules) ok.rules_valid) (lines_below (map constraint p.constraints) ok.constraints_valid))
 
   image_below : Below word_limit (image_words form p)
-  unfolding image_words check_words
-  image_below = below_append word_limit (content_words form p) (check_word (content_words form p) ∷ []) content_below (below_cons word_limit (check_word (content_words form p)) [] (check_below (content_words form p)) below_none)
+  unfolding image_words
+  image_below = below_append word_limit (content_words form p) (check_words form (content_words form p)) content_below (checks_below form (content_words form p))
 
   image_words_is : words_of (image_of form p) ≡ image_words form p
   unfolding image_of
   image_words_is = words_of_bytes (image_words form p) image_below
 
-  pub image_length : length (image_words form p) ≡ 1 + P + N + 1
-  unfolding image_words content_words check_words
-  image_length = omega (arith, length-append (content_words form p) (check_word (content_words form p) ∷ []), length-append (rule_part_words p) (constraint_part_words p))
+  pub image_length : length (image_words form p) ≡ 1 + P + N + check_count form
+  unfolding image_words content_words
+  image_length =
+      omega (arith, length-append (content_words form p) (check_words form (content_words form p)), length-append (rule_part_words p) (constraint_part_words p), checks_length form (content_words form p))
 
   pub image_size : well_sized (length (image_of form p)) ≡ true
   unfolding well_sized image_of
   image_size =
-      let n : length (bytes_of (image_words form p)) ≡ (1 + P + N + 1) * 4 = bytes_length (image_words form p) ∙ ap (λ (k : ℕ). k * 4) image_length in
-      let a = P_limit in
-      let b = N_limit in
-      and_in (and_in (le-leb 8 (length (bytes_of (image_words form p))) (omega arith)) (le-leb (length (bytes_of (image_words form p))) 13064 (omega arith)))
+      let n = bytes_length (image_words form p) in
+      let k = image_length in
+      let c = checks_few form in
+      and_in (and_in (le-leb 8 (length (bytes_of (image_words form p))) (omega arith)) (le-leb (length (bytes_of (image_words form p))) size_limit (omega (arith, P_limit, N_limit, size_fits form))))
       (eq-eqb (length (bytes_of (image_words form p)) % 4) 0 (omega arith))
 
   first_word : get_or (image_words form p) 0 0 ≡ pack_header form P N
@@ -85,31 +89,31 @@ module _ (form : ℕ) (known : known_form form ≡ true) (p : Policy) (ok : Acce
   first_word = refl
 
   form_is : form_byte (image_words form p) ≡ form
-  form_is = ap form_of first_word ∙ form_header form P N form_small (omega (arith, P_limit)) (omega (arith, N_limit))
+  form_is = ap form_of first_word ∙ form_header form P N form_small P_small N_small
 
   rules_are : rule_count (image_words form p) ≡ P
-  rules_are = ap rule_count_of first_word ∙ rules_header form P N form_small (omega (arith, P_limit)) (omega (arith, N_limit))
+  rules_are = ap rule_count_of first_word ∙ rules_header form P N form_small P_small N_small
 
   constraints_are : constraint_count (image_words form p) ≡ N
-  constraints_are = ap constraint_count_of first_word ∙ constraints_header form P N form_small (omega (arith, P_limit)) (omega (arith, N_limit))
+  constraints_are = ap constraint_count_of first_word ∙ constraints_header form P N form_small P_small N_small
 
   counts : counts_fit (image_words form p) ≡ true
-  unfolding counts_fit check_count
+  unfolding counts_fit
   counts =
-      rw (rules_are, constraints_are)
-      (and_in (and_in (le-leb P 2176 P_limit) (le-leb N 1088 N_limit)) (eq-eqb (length (image_words form p)) (1 + P + N + 1) image_length))
+      rw (rules_are, constraints_are, form_is)
+      (and_in (and_in (le-leb P (rule_word_limit form) P_limit) (le-leb N (constraint_word_limit form) N_limit)) (eq-eqb (length (image_words form p)) (1 + P + N + check_count form) image_length))
 
   sums : sums_to_zero (image_words form p) ≡ true
-  unfolding sums_to_zero image_words check_words
-  sums = eq-eqb (sum (content_words form p ++ check_word (content_words form p) ∷ []) % word_limit) 0 (check_sum (content_words form p))
+  unfolding sums_to_zero image_words
+  sums = eq-eqb (sum (content_words form p ++ check_words form (content_words form p)) % word_limit) 0 (checks_sum form (content_words form p))
 
   image_rules : between 1 (1 + P) (image_words form p) ≡ rule_part_words p
-  unfolding image_words content_words check_words
-  image_rules = rules_between (header_word form (rule_part_words p) (constraint_part_words p)) (rule_part_words p) (constraint_part_words p) (check_word (content_words form p) ∷ []) P N refl refl
+  unfolding image_words content_words
+  image_rules = rules_between (header_word form (rule_part_words p) (constraint_part_words p)) (rule_part_words p) (constraint_part_words p) (check_words form (content_words form p)) P N refl refl
 
   image_constraints : between (1 + P) (1 + P + N) (image_words form p) ≡ constraint_part_words p
-  unfolding image_words content_words check_words
-  image_constraints = constraints_between (header_word form (rule_part_words p) (constraint_part_words p)) (rule_part_words p) (constraint_part_words p) (check_word (content_words form p) ∷ []) P N refl refl
+  unfolding image_words content_words
+  image_constraints = constraints_between (header_word form (rule_part_words p) (constraint_part_words p)) (rule_part_words p) (constraint_part_words p) (check_words form (content_words form p)) P N refl refl
 
   rules_found : lines_from Part.Rules 128 1 (rule_part_words p) ≡ Ok (map rule p.rules)
   unfolding rule_part_words
@@ -221,6 +225,9 @@ module _ (bytes : List ℕ) (bounded : Bytes bytes) (contents : Contents) (taken
         few_constraints = omega (arith, length-map (policy_in bytes).constraints constraint, h.constraint_part_is.few);
       }
 
+  form : ℕ
+  form = form_byte (words_of bytes)
+
   rule_size : ℕ
   rule_size = rule_count (words_of bytes)
 
@@ -233,12 +240,9 @@ module _ (bytes : List ℕ) (bounded : Bytes bytes) (contents : Contents) (taken
   C : List ℕ
   C = between (1 + rule_size) (1 + rule_size + constraint_size) ws
 
-  last : ℕ
-  last = get_or ws (1 + rule_size + constraint_size) 0
-
-  counted : length ws ≡ 1 + rule_size + constraint_size + 1
-  unfolding ws rule_size constraint_size
-  counted = h.size
+  counted_all : length ws ≡ 1 + rule_size + constraint_size + check_count form
+  unfolding ws form rule_size constraint_size
+  counted_all = h.size
 
   rules_same : rule_part_words (policy_in bytes) ≡ R
   unfolding rule_part_words R rule_size ws
@@ -252,58 +256,37 @@ module _ (bytes : List ℕ) (bounded : Bytes bytes) (contents : Contents) (taken
   unfolding ws
   words_small = words_below bytes bounded
 
-  header_same : pack_header (form_byte (words_of bytes)) (length R) (length C) ≡ get_or ws 0 0
-  unfolding R C rule_size constraint_size ws
+  header_same : pack_header form (length R) (length C) ≡ get_or ws 0 0
+  unfolding R C form rule_size constraint_size ws
   header_same =
-      ap₂ (λ (a b : ℕ). pack_header (form_byte (words_of bytes)) a b) (rules_size (words_of bytes) (rule_count (words_of bytes)) (constraint_count (words_of bytes)) h.size) (constraints_size (words_of bytes) (rule_count (words_of bytes)) (constraint_count (words_of bytes)) h.size)
+      let room : 1 + rule_count (words_of bytes) + constraint_count (words_of bytes) ≤ length (words_of bytes) = omega (arith, h.size) in
+      ap₂ (λ (a b : ℕ). pack_header (form_byte (words_of bytes)) a b) (rules_size (words_of bytes) (rule_count (words_of bytes)) (constraint_count (words_of bytes)) room) (constraints_size (words_of bytes) (rule_count (words_of bytes)) (constraint_count (words_of bytes)) room)
       ∙ header_fields (get_or (words_of bytes) 0 0) (words_small 0)
 
-  content_same : content_words (form_byte (words_of bytes)) (policy_in bytes) ≡ get_or ws 0 0 ∷ R ++ C
-  unfolding content_words header_word
-  content_same = rw (rules_same, constraints_same) (ap (λ (h : ℕ). h ∷ R ++ C) header_same)
+  content : take (1 + rule_size + constraint_size) ws ≡ get_or ws 0 0 ∷ R ++ C
+  unfolding R C
+  content = content_of ws rule_size constraint_size (omega (arith, counted_all))
 
-  split : ws ≡ (get_or ws 0 0 ∷ R ++ C) ++ last ∷ []
-  unfolding R C rule_size constraint_size last
-  split = parts_of ws rule_size constraint_size counted
+  content_same : content_words form (policy_in bytes) ≡ take (1 + rule_size + constraint_size) ws
+  unfolding content_words header_word
+  content_same = rw (rules_same, constraints_same) (ap (λ (h : ℕ). h ∷ R ++ C) header_same ∙ sym content)
 
   zero_sum : sum ws % word_limit ≡ 0
   unfolding sums_to_zero ws
   zero_sum = eqb-true (sum (words_of bytes) % word_limit) 0 t.checked.check
 
-  sum_one : (n : ℕ) → sum (n ∷ []) ≡ n
-  unfolding sum
-  sum_one n = omega arith
-
-  last_small : last < word_limit
-  unfolding last
-  last_small = words_small (1 + rule_size + constraint_size)
-
-  last_same : last ≡ check_word (get_or ws 0 0 ∷ R ++ C)
-  last_same = check_word_is (get_or ws 0 0 ∷ R ++ C) (sum (get_or ws 0 0 ∷ R ++ C) % word_limit) last refl adds_up small
-    where
-      one : (n : ℕ) → sum (n ∷ []) ≡ n
-      one n = sum_one n
-
-      small : last < word_limit
-      small = last_small
-
-      adds_up : (last + sum (get_or ws 0 0 ∷ R ++ C) % word_limit) % word_limit ≡ 0
-      adds_up =
-          let a : sum ws ≡ sum (get_or ws 0 0 ∷ R ++ C) + sum (last ∷ []) = ap sum split ∙ sum_append (get_or ws 0 0 ∷ R ++ C) (last ∷ []) in
-          let b = one last in
-          let c = zero_sum in
-          omega arith
-
-  whole_same : image_words (form_byte (words_of bytes)) (policy_in bytes) ≡ ws
-  unfolding image_words check_words
-  whole_same = rw content_same (ap (λ (x : ℕ). (get_or ws 0 0 ∷ R ++ C) ++ x ∷ []) (sym last_same) ∙ sym split)
+  whole_same : image_words form (policy_in bytes) ≡ ws
+  unfolding image_words
+  whole_same =
+      let n : ℕ = 1 + rule_size + constraint_size in
+      rw content_same (ap (λ (x : List ℕ). take n ws ++ x) (sym (checks_found form n ws words_small counted_all zero_sum)) ∙ take-append-drop n ws)
 
   -- it is the image of the policy that it holds, byte for byte
   pub held_image : image_of (form_byte (words_of bytes)) (policy_in bytes) ≡ bytes
-  unfolding image_of well_sized ws
+  unfolding image_of well_sized ws form
   held_image =
       ap bytes_of whole_same
-      ∙ bytes_of_words bytes bounded (eqb-true (length bytes % 4) 0 (and_out (leb 8 (length bytes) && leb (length bytes) 13064) (eqb (length bytes % 4) 0) t.checked.size).1)
+      ∙ bytes_of_words bytes bounded (eqb-true (length bytes % 4) 0 (and_out (leb 8 (length bytes) && leb (length bytes) size_limit) (eqb (length bytes % 4) 0) t.checked.size).1)
 
   -- and of a form that is known
   pub held_form : known_form (form_byte (words_of bytes)) ≡ true
@@ -421,13 +404,13 @@ refusals bytes r e = go (answered bytes)
 
     body : Checked bytes → (x y : Result (List PolicyLine) ℕ) → rule_lines ws' ≡ x → constraint_lines ws' ≡ y → body_answer (rule_part ws') (constraint_part ws') x y ≡ Err r → RefusalOf (length ws') r
     body c (Err n) y p q s =
-        let k = counts_add ws' c.count in
+        let k = counted ws' c.count in
         let a = among Part.Rules 128 1 n (rule_part ws') ((rules_refused ws' n).0 p) in
-        given n s a.0 (omega (arith, a.1, rules_size ws' (rule_count ws') (constraint_count ws') k))
+        given n s a.0 (omega (arith, a.1, rules_size ws' (rule_count ws') (constraint_count ws') (omega (arith, k.all)), k.all, checks_few (form_byte ws')))
     body c (Ok rs) (Err n) p q s =
-        let k = counts_add ws' c.count in
+        let k = counted ws' c.count in
         let a = among Part.Constraints 64 (1 + rule_count ws') n (constraint_part ws') ((constraints_refused ws' n).0 q) in
-        given n s (omega (arith, a.0)) (omega (arith, a.1, constraints_size ws' (rule_count ws') (constraint_count ws') k))
+        given n s (omega (arith, a.0)) (omega (arith, a.1, constraints_size ws' (rule_count ws') (constraint_count ws') (omega (arith, k.all)), k.all, checks_few (form_byte ws')))
     body c (Ok rs) (Ok cs) p q s = let z : ◌≡◌ {A = ℕ} 0 1 = cc in absurd (omega arith)
 
     go : Answered bytes → RefusalOf (length ws') r

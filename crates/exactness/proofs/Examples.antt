@@ -4,6 +4,7 @@ use Rattle.std.proofs.Common.{map, ◌≡◌, refl}
 use Rattle.policy.specs.Limits.{valid, in_range, crowded, repeated, repeats, test_number, operand_in_range, comparison_in_range, ending_in_range, is_reading_value}
 use Rattle.policy.specs.Line.{heads_of, comparisons_of, ending_of}
 use Rattle.operation.specs.Operation.{operation_from, relation_from}
+use Rattle.operation.specs.Said.{says_by, says, constants_of}
 use Rattle.operation.specs.Parts.{constant_comparison, reading_comparison, test_operation, test_word, operand_word, constant_words, comparison_word, comparison_words, ending_word}
 use Rattle.word.specs.Word.{words_of, bytes_of, between}
 use Rattle.operation.specs.Fields.{pack}
@@ -11,11 +12,11 @@ use Rattle.layout.specs.Header.{pack_header}
 use Rattle.image.specs.Check.{well_sized, counts_fit, sums_to_zero}
 use Rattle.image.specs.Held.{rules_in, constraints_in, lines_in, policy_in}
 use Rattle.layout.specs.Layout.{condition_words, part_words, line_words, lines_words, known_form, check_count, sum, check_word, check_words, header_word, rule_part_words, constraint_part_words, content_words, image_words, image_of}
-use Rattle.decode.specs.Decode.{add_literal, add_member, add_comparison, decode_word, decode, is_prefix, in_part, stands_at, keep_if, line_at}
+use Rattle.decode.specs.Decode.{said_in, add_part, decode, is_prefix, in_part, stands_at, keep_if, line_at}
 use Rattle.image.specs.Lines.{add_line, after_line, lines_from, part_lines}
 use Rattle.image.specs.Load.{body_answer, load_words, load}
 use Rattle.exactness.specs.Examples.{worked, empty_policy, policies, images, image_for}
 
 pub images_hold : map image_for policies ≡ images
-unfolding worked empty_policy policies images image_for words_of bytes_of between pack pack_header operation_from relation_from constant_comparison reading_comparison test_operation test_word comparison_word operand_word constant_words comparison_words ending_word condition_words part_words line_words lines_words known_form check_count sum check_word check_words header_word rule_part_words constraint_part_words content_words image_words image_of add_literal add_member add_comparison decode_word decode is_prefix in_part stands_at keep_if line_at add_line after_line lines_from part_lines well_sized counts_fit sums_to_zero body_answer load_words load rules_in constraints_in lines_in policy_in valid in_range crowded repeated repeats test_number operand_in_range comparison_in_range ending_in_range is_reading_value heads_of comparisons_of ending_of
+unfolding worked empty_policy policies images image_for words_of bytes_of between pack pack_header operation_from says says_by constants_of relation_from constant_comparison reading_comparison test_operation test_word comparison_word operand_word constant_words comparison_words ending_word condition_words part_words line_words lines_words known_form check_count sum check_word check_words header_word rule_part_words constraint_part_words content_words image_words image_of said_in add_part decode is_prefix in_part stands_at keep_if line_at add_line after_line lines_from part_lines well_sized counts_fit sums_to_zero body_answer load_words load rules_in constraints_in lines_in policy_in valid in_range crowded repeated repeats test_number operand_in_range comparison_in_range ending_in_range is_reading_value heads_of comparisons_of ending_of
 images_hold = refl

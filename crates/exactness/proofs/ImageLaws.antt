@@ -1,5 +1,5 @@
 -- Laws of whole images: that their words are words, and their parts.
-use Rattle.std.proofs.Common.{ℕ, zero, suc, ◌+◌, ◌<◌, true, List, [], ◌∷◌, ◌++◌, append_assoc, ◌≡◌, sym, ap, ap₂, ◌∙◌, arith, ltb-true, length, take, drop, length-append, length-take, length-drop, take-append-drop, drop_of_length-le, drop-cons, take_at, drop_at, take-take, get_or-take}
+use Rattle.std.proofs.Common.{ℕ, zero, suc, ◌+◌, ◌<◌, ◌≤◌, true, List, [], ◌∷◌, ◌++◌, append_assoc, ◌≡◌, sym, ap, ap₂, ◌∙◌, arith, ltb-true, length, take, drop, length-append, length-take, length-drop, take-append-drop, drop-cons, take_at, drop_at, take-take, get_or-take}
 use Rattle.std.proofs.Math.ListN.{get_or}
 use Rattle.policy.proofs.ListLaws.{and_out}
 use Rattle.policy.specs.Limits.{valid, test_number, comparison_in_range, ending_in_range}
@@ -12,7 +12,7 @@ use Rattle.policy.specs.List.{all}
 use Rattle.policy.specs.declared.comparison.Comparison.{Comparison}
 use Rattle.policy.specs.declared.line.Ending.{Ending}
 use Rattle.policy.specs.declared.line.Test.{Test}
-use Rattle.operation.proofs.PartsLaws.{Written, with_constant, with_reading, written, test_below, causes_below, never_below}
+use Rattle.operation.proofs.PartsLaws.{Written, with_constant, with_reading, written, test_below, ending_below}
 use Rattle.layout.proofs.LayoutLaws.{condition_length, part_length, condition_size_limit}
 use Rattle.policy.proofs.ValidLaws.{valid_out, test_in_range}
 
@@ -29,11 +29,6 @@ below_cons k w ws h b (suc i) = b i
 
 pub below_none : Below word_limit []
 below_none i = omega arith
-
-ending_below : (e : Ending) → ending_in_range e ≡ true → ending_word e < word_limit
-unfolding ending_in_range
-ending_below (Ending.Causes a) h = causes_below a (ltb-true a.0 64 h)
-ending_below Ending.Never h = never_below
 
 comparison_below : (c : Comparison) (k : ℕ) → Written c k → Below word_limit (comparison_words c k)
 comparison_below c k (with_constant w v q o s b h z) = rw q (below_cons word_limit w (v ∷ []) h.limit (below_cons word_limit v [] z.1 below_none))
@@ -95,7 +90,7 @@ module _ (h : ℕ) (rules constraints checks : List ℕ) (P N : ℕ) (p : length
 first_of : (ws : List ℕ) → 0 < length ws → ws ≡ get_or ws 0 0 ∷ drop 1 ws
 first_of ws h = drop-cons ws 0 0 h
 
-module _ (ws : List ℕ) (P N : ℕ) (size : length ws ≡ 1 + P + N + 1) where
+module _ (ws : List ℕ) (P N : ℕ) (size : 1 + P + N ≤ length ws) where
   pub rules_size : length (between 1 (1 + P) ws) ≡ P
   unfolding between
   rules_size = omega (arith, length-drop 1 (take (1 + P) ws), length-take (1 + P) ws)
@@ -104,22 +99,15 @@ module _ (ws : List ℕ) (P N : ℕ) (size : length ws ≡ 1 + P + N + 1) where
   unfolding between
   constraints_size = omega (arith, length-drop (1 + P) (take (1 + P + N) ws), length-take (1 + P + N) ws)
 
-  last_of : drop (1 + P + N) ws ≡ get_or ws (1 + P + N) 0 ∷ []
-  last_of =
-      drop-cons ws (1 + P + N) 0 (omega arith)
-      ∙ ap (λ (x : List ℕ). get_or ws (1 + P + N) 0 ∷ x) (drop_of_length-le ws {i = suc (1 + P + N)} (omega arith))
-
   head_of : take (1 + P) ws ≡ get_or ws 0 0 ∷ between 1 (1 + P) ws
   unfolding between
   head_of =
       first_of (take (1 + P) ws) (omega (arith, length-take (1 + P) ws))
       ∙ ap (λ (x : ℕ). x ∷ drop 1 (take (1 + P) ws)) (get_or-take (1 + P) ws 0 0 (omega arith))
 
-  body_of : take (1 + P + N) ws ≡ get_or ws 0 0 ∷ between 1 (1 + P) ws ++ between (1 + P) (1 + P + N) ws
+  -- the words before the check words
+  pub content_of : take (1 + P + N) ws ≡ get_or ws 0 0 ∷ between 1 (1 + P) ws ++ between (1 + P) (1 + P + N) ws
   unfolding between
-  body_of =
+  content_of =
       sym (take-append-drop (1 + P) (take (1 + P + N) ws))
       ∙ ap (λ (x : List ℕ). x ++ drop (1 + P) (take (1 + P + N) ws)) (take-take (1 + P) (1 + P + N) ws (omega arith) ∙ head_of)
-
-  pub parts_of : ws ≡ (get_or ws 0 0 ∷ between 1 (1 + P) ws ++ between (1 + P) (1 + P + N) ws) ++ get_or ws (1 + P + N) 0 ∷ []
-  parts_of = sym (take-append-drop (1 + P + N) ws) ∙ ap₂ (λ (x y : List ℕ). x ++ y) body_of last_of

@@ -20,7 +20,7 @@ use Rattle.codegen.proofs.AcceptedLaws.{newest_known}
 use Rattle.codegen.proofs.RoomLaws.{texts_refusal, texts_read_is}
 use Rattle.codegen.specs.Compile.{newest_form, compiled_texts}
 use Rattle.epoch_line.specs.Epoch.{read_epoch}
-use Rattle.layout.specs.Layout.{image_of}
+use Rattle.layout.specs.Layout.{image_of, size_limit}
 use Rattle.meaning.proofs.Decided.{image_refuses, image_decides}
 use Rattle.pdl.specs.Yield as Yield
 use Rattle.monitor.specs.Decision.{decision}
@@ -121,16 +121,16 @@ on_image_is maker site line n p ok = go (read_epoch line) refl
     go (Err r) q = ap (λ (d : Result Actions Refusal). on_decision maker site n d (Err r)) (image_refuses newest_form newest_known p ok line r q)
     go (Ok e) q = ap (λ (d : Result Actions Refusal). on_decision maker site n d (Ok e)) (image_decides newest_form newest_known p ok line e q)
 
-module _ (maker site line : List ℕ) (n : ℕ) (buffer written : List ℕ) (answer : Result ℕ Refusal) (made : answer ≡ (compiled_texts maker site buffer).answer)
-    (wrote : written ≡ (compiled_texts maker site buffer).buffer) (long : length buffer ≡ 13064) where
+module _ (maker site line : List ℕ) (n : ℕ) (buffer written : List ℕ) (answer : Result ℕ Refusal) (made : answer ≡ (compiled_texts newest_form maker site buffer).answer)
+    (wrote : written ≡ (compiled_texts newest_form maker site buffer).buffer) (long : length buffer ≡ size_limit) where
   pub explains_refusal : (r : Refusal) → answer ≡ Err r → Err r ≡ explained maker site line n
   unfolding explained
-  explains_refusal r e = rw (texts_refusal maker site buffer long r (sym made ∙ e))
+  explains_refusal r e = rw (texts_refusal newest_form newest_known maker site buffer long r (sym made ∙ e))
 
   pub explains_image : (size : ℕ) → answer ≡ Ok size → (x : Result Explanation Refusal) → x ≡ explained_on maker site line n (take size written) → x ≡ explained maker site line n
   unfolding explained
   explains_image size e x h =
-      let r = texts_read_is maker site buffer long size (sym made ∙ e) in
+      let r = texts_read_is newest_form newest_known maker site buffer long size (sym made ∙ e) in
       let image : take size written ≡ image_of newest_form r.policy = ap (take size) wrote ∙ r.image in
       h ∙ ap (explained_on maker site line n) image ∙ on_image_is maker site line n r.policy (texts_acceptable maker site r.policy r.read)
       ∙ sym (ap (result_and_then (λ (p : Policy). on_epoch maker site p n (read_epoch line))) r.read)

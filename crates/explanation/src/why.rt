@@ -8,7 +8,7 @@ ghost use Rattle.explanation.specs.Steps.Sought.{sought_by};
 
 use crate::find::{Sought, find};
 use crate::part::Shown;
-use codegen::compile_texts;
+use codegen::{NEWEST_FORM, compile_texts};
 use epoch_line::read_epoch;
 use image::IMAGE_SIZE;
 use monitor::{Actions, decide};
@@ -102,6 +102,6 @@ pub fn explain<'m, 's>(
     ensures { result_map_both said_by (λ refusal. refusal) result ≡ explained maker.now site.now line.now number }
 {
     let mut image = [0u8; IMAGE_SIZE];
-    let size = compile_texts(maker, site, &mut image)?;
+    let size = compile_texts(NEWEST_FORM, maker, site, &mut image)?;
     explain_on(&image[..size], maker, site, line, number)
 }

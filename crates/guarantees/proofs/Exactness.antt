@@ -1,7 +1,7 @@
 -- The loader takes exactly the images that some accepted text compiles to, and when it refuses under 11.
 use Rattle.std.specs.Prelude.{Some}
 use Rattle.policy.specs.Line.{PolicyLine}
-use Rattle.std.proofs.Common.{ℕ, true, List, [], ◌∷◌, ◌↔◌, ◌≡◌, refl, sym, ap, ◌∙◌, subst, arith, ltb-true, eqb-true, length, Result, Ok, Err}
+use Rattle.std.proofs.Common.{ℕ, true, List, [], ◌∷◌, ◌↔◌, ◌≡◌, refl, sym, ap, ◌∙◌, subst, arith, ltb-true, length, Result, Ok, Err}
 use Rattle.policy.proofs.ListLaws.{and_out}
 use Rattle.policy.specs.Fault.{fault_number, refusal}
 use Rattle.policy.specs.Limits.{Acceptable}
@@ -13,13 +13,12 @@ use Rattle.exactness.proofs.Exact.{exactly_images, image_refused_exactly, image_
 use Rattle.exactness.specs.Exact.{contents_of, Checked}
 use Rattle.exactness.specs.ImageFault.{ImageFault}
 use Rattle.layout.specs.Layout.{known_form, image_of}
+use Rattle.image.specs.Check.{form_byte}
 use Rattle.image.specs.Held.{policy_in}
 use Rattle.image.specs.Lines.{rule_part, constraint_part, rule_lines, constraint_lines}
 use Rattle.image.specs.Load.{body_answer, load_words, load, Contents}
 use Rattle.word.specs.Word.{Bytes, words_of}
-use Rattle.codegen.proofs.AcceptedLaws.{newest_known}
 use Rattle.codegen.proofs.Compilation.{text_compiled, image_written}
-use Rattle.codegen.specs.Compile.{newest_form}
 use Rattle.printer.proofs.Printing.{text_read_is, text_policy, text_ascii}
 use Rattle.printer.proofs.SplitLaws.{ascii}
 use Rattle.printer.specs.Printed.{text_of}
@@ -31,19 +30,15 @@ ascii_bytes [] h i = omega arith
 ascii_bytes (b ∷ s) h ℕ.zero = let l = ltb-true b 128 (and_out (ascii b) (all ascii s) h).0 in omega arith
 ascii_bytes (b ∷ s) h (ℕ.suc i) = ascii_bytes s (and_out (ascii b) (all ascii s) h).1 i
 
--- the text printed from a policy compiles to the policy's image
-pub printed_compiles : (p : Policy) → Acceptable p → CompilesTo (text_of p) (image_of newest_form p)
-printed_compiles p ok =
-    let image : List ℕ = image_of newest_form p in
-    let e = text_compiled (text_of p) image p (text_read_is p ok) (omega arith) in
-    let w = image_written (text_of p) image (length image) e in
+-- the text printed from a policy compiles to the policy's image, in each form
+pub printed_compiles : (form : ℕ) → known_form form ≡ true → (p : Policy) → Acceptable p → CompilesTo form (text_of p) (image_of form p)
+printed_compiles form known p ok =
+    let image : List ℕ = image_of form p in
+    let e = text_compiled form (text_of p) image known p (text_read_is p ok) (omega arith) in
+    let w = image_written form (text_of p) image (length image) e in
     let q : Some p ≡ Some w.policy = sym (text_policy p ok) ∙ w.read in
     let same : p ≡ w.policy = cc in
-    record { buffer = image; size = length image; accepted = e; written = w.image ∙ ap (image_of newest_form) (sym same) }
-
-pub newest_only : (form : ℕ) → known_form form ≡ true → form ≡ newest_form
-unfolding known_form
-newest_only form k = eqb-true form newest_form k
+    record { buffer = image; size = length image; accepted = e; written = w.image ∙ ap (image_of form) (sym same) }
 
 -- the loader takes a byte sequence exactly if some accepted text compiles to it
 pub taken_exactly : (bytes : List ℕ) → Bytes bytes → ((contents : Contents) × (load bytes ≡ Ok contents)) ↔ SomeText bytes
@@ -52,20 +47,24 @@ taken_exactly bytes bounded = (there, back)
     there : (contents : Contents) × (load bytes ≡ Ok contents) → SomeText bytes
     there x =
         let i = (exactly_images bytes bounded).0 x in
-        let same : image_of newest_form i.policy ≡ bytes = ap (λ (f : ℕ). image_of f i.policy) (sym (newest_only i.form i.known)) ∙ i.same in
-        record { text = text_of i.policy; bytes = ascii_bytes (text_of i.policy) (text_ascii i.policy); compiles = subst (CompilesTo (text_of i.policy)) same (printed_compiles i.policy i.acceptable) }
+        record {
+          form = i.form;
+          text = text_of i.policy;
+          bytes = ascii_bytes (text_of i.policy) (text_ascii i.policy);
+          compiles = subst (CompilesTo i.form (text_of i.policy)) i.same (printed_compiles i.form i.known i.policy i.acceptable);
+        }
 
     back : SomeText bytes → (contents : Contents) × (load bytes ≡ Ok contents)
     back x =
-        let t = image_of_text x.text bytes x.compiles in
-        (contents_of t.policy, ap load t.same ∙ image_taken newest_form newest_known t.policy t.acceptable)
+        let t = image_of_text x.form x.text bytes x.compiles in
+        (contents_of t.policy, ap load t.same ∙ image_taken x.form t.form_known t.policy t.acceptable)
 
--- compiling what was loaded: the text printed from the policy that a taken image holds compiles to that image
-pub loaded_compiles : (bytes : List ℕ) → Bytes bytes → (contents : Contents) → load bytes ≡ Ok contents → CompilesTo (text_of (policy_in bytes)) bytes
+-- compiling what was loaded: the text printed from the policy that a taken image holds compiles to that image, in its form
+pub loaded_compiles : (bytes : List ℕ) → Bytes bytes → (contents : Contents) → load bytes ≡ Ok contents → CompilesTo (form_byte (words_of bytes)) (text_of (policy_in bytes)) bytes
 loaded_compiles bytes bounded contents taken =
-    subst (CompilesTo (text_of (policy_in bytes)))
-    (ap (λ (f : ℕ). image_of f (policy_in bytes)) (sym (newest_only _ (held_form bytes bounded contents taken))) ∙ held_image bytes bounded contents taken)
-    (printed_compiles (policy_in bytes) (held_acceptable bytes bounded contents taken))
+    let form = form_byte (words_of bytes) in
+    subst (CompilesTo form (text_of (policy_in bytes))) (held_image bytes bounded contents taken)
+    (printed_compiles form (held_form bytes bounded contents taken) (policy_in bytes) (held_acceptable bytes bounded contents taken))
 
 -- fault 11 is given exactly if the checks 7 to 10 pass and no accepted text compiles to the bytes
 pub body_exactly : (bytes : List ℕ) → Bytes bytes → ((location : ℕ) × (load bytes ≡ Err (refusal Fault.ImageBody location))) ↔ (Checked bytes × ¬ SomeText bytes)

@@ -30,8 +30,6 @@ use Rattle.pdl.specs.Yield.{rule_holds, propose, proposals}
 use Rattle.epoch_line.specs.Epoch.{read_epoch}
 use Rattle.acceptance.proofs.Texts.{site_empty}
 use Rattle.rule_text.specs.Text.{read_text, read_texts, policy_of_texts}
-use Rattle.codegen.proofs.AcceptedLaws.{newest_known}
-use Rattle.codegen.specs.Compile.{newest_form}
 use Rattle.codegen.specs.Steps.Put.{lines_of_both}
 use Rattle.monitor.specs.Decision.{decision, answer_of}
 use Rattle.explanation.specs.Part.{Stretch, Quote, of_maker, of_site, first_shown}
@@ -216,12 +214,12 @@ module _ (maker site : List ℕ) (p : Policy) (e : Epoch) (a : Action) (small : 
 
 module _ (maker site line : List ℕ) (n : ℕ) (q : IsExplainable maker site line n) where
   -- the sets that the policy of both texts yields are those of the decision on the image of both
-  pub asked_decided : (image : List ℕ) → TextsCompileTo maker site image → answer_of (decision image line) ≡ yield_of q.policy q.epoch
-  asked_decided image c =
-      let t = image_of_texts maker site image c in
+  pub asked_decided : (form : ℕ) (image : List ℕ) → TextsCompileTo form maker site image → answer_of (decision image line) ≡ yield_of q.policy q.epoch
+  asked_decided form image c =
+      let t = image_of_texts form maker site image c in
       let k : Some q.policy ≡ Some t.policy = sym q.both ∙ t.read in
       let same : t.policy ≡ q.policy = cc in
-      ap (λ (x : List ℕ). answer_of (decision x line)) t.same ∙ written_yields newest_form newest_known t.policy t.acceptable line q.epoch q.read
+      ap (λ (x : List ℕ). answer_of (decision x line)) t.same ∙ written_yields form t.form_known t.policy t.acceptable line q.epoch q.read
       ∙ ap (λ (p : Policy). yield_of p q.epoch) same
 
   lines : Both maker site q.policy
@@ -255,10 +253,10 @@ shown_straight maker site line n why shown h k =
 
 -- what is told is membership in the accepted and the cancelled set of the decision on the image of both texts
 pub outcome_told : (maker site line : List ℕ) (n : ℕ) (why : Explanation) → explained maker site line n ≡ Ok why
-    → (image : List ℕ) → TextsCompileTo maker site image → TellsOutcome (answer_of (decision image line)) (action n) why
-outcome_told maker site line n why h image c =
+    → (form : ℕ) (image : List ℕ) → TextsCompileTo form maker site image → TellsOutcome (answer_of (decision image line)) (action n) why
+outcome_told maker site line n why h form image c =
     let q = (explained_exactly maker site line n).0 (why, h) in
-    subst⁻¹ (λ (x : Answer). TellsOutcome x (action n) why) (asked_decided maker site line n q image c) (asked_told maker site line n q why h)
+    subst⁻¹ (λ (x : Answer). TellsOutcome x (action n) why) (asked_decided maker site line n q form image c) (asked_told maker site line n q why h)
 
 -- ---- where the site's text is empty
 
@@ -274,8 +272,8 @@ module _ (maker line : List ℕ) (n : ℕ) where
   explained_alone = ap (by_texts maker [] line n) (site_empty maker)
 
   -- what is told is the decision's on the image of the maker's text
-  pub alone_told : (why : Explanation) → explained maker [] line n ≡ Ok why → (image : List ℕ) → CompilesTo maker image → TellsOutcome (answer_of (decision image line)) (action n) why
-  alone_told why h image c = outcome_told maker [] line n why h image ((alone_writes maker image).0 c)
+  pub alone_told : (why : Explanation) → explained maker [] line n ≡ Ok why → (form : ℕ) (image : List ℕ) → CompilesTo form maker image → TellsOutcome (answer_of (decision image line)) (action n) why
+  alone_told why h form image c = outcome_told maker [] line n why h form image ((alone_writes form maker image).0 c)
 
   -- and what is shown is the maker's
   pub alone_shown : (why : Explanation) (shown : Quote) → explained maker [] line n ≡ Ok why → quoted why ≡ Some shown → (x : Stretch) × (shown ≡ of_maker x)

@@ -17,7 +17,8 @@ use Rattle.syntax.specs.Judge.{line_answer}
 use Rattle.rule_text.specs.Answer.{counts_of, counted, texts_read}
 use Rattle.rule_text.proofs.ReadLaws.{LineRead, line_reads, lines_read, behind_read}
 use Rattle.rule_text.specs.Text.{read_line, read_lines, empty_policy, read_text_behind, read_text, read_texts}
-use Rattle.codegen.proofs.AcceptedLaws.{accepted_texts}
+use Rattle.codegen.proofs.AcceptedLaws.{accepted_texts, newest_known}
+use Rattle.codegen.specs.Compile.{newest_form}
 use Rattle.codegen.specs.Steps.Put.{accepted_line, accepted_lines, lines_of_both}
 use Rattle.explanation.specs.Part.{trim, Stretch, Quote, of_maker, of_site, shown_at, or_later, first_from, first_shown}
 use Rattle.guarantees.proofs.ShownLaws.{trimming, not_empty, line_at, part_straight}
@@ -175,7 +176,7 @@ pub both : (maker site : List ℕ) (p : Policy) → read_texts maker site ≡ Ok
 unfolding read_texts read_text texts_read
 both maker site p e =
     let k = and_then_ok (λ (q : Policy). in_text Source.Site (read_text_behind q site)) (read_text maker) p e in
-    let a = accepted_texts maker site (counts_of p) (ap counted e) in
+    let a = accepted_texts newest_form maker site (counts_of p) newest_known (ap counted e) in
     let read : read_texts maker site ≡ Ok p = e in
     let same : a.policy ≡ p = cc (a.read) in
     record {

@@ -5,6 +5,7 @@ use Rattle.std.proofs.Math.Numerals.{unary_clauses}
 use Rattle.policy.specs.Policy.{Policy}
 use Rattle.policy.specs.Limits.{Acceptable}
 use Rattle.layout.specs.Layout.{image_of}
+use Rattle.codegen.proofs.AcceptedLaws.{newest_known}
 use Rattle.codegen.specs.Compile.{newest_form}
 use Rattle.monitor.specs.Decision.{decision_in, answer_of}
 use Rattle.monitor.specs.declared.decision.Actions.{Actions}
@@ -44,7 +45,7 @@ module _ (p : Policy) (ok : Acceptable p) where
   lines_agree (x ∷ lines) [] (suc n) h = refl
   lines_agree (x ∷ lines) (d ∷ ds) zero h = absurd (omega (arith, h))
   lines_agree (x ∷ lines) (d ∷ ds) (suc n) h =
-      ap₂ (λ (a : Answer) (rest : List Answer). a ∷ rest) (same_answer p ok x.mode x.line.now) (lines_agree lines ds n (omega (arith, h)))
+      ap₂ (λ (a : Answer) (rest : List Answer). a ∷ rest) (same_answer newest_form newest_known p ok x.mode x.line.now) (lines_agree lines ds n (omega (arith, h)))
 
   pub decided_agree : (lines : List Told) (ds : List (Result Actions Refusal))
       → map answer_of (take (min (length lines) (length ds)) (decided_lines (image_of newest_form p) lines ds)) ≡ steps p (take (length ds) (told lines))

@@ -48,14 +48,14 @@ module _ (p : Policy) (e : Epoch) (a : Action) (listed : Memᴰ (lone a) p.const
             cancelled = λ r h. other_in (proposed p.rules e) (issued p e) (withheld p e) (record { rest = issued_with_withheld p e; apart = withheld_apart p e }) a h out;
           }
 
-pub lone_constraint_cancels : (maker site image : List ℕ) → TextsCompileTo maker site image → (p : Policy) → policy_of_texts maker site ≡ Some p
+pub lone_constraint_cancels : (form : ℕ) (maker site image : List ℕ) → TextsCompileTo form maker site image → (p : Policy) → policy_of_texts maker site ≡ Some p
     → (x : Action) → Memᴰ (lone x) p.constraints → (mode : Mode) (line : List ℕ) (e : Epoch) → read_epoch line ≡ Ok e
     → KeptOut p e x (answer_of (decision_in mode image line))
 unfolding step answer
-lone_constraint_cancels maker site image c p q x listed mode line e r =
-    let t = image_of_texts maker site image c in
+lone_constraint_cancels form maker site image c p q x listed mode line e r =
+    let t = image_of_texts form maker site image c in
     let k : Some p ≡ Some t.policy = sym q ∙ t.read in
     let same : t.policy ≡ p = cc in
     subst⁻¹ (KeptOut p e x)
-    (ap (λ (i : List ℕ). answer_of (decision_in mode i line)) t.same ∙ same_answer t.policy t.acceptable mode line ∙ ap (λ (y : Policy). step mode y line) same ∙ ap (answer mode p) r)
+    (ap (λ (i : List ℕ). answer_of (decision_in mode i line)) t.same ∙ same_answer form t.form_known t.policy t.acceptable mode line ∙ ap (λ (y : Policy). step mode y line) same ∙ ap (answer mode p) r)
     (kept_out p e x listed mode)

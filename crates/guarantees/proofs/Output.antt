@@ -9,6 +9,7 @@ use Rattle.pdl.specs.Answer.{Answer}
 use Rattle.acceptance.proofs.Accepted.{accepted_acceptable}
 use Rattle.rule_text.specs.Text.{read_text}
 use Rattle.layout.specs.Layout.{image_of}
+use Rattle.codegen.proofs.AcceptedLaws.{newest_known}
 use Rattle.codegen.specs.Compile.{newest_form}
 use Rattle.monitor.specs.Decision.{decision_in, answer_of, visited_in}
 use Rattle.monitor.specs.declared.decision.Actions.{Actions}
@@ -27,7 +28,7 @@ unfolding epoch_lines machine_answer_lines fetched
 epoch_lines_is p ok mode n [] = refl
 epoch_lines_is p ok mode n (line ∷ lines) =
     ap₂ (λ (x y : List ℕ). x ++ y)
-    (decision_line_is (next_number n) (decision_in mode (image_of newest_form p) line) ∙ ap (λ (a : Answer). answer_line (next_number n) a (fetched mode p line)) (same_answer p ok mode line))
+    (decision_line_is (next_number n) (decision_in mode (image_of newest_form p) line) ∙ ap (λ (a : Answer). answer_line (next_number n) a (fetched mode p line)) (same_answer newest_form newest_known p ok mode line))
     (epoch_lines_is p ok mode (next_number n) lines)
 
 text_lines : (text : List ℕ) (s : Session) → printed_for text s ≡ machine_lines fetched (read_text text) s

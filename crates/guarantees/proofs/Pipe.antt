@@ -55,7 +55,7 @@ restored_words : (p : Policy) → Acceptable p → restored (word_lines (words_o
 unfolding image_answer loaded_answer
 restored_words p ok =
     let image : List ℕ = image_of newest_form p in
-    ap restored (word_lines_is (words_of image)) ∙ restored_image image (image_bytes p) (whole_words p)
+    ap restored (word_lines_is (words_of image)) ∙ restored_image image (image_bytes newest_form p) (whole_words p)
     ∙ rw (image_taken newest_form newest_known p ok, image_holds newest_form newest_known p ok)
 
 -- for every accepted text the decompiler prints, of what the compiler prints, the text of the text's policy

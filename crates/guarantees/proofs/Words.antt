@@ -1,8 +1,6 @@
 -- How many words of its image a decision fetches, in each mode.
 use Rattle.policy.specs.declared.fault.Refusal.{Refusal}
-use Rattle.std.proofs.Common.{ℕ, ◌+◌, ◌*◌, ◌≤◌, Bool, true, false, cond, ◌&&◌, List, ◌≡◌, refl, sym, ap, ◌∙◌, mul-le-mul_right, arith, leb-true, length, Result, Ok, Err}
-use Rattle.std.proofs.Math.Dec.{leb, eqb}
-use Rattle.policy.proofs.ListLaws.{and_out}
+use Rattle.std.proofs.Common.{ℕ, ◌+◌, ◌*◌, ◌≤◌, Bool, true, false, cond, List, ◌≡◌, refl, sym, ap, ◌∙◌, mul-le-mul_right, arith, length, Result, Ok, Err}
 use Rattle.policy.specs.declared.epoch.Epoch.{Epoch}
 use Rattle.policy.specs.Fault.{refusal}
 use Rattle.policy.specs.Set.{ActionSet, size, all_events, keeping, set_of}
@@ -13,14 +11,14 @@ use Rattle.pdl.proofs.Monitor.{accepted_with_cancelled}
 use Rattle.epoch_line.specs.Epoch.{read_epoch}
 use Rattle.word.specs.Word.{Bytes, words_of}
 use Rattle.image.specs.Held.{policy_in}
-use Rattle.layout.specs.Layout.{check_count}
-use Rattle.image.specs.Check.{form_byte, rule_count, constraint_count, counts_fit}
+use Rattle.layout.specs.Layout.{rule_word_limit, constraint_word_limit}
+use Rattle.image.specs.Check.{form_byte, rule_count, constraint_count}
 use Rattle.image.specs.Load.{load, Contents}
 use Rattle.exactness.proofs.Exact.{took}
 use Rattle.meaning.proofs.Fetched.{taken_rules_fetch, taken_trial_fetch}
 use Rattle.meaning.proofs.Taken.{taken_rules_run, taken_implements}
 use Rattle.exactness.proofs.ImageLaws.{rules_size, constraints_size}
-use Rattle.image.proofs.HeldLaws.{counts_add}
+use Rattle.image.proofs.HeldLaws.{counted}
 use Rattle.monitor.proofs.DecideLaws.{line_refused, line_accepted}
 use Rattle.monitor.specs.Decision.{visited_by, proposed_by, conflict_by, trial_words, tried_words, proposed_with_by, clash_by, clash_words, tried_event_words, yielded_by, reduced_by, reduction_by, decided_by, on_image, decision_in, decision, answer_of, visited_in}
 use Rattle.monitor.specs.declared.decision.Actions.{Actions}
@@ -104,16 +102,15 @@ module _ (image : List ℕ) (bounded : Bytes image) (contents : Contents) (taken
 -- ---- whatever the bytes and the line
 
 -- the counts of an image that is taken
-counts : (image : List ℕ) (contents : Contents) → load image ≡ Ok contents → (length contents.rules ≤ 2176) × (length contents.constraints ≤ 1088)
-unfolding counts_fit
+counts : (image : List ℕ) (contents : Contents) → load image ≡ Ok contents
+    → (length contents.rules ≤ rule_word_limit (form_byte (words_of image))) × (length contents.constraints ≤ constraint_word_limit (form_byte (words_of image)))
 counts image contents q =
     let t = took image contents q in
     let ws = words_of image in
-    let fits = and_out (leb (rule_count ws) 2176 && leb (constraint_count ws) 1088) (eqb (length ws) (1 + rule_count ws + constraint_count ws + check_count (form_byte ws))) t.checked.count in
-    let few = and_out (leb (rule_count ws) 2176) (leb (constraint_count ws) 1088) fits.0 in
-    let all = counts_add ws t.checked.count in (
-      omega (arith, ap length t.rules_are, rules_size ws (rule_count ws) (constraint_count ws) all, leb-true (rule_count ws) 2176 few.0),
-      omega (arith, ap length t.constraints_are, constraints_size ws (rule_count ws) (constraint_count ws) all, leb-true (constraint_count ws) 1088 few.1),
+    let c = counted ws t.checked.count in
+    let room : 1 + rule_count ws + constraint_count ws ≤ length ws = omega (arith, c.all) in (
+      omega (arith, ap length t.rules_are, rules_size ws (rule_count ws) (constraint_count ws) room, c.rules),
+      omega (arith, ap length t.constraints_are, constraints_size ws (rule_count ws) (constraint_count ws) room, c.constraints),
     )
 
 pub words_limit : (image line : List ℕ) → Bytes image → visited_in (decision image line) ≤ 71808

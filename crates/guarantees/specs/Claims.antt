@@ -16,13 +16,13 @@ pub record Writes (call : List ℕ → Filled) (image : List ℕ) : Type 0 where
   pub accepted : (call buffer).answer ≡ Ok size
   pub written : take size (call buffer).buffer ≡ image
 
--- its call on the text
-abbrev pub CompilesTo : List ℕ → List ℕ → Type 0
-CompilesTo text image = Writes (compiled text) image
+-- its call to this form on the text
+abbrev pub CompilesTo : ℕ → List ℕ → List ℕ → Type 0
+CompilesTo form text image = Writes (compiled form text) image
 
 -- its call on the maker's and the site's text
-abbrev pub TextsCompileTo : List ℕ → List ℕ → List ℕ → Type 0
-TextsCompileTo maker site image = Writes (compiled_texts maker site) image
+abbrev pub TextsCompileTo : ℕ → List ℕ → List ℕ → List ℕ → Type 0
+TextsCompileTo form maker site image = Writes (compiled_texts form maker site) image
 
 -- the decompiler's call on the image was accepted, and the text is the bytes that it wrote, no more and no fewer
 pub record DecompilesTo (image text : List ℕ) : Type 0 where
@@ -35,8 +35,9 @@ pub record DecompilesTo (image text : List ℕ) : Type 0 where
 unfoldable pub answers : List ℕ → List ToldLine → List Answer
 answers image lines = map (λ (x : ToldLine). answer_of (decision_in x.mode image x.line)) lines
 
--- some accepted text compiles to the image
+-- some accepted text compiles to the image, in some form
 pub record SomeText (image : List ℕ) : Type 0 where
+  pub form : ℕ
   pub text : List ℕ
   pub bytes : Bytes text
-  pub compiles : CompilesTo text image
+  pub compiles : CompilesTo form text image

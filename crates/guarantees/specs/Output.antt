@@ -10,6 +10,7 @@ use Rattle.output.specs.Number.{decimal}
 use Rattle.layout.specs.Layout.{image_of}
 use Rattle.codegen.specs.Compile.{newest_form}
 use Rattle.monitor.specs.Decision.{decision_in, visited_in}
+use Rattle.policy.specs.Set.{members_of}
 use Rattle.report.specs.Report.{refusal_line, words_field, accept_line, next_number}
 use Rattle.session.specs.Printed.{Session, text_only, with_epochs, split_at_run, text_part}
 use Rattle.pdl.specs.Answer.{Answer}
@@ -18,7 +19,7 @@ use Rattle.guarantees.specs.Machine.{step}
 -- of a refused epoch the line shows its fault's number and no sets
 unfoldable pub answer_line : ℕ → Answer → ℕ → List ℕ
 answer_line n a words =
-    if a.is_refused then decimal n ++ bytes " refused " ++ decimal a.number ++ words_field words else accept_line n a.accepted a.cancelled words
+    if a.is_refused then decimal n ++ bytes " refused " ++ decimal a.number ++ words_field words else accept_line n (members_of a.accepted) (members_of a.cancelled) words
 
 -- the machine counts no words: what is printed as their number is told for each mode, policy and line
 module _ (words : Mode → Policy → List ℕ → ℕ) where

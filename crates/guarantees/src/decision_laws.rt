@@ -25,35 +25,35 @@ ghost use Rattle.policy.specs.Fault.{refusal};
 ghost use Rattle.image.specs.Held.{policy_in};
 ghost use Rattle.image.specs.Load.{load, Contents};
 
-/// For every text, the bytes that the compiler wrote for it and every list of epoch lines with the mode of each, refused ones included: the list of
+/// For every form and text, the bytes that the compiler wrote for it and every list of epoch lines with the mode of each, refused ones included: the list of
 /// decisions on those bytes is that of the reference machine, which sees the text and no image.
 pub fn decisions_agree()
-    ensures { (text image : List ℕ) → CompilesTo text image → (lines : List ToldLine) → Some (answers image lines) ≡ machine text lines }
+    ensures { (form : ℕ) (text image : List ℕ) → CompilesTo form text image → (lines : List ToldLine) → Some (answers image lines) ≡ machine text lines }
 {}
 
 /// The same for the maker's and the site's text as one.
 pub fn texts_decisions_agree()
-    ensures { (maker site image : List ℕ) → TextsCompileTo maker site image → (lines : List ToldLine) → Some (answers image lines) ≡ machine_of_texts maker site lines }
+    ensures { (form : ℕ) (maker site image : List ℕ) → TextsCompileTo form maker site image → (lines : List ToldLine) → Some (answers image lines) ≡ machine_of_texts maker site lines }
 {}
 
 /// Whichever one word of a compiled image is changed, to whatever other value, the decision on every line is refused by a check of the image.
 pub fn change_refused()
-    ensures { (text image : List ℕ) → CompilesTo text image → (i v : ℕ) → i < length (words_of image) → v < word_limit → ¬ (v ≡ word_at image i) → (mode : Mode) (line : List ℕ) → CheckFailed (answer_of (decision_in mode (changed image i v) line)) }
+    ensures { (form : ℕ) (text image : List ℕ) → CompilesTo form text image → (i v : ℕ) → i < length (words_of image) → v < word_limit → ¬ (v ≡ word_at image i) → (mode : Mode) (line : List ℕ) → CheckFailed (answer_of (decision_in mode (changed image i v) line)) }
 {}
 
 /// The same for the image of two texts.
 pub fn texts_change_refused()
-    ensures { (maker site image : List ℕ) → TextsCompileTo maker site image → (i v : ℕ) → i < length (words_of image) → v < word_limit → ¬ (v ≡ word_at image i) → (mode : Mode) (line : List ℕ) → CheckFailed (answer_of (decision_in mode (changed image i v) line)) }
+    ensures { (form : ℕ) (maker site image : List ℕ) → TextsCompileTo form maker site image → (i v : ℕ) → i < length (words_of image) → v < word_limit → ¬ (v ≡ word_at image i) → (mode : Mode) (line : List ℕ) → CheckFailed (answer_of (decision_in mode (changed image i v) line)) }
 {}
 
 /// What is changed there is one word: the bytes are as many, and the other words are those of the image.
 pub fn change_only()
-    ensures { (text image : List ℕ) → CompilesTo text image → (i v : ℕ) → v < word_limit → (length (changed image i v) ≡ length image) × (words_of (changed image i v) ≡ set (words_of image) i v) }
+    ensures { (form : ℕ) (text image : List ℕ) → CompilesTo form text image → (i v : ℕ) → v < word_limit → (length (changed image i v) ≡ length image) × (words_of (changed image i v) ≡ set (words_of image) i v) }
 {}
 
 /// The same of the image of two texts.
 pub fn texts_change_only()
-    ensures { (maker site image : List ℕ) → TextsCompileTo maker site image → (i v : ℕ) → v < word_limit → (length (changed image i v) ≡ length image) × (words_of (changed image i v) ≡ set (words_of image) i v) }
+    ensures { (form : ℕ) (maker site image : List ℕ) → TextsCompileTo form maker site image → (i v : ℕ) → v < word_limit → (length (changed image i v) ≡ length image) × (words_of (changed image i v) ≡ set (words_of image) i v) }
 {}
 
 /// A decision is refused exactly for a fault of the image, then of the line, and then, by events, where no reduction of the epoch is free of conflict.
@@ -74,7 +74,7 @@ pub fn refused_empty()
 
 /// On the image of a text, the decision by actions on an accepted line is a maximal action cancellation of what the text's rules propose, lower numbers kept first.
 pub fn decision_obeys()
-    ensures { (maker site image : List ℕ) → TextsCompileTo maker site image → (p : Policy) → policy_of_texts maker site ≡ Some p → (line : List ℕ) (e : Epoch) → read_epoch line ≡ Ok e → Obeys p e (answer_of (decision image line)) }
+    ensures { (form : ℕ) (maker site image : List ℕ) → TextsCompileTo form maker site image → (p : Policy) → policy_of_texts maker site ≡ Some p → (line : List ℕ) (e : Epoch) → read_epoch line ≡ Ok e → Obeys p e (answer_of (decision image line)) }
 {}
 
 /// What a policy asks of a decision by actions is met by one answer alone.
@@ -85,7 +85,7 @@ pub fn answer_determined()
 /// On the image of two texts, a decision by actions accepts the best choice: take any other set of proposed actions on which no constraint holds; the lowest
 /// action in which it differs from what is accepted is accepted.
 pub fn decision_best()
-    ensures { (maker site image : List ℕ) → TextsCompileTo maker site image → (p : Policy) → policy_of_texts maker site ≡ Some p → (line : List ℕ) (e : Epoch) → read_epoch line ≡ Ok e → IsBest p e (answer_of (decision image line)).accepted }
+    ensures { (form : ℕ) (maker site image : List ℕ) → TextsCompileTo form maker site image → (p : Policy) → policy_of_texts maker site ≡ Some p → (line : List ℕ) (e : Epoch) → read_epoch line ≡ Ok e → IsBest p e (answer_of (decision image line)).accepted }
 {}
 
 /// The same on every image that the loader takes, by the policy that it holds.
@@ -95,7 +95,7 @@ pub fn image_decision_best()
 
 /// By events: where some reduction of the epoch is free of conflict, the kept events are a maximal one and what they propose is issued.
 pub fn events_decision_obeys()
-    ensures { (maker site image : List ℕ) → TextsCompileTo maker site image → (p : Policy) → policy_of_texts maker site ≡ Some p → (line : List ℕ) (e : Epoch) → read_epoch line ≡ Ok e → Reducible p.constraints (proposed_with p.rules) e → ObeysEvents p e (kept_events p e) (answer_of (decision_in Mode.Events image line)) }
+    ensures { (form : ℕ) (maker site image : List ℕ) → TextsCompileTo form maker site image → (p : Policy) → policy_of_texts maker site ≡ Some p → (line : List ℕ) (e : Epoch) → read_epoch line ≡ Ok e → Reducible p.constraints (proposed_with p.rules) e → ObeysEvents p e (kept_events p e) (answer_of (decision_in Mode.Events image line)) }
 {}
 
 /// What a policy asks of a decision by events is met by one set of kept events and one answer alone.
@@ -105,12 +105,12 @@ pub fn events_answer_determined()
 
 /// By events: the epoch is refused exactly where no reduction of it is free of conflict.
 pub fn events_conflict_refused()
-    ensures { (maker site image : List ℕ) → TextsCompileTo maker site image → (p : Policy) → policy_of_texts maker site ≡ Some p → (line : List ℕ) (e : Epoch) → read_epoch line ≡ Ok e → (decision_in Mode.Events image line ≡ Err (refusal Fault.Unavoidable 0)) ↔ ¬ Reducible p.constraints (proposed_with p.rules) e }
+    ensures { (form : ℕ) (maker site image : List ℕ) → TextsCompileTo form maker site image → (p : Policy) → policy_of_texts maker site ≡ Some p → (line : List ℕ) (e : Epoch) → read_epoch line ≡ Ok e → (decision_in Mode.Events image line ≡ Err (refusal Fault.Unavoidable 0)) ↔ ¬ Reducible p.constraints (proposed_with p.rules) e }
 {}
 
 /// A constraint with one action and no comparison keeps that action out of every decision, in either mode.
 pub fn lone_constraint_cancels()
-    ensures { (maker site image : List ℕ) → TextsCompileTo maker site image → (p : Policy) → policy_of_texts maker site ≡ Some p → (x : Action) → Memᴰ (lone x) p.constraints → (mode : Mode) (line : List ℕ) (e : Epoch) → read_epoch line ≡ Ok e → KeptOut p e x (answer_of (decision_in mode image line)) }
+    ensures { (form : ℕ) (maker site image : List ℕ) → TextsCompileTo form maker site image → (p : Policy) → policy_of_texts maker site ≡ Some p → (x : Action) → Memᴰ (lone x) p.constraints → (mode : Mode) (line : List ℕ) (e : Epoch) → read_epoch line ≡ Ok e → KeptOut p e x (answer_of (decision_in mode image line)) }
 {}
 
 /// A decision by actions fetches at most P + 64 x N words, P and N the words of the rules and of the constraints.

@@ -22,12 +22,12 @@ pub fn explained_exactly()
 
 /// What is explained is the decision by actions on the image of both texts: it answers the sets that their policy yields.
 pub fn asked_decided()
-    ensures { (maker site line : List ℕ) (n : ℕ) (q : IsExplainable maker site line n) (image : List ℕ) → TextsCompileTo maker site image → answer_of (decision image line) ≡ yield_of q.policy q.epoch }
+    ensures { (maker site line : List ℕ) (n : ℕ) (q : IsExplainable maker site line n) (form : ℕ) (image : List ℕ) → TextsCompileTo form maker site image → answer_of (decision image line) ≡ yield_of q.policy q.epoch }
 {}
 
 /// What is told of an action is whether that decision accepts it, cancels it, or neither.
 pub fn outcome_told()
-    ensures { (maker site line : List ℕ) (n : ℕ) (why : Explanation) → explained maker site line n ≡ Ok why → (image : List ℕ) → TextsCompileTo maker site image → TellsOutcome (answer_of (decision image line)) (action n) why }
+    ensures { (maker site line : List ℕ) (n : ℕ) (why : Explanation) → explained maker site line n ≡ Ok why → (form : ℕ) (image : List ℕ) → TextsCompileTo form maker site image → TellsOutcome (answer_of (decision image line)) (action n) why }
 {}
 
 /// For an accepted action the first rule that proposes it is shown.

@@ -1,7 +1,10 @@
 //! Laws of images and of the texts written back from them.
 
-ghost use Rattle.std.specs.Prelude.{List, ℕ, ◌↔◌, ◌≡◌, ◌++◌, drop, length, ◌≤◌, Ok, Err};
-ghost use Rattle.word.specs.Word.{Bytes};
+ghost use Rattle.std.specs.Prelude.{List, ℕ, ◌↔◌, ◌≡◌, ◌++◌, drop, length, ◌≤◌, false, Ok, Err};
+ghost use Rattle.word.specs.Word.{Bytes, words_of};
+ghost use Rattle.layout.specs.Layout.{known_form};
+ghost use Rattle.image.specs.Check.{form_byte};
+ghost use Rattle.policy.specs.Fill.{refuse};
 ghost use Rattle.guarantees.specs.Claims.{SomeText, CompilesTo, TextsCompileTo, DecompilesTo};
 ghost use Rattle.image.specs.Load.{load, Contents};
 ghost use Rattle.exactness.specs.Exact.{Checked};
@@ -13,7 +16,7 @@ ghost use Rattle.rule_text.specs.Text.{policy_of, policy_of_texts};
 ghost use Rattle.image.specs.Held.{policy_in};
 ghost use Rattle.printer.specs.Printed.{text_of};
 
-/// The loader takes exactly the images that some accepted text compiles to.
+/// The loader takes exactly the images that some accepted text compiles to, in some form.
 pub fn taken_exactly()
     ensures { (bytes : List ℕ) → Bytes bytes → ((contents : Contents) × (load bytes ≡ Ok contents)) ↔ SomeText bytes }
 {}
@@ -23,42 +26,47 @@ pub fn body_exactly()
     ensures { (bytes : List ℕ) → Bytes bytes → ((location : ℕ) × (load bytes ≡ Err (refusal Fault.ImageBody location))) ↔ (Checked bytes × ¬ SomeText bytes) }
 {}
 
-/// A compilation that answers a size has written just the image of the text's policy; loading it yields that policy, and compiling that yields the bytes again.
-pub fn image_written()
-    ensures { (text buffer : List ℕ) (size : ℕ) → (compiled text buffer).answer ≡ Ok size → ImageWritten text buffer size }
+/// A compilation to an unknown form is refused for that, whatever the texts and the buffer are, and writes no byte.
+pub fn form_refused()
+    ensures { (form : ℕ) → known_form form ≡ false → (maker site buffer : List ℕ) → compiled_texts form maker site buffer ≡ refuse (refusal Fault.ImageForm 0) buffer }
 {}
 
-/// Two texts give the same image exactly if they have the same rules in the same order and the same constraints in theirs.
+/// A compilation that answers a size has written just the image of the text's policy in the form asked for; loading it yields that policy, and compiling that yields the bytes again.
+pub fn image_written()
+    ensures { (form : ℕ) (text buffer : List ℕ) (size : ℕ) → (compiled form text buffer).answer ≡ Ok size → ImageWritten form text buffer size }
+{}
+
+/// In each form two texts give the same image exactly if they have the same rules in the same order and the same constraints in theirs.
 pub fn same_images()
-    ensures { (s t out out' : List ℕ) (m n : ℕ) → (compiled s out).answer ≡ Ok m → (compiled t out').answer ≡ Ok n → (written_in m s out ≡ written_in n t out') ↔ (policy_of s ≡ policy_of t) }
+    ensures { (form : ℕ) (s t out out' : List ℕ) (m n : ℕ) → (compiled form s out).answer ≡ Ok m → (compiled form t out').answer ≡ Ok n → (written_in form m s out ≡ written_in form n t out') ↔ (policy_of s ≡ policy_of t) }
 {}
 
 /// The same of a pair of texts compiled as one: a compilation that answers a size has written just the image of their policy.
 pub fn texts_written()
-    ensures { (maker site buffer : List ℕ) (size : ℕ) → (compiled_texts maker site buffer).answer ≡ Ok size → TextsImageWritten maker site buffer size }
+    ensures { (form : ℕ) (maker site buffer : List ℕ) (size : ℕ) → (compiled_texts form maker site buffer).answer ≡ Ok size → TextsImageWritten form maker site buffer size }
 {}
 
 /// Two pairs of texts give the same image exactly if each pair as one has the same rules in the same order and the same constraints in theirs.
 pub fn pairs_same_images()
-    ensures { (maker site maker' site' out out' : List ℕ) (m n : ℕ) → (compiled_texts maker site out).answer ≡ Ok m → (compiled_texts maker' site' out').answer ≡ Ok n → (written_by m (compiled_texts maker site out) ≡ written_by n (compiled_texts maker' site' out')) ↔ (policy_of_texts maker site ≡ policy_of_texts maker' site') }
+    ensures { (form : ℕ) (maker site maker' site' out out' : List ℕ) (m n : ℕ) → (compiled_texts form maker site out).answer ≡ Ok m → (compiled_texts form maker' site' out').answer ≡ Ok n → (written_by m (compiled_texts form maker site out) ≡ written_by n (compiled_texts form maker' site' out')) ↔ (policy_of_texts maker site ≡ policy_of_texts maker' site') }
 {}
 
-/// Compiling the text of what was loaded yields the bytes that were loaded.
+/// Compiling the text of what was loaded to the form of that yields the bytes that were loaded.
 pub fn loaded_compiles()
-    ensures { (bytes : List ℕ) → Bytes bytes → (contents : Contents) → load bytes ≡ Ok contents → CompilesTo (text_of (policy_in bytes)) bytes }
+    ensures { (bytes : List ℕ) → Bytes bytes → (contents : Contents) → load bytes ≡ Ok contents → CompilesTo (form_byte (words_of bytes)) (text_of (policy_in bytes)) bytes }
 {}
 
-/// Compiling the text that was written from an image yields the image, byte for byte, in any buffer that has room.
+/// Compiling the text that was written from an image to the image's form yields the image, byte for byte, in any buffer that has room.
 pub fn text_recompiles()
-    ensures { (image text : List ℕ) → Bytes image → DecompilesTo image text → (buffer : List ℕ) → length image ≤ length buffer → ((compiled text buffer).answer ≡ Ok (length image)) × ((compiled text buffer).buffer ≡ image ++ drop (length image) buffer) }
+    ensures { (image text : List ℕ) → Bytes image → DecompilesTo image text → (buffer : List ℕ) → length image ≤ length buffer → ((compiled (form_byte (words_of image)) text buffer).answer ≡ Ok (length image)) × ((compiled (form_byte (words_of image)) text buffer).buffer ≡ image ++ drop (length image) buffer) }
 {}
 
-/// Two texts are written back as the same text exactly if they have the same rules in the same order and the same constraints in theirs.
+/// In whichever forms, two texts are written back as the same text exactly if they have the same rules in the same order and the same constraints in theirs.
 pub fn same_texts()
-    ensures { (s t i j u v : List ℕ) → CompilesTo s i → CompilesTo t j → DecompilesTo i u → DecompilesTo j v → (u ≡ v) ↔ (policy_of s ≡ policy_of t) }
+    ensures { (form form' : ℕ) (s t i j u v : List ℕ) → CompilesTo form s i → CompilesTo form' t j → DecompilesTo i u → DecompilesTo j v → (u ≡ v) ↔ (policy_of s ≡ policy_of t) }
 {}
 
 /// Two pairs of texts are written back as the same text exactly if each pair as one has the same rules in the same order and the same constraints in theirs.
 pub fn pairs_same_texts()
-    ensures { (maker site maker' site' i j u v : List ℕ) → TextsCompileTo maker site i → TextsCompileTo maker' site' j → DecompilesTo i u → DecompilesTo j v → (u ≡ v) ↔ (policy_of_texts maker site ≡ policy_of_texts maker' site') }
+    ensures { (form form' : ℕ) (maker site maker' site' i j u v : List ℕ) → TextsCompileTo form maker site i → TextsCompileTo form' maker' site' j → DecompilesTo i u → DecompilesTo j v → (u ≡ v) ↔ (policy_of_texts maker site ≡ policy_of_texts maker' site') }
 {}

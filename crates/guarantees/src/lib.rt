@@ -17,6 +17,7 @@ ghost use Rattle.std.specs.Prelude.{◌≡◌, IfOk, IfErr};
 ghost use Rattle.rule_text.specs.Text.{read_texts};
 ghost use Rattle.guarantees.specs.Together.{decided_lines, DecidedBy};
 
+use codegen::NEWEST_FORM;
 use image::IMAGE_SIZE;
 use monitor::{Actions, decide};
 use policy::{Mode, Refusal};
@@ -50,7 +51,7 @@ pub fn compile_and_decide(
     ensures err { IfErr result (λ refusal. (read_texts maker.now site.now ≡ Err refusal) × (decisions.new ≡ decisions.old)) }
 {
     let mut image = [0u8; IMAGE_SIZE];
-    let size = codegen::compile_texts(maker, site, &mut image)?;
+    let size = codegen::compile_texts(NEWEST_FORM, maker, site, &mut image)?;
     decide_lines(&image[..size], lines, decisions);
     Ok(())
 }

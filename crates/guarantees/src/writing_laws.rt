@@ -1,6 +1,6 @@
 //! Laws of the text that is written from a policy and from an image.
 
-ghost use Rattle.std.specs.Prelude.{List, ℕ, map, length, ◌+◌, ◌≤◌, ◌≡◌, ◌↔◌, Ok, Some};
+ghost use Rattle.std.specs.Prelude.{List, ℕ, map, length, ◌+◌, ◌≤◌, ◌≡◌, ◌↔◌, true, Ok, Some};
 ghost use Rattle.policy.specs.Limits.{Acceptable};
 ghost use Rattle.policy.specs.Line.{PolicyLine};
 ghost use Rattle.policy.specs.Policy.{Policy};
@@ -8,6 +8,7 @@ ghost use Rattle.lexer.specs.Lines.{lines_of, tokens_of};
 ghost use Rattle.rule_text.specs.Text.{read_text, policy_of};
 ghost use Rattle.printer.specs.Printed.{joined_by, line_bytes, lines_text, longest_text, text_of};
 ghost use Rattle.word.specs.Word.{Bytes};
+ghost use Rattle.layout.specs.Layout.{known_form};
 ghost use Rattle.image.specs.Held.{policy_in};
 ghost use Rattle.image.specs.Load.{load, Contents};
 ghost use Rattle.decompile.specs.Decompile.{decompiled};
@@ -43,7 +44,7 @@ pub fn never_short()
     ensures { (image buffer : List ℕ) → Bytes image → (contents : Contents) → load image ≡ Ok contents → longest_text ≤ length buffer → (decompiled image buffer).answer ≡ Ok (length (text_of (policy_in image))) }
 {}
 
-/// Some accepted text compiles to an image whose written text has 27,968 bytes: no smaller buffer is enough for all.
+/// In each form some accepted text compiles to an image whose written text has 27,968 bytes: no smaller buffer is enough for all.
 pub fn bound_reached()
-    ensures { (text : List ℕ) × ((image : List ℕ) × ((written : List ℕ) × (CompilesTo text image × (DecompilesTo image written × (length written ≡ longest_text))))) }
+    ensures { (form : ℕ) → known_form form ≡ true → (text : List ℕ) × ((image : List ℕ) × ((written : List ℕ) × (CompilesTo form text image × (DecompilesTo image written × (length written ≡ longest_text))))) }
 {}

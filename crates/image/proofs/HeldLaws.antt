@@ -1,7 +1,6 @@
 -- The lines of an image that is taken are those of the policy that it holds.
-use Rattle.std.proofs.Common.{ℕ, zero, suc, ◌+◌, ◌<◌, Bool, true, false, ◌&&◌, List, [], ◌∷◌, ◌++◌, map, ◌≡◌, refl, sym, ap, ap₂, ◌∙◌, subst, arith, eqb-true, length, take, drop, length-take, length-drop, Result, Ok, Err, append_assoc}
+use Rattle.std.proofs.Common.{ℕ, zero, suc, ◌+◌, ◌<◌, ◌≤◌, Bool, true, false, List, [], ◌∷◌, ◌++◌, map, ◌≡◌, refl, sym, ap, ap₂, ◌∙◌, subst, arith, eqb-true, leb-true, length, take, drop, length-take, length-drop, Result, Ok, Err, append_assoc}
 use Rattle.std.specs.Prelude.{Option, Some, None}
-use Rattle.std.proofs.Math.Dec.{eqb, leb}
 use Rattle.policy.proofs.ListLaws.{true_false, and_in, and_out, all_append}
 use Rattle.policy.specs.Limits.{valid}
 use Rattle.policy.specs.Line.{PolicyLine, rule, constraint}
@@ -10,7 +9,7 @@ use Rattle.policy.specs.declared.fault.Fault.{Fault}
 use Rattle.policy.specs.declared.line.Part.{Part}
 use Rattle.line_value.specs.Value.{line_value}
 use Rattle.word.specs.Word.{words_of, between}
-use Rattle.layout.specs.Layout.{line_words, lines_words, known_form, check_count}
+use Rattle.layout.specs.Layout.{line_words, lines_words, known_form, check_count, rule_word_limit, constraint_word_limit}
 use Rattle.decode.proofs.DecodeLaws.{line_out}
 use Rattle.decode.specs.Decode.{line_at}
 use Rattle.decode.specs.Stands.{in_part, Stands, AreLines}
@@ -132,13 +131,22 @@ taken_parts bytes contents e = body (rule_lines ws) (constraint_lines ws) refl r
           same = sym same;
         }
 
-pub counts_add : (ws : List ℕ) → counts_fit ws ≡ true → length ws ≡ 1 + rule_count ws + constraint_count ws + 1
-unfolding counts_fit check_count
-counts_add ws c = eqb-true (length ws) (1 + rule_count ws + constraint_count ws + 1) (and_out (leb (rule_count ws) 2176 && leb (constraint_count ws) 1088) (eqb (length ws) (1 + rule_count ws + constraint_count ws + 1)) c).1
+-- counts that fit
+pub record Counted (ws : List ℕ) : Type 0 where
+  pub rules : rule_count ws ≤ rule_word_limit (form_byte ws)
+  pub constraints : constraint_count ws ≤ constraint_word_limit (form_byte ws)
+  pub all : length ws ≡ 1 + rule_count ws + constraint_count ws + check_count (form_byte ws)
+
+pub counted : (ws : List ℕ) → counts_fit ws ≡ true → Counted ws
+unfolding counts_fit
+counted ws c =
+    let a = and_out _ _ c in
+    let b = and_out _ _ a.0 in
+    record { rules = leb-true _ _ b.0; constraints = leb-true _ _ b.1; all = eqb-true _ _ a.1 }
 
 -- the words of its parts are those of the lines of its policy
 pub record HeldParts (bytes : List ℕ) (contents : Contents) : Type 0 where
-  pub size : length (words_of bytes) ≡ 1 + rule_count (words_of bytes) + constraint_count (words_of bytes) + 1
+  pub size : length (words_of bytes) ≡ 1 + rule_count (words_of bytes) + constraint_count (words_of bytes) + check_count (form_byte (words_of bytes))
   pub rules_are : contents.rules ≡ rule_part (words_of bytes)
   pub constraints_are : contents.constraints ≡ constraint_part (words_of bytes)
   pub rule_part_is : AreLines Part.Rules 128 contents.rules (map rule (policy_in bytes).rules)
@@ -155,7 +163,7 @@ held_parts bytes contents taken =
     let rs : t.rules ≡ map rule (policy_in bytes).rules = sym (rw t.rules_whole (rules_there t.rules r.kind)) in
     let cs : t.constraints ≡ map constraint (policy_in bytes).constraints = sym (rw t.constraints_whole (constraints_there t.constraints c.kind)) in
     record {
-      size = counts_add (words_of bytes) t.counted;
+      size = (counted (words_of bytes) t.counted).all;
       rules_are = ap (λ (p : Contents). p.rules) t.same;
       constraints_are = ap (λ (p : Contents). p.constraints) t.same;
       rule_part_is = same_lines Part.Rules 128 (sym (ap (λ (p : Contents). p.rules) t.same)) rs r;

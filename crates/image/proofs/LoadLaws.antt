@@ -10,7 +10,7 @@ use Rattle.policy.specs.declared.fault.Fault.{Fault}
 use Rattle.word.specs.Word.{word_limit, words_of, word_at, between}
 use Rattle.layout.specs.Header.{form_of, rule_count_of, constraint_count_of}
 use Rattle.image.specs.Check.{rule_count, constraint_count, form_byte, well_sized, counts_fit, sums_to_zero}
-use Rattle.layout.specs.Layout.{known_form, check_count, sum}
+use Rattle.layout.specs.Layout.{known_form, check_count, rule_word_limit, constraint_word_limit, size_limit, sum}
 use Rattle.image.specs.Lines.{part_lines}
 use Rattle.image.specs.Load.{Contents, body_answer, load_words, load}
 use Rattle.image.specs.Steps.Part.{part_answer}
@@ -55,32 +55,32 @@ pub size_small : (n : ℕ) → n < 8 → false ≡ well_sized n
 unfolding well_sized
 size_small n h = rw (lt-leb 8 n h)
 
-pub size_large : (n : ℕ) → 8 ≤ n → 13064 < n → false ≡ well_sized n
+pub size_large : (n : ℕ) → 8 ≤ n → size_limit < n → false ≡ well_sized n
 unfolding well_sized
-size_large n h l = rw (le-leb 8 n h, lt-leb n 13064 l)
+size_large n h l = rw (le-leb 8 n h, lt-leb n size_limit l)
 
-pub size_whole : (n : ℕ) → 8 ≤ n → n ≤ 13064 → eqb (n % 4) 0 ≡ well_sized n
+pub size_whole : (n : ℕ) → 8 ≤ n → n ≤ size_limit → eqb (n % 4) 0 ≡ well_sized n
 unfolding well_sized
-size_whole n h l = rw (le-leb 8 n h, le-leb n 13064 l)
+size_whole n h l = rw (le-leb 8 n h, le-leb n size_limit l)
 
 -- ---- counts
 
 module _ (ws : List ℕ) where
-  pub too_many_rules : 2176 < rule_count ws → counts_fit ws ≡ false
+  pub too_many_rules : rule_word_limit (form_byte ws) < rule_count ws → counts_fit ws ≡ false
   unfolding counts_fit
-  too_many_rules h = rw (lt-leb (rule_count ws) 2176 h)
+  too_many_rules h = rw (lt-leb (rule_count ws) (rule_word_limit (form_byte ws)) h)
 
-  pub too_many_constraints : rule_count ws ≤ 2176 → 1088 < constraint_count ws → counts_fit ws ≡ false
+  pub too_many_constraints : rule_count ws ≤ rule_word_limit (form_byte ws) → constraint_word_limit (form_byte ws) < constraint_count ws → counts_fit ws ≡ false
   unfolding counts_fit
-  too_many_constraints r h = rw (le-leb (rule_count ws) 2176 r, lt-leb (constraint_count ws) 1088 h)
+  too_many_constraints r h = rw (le-leb (rule_count ws) (rule_word_limit (form_byte ws)) r, lt-leb (constraint_count ws) (constraint_word_limit (form_byte ws)) h)
 
-  pub wrong_count : rule_count ws ≤ 2176 → constraint_count ws ≤ 1088 → (length ws ≡ 1 + rule_count ws + constraint_count ws + 1 → ⊥) → counts_fit ws ≡ false
-  unfolding counts_fit check_count
-  wrong_count r c h = rw (le-leb (rule_count ws) 2176 r, le-leb (constraint_count ws) 1088 c, ne_eqb (length ws) (1 + rule_count ws + constraint_count ws + 1) h)
+  pub wrong_count : rule_count ws ≤ rule_word_limit (form_byte ws) → constraint_count ws ≤ constraint_word_limit (form_byte ws) → (length ws ≡ 1 + rule_count ws + constraint_count ws + check_count (form_byte ws) → ⊥) → counts_fit ws ≡ false
+  unfolding counts_fit
+  wrong_count r c h = rw (le-leb (rule_count ws) (rule_word_limit (form_byte ws)) r, le-leb (constraint_count ws) (constraint_word_limit (form_byte ws)) c, ne_eqb (length ws) (1 + rule_count ws + constraint_count ws + check_count (form_byte ws)) h)
 
-  pub right_count : rule_count ws ≤ 2176 → constraint_count ws ≤ 1088 → length ws ≡ 1 + rule_count ws + constraint_count ws + 1 → counts_fit ws ≡ true
-  unfolding counts_fit check_count
-  right_count r c h = rw (le-leb (rule_count ws) 2176 r, le-leb (constraint_count ws) 1088 c, eq-eqb (length ws) (1 + rule_count ws + constraint_count ws + 1) h)
+  pub right_count : rule_count ws ≤ rule_word_limit (form_byte ws) → constraint_count ws ≤ constraint_word_limit (form_byte ws) → length ws ≡ 1 + rule_count ws + constraint_count ws + check_count (form_byte ws) → counts_fit ws ≡ true
+  unfolding counts_fit
+  right_count r c h = rw (le-leb (rule_count ws) (rule_word_limit (form_byte ws)) r, le-leb (constraint_count ws) (constraint_word_limit (form_byte ws)) c, eq-eqb (length ws) (1 + rule_count ws + constraint_count ws + check_count (form_byte ws)) h)
 
 -- ---- fault by fault
 
@@ -97,14 +97,16 @@ module _ (bytes : List ℕ) where
     pub load_form : form_of header ≡ form_byte (words_of bytes)
     load_form = ap form_of is-header
 
-    pub load_unknown : (form : ℕ) → form ≡ form_of header → (form ≡ 1 → ⊥) → Err (refusal Fault.ImageForm 0) ≡ load bytes
-    unfolding load_words known_form
-    load_unknown form e n = sym (by_words ∙ rw (ne_eqb (form_byte (words_of bytes)) 1 (λ q. n (e ∙ load_form ∙ q))))
+    pub load_unknown : (form : ℕ) → form ≡ form_of header → known_form form ≡ false → Err (refusal Fault.ImageForm 0) ≡ load bytes
+    unfolding load_words
+    load_unknown form e n = sym (by_words ∙ rw (← load_form, ← e, n))
 
-    module _ (form rules constraints : ℕ) (is-form : form ≡ form_of header) (one : form ≡ 1) (is-rules : rules ≡ rule_count_of header) (is-constraints : constraints ≡ constraint_count_of header) where
+    module _ (form rules constraints : ℕ) (is-form : form ≡ form_of header) (is-known : known_form form ≡ true) (is-rules : rules ≡ rule_count_of header) (is-constraints : constraints ≡ constraint_count_of header) where
+      form_is : form ≡ form_byte (words_of bytes)
+      form_is = is-form ∙ load_form
+
       known : known_form (form_byte (words_of bytes)) ≡ true
-      unfolding known_form
-      known = eq-eqb (form_byte (words_of bytes)) 1 (sym (is-form ∙ load_form) ∙ one)
+      known = ap known_form (sym form_is) ∙ is-known
 
       rules_are : rules ≡ rule_count (words_of bytes)
       rules_are = is-rules ∙ ap rule_count_of is-header
@@ -116,22 +118,22 @@ module _ (bytes : List ℕ) where
       unfolding load_words
       uncounted e = sym (by_words ∙ rw (known, e))
 
-      pub load_rules : 2176 < rules → Err (refusal Fault.ImageCount 0) ≡ load bytes
+      pub load_rules : rule_word_limit form < rules → Err (refusal Fault.ImageCount 0) ≡ load bytes
       load_rules h = uncounted over
         where
           over : counts_fit (words_of bytes) ≡ false
           over = too_many_rules (words_of bytes) (omega (arith, rules_are))
 
-      pub load_constraints : rules ≤ 2176 → 1088 < constraints → Err (refusal Fault.ImageCount 0) ≡ load bytes
+      pub load_constraints : rules ≤ rule_word_limit form → constraint_word_limit form < constraints → Err (refusal Fault.ImageCount 0) ≡ load bytes
       load_constraints r h = uncounted (too_many_constraints (words_of bytes) (omega (arith, rules_are)) (omega (arith, constraints_are)))
 
-      pub load_count : rules ≤ 2176 → constraints ≤ 1088 → (length (words_of bytes) ≡ 1 + rules + constraints + 1 → ⊥) → Err (refusal Fault.ImageCount 0) ≡ load bytes
-      load_count r c h =
-          uncounted (wrong_count (words_of bytes) (omega (arith, rules_are)) (omega (arith, constraints_are)) (λ q. h (omega (arith, rules_are, constraints_are))))
+      pub load_count : rules ≤ rule_word_limit form → constraints ≤ constraint_word_limit form → (checks : ℕ) → checks ≡ check_count form → (length (words_of bytes) ≡ 1 + rules + constraints + checks → ⊥) → Err (refusal Fault.ImageCount 0) ≡ load bytes
+      load_count r c checks k h =
+          uncounted (wrong_count (words_of bytes) (omega (arith, rules_are)) (omega (arith, constraints_are)) (λ q. h (omega (arith, rules_are, constraints_are, k, ap check_count form_is))))
 
-      module _ (r : rules ≤ 2176) (c : constraints ≤ 1088) (n : length (words_of bytes) ≡ 1 + rules + constraints + 1) where
+      module _ (r : rules ≤ rule_word_limit form) (c : constraints ≤ constraint_word_limit form) (checks : ℕ) (k : checks ≡ check_count form) (n : length (words_of bytes) ≡ 1 + rules + constraints + checks) where
         counted : counts_fit (words_of bytes) ≡ true
-        counted = right_count (words_of bytes) (omega (arith, rules_are)) (omega (arith, constraints_are)) (omega (arith, rules_are, constraints_are))
+        counted = right_count (words_of bytes) (omega (arith, rules_are)) (omega (arith, constraints_are)) (omega (arith, rules_are, constraints_are, k, ap check_count form_is))
 
         pub load_sum : (total : ℕ) → total ≡ sum (words_of bytes) % word_limit → (total ≡ 0 → ⊥) → Err (refusal Fault.ImageSum 0) ≡ load bytes
         unfolding load_words sums_to_zero

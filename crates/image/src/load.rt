@@ -11,12 +11,9 @@ ghost use Rattle.image.specs.Taken.{image_contents};
 
 use crate::taken::Image;
 use crate::walker::Walker;
-use layout::{constraint_words_of, form_of, rule_words_of, sum_words};
+use layout::{check_count, constraint_words_of, form_of, is_known_form, rule_words_of, sum_words};
 use policy::{CONSTRAINT_LIMIT, Fault, Part, RULE_LIMIT, Refusal};
 use word::{nth_word_or_zero, part, words};
-
-// The only form.
-const FORM: u32 = 1;
 
 // Words of the rules: 128 lines of 17 words, which are eight heads, four comparisons with constants and the ending.
 const RULE_WORD_LIMIT: usize = 2176;
@@ -99,7 +96,8 @@ pub fn load_image(image: &[u8]) -> Result<Image<'_>, Refusal>
     }
     let words = words(image);
     let header = nth_word_or_zero(words, 0);
-    if form_of(header) != FORM {
+    let form = form_of(header);
+    if !is_known_form(form) {
         return Err(Fault::ImageForm.at(0));
     }
     let rule_words = rule_words_of(header) as usize;
@@ -110,7 +108,7 @@ pub fn load_image(image: &[u8]) -> Result<Image<'_>, Refusal>
     if CONSTRAINT_WORD_LIMIT < constraint_words {
         return Err(Fault::ImageCount.at(0));
     }
-    if words.len() != 1 + rule_words + constraint_words + 1 {
+    if words.len() != 1 + rule_words + constraint_words + check_count(form) {
         return Err(Fault::ImageCount.at(0));
     }
     if sum_words(words) != 0 {

@@ -5,13 +5,14 @@
 
 ghost use Rattle.std.specs.Prelude.{◌≡◌};
 ghost use Rattle.policy.specs.Fault.{fault_number, source_number};
-ghost use Rattle.codegen.specs.Compile.{compiled, compiled_texts};
+ghost use Rattle.codegen.specs.Compile.{newest_form, compiled, compiled_texts};
 ghost use Rattle.decompile.specs.Decompile.{decompiled};
 ghost use Rattle.image.specs.Load.{load};
 ghost use Rattle.monitor.specs.Decision.{decision};
 ghost use Rattle.export.specs.Export.{decision_of};
 ghost use Rattle.kinohazel.specs.Export.{compilation_of, texts_compilation_of, text_written_of, check_of};
 
+use codegen::NEWEST_FORM;
 use export::{EpochDecision, epoch_decision, fault_number};
 use policy::{Mode, Source};
 
@@ -59,10 +60,10 @@ pub struct TextWritten {
 #[tactic(auto, unfolding(crate::specs::Export::compilation_of))]
 #[unsafe(no_mangle)]
 pub extern "C" fn kinohazel_compile_nonnull(text: &[u8], out: &mut [u8]) -> Compilation
-    ensures answer { result ≡ compilation_of (compiled text.now out.old).answer }
-    ensures buffer { out.new ≡ (compiled text.now out.old).buffer }
+    ensures answer { result ≡ compilation_of (compiled newest_form text.now out.old).answer }
+    ensures buffer { out.new ≡ (compiled newest_form text.now out.old).buffer }
 {
-    match codegen::compile(text, out) {
+    match codegen::compile(NEWEST_FORM, text, out) {
         Err(refusal) => Compilation {
             fault: fault_number(refusal),
             line: refusal.location as u64,
@@ -90,10 +91,10 @@ pub extern "C" fn kinohazel_compile_texts_nonnull(
     site: &[u8],
     out: &mut [u8],
 ) -> TextsCompilation
-    ensures answer { result ≡ texts_compilation_of (compiled_texts maker.now site.now out.old).answer }
-    ensures buffer { out.new ≡ (compiled_texts maker.now site.now out.old).buffer }
+    ensures answer { result ≡ texts_compilation_of (compiled_texts newest_form maker.now site.now out.old).answer }
+    ensures buffer { out.new ≡ (compiled_texts newest_form maker.now site.now out.old).buffer }
 {
-    match codegen::compile_texts(maker, site, out) {
+    match codegen::compile_texts(NEWEST_FORM, maker, site, out) {
         Err(refusal) => {
             let source = refusal.source;
             TextsCompilation {

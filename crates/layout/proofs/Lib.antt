@@ -1,3 +1,4 @@
+pub mod CheckLaws
 pub mod HeaderLaws
 pub mod LayoutLaws
 pub mod SumLaws

@@ -11,10 +11,10 @@ pub fn header(form: u8, rule_words: usize, constraint_words: usize) -> u32
         + ((constraint_words % 4096) as u32)
 }
 
-pub fn form_of(header: u32) -> u32
+pub fn form_of(header: u32) -> u8
     ensures { result ≡ form_of header }
 {
-    (header >> 24) % 256
+    ((header >> 24) % 256) as u8
 }
 
 pub fn rule_words_of(header: u32) -> u32

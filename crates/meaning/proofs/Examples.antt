@@ -7,12 +7,13 @@ use Rattle.policy.specs.Line.{heads_of, comparisons_of, ending_of}
 use Rattle.policy.specs.Set.{has, insert}
 use Rattle.operation.specs.Fields.{pack}
 use Rattle.operation.specs.Operation.{operation_from, relation_from}
+use Rattle.operation.specs.Said.{says_by, says, constants_of}
 use Rattle.operation.specs.Parts.{test_operation, test_word, operand_word, constant_words, comparison_word, comparison_words, ending_word, constant_comparison, reading_comparison}
 use Rattle.layout.specs.Layout.{condition_words, part_words, line_words, lines_words, rule_part_words, constraint_part_words}
-use Rattle.run.specs.Run.{ran, comparison_test, rule_test, constraint_test, proposes_at, run_rules, is_never, run_constraints}
+use Rattle.run.specs.Run.{ran, rule_test, constraint_test, proposing, run_rules, ends_constraint, run_constraints}
 use Rattle.exactness.specs.Examples.{worked}
 use Rattle.meaning.specs.Examples.{runs, computed}
 
 pub runs_hold : map computed runs ≡ runs
-unfolding worked runs computed test_number pack operation_from relation_from test_operation test_word operand_word constant_words comparison_word comparison_words ending_word constant_comparison reading_comparison condition_words part_words line_words lines_words rule_part_words constraint_part_words heads_of comparisons_of ending_of ran comparison_test rule_test constraint_test proposes_at run_rules is_never run_constraints comparison_holds relation_holds operand_value eq_z reading_value missing_holds values_relate has insert
+unfolding worked runs computed test_number pack operation_from says says_by constants_of relation_from test_operation test_word operand_word constant_words comparison_word comparison_words ending_word constant_comparison reading_comparison condition_words part_words line_words lines_words rule_part_words constraint_part_words heads_of comparisons_of ending_of ran rule_test constraint_test proposing run_rules ends_constraint run_constraints comparison_holds relation_holds operand_value eq_z reading_value missing_holds values_relate has insert
 runs_hold = refl

@@ -1,5 +1,5 @@
 -- How many words of a taken image its parts fetch at the most: each part ends with the ending of a line, which has no constant.
-use Rattle.std.proofs.Common.{ℕ, ◌≤◌, true, List, [], ◌∷◌, ◌++◌, map, ◌≡◌, refl, ap, ◌∙◌, arith, ltb-true, length, length-append, Ok}
+use Rattle.std.proofs.Common.{ℕ, ◌≤◌, true, List, [], ◌∷◌, ◌++◌, map, ◌≡◌, refl, ap, ◌∙◌, arith, length, length-append, Ok}
 use Rattle.policy.specs.Set.{ActionSet}
 use Rattle.policy.proofs.ListLaws.{and_out}
 use Rattle.policy.proofs.ValidLaws.{valid_out}
@@ -12,8 +12,8 @@ use Rattle.policy.specs.declared.line.Ending.{Ending}
 use Rattle.policy.specs.declared.line.Test.{Test}
 use Rattle.policy.specs.declared.set.Events.{Events}
 use Rattle.word.specs.Word.{Bytes}
-use Rattle.operation.proofs.PartsLaws.{causes_operation, never_operation}
-use Rattle.operation.specs.Fields.{operation_of}
+use Rattle.operation.proofs.SaidLaws.{ending_said}
+use Rattle.operation.specs.Said.{says, constants_of}
 use Rattle.operation.specs.Parts.{test_word, comparison_words, ending_word}
 use Rattle.layout.proofs.LayoutLaws.{condition_length, part_length, condition_size_limit}
 use Rattle.layout.specs.Layout.{condition_words, part_words, line_words, lines_words, rule_part_words, constraint_part_words}
@@ -21,7 +21,7 @@ use Rattle.image.specs.Held.{policy_in}
 use Rattle.image.specs.Load.{Contents, load}
 use Rattle.exactness.proofs.Exact.{held_acceptable, taken_rules, taken_constraints}
 use Rattle.run.proofs.FetchLaws.{last_constants, last_behind, rule_fetches_is, trial_fetches_is}
-use Rattle.run.specs.Run.{constants_behind, rule_fetches, trial_fetches}
+use Rattle.run.specs.Run.{rule_fetches, trial_fetches}
 
 -- ---- the last word of lines
 
@@ -35,10 +35,9 @@ last_both (w ∷ []) [] p q = p
 last_both (w ∷ []) (v ∷ vs) p q = q
 last_both (w ∷ x ∷ ws) vs p q = last_both (x ∷ ws) vs p q
 
-ending_constants : (e : Ending) → ending_in_range e ≡ true → constants_behind (operation_of (ending_word e)) ≡ 0
-unfolding ending_in_range
-ending_constants (Ending.Causes a) h = ap constants_behind (causes_operation a (ltb-true a.0 64 h))
-ending_constants Ending.Never h = ap constants_behind never_operation
+ending_constants : (e : Ending) → ending_in_range e ≡ true → constants_of (says (ending_word e) 0) ≡ 0
+unfolding constants_of
+ending_constants e h = ap constants_of (ending_said e 0 h)
 
 module _ (e : Ending) (h : ending_in_range e ≡ true) where
   condition_last : (cs : List Comparison) → last_constants (condition_words cs e) ≡ 0

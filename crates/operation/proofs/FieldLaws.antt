@@ -2,13 +2,13 @@
 use Rattle.std.proofs.Common.{ℕ, ◌+◌, ◌*◌, ◌/◌, ◌%◌, ◌^◌, ◌<◌, ◌≡◌, ap, ◌∙◌, arith}
 use Rattle.word.proofs.WordLaws.{parts, lowest}
 use Rattle.word.specs.Word.{word_limit}
-use Rattle.operation.proofs.OperationLaws.{opcode_below, operation_back, operation_there, operation_number}
+use Rattle.operation.proofs.OperationLaws.{opcode_below, operation_back, operation_number}
 use Rattle.operation.specs.Fields.{InFields, pack, opcode_of, first_of, second_of, relation_code_of, skip_of, operation_of}
 use Rattle.operation.specs.Operation.{opcode, operation_from}
 use Rattle.operation.specs.declared.operation.Operation.{Operation}
 
 module _ (o : Operation) (first second relation skip : ℕ) (h : InFields first second relation skip) where
-  limit : opcode o < 8
+  limit : opcode o < 16
   limit = opcode_below o
 
   pub pack_below : pack o first second relation skip < word_limit
@@ -47,14 +47,14 @@ pub head_low : (o : Operation) (first skip : ℕ) → skip < 32 → pack o first
 unfolding pack
 head_low o first skip h = omega arith
 
--- a word with the number of an operation or 0, whose eight zero bits are 0, is the packing of its own fields
+-- a word whose operation is one that there is, or 0, and whose eight zero bits are 0, is the packing of its own fields
 fields_linear : (w o f s r k q₅ q₁₃ q₁₆ q₂₂ q₂₈ : ℕ) → w ≡ q₅ * 32 + k → q₅ ≡ q₁₃ * 256 + 0 → q₁₃ ≡ q₁₆ * 8 + r → q₁₆ ≡ q₂₂ * 64 + s → q₂₂ ≡ q₂₈ * 64 + f → q₂₈ ≡ o → o * 2 ^ 28 + f * 2 ^ 22 + s * 2 ^ 16 + r * 2 ^ 13 + k ≡ w
 fields_linear w o f s r k q₅ q₁₃ q₁₆ q₂₂ q₂₈ e₁ e₂ e₃ e₄ e₅ e₆ = omega arith
 
-pub pack_fields : (w : ℕ) → w < word_limit → opcode_of w < 8 → w / 2 ^ 5 % 2 ^ 8 ≡ 0 → pack (operation_of w) (first_of w) (second_of w) (relation_code_of w) (skip_of w) ≡ w
+pub pack_fields : (w : ℕ) → w < word_limit → opcode (operation_of w) ≡ opcode_of w → w / 2 ^ 5 % 2 ^ 8 ≡ 0 → pack (operation_of w) (first_of w) (second_of w) (relation_code_of w) (skip_of w) ≡ w
 unfolding pack
-pack_fields w h o z =
-    let top : w / 2 ^ 28 ≡ opcode (operation_of w) = omega (arith, operation_there (opcode_of w) o) in
+pack_fields w h known z =
+    let top : w / 2 ^ 28 ≡ opcode (operation_of w) = omega arith in
     let none : w / 2 ^ 5 ≡ w / 2 ^ 13 * 256 + 0 = omega (arith, parts w 5 8) in
     fields_linear w (opcode (operation_of w)) (first_of w) (second_of w) (relation_code_of w) (skip_of w) (w / 2 ^ 5) (w / 2 ^ 13) (w / 2 ^ 16) (w / 2 ^ 22) (w / 2 ^ 28) (lowest w 5) none (parts w 13 3) (parts w 16 6) (parts w 22 6) top
 

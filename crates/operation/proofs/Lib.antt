@@ -2,3 +2,4 @@ pub mod FieldLaws
 pub mod HoldsLaws
 pub mod OperationLaws
 pub mod PartsLaws
+pub mod SaidLaws

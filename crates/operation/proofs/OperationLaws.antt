@@ -1,8 +1,9 @@
 -- Laws of operations and relations: their numbers, both ways.
 use Rattle.std.proofs.Common.{ℕ, zero, suc, ◌≤◌, ◌<◌, Bool, true, false, ◌≡◌, refl, sym, ap, ◌∙◌, arith, ltb-true, ltb-false}
 use Rattle.std.proofs.Math.Dec.{ltb}
+use Rattle.std.proofs.lemmas.List.{get_or_past}
 use Rattle.policy.specs.declared.comparison.Relation.{Relation}
-use Rattle.operation.specs.Operation.{opcode, operation_from, relation_code, relation_from}
+use Rattle.operation.specs.Operation.{opcode, operations, operation_from, relation_code, relations, relation_from}
 use Rattle.operation.specs.declared.operation.Operation.{Operation}
 
 pub relation_back : (r : Relation) → relation_from (relation_code r) ≡ r
@@ -26,12 +27,7 @@ relation_there (suc (suc (suc (suc (suc (suc n)))))) h = absurd (omega arith)
 
 pub relation_high : (n : ℕ) → 5 ≤ n → Relation.GreaterOrEqual ≡ relation_from n
 unfolding relation_from
-relation_high zero h = absurd (omega arith)
-relation_high (suc zero) h = absurd (omega arith)
-relation_high (suc (suc zero)) h = absurd (omega arith)
-relation_high (suc (suc (suc zero))) h = absurd (omega arith)
-relation_high (suc (suc (suc (suc zero)))) h = absurd (omega arith)
-relation_high (suc (suc (suc (suc (suc n))))) h = refl
+relation_high n h = sym (get_or_past relations n Relation.GreaterOrEqual h)
 
 pub relation_below : (r : Relation) → relation_code r < 6
 relation_below Relation.Equal = omega arith
@@ -41,7 +37,8 @@ relation_below Relation.LessOrEqual = omega arith
 relation_below Relation.Greater = omega arith
 relation_below Relation.GreaterOrEqual = omega arith
 
-pub opcode_below : (o : Operation) → opcode o < 8
+-- the number of an operation fits its field
+pub opcode_below : (o : Operation) → opcode o < 16
 opcode_below Operation.Unknown = omega arith
 opcode_below Operation.Present = omega arith
 opcode_below Operation.Absent = omega arith
@@ -77,15 +74,7 @@ operation_there (suc (suc (suc (suc (suc (suc (suc (suc n)))))))) h = absurd (om
 
 pub operation_high : (n : ℕ) → 8 ≤ n → operation_from n ≡ Operation.Unknown
 unfolding operation_from
-operation_high zero h = absurd (omega arith)
-operation_high (suc zero) h = absurd (omega arith)
-operation_high (suc (suc zero)) h = absurd (omega arith)
-operation_high (suc (suc (suc zero))) h = absurd (omega arith)
-operation_high (suc (suc (suc (suc zero)))) h = absurd (omega arith)
-operation_high (suc (suc (suc (suc (suc zero))))) h = absurd (omega arith)
-operation_high (suc (suc (suc (suc (suc (suc zero)))))) h = absurd (omega arith)
-operation_high (suc (suc (suc (suc (suc (suc (suc zero))))))) h = absurd (omega arith)
-operation_high (suc (suc (suc (suc (suc (suc (suc (suc n)))))))) h = refl
+operation_high n h = get_or_past operations n Operation.Unknown h
 
 -- what has a number has no other
 pub operation_number : (n : ℕ) (o : Operation) → 0 < opcode o → operation_from n ≡ o → n ≡ opcode o
@@ -95,14 +84,8 @@ operation_number n o h q = go (ltb n 8) refl
     go true e = sym (operation_there n (ltb-true n 8 e)) ∙ ap opcode q
     go false e = absurd (omega (arith, ap opcode (sym (operation_high n (ltb-false n 8 e)) ∙ q)))
 
-pub operation_other : (n : ℕ) → (n ≡ 1 → ⊥) → (n ≡ 2 → ⊥) → (n ≡ 3 → ⊥) → (n ≡ 4 → ⊥) → (n ≡ 5 → ⊥) → (n ≡ 6 → ⊥) → (n ≡ 7 → ⊥) → Operation.Unknown ≡ operation_from n
+-- what is not among the numbers is no operation
+pub operation_other : (n : ℕ) → (0 < n → 8 ≤ n) → Operation.Unknown ≡ operation_from n
 unfolding operation_from
-operation_other zero n₁ n₂ n₃ n₄ n₅ n₆ n₇ = refl
-operation_other (suc zero) n₁ n₂ n₃ n₄ n₅ n₆ n₇ = absurd (n₁ refl)
-operation_other (suc (suc zero)) n₁ n₂ n₃ n₄ n₅ n₆ n₇ = absurd (n₂ refl)
-operation_other (suc (suc (suc zero))) n₁ n₂ n₃ n₄ n₅ n₆ n₇ = absurd (n₃ refl)
-operation_other (suc (suc (suc (suc zero)))) n₁ n₂ n₃ n₄ n₅ n₆ n₇ = absurd (n₄ refl)
-operation_other (suc (suc (suc (suc (suc zero))))) n₁ n₂ n₃ n₄ n₅ n₆ n₇ = absurd (n₅ refl)
-operation_other (suc (suc (suc (suc (suc (suc zero)))))) n₁ n₂ n₃ n₄ n₅ n₆ n₇ = absurd (n₆ refl)
-operation_other (suc (suc (suc (suc (suc (suc (suc zero))))))) n₁ n₂ n₃ n₄ n₅ n₆ n₇ = absurd (n₇ refl)
-operation_other (suc (suc (suc (suc (suc (suc (suc (suc n)))))))) n₁ n₂ n₃ n₄ n₅ n₆ n₇ = refl
+operation_other zero h = refl
+operation_other (suc n) h = sym (operation_high (suc n) (h (omega arith)))

@@ -1,12 +1,11 @@
 -- The words of the parts of a line, read back: what each word's fields say is the part that it was written from.
-use Rattle.std.proofs.Common.{ℕ, ◌%◌, ◌^◌, ◌<◌, Bool, true, cond, [], ◌∷◌, ◌≡◌, refl, sym, ap, ap₂, ◌∙◌, subst, arith, ltb-true, lt-ltb, ℤ, to_z-of_z, w32, SFits, of_z}
+use Rattle.std.proofs.Common.{ℕ, ◌%◌, ◌^◌, ◌<◌, Bool, true, false, cond, [], ◌∷◌, ◌≡◌, refl, sym, ap, ap₂, ◌∙◌, subst, arith, ltb-true, lt-ltb, ℤ, to_z-of_z, w32, SFits, of_z}
 use Rattle.std.proofs.Math.Dec.{ltb}
 use Rattle.std.proofs.Math.Facts.{of_z-to_z, Fits-of_z}
 use Rattle.policy.proofs.ConstantLaws.{reading_value_is, reading_limit_is}
 use Rattle.policy.proofs.ListLaws.{and_in, and_out}
-use Rattle.policy.specs.Limits.{is_reading_value, test_number, operand_in_range, comparison_in_range}
+use Rattle.policy.specs.Limits.{is_reading_value, test_number, operand_in_range, comparison_in_range, ending_in_range}
 use Rattle.policy.specs.declared.comparison.Comparison.{Comparison}
-use Rattle.policy.specs.declared.comparison.Literal.{Literal}
 use Rattle.policy.specs.declared.comparison.Operand.{Operand}
 use Rattle.policy.specs.declared.comparison.Relation.{Relation}
 use Rattle.policy.specs.declared.line.Ending.{Ending}
@@ -16,7 +15,7 @@ use Rattle.policy.specs.declared.number.Reading.{Reading}
 use Rattle.operation.proofs.OperationLaws.{relation_back, relation_there, relation_below}
 use Rattle.operation.proofs.FieldLaws.{pack_below, operation_pack, first_pack, second_pack, relation_pack, skip_pack, low_pack, head_low, head_again, comparison_again}
 use Rattle.operation.specs.Operation.{opcode, relation_code, relation_from}
-use Rattle.operation.specs.Parts.{test_operation, test_word, operand_word, constant_words, comparison_word, comparison_words, ending_word, event_from, action_from, constant_comparison, reading_comparison}
+use Rattle.operation.specs.Parts.{test_operation, test_word, operand_word, constant_words, comparison_word, comparison_words, ending_word, action_from, constant_comparison, reading_comparison}
 use Rattle.word.specs.Word.{word_limit}
 use Rattle.operation.specs.Fields.{InFields, pack, operation_of, first_of, second_of, relation_code_of, skip_of}
 use Rattle.operation.specs.declared.operation.Operation.{Operation}
@@ -46,26 +45,6 @@ module _ (t : Test) (k : ℕ) (h : test_number t < 64) (l : k < 32) where
   pub test_operation_is : operation_of (test_word t k) ≡ test_operation t
   unfolding test_word
   test_operation_is = operation_pack (test_operation t) (test_number t) 0 0 k test_fields
-
--- present or absent
-abbrev pub literal_operation : Bool → Operation
-literal_operation negated = cond negated Operation.Absent Operation.Present
-
-pub literal_operation_is : (l : Literal) (k : ℕ) → test_number (Test.Occurs l) < 64 → k < 32 → operation_of (test_word (Test.Occurs l) k) ≡ literal_operation l.negated
-unfolding test_operation
-literal_operation_is l k h b = test_operation_is (Test.Occurs l) k h b
-
-pub literal_event : (l : Literal) (k : ℕ) → test_number (Test.Occurs l) < 64 → k < 32 → event_from (test_word (Test.Occurs l) k) ≡ l.event
-unfolding test_number
-literal_event l k h b = λ i. record { 0 = test_first (Test.Occurs l) k h b i }
-
-pub member_operation : (a : Action) (k : ℕ) → test_number (Test.Member a) < 64 → k < 32 → operation_of (test_word (Test.Member a) k) ≡ Operation.Member
-unfolding test_operation
-member_operation a k h b = test_operation_is (Test.Member a) k h b
-
-pub member_action : (a : Action) (k : ℕ) → test_number (Test.Member a) < 64 → k < 32 → action_from (test_word (Test.Member a) k) ≡ a
-unfolding test_number
-member_action a k h b = λ i. record { 0 = test_first (Test.Member a) k h b i }
 
 -- ---- comparisons
 
@@ -157,10 +136,6 @@ module _ (a : Action) (h : a.0 < 64) where
   unfolding ending_word
   causes_action = λ i. record { 0 = first_pack Operation.Proposes a.0 0 0 0 causes_fields i }
 
-  pub causes_below : ending_word (Ending.Causes a) < word_limit
-  unfolding ending_word
-  causes_below = pack_below Operation.Proposes a.0 0 0 0 causes_fields
-
 never_fields : InFields 0 0 0 0
 never_fields = record { first_below = omega arith; second_below = omega arith; relation_below = omega arith; skip_below = omega arith }
 
@@ -168,15 +143,25 @@ pub never_operation : operation_of (ending_word Ending.Never) ≡ Operation.Neve
 unfolding ending_word
 never_operation = operation_pack Operation.Never 0 0 0 0 never_fields
 
-pub never_below : ending_word Ending.Never < word_limit
-unfolding ending_word
-never_below = pack_below Operation.Never 0 0 0 0 never_fields
+pub ending_below : (e : Ending) → ending_in_range e ≡ true → ending_word e < word_limit
+unfolding ending_word ending_in_range
+ending_below (Ending.Causes a) h = pack_below Operation.Proposes a.0 0 0 0 (causes_fields a (ltb-true a.0 64 h))
+ending_below Ending.Never h = pack_below Operation.Never 0 0 0 0 never_fields
 
 -- ---- parts made of words, written again
 
-pub test_again : (t : Test) (w k : ℕ) → 0 < opcode (test_operation t) → w < word_limit → w % 2 ^ 22 ≡ k → operation_of w ≡ test_operation t → test_number t ≡ first_of w → test_word t k ≡ w
+test_known : (t : Test) → 0 < opcode (test_operation t)
+unfolding test_operation
+test_known (Test.Occurs l) = go l.negated
+  where
+    go : (b : Bool) → 0 < opcode (cond b Operation.Absent Operation.Present)
+    go true = omega arith
+    go false = omega arith
+test_known (Test.Member a) = omega arith
+
+pub test_again : (t : Test) (w k : ℕ) → w < word_limit → w % 2 ^ 22 ≡ k → operation_of w ≡ test_operation t → test_number t ≡ first_of w → test_word t k ≡ w
 unfolding test_word
-test_again t w k o h e p q = ap (λ (y : ℕ). pack (test_operation t) y 0 0 k) q ∙ head_again (test_operation t) w o h p k e
+test_again t w k h e p q = ap (λ (y : ℕ). pack (test_operation t) y 0 0 k) q ∙ head_again (test_operation t) w (test_known t) h p k e
 
 pub constant_in_range : (w v k : ℕ) → Compares Operation.AgainstConstant w k → v < word_limit → comparison_in_range (constant_comparison w v) ≡ true
 unfolding comparison_in_range operand_in_range constant_comparison

@@ -1,5 +1,6 @@
 -- What a reader must believe of this layer, in this order: `Operation`, the numbers of operations and relations; `Fields`, the fields
--- of a word; `Parts`, the words of the parts of a line.
+-- of a word; `Parts`, the words of the parts of a line; `Said`, what a word says.
 pub mod Operation
 pub mod Fields
 pub mod Parts
+pub mod Said

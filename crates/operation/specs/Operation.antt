@@ -1,5 +1,5 @@
 -- The tables of operations and relations, each number both ways.
-use Rattle.std.specs.Prelude.{ℕ, zero, suc}
+use Rattle.std.specs.Prelude.{ℕ, List, [], ◌∷◌, slice_index_or}
 use Rattle.policy.specs.declared.comparison.Relation.{Relation}
 use Rattle.operation.specs.declared.operation.Operation.{Operation}
 
@@ -18,16 +18,14 @@ opcode Operation.Member = 6
 opcode Operation.Never = 7
 opcode Operation.Unknown = 0
 
+-- in the order of their numbers; any other number stands for no operation
+abbrev pub operations : List Operation
+operations =
+    Operation.Unknown ∷ Operation.Present ∷ Operation.Absent ∷ Operation.AgainstConstant ∷ Operation.AgainstReading
+    ∷ Operation.Proposes ∷ Operation.Member ∷ Operation.Never ∷ []
+
 unfoldable pub operation_from : ℕ → Operation
-operation_from zero = Operation.Unknown
-operation_from (suc zero) = Operation.Present
-operation_from (suc (suc zero)) = Operation.Absent
-operation_from (suc (suc (suc zero))) = Operation.AgainstConstant
-operation_from (suc (suc (suc (suc zero)))) = Operation.AgainstReading
-operation_from (suc (suc (suc (suc (suc zero))))) = Operation.Proposes
-operation_from (suc (suc (suc (suc (suc (suc zero)))))) = Operation.Member
-operation_from (suc (suc (suc (suc (suc (suc (suc zero))))))) = Operation.Never
-operation_from (suc (suc (suc (suc (suc (suc (suc (suc n)))))))) = Operation.Unknown
+operation_from n = slice_index_or operations n Operation.Unknown
 
 -- the numbers of the relations (docs/REFERENCE.md, "The image")
 abbrev pub relation_code : Relation → ℕ
@@ -38,11 +36,9 @@ relation_code Relation.LessOrEqual = 3
 relation_code Relation.Greater = 4
 relation_code Relation.GreaterOrEqual = 5
 
--- 6 and 7, which no taken image has, are read as >=
+-- in the order of their numbers; 6 and 7, which no taken image has, are read as >=
+abbrev pub relations : List Relation
+relations = Relation.Equal ∷ Relation.NotEqual ∷ Relation.Less ∷ Relation.LessOrEqual ∷ Relation.Greater ∷ []
+
 unfoldable pub relation_from : ℕ → Relation
-relation_from zero = Relation.Equal
-relation_from (suc zero) = Relation.NotEqual
-relation_from (suc (suc zero)) = Relation.Less
-relation_from (suc (suc (suc zero))) = Relation.LessOrEqual
-relation_from (suc (suc (suc (suc zero)))) = Relation.Greater
-relation_from (suc (suc (suc (suc (suc n))))) = Relation.GreaterOrEqual
+relation_from n = slice_index_or relations n Relation.GreaterOrEqual

@@ -4,9 +4,11 @@
 
 mod fields;
 mod operation;
+mod said;
 
 pub use fields::{first, opcode, second, skip};
 pub use operation::{
     Operation, comparison_word, constant_comparison, constant_holds, ending_word,
     reading_comparison, reading_holds, test_word,
 };
+pub use said::{LinePart, part_at};

@@ -29,6 +29,7 @@ pub enum Operation {
 
 impl Operation {
     /// The operation of a word.
+    #[tactic(auto, unfolding(crate::specs::Operation::operation_from))]
     pub fn of(word: u32) -> Operation
         ensures { result ≡ operation_of word }
     {
@@ -61,6 +62,7 @@ impl Operation {
 }
 
 // 6 and 7 are read as >=.
+#[tactic(auto, using(crate::proofs::OperationLaws::relation_high), unfolding(crate::specs::Operation::relation_from))]
 fn relation_from(code: u32) -> Relation
     ensures { result ≡ relation_from code }
 {

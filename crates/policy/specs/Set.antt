@@ -1,5 +1,5 @@
 -- Sets of numbers below 64. A set is a number whose bit n says whether n is in it.
-use Rattle.std.specs.Prelude.{ℕ, zero, suc, ◌+◌, ◌/◌, ◌%◌, ◌^◌, Bool, List, map, fold, ◌==◌, nat_lt, if◌then◌else◌}
+use Rattle.std.specs.Prelude.{ℕ, zero, suc, ◌+◌, ◌/◌, ◌%◌, ◌^◌, Bool, List, [], ◌∷◌, ◌++◌, map, fold, ◌==◌, nat_lt, if◌then◌else◌}
 use Rattle.std.specs.Int.Bits.{bit_and, bit_or, bit_xor}
 use Rattle.policy.specs.Number.{set_limit}
 use Rattle.policy.specs.declared.number.Event.{Event}
@@ -35,9 +35,18 @@ set_size_below s (suc n) = set_size_below s n + (if has s n then 1 else 0)
 abbrev pub size : ℕ → ℕ
 size s = set_size_below s set_limit
 
+-- the members of s among the k numbers from n on, by rising number
+unfoldable pub members_from : ℕ → ℕ → ℕ → List ℕ
+members_from zero n s = []
+members_from (suc k) n s = (if has s n then n ∷ [] else []) ++ members_from k (suc n) s
+
 -- the set of these bits
 abbrev pub set_of : {T : Type 0} → ℕ → Set T
 set_of bits = record { bits = bits; of = record {} }
+
+-- the numbers of all members, by rising number
+abbrev pub members_of : {T : Type 0} → Set T → List ℕ
+members_of s = members_from set_limit 0 s.bits
 
 abbrev pub EventSet : Type 0
 EventSet = Set Event

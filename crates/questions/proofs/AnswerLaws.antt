@@ -14,16 +14,17 @@ use Rattle.questions.specs.Answered.{no_action, quoted_line, explained_line}
 use Rattle.questions.specs.Steps.Answer.{answer_on, question_line}
 use Rattle.questions.specs.declared.line.Question.{Question}
 use Rattle.questions.specs.declared.line.Token.{Token}
+use Rattle.epoch_line.specs.Epoch.{epoch_limit}
 
 -- ---- no action
 
-pub long_epoch : (epoch : List ℕ) (r : Refusal) → 1024 < length epoch → r ≡ refusal Fault.TooLong 0 → r ≡ no_action epoch
+pub long_epoch : (epoch : List ℕ) (r : Refusal) → epoch_limit < length epoch → r ≡ refusal Fault.TooLong 0 → r ≡ no_action epoch
 unfolding no_action
-long_epoch epoch r h e = rw (lt-ltb 1024 (length epoch) h) e
+long_epoch epoch r h e = rw (lt-ltb epoch_limit (length epoch) h) e
 
-pub no_token : (epoch : List ℕ) (r : Refusal) → length epoch ≤ 1024 → r ≡ refusal Fault.EpochSyntax 0 → r ≡ no_action epoch
+pub no_token : (epoch : List ℕ) (r : Refusal) → length epoch ≤ epoch_limit → r ≡ refusal Fault.EpochSyntax 0 → r ≡ no_action epoch
 unfolding no_action
-no_token epoch r h e = rw (le-ltb 1024 (length epoch) h) e
+no_token epoch r h e = rw (le-ltb epoch_limit (length epoch) h) e
 
 -- ---- the answer by the word
 

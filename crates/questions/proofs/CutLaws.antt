@@ -11,8 +11,9 @@ use Rattle.stream.specs.Machine.{Known, AnswersAll, EndsBy}
 use Rattle.questions.specs.Answered.{answers_printed}
 use Rattle.questions.specs.Run.{answers_due, AnswersTexts, QuestionsEndBy}
 use Rattle.questions.proofs.Room.{answers_cut}
+use Rattle.questions.specs.Steps.Sizes.{text_held}
 
-module _ (maker site first second : List ℕ) (m : first ≡ take 32769 maker) (s : second ≡ take 32769 site) where
+module _ (maker site first second : List ℕ) (m : first ≡ take text_held maker) (s : second ≡ take text_held site) where
   answered_cut : answers_printed first second ≡ answers_printed maker site
   answered_cut = ap₂ answers_printed m s ∙ (λ i. λ input. answers_cut maker site input i)
 

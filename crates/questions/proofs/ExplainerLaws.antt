@@ -4,7 +4,8 @@ use Rattle.std.proofs.Common.{◌≡◌, ℕ, ◌≤◌, Bool, true, false, cond
 use Rattle.policy.specs.Policy.{Policy}
 use Rattle.policy.specs.declared.fault.Refusal.{Refusal}
 use Rattle.rule_text.specs.Text.{read_texts}
-use Rattle.layout.specs.Layout.{image_of}
+use Rattle.layout.specs.Layout.{image_of, size_limit}
+use Rattle.codegen.proofs.AcceptedLaws.{newest_known}
 use Rattle.codegen.specs.Compile.{newest_form, compiled_texts}
 use Rattle.codegen.proofs.RoomLaws.{Read, texts_read_is, texts_refusal}
 use Rattle.questions.specs.Answered.{answers_printed}
@@ -18,6 +19,7 @@ use Rattle.questions.specs.declared.line.Question.{Question}
 use Rattle.questions.specs.declared.line.Taken.{Taken}
 use Rattle.questions.proofs.LeftLaws.{from_open, from_ended, starts_answered, starts_due}
 use Rattle.report.specs.Report.{next_number}
+use Rattle.questions.specs.Steps.Sizes.{line_held}
 
 -- ---- what waits
 
@@ -80,7 +82,7 @@ answered_waits old new a = waits_alone new.maker.now new.site.now new.image.now 
 
 module _ (maker site : List ℕ) (p : Policy) (r : read_texts maker site ≡ Ok p) where
   module _ (first second words : List ℕ) (n : ℕ) (q : Question) (held waits : List ℕ) (f : first ≡ maker) (s : second ≡ site) (w : words ≡ image_of newest_form p)
-      (z : n ≡ 0) (b : q ≡ start_question) (u : waits ≡ []) (long : length held ≡ 1025) where
+      (z : n ≡ 0) (b : q ≡ start_question) (u : waits ≡ []) (long : length held ≡ line_held) where
     all_answered : (λ rest. waits ++ answers_to_end first second words n (held_by q held) rest) ≡ answers_printed maker site
     all_answered = rw (f, s, w, z, b, u) (starts_answered maker site p r held long)
 
@@ -103,10 +105,10 @@ start_empty e maker site image s =
     waits_alone e.maker.now e.site.now e.image.now e.number (open_line e) (take e.used e.out) ∙ ap (λ (k : ℕ). take k e.out) s.used
 
 -- what was compiled is what was read
-module _ (maker site buffer : List ℕ) (room : length buffer ≡ 13064) (answer : Result ℕ Refusal) (after : List ℕ)
-    (a : answer ≡ (compiled_texts maker site buffer).answer) (b : after ≡ (compiled_texts maker site buffer).buffer) where
-  pub image_read : (size : ℕ) → answer ≡ Ok size → Read (read_texts maker site) after size
-  image_read size e = subst (λ (l : List ℕ). Read (read_texts maker site) l size) (sym b) (texts_read_is maker site buffer room size (sym a ∙ e))
+module _ (maker site buffer : List ℕ) (room : length buffer ≡ size_limit) (answer : Result ℕ Refusal) (after : List ℕ)
+    (a : answer ≡ (compiled_texts newest_form maker site buffer).answer) (b : after ≡ (compiled_texts newest_form maker site buffer).buffer) where
+  pub image_read : (size : ℕ) → answer ≡ Ok size → Read newest_form (read_texts maker site) after size
+  image_read size e = subst (λ (l : List ℕ). Read newest_form (read_texts maker site) l size) (sym b) (texts_read_is newest_form newest_known maker site buffer room size (sym a ∙ e))
 
   pub texts_refused : (x : Refusal) → answer ≡ Err x → read_texts maker site ≡ Err x
-  texts_refused x e = texts_refusal maker site buffer room x (sym a ∙ e)
+  texts_refused x e = texts_refusal newest_form newest_known maker site buffer room x (sym a ∙ e)

@@ -21,6 +21,7 @@ use Rattle.questions.specs.declared.line.Question.{Question}
 use Rattle.questions.specs.declared.line.Taken.{Taken}
 use Rattle.questions.proofs.Whole.{line_ends, while_passes, chunk_open, chunk_ends, line_answered, line_says, last_answered, fold_length}
 use Rattle.report.specs.Report.{next_number}
+use Rattle.questions.specs.Steps.Sizes.{line_held}
 
 -- ---- along a chunk
 
@@ -96,7 +97,7 @@ module _ (maker site : List ℕ) (p : Policy) (r : read_texts maker site ≡ Ok 
   image = image_of newest_form p
 
   module _ (last : ℕ → Held → List ℕ) (whole : List ℕ → List ℕ → List ℕ)
-      (ends : (n : ℕ) (first : List ℕ) → length first ≡ 1025 → (begins : List ℕ) → all in_line begins ≡ true
+      (ends : (n : ℕ) (first : List ℕ) → length first ≡ line_held → (begins : List ℕ) → all in_line begins ≡ true
       → last n (fold pushed (held_by start_question first) begins) ≡ answer_lines maker site n (lines_of (whole begins [])))
       (ends_line : (begins rest : List ℕ) → whole begins (10 ∷ rest) ≡ begins ++ 10 ∷ whole [] rest)
       (goes_on : (begins rest : List ℕ) (b : ℕ) → eqb b 10 ≡ false → whole (begins ++ b ∷ []) rest ≡ whole begins (b ∷ rest)) where
@@ -105,7 +106,7 @@ module _ (maker site : List ℕ) (p : Policy) (r : read_texts maker site ≡ Ok 
 
     -- where these bytes of a line were read, and are held: what is answered from here is printed for the lines of the whole
     abbrev ByLines : List ℕ → Type 0
-    ByLines rest = (begins first : List ℕ) (n : ℕ) → length first ≡ 1025 → all in_line begins ≡ true
+    ByLines rest = (begins first : List ℕ) (n : ℕ) → length first ≡ line_held → all in_line begins ≡ true
         → answers n (fold pushed (held_by start_question first) begins) rest ≡ answer_lines maker site n (lines_of (whole begins rest))
 
     by_byte : (b : ℕ) (rest : List ℕ) → ByLines rest → ByLines (b ∷ rest)
@@ -115,7 +116,7 @@ module _ (maker site : List ℕ) (p : Policy) (r : read_texts maker site ≡ Ok 
         line : Held
         line = fold pushed (held_by start_question first) begins
 
-        line_long : length line.held ≡ 1025
+        line_long : length line.held ≡ line_held
         line_long = fold_length begins (held_by start_question first) ∙ long
 
         ended : answers (next_number n) (held_by start_question line.held) rest ≡ answer_lines maker site (next_number n) (lines_of (whole [] rest))
@@ -140,7 +141,7 @@ module _ (maker site : List ℕ) (p : Policy) (r : read_texts maker site ≡ Ok 
     by_lines [] begins first n long h = ends n first long begins h
     by_lines (b ∷ rest) begins first n long h = by_byte b rest (by_lines rest) begins first n long h
 
-  module _ (first : List ℕ) (long : length first ≡ 1025) where
+  module _ (first : List ℕ) (long : length first ≡ line_held) where
     started : (lines : List (List ℕ)) → answer_lines maker site 0 lines ≡ answers_on maker site (read_texts maker site) lines
     unfolding answers_on
     started lines = sym (ap (λ (s : Result Policy Refusal). answers_on maker site s lines) r)

@@ -8,7 +8,7 @@ use Rattle.policy.specs.declared.fault.Source.{Source}
 use Rattle.lexer.specs.Byte.{bytes}
 use Rattle.lexer.specs.Lines.{lines_of}
 use Rattle.rule_text.proofs.ReadLaws.{behind_read}
-use Rattle.rule_text.specs.Text.{empty_policy, read_text_behind, read_text, read_texts}
+use Rattle.rule_text.specs.Text.{empty_policy, read_text_behind, read_text, read_texts, text_limit}
 use Rattle.acceptance.proofs.Cut.{texts_cut}
 use Rattle.acceptance.proofs.Locations.{locations_small}
 use Rattle.explanation.proofs.SizeLaws.{said_size, said_size_on}
@@ -22,12 +22,13 @@ use Rattle.questions.specs.Steps.Answer.{answer_on, question_line}
 use Rattle.questions.specs.declared.line.Question.{Question}
 use Rattle.questions.specs.declared.line.Token.{Token}
 use Rattle.questions.specs.Answered.{quoted_line, explained_line, answers_on, answers_printed}
+use Rattle.questions.specs.Steps.Sizes.{answer_size, text_held}
 
 -- ---- texts
 
 module _ (maker site : List ℕ) where
   -- texts that are accepted are not too long
-  pub accepted-short : {p : Policy} → read_texts maker site ≡ Ok p → (length maker ≤ 32768) × (length site ≤ 32768)
+  pub accepted-short : {p : Policy} → read_texts maker site ≡ Ok p → (length maker ≤ text_limit) × (length site ≤ text_limit)
   unfolding read_texts read_text
   accepted-short {p} e =
       let k = and_then_ok (λ (a : Policy). in_text Source.Site (read_text_behind a site)) (read_text maker) p e in
@@ -36,15 +37,15 @@ module _ (maker site : List ℕ) where
       ((behind_read empty_policy maker k.0 m).0, (behind_read k.0 site p s).0)
 
   -- of a text over its length 32,769 bytes are enough
-  pub answers_cut : (input : List ℕ) → answers_printed (take 32769 maker) (take 32769 site) input ≡ answers_printed maker site input
+  pub answers_cut : (input : List ℕ) → answers_printed (take text_held maker) (take text_held site) input ≡ answers_printed maker site input
   unfolding answers_printed answers_on
   answers_cut input =
-      ap (λ (r : Result Policy Refusal). answers_on (take 32769 maker) (take 32769 site) r (lines_of input)) (texts_cut maker site) ∙ go (read_texts maker site) refl
+      ap (λ (r : Result Policy Refusal). answers_on (take text_held maker) (take text_held site) r (lines_of input)) (texts_cut maker site) ∙ go (read_texts maker site) refl
     where
-      go : (r : Result Policy Refusal) → read_texts maker site ≡ r → answers_on (take 32769 maker) (take 32769 site) r (lines_of input) ≡ answers_on maker site r (lines_of input)
+      go : (r : Result Policy Refusal) → read_texts maker site ≡ r → answers_on (take text_held maker) (take text_held site) r (lines_of input) ≡ answers_on maker site r (lines_of input)
       go (Ok p) e =
           let h = accepted-short e in
-          ap₂ (λ (x y : List ℕ). answers_on x y (Ok p) (lines_of input)) (take_all 32769 maker (omega arith)) (take_all 32769 site (omega arith))
+          ap₂ (λ (x y : List ℕ). answers_on x y (Ok p) (lines_of input)) (take_all text_held maker (omega arith)) (take_all text_held site (omega arith))
       go (Err x) e = refl
 
   -- ---- a refusal
@@ -58,10 +59,10 @@ module _ (maker site : List ℕ) where
 
 -- ---- an answer
 
-nothing : 0 ≤ 32768
+nothing : 0 ≤ text_limit
 nothing = omega arith
 
-answer_short : (n : ℕ) → n < 2 ^ 64 → (x : Result Explanation Refusal) → said_size x ≤ 32768 → length (explained_line n x) ≤ 32802
+answer_short : (n : ℕ) → n < 2 ^ 64 → (x : Result Explanation Refusal) → said_size x ≤ text_limit → length (explained_line n x) ≤ answer_size
 unfolding explained_line quoted_line bytes
 answer_short n h (Err r) k = omega (arith, not_explained_short n r.fault h)
 answer_short n h (Ok not_proposed) k = omega (arith, not_proposed_short n h)
@@ -70,17 +71,17 @@ answer_short n h (Ok (accepted_by (of_site x))) k = omega (arith, shown_short n 
 answer_short n h (Ok (cancelled_by (of_maker x))) k = omega (arith, shown_short n (bytes " cancelled ") Source.Maker x.bytes h, k)
 answer_short n h (Ok (cancelled_by (of_site x))) k = omega (arith, shown_short n (bytes " cancelled ") Source.Site x.bytes h, k)
 
-module _ (maker site : List ℕ) (m : length maker ≤ 32768) (s : length site ≤ 32768) where
-  answered_size : (image : List ℕ) (token : Token) (epoch : List ℕ) → said_size (answer_on maker site image token epoch) ≤ 32768
+module _ (maker site : List ℕ) (m : length maker ≤ text_limit) (s : length site ≤ text_limit) where
+  answered_size : (image : List ℕ) (token : Token) (epoch : List ℕ) → said_size (answer_on maker site image token epoch) ≤ text_limit
   unfolding answer_on
   answered_size image Token.Empty epoch = nothing
   answered_size image Token.Letter epoch = nothing
-  answered_size image Token.Zero epoch = said_size_on maker site 32768 m s epoch 0 image
-  answered_size image (Token.Number n) epoch = said_size_on maker site 32768 m s epoch n image
+  answered_size image Token.Zero epoch = said_size_on maker site text_limit m s epoch 0 image
+  answered_size image (Token.Number n) epoch = said_size_on maker site text_limit m s epoch n image
   answered_size image Token.Other epoch = nothing
 
   -- into a buffer of 32,802 bytes the whole answer to a question that is held is put
-  pub question-whole : (image held : List ℕ) (q : Question) (n : ℕ) → n < 2 ^ 64 → (out after : List ℕ) (end : ℕ) → 32802 ≤ length out
+  pub question-whole : (image held : List ℕ) (q : Question) (n : ℕ) → n < 2 ^ 64 → (out after : List ℕ) (end : ℕ) → answer_size ≤ length out
       → (end ≡ behind out 0 (question_line maker site image n q held)) × (after ≡ appended out 0 (question_line maker site image n q held))
       → take end after ≡ question_line maker site image n q held
   unfolding question_line

@@ -17,7 +17,7 @@ use Rattle.lexer.specs.Byte.{is_space, is_digit}
 use Rattle.lexer.specs.Lines.{prepend, pieces, lines_of, take_leading, in_line}
 use Rattle.lexer.specs.Number.{decimal_from, is_empty, number_of}
 use Rattle.lexer.specs.Token.{named}
-use Rattle.epoch_line.specs.Epoch.{read_epoch}
+use Rattle.epoch_line.specs.Epoch.{read_epoch, epoch_limit}
 use Rattle.rule_text.specs.Text.{read_texts}
 use Rattle.acceptance.proofs.Accepted.{texts_acceptable}
 use Rattle.layout.specs.Layout.{image_of}
@@ -33,6 +33,7 @@ use Rattle.questions.specs.Steps.Held.{first_digit, more_digits, next_digit, sca
 use Rattle.questions.specs.declared.line.Question.{Question}
 use Rattle.questions.specs.declared.line.Token.{Token}
 use Rattle.report.specs.Report.{next_number}
+use Rattle.questions.specs.Steps.Sizes.{line_held}
 
 -- ---- the word
 
@@ -142,27 +143,27 @@ word_held (b ∷ w) t held h =
 pub record Holds (t : Token) (epoch : List ℕ) (h : Held) : Type 0 where
   pub token : h.question.token ≡ t
   pub spaced : h.question.spaced ≡ true
-  pub count : h.question.count ≤ 1025
-  pub long : length h.held ≡ 1025
-  pub bytes : take h.question.count h.held ≡ take 1025 epoch
+  pub count : h.question.count ≤ line_held
+  pub long : length h.held ≡ line_held
+  pub bytes : take h.question.count h.held ≡ take line_held epoch
 
 -- one byte more than is held, where there is room and where there is none
-module _ (held before : List ℕ) (count b : ℕ) (long : length held ≡ 1025) (same : take count held ≡ take 1025 before) where
-  room_bytes : count < 1025 → take (count + 1) (set held count b) ≡ take 1025 (before ++ b ∷ [])
+module _ (held before : List ℕ) (count b : ℕ) (long : length held ≡ line_held) (same : take count held ≡ take line_held before) where
+  room_bytes : count < line_held → take (count + 1) (set held count b) ≡ take line_held (before ++ b ∷ [])
   room_bytes h =
       let a : length (take count held) ≡ count = length-take-le count held (omega arith) in
-      let m : length (take 1025 before) ≡ min 1025 (length before) = length-take 1025 before in
+      let m : length (take line_held before) ≡ min line_held (length before) = length-take line_held before in
       let n : length before ≡ count = omega (arith, ap length same) in
-      let whole : take 1025 before ≡ before = take_all 1025 before (omega arith) in
+      let whole : take line_held before ≡ before = take_all line_held before (omega arith) in
       ap (λ (k : ℕ). take k (set held count b)) (add-one count) ∙ take-suc-set held count b (omega arith)
-      ∙ ap (λ (s : List ℕ). s ++ b ∷ []) (same ∙ whole) ∙ sym (take_all 1025 (before ++ b ∷ []) (omega (arith, length-append before (b ∷ []))))
+      ∙ ap (λ (s : List ℕ). s ++ b ∷ []) (same ∙ whole) ∙ sym (take_all line_held (before ++ b ∷ []) (omega (arith, length-append before (b ∷ []))))
 
-  full_bytes : 1025 ≤ count → count ≤ 1025 → take count held ≡ take 1025 (before ++ b ∷ [])
+  full_bytes : line_held ≤ count → count ≤ line_held → take count held ≡ take line_held (before ++ b ∷ [])
   full_bytes h i =
       let a : length (take count held) ≡ count = length-take-le count held (omega arith) in
-      let m : length (take 1025 before) ≡ min 1025 (length before) = length-take 1025 before in
-      let n : 1025 ≤ length before = omega (arith, ap length same) in
-      same ∙ sym (take-append-le 1025 before (b ∷ []) n)
+      let m : length (take line_held before) ≡ min line_held (length before) = length-take line_held before in
+      let n : line_held ≤ length before = omega (arith, ap length same) in
+      same ∙ sym (take-append-le line_held before (b ∷ []) n)
 
 one_more : (b : ℕ) (before : List ℕ) (t : Token) (h : Held) → Holds t before h → Holds t (before ++ b ∷ []) (pushed h b)
 unfolding pushed kept
@@ -173,7 +174,7 @@ one_more b before t h k = go h.question.spaced (ltb h.question.count (length h.h
         (cond y (cond x (held_by (record { token = h.question.token; spaced = true; count = h.question.count + 1 }) (set h.held h.question.count b)) h)
         (cond (is_space b) (held_by (record { token = h.question.token; spaced = true; count = h.question.count }) h.held) (held_by (record { token = scan_byte h.question.token b; spaced = false; count = h.question.count }) h.held)))
     go true true y e =
-        let l : h.question.count < 1025 = omega (arith, ltb-true h.question.count (length h.held) e, k.long) in
+        let l : h.question.count < line_held = omega (arith, ltb-true h.question.count (length h.held) e, k.long) in
         record {
           token = k.token;
           spaced = refl;
@@ -182,7 +183,7 @@ one_more b before t h k = go h.question.spaced (ltb h.question.count (length h.h
           bytes = room_bytes h.held before h.question.count b k.long k.bytes l;
         }
     go true false y e =
-        let l : 1025 ≤ h.question.count = omega (arith, ltb-false h.question.count (length h.held) e, k.long) in
+        let l : line_held ≤ h.question.count = omega (arith, ltb-false h.question.count (length h.held) e, k.long) in
         record { token = k.token; spaced = k.spaced; count = k.count; long = k.long; bytes = full_bytes h.held before h.question.count b k.long k.bytes l k.count }
     go false x y e = let z : ◌≡◌ {A = ℕ} 0 1 = cc in absurd (omega arith)
 
@@ -196,7 +197,7 @@ epoch_held (b ∷ e) before t h k = rw (← append_assoc before (b ∷ []) e) (e
 pub record Says (line : List ℕ) (h : Held) : Type 0 where
   pub token : h.question.token ≡ fold scan_byte Token.Empty (word_of line)
   pub count : h.question.count ≤ length h.held
-  pub bytes : take h.question.count h.held ≡ take 1025 (epoch_part line)
+  pub bytes : take h.question.count h.held ≡ take line_held (epoch_part line)
 
 -- a line is its word, and the epoch line behind a space if there is one
 data Split (line : List ℕ) : Type 0 where
@@ -222,7 +223,7 @@ word_words (b ∷ s) = go (is_space b) refl (word_words s)
     go true e k = refl
     go false e k = and_in (ap not e) k
 
-pub line_says : (line held : List ℕ) → length held ≡ 1025 → Says line (fold pushed (held_by start_question held) line)
+pub line_says : (line held : List ℕ) → length held ≡ line_held → Says line (fold pushed (held_by start_question held) line)
 unfolding pushed
 line_says line held long = go (split line)
   where
@@ -241,7 +242,7 @@ line_says line held long = go (split line)
     go : Split line → Says line (fold pushed (held_by start_question held) line)
     go (alone f g) =
         let e : fold pushed (held_by start_question held) line ≡ held_by (record { token = t; spaced = false; count = 0 }) held = ap (fold pushed (held_by start_question held)) f ∙ worded in
-        rw e (record { token = refl; count = omega arith; bytes = sym (ap (take 1025) g) })
+        rw e (record { token = refl; count = omega arith; bytes = sym (ap (take line_held) g) })
     go (spaced f) =
         let e : fold pushed (held_by start_question held) line ≡ fold pushed (pushed (held_by (record { token = t; spaced = false; count = 0 }) held) 32) (epoch_part line) =
         ap (fold pushed (held_by start_question held)) f ∙ fold-append pushed (held_by start_question held) w (32 ∷ epoch_part line) ∙ ap (λ (h : Held). fold pushed (pushed h 32) (epoch_part line)) worded
@@ -252,16 +253,16 @@ line_says line held long = go (split line)
 -- ---- its answer
 
 -- of an epoch line 1,025 bytes are enough
-epoch_cut : (e : List ℕ) → (take 1025 e ≡ e) ⊎ ((1024 < length (take 1025 e)) × (1024 < length e))
-epoch_cut e = go (ltb 1025 (length e)) refl
+epoch_cut : (e : List ℕ) → (take line_held e ≡ e) ⊎ ((epoch_limit < length (take line_held e)) × (epoch_limit < length e))
+epoch_cut e = go (ltb line_held (length e)) refl
   where
-    go : (x : Bool) → ltb 1025 (length e) ≡ x → (take 1025 e ≡ e) ⊎ ((1024 < length (take 1025 e)) × (1024 < length e))
-    go true h = let k = ltb-true 1025 (length e) h in inr (omega (arith, length-take 1025 e), omega arith)
-    go false h = inl (take_all 1025 e (ltb-false 1025 (length e) h))
+    go : (x : Bool) → ltb line_held (length e) ≡ x → (take line_held e ≡ e) ⊎ ((epoch_limit < length (take line_held e)) × (epoch_limit < length e))
+    go true h = let k = ltb-true line_held (length e) h in inr (omega (arith, length-take line_held e), omega arith)
+    go false h = inl (take_all line_held e (ltb-false line_held (length e) h))
 
-long_refused : (e : List ℕ) → 1024 < length e → read_epoch e ≡ Err (refusal Fault.TooLong 0)
+long_refused : (e : List ℕ) → epoch_limit < length e → read_epoch e ≡ Err (refusal Fault.TooLong 0)
 unfolding read_epoch
-long_refused e h = rw (lt-ltb 1024 (length e) h)
+long_refused e h = rw (lt-ltb epoch_limit (length e) h)
 
 module _ (maker site : List ℕ) where
   epoch_counts : (d e : List ℕ) (n : ℕ) → read_epoch d ≡ read_epoch e → explained maker site d n ≡ explained maker site e n
@@ -272,14 +273,14 @@ module _ (maker site : List ℕ) where
       go (Ok p) = ap (on_epoch maker site p n) h
       go (Err r) = refl
 
-  answer_cut : (x : Option ℕ) (e : List ℕ) → answer_for maker site x (take 1025 e) ≡ answer_for maker site x e
+  answer_cut : (x : Option ℕ) (e : List ℕ) → answer_for maker site x (take line_held e) ≡ answer_for maker site x e
   unfolding answer_for no_action
   answer_cut x e = go x (epoch_cut e)
     where
-      go : (x : Option ℕ) → (take 1025 e ≡ e) ⊎ ((1024 < length (take 1025 e)) × (1024 < length e)) → answer_for maker site x (take 1025 e) ≡ answer_for maker site x e
+      go : (x : Option ℕ) → (take line_held e ≡ e) ⊎ ((epoch_limit < length (take line_held e)) × (epoch_limit < length e)) → answer_for maker site x (take line_held e) ≡ answer_for maker site x e
       go x (inl h) = ap (answer_for maker site x) h
-      go (Some n) (inr (h, k)) = epoch_counts (take 1025 e) e n (long_refused (take 1025 e) h ∙ sym (long_refused e k))
-      go None (inr (h, k)) = rw (lt-ltb 1024 (length (take 1025 e)) h, lt-ltb 1024 (length e) k)
+      go (Some n) (inr (h, k)) = epoch_counts (take line_held e) e n (long_refused (take line_held e) h ∙ sym (long_refused e k))
+      go None (inr (h, k)) = rw (lt-ltb epoch_limit (length (take line_held e)) h, lt-ltb epoch_limit (length e) k)
 
   answer_agrees : (x y : Option ℕ) (e : List ℕ) → Agrees x y → answer_for maker site x e ≡ answer_for maker site y e
   unfolding answer_for Agrees
@@ -311,7 +312,7 @@ module _ (maker site : List ℕ) where
         let k : min h.question.count (length h.held) ≡ h.question.count = omega (arith, s.count) in
         ap (explained_line n)
         (ap₂ (λ (t : Token) (e : List ℕ). answer_on maker site image t e) s.token (ap (λ (c : ℕ). take c h.held) k ∙ s.bytes)
-        ∙ answer_on_is (fold scan_byte Token.Empty (word_of line)) (take 1025 (epoch_part line))
+        ∙ answer_on_is (fold scan_byte Token.Empty (word_of line)) (take line_held (epoch_part line))
         ∙ answer_cut (number_in (fold scan_byte Token.Empty (word_of line))) (epoch_part line)
         ∙ answer_agrees (number_in (fold scan_byte Token.Empty (word_of line))) (named 65 (word_of line)) (epoch_part line) (word_number (word_of line)))
 
@@ -431,7 +432,7 @@ fold_length (b ∷ l) h = fold_length l (pushed h b) ∙ push_length h b
 
 module _ (maker site : List ℕ) (p : Policy) (r : read_texts maker site ≡ Ok p) where
   -- where the input ends, the open line is answered if it has a byte
-  pub last_answered : (n : ℕ) (first : List ℕ) → length first ≡ 1025 → (begins : List ℕ) → all in_line begins ≡ true
+  pub last_answered : (n : ℕ) (first : List ℕ) → length first ≡ line_held → (begins : List ℕ) → all in_line begins ≡ true
       → last_answer maker site (image_of newest_form p) n (fold pushed (held_by start_question first) begins) ≡ answer_lines maker site n (lines_of (begins ++ []))
   unfolding answer_lines lines_of pieces is_open has_byte
   last_answered n first long [] line = refl
@@ -447,7 +448,7 @@ module _ (maker site : List ℕ) (p : Policy) (r : read_texts maker site ≡ Ok 
   -- what the calls led to: the open line is held, and the rest of the input is answered behind what was printed
   record Reached (consumed printed : List ℕ) (n : ℕ) (h : Held) : Type 0 where
     first : List ℕ
-    long : length first ≡ 1025
+    long : length first ≡ line_held
     begins : List ℕ
     line : all in_line begins ≡ true
     holds : h ≡ fold pushed (held_by start_question first) begins

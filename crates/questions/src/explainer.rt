@@ -1,6 +1,6 @@
 //! The questions on two texts as a machine, and the whole run on them.
 ghost use Rattle.std.specs.Prelude.{◌≡◌, ℕ, ◌≤◌, length, take, OnOk, IfErr};
-ghost use Rattle.rule_text.specs.Text.{read_texts};
+ghost use Rattle.rule_text.specs.Text.{read_texts, text_limit};
 ghost use Rattle.output.specs.Buffer.{appended, behind};
 ghost use Rattle.report.specs.Report.{texts_refusal_line};
 ghost use Rattle.stream.specs.Event.{GoOn, Fails};
@@ -9,6 +9,7 @@ ghost use Rattle.questions.specs.Run.{AnswersTexts, QuestionsEndBy};
 
 use crate::answer::{ANSWER_SIZE, put_answer};
 use crate::line::{EPOCH_HELD, Question, begun, is_open, take_line};
+use codegen::NEWEST_FORM;
 use image::IMAGE_SIZE;
 use output::Page;
 use policy::Refusal;
@@ -33,8 +34,8 @@ struct Explainer<'t> {
     held: [u8; EPOCH_HELD],
     out: [u8; ANSWER_SIZE],
     used: usize,
-    ghost maker_short: { length maker.now ≤ 32768 },
-    ghost site_short: { length site.now ≤ 32768 },
+    ghost maker_short: { length maker.now ≤ text_limit },
+    ghost site_short: { length site.now ≤ text_limit },
     ghost within: { used ≤ length out },
 }
 
@@ -42,8 +43,8 @@ impl<'t> Explainer<'t> {
     ghost use Rattle.questions.specs.Steps.Explainer.{IsAnswered, Starts};
 
     fn new(maker: &'t [u8], site: &'t [u8], image: &'t [u8]) -> Explainer<'t>
-        requires maker_short { length maker.now ≤ 32768 }
-        requires site_short { length site.now ≤ 32768 }
+        requires maker_short { length maker.now ≤ text_limit }
+        requires site_short { length site.now ≤ text_limit }
         ensures { Starts result maker.now site.now image.now }
     {
         Explainer {
@@ -142,7 +143,7 @@ pub fn answer_questions<E: Ends>(maker: &[u8], site: &[u8], ends: &mut E) -> Res
     ensures err { IfErr result (λ e. QuestionsEndBy e (read_texts maker.now site.now) maker.now site.now (E.known ends.old) (E.known ends.new)) }
 {
     let mut image = [0u8; IMAGE_SIZE];
-    match codegen::compile_texts(maker, site, &mut image) {
+    match codegen::compile_texts(NEWEST_FORM, maker, site, &mut image) {
         Err(refusal) => refuse(refusal, ends),
         Ok(size) => {
             let mut explainer = Explainer::new(maker, site, &image[..size]);

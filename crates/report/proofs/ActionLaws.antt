@@ -3,7 +3,8 @@ use Rattle.std.proofs.Common.{◌≡◌, ℕ, suc, ◌+◌, ◌-◌, ◌<◌, �
 use Rattle.policy.specs.Set.{has}
 use Rattle.output.specs.Sink.{fed, fed-none}
 use Rattle.output.proofs.SinkLaws.{fed_then}
-use Rattle.report.specs.Report.{members_from, action_name, further_names, action_names}
+use Rattle.report.specs.Report.{action_name, further_names, action_names}
+use Rattle.policy.specs.Set.{members_from}
 
 -- the members from n on
 abbrev pub members : ℕ → ℕ → List ℕ

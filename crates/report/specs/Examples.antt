@@ -2,7 +2,7 @@
 use Rattle.std.specs.Prelude.{ℕ, List, [], ◌∷◌}
 use Prim.Native.String.{String}
 use Rattle.policy.specs.Fault.{refusal, within}
-use Rattle.policy.specs.Set.{actions_from}
+use Rattle.policy.specs.Set.{actions_from, members_of}
 use Rattle.policy.specs.declared.fault.Fault.{Fault}
 use Rattle.policy.specs.declared.fault.Source.{Source}
 use Rattle.lexer.specs.Byte.{bytes}
@@ -36,12 +36,12 @@ examples =
     ∷ row (texts_refusal_line (refusal Fault.BufferTooSmall 0)) "refused 15 text 0 line 0\n"
     ∷ row (image_refusal_line (refusal Fault.ImageBody 6)) "refused 11 word 6\n"
     ∷ row (not_word_line 3267) "line 3267 is not a word\n"
-    ∷ row (accept_line 1 (actions_from (3 ∷ [])) (actions_from (4 ∷ [])) 12) "1 accept A3 cancel A4 words 12\n"
-    ∷ row (accept_line 2 (actions_from (4 ∷ [])) (actions_from []) 7) "2 accept A4 cancel - words 7\n"
-    ∷ row (accept_line 3 (actions_from (4 ∷ [])) (actions_from []) 5) "3 accept A4 cancel - words 5\n"
-    ∷ row (accept_line 4 (actions_from []) (actions_from []) 2) "4 accept - cancel - words 2\n"
+    ∷ row (accept_line 1 (3 ∷ []) (4 ∷ []) 12) "1 accept A3 cancel A4 words 12\n"
+    ∷ row (accept_line 2 (4 ∷ []) [] 7) "2 accept A4 cancel - words 7\n"
+    ∷ row (accept_line 3 (4 ∷ []) [] 5) "3 accept A4 cancel - words 5\n"
+    ∷ row (accept_line 4 [] [] 2) "4 accept - cancel - words 2\n"
     ∷ row (refused_line 5 Fault.EpochRange) "5 refused 13 words 0\n"
-    ∷ row (accept_line 100 (actions_from (63 ∷ 0 ∷ 10 ∷ [])) (actions_from (2 ∷ 1 ∷ [])) 71808) "100 accept A0,A10,A63 cancel A1,A2 words 71808\n"
+    ∷ row (accept_line 100 (members_of (actions_from (63 ∷ 0 ∷ 10 ∷ []))) (members_of (actions_from (2 ∷ 1 ∷ []))) 71808) "100 accept A0,A10,A63 cancel A1,A2 words 71808\n"
     ∷ row (shown_line 1 (bytes " accepted ") Source.Maker (bytes "E1 causes A4")) "1 accepted 1 E1 causes A4\n"
     ∷ row (shown_line 20 (bytes " cancelled ") Source.Site (bytes "never A4 & A5")) "20 cancelled 2 never A4 & A5\n"
     ∷ row (not_proposed_line 3) "3 not proposed\n"

@@ -1,11 +1,9 @@
 -- The lines that the programs print (docs/REFERENCE.md, "The programs").
 use Rattle.std.specs.Str.{byte}
-use Rattle.std.specs.Prelude.{ℕ, zero, suc, ◌+◌, ◌%◌, ◌^◌, List, [], ◌∷◌, ◌++◌, if◌then◌else◌}
+use Rattle.std.specs.Prelude.{ℕ, ◌+◌, ◌%◌, ◌^◌, List, [], ◌∷◌, ◌++◌}
 use Rattle.lexer.specs.Byte.{bytes}
 use Rattle.output.specs.Number.{decimal, hex_word}
 use Rattle.policy.specs.Fault.{fault_number, source_number}
-use Rattle.policy.specs.Number.{set_limit}
-use Rattle.policy.specs.Set.{ActionSet, has}
 use Rattle.policy.specs.declared.fault.Fault.{Fault}
 use Rattle.policy.specs.declared.fault.Refusal.{Refusal}
 use Rattle.policy.specs.declared.fault.Source.{Source}
@@ -15,11 +13,6 @@ abbrev pub next_number : ℕ → ℕ
 next_number n = (n + 1) % 2 ^ 64
 
 -- ---- actions
-
--- the members of a set among the k numbers from n on, by rising number
-unfoldable pub members_from : ℕ → ℕ → ℕ → List ℕ
-members_from zero n s = []
-members_from (suc k) n s = (if has s n then n ∷ [] else []) ++ members_from k (suc n) s
 
 unfoldable pub action_name : ℕ → List ℕ
 action_name n = byte "A" ∷ decimal n
@@ -32,9 +25,6 @@ further_names (n ∷ ns) = byte "," ∷ action_name n ++ further_names ns
 unfoldable pub action_names : List ℕ → List ℕ
 action_names [] = byte "-" ∷ []
 action_names (n ∷ ns) = action_name n ++ further_names ns
-
-unfoldable pub action_list : ActionSet → List ℕ
-action_list s = action_names (members_from set_limit 0 s.bits)
 
 -- ---- lines
 
@@ -72,10 +62,10 @@ not_word_line n = bytes "line " ++ decimal n ++ bytes " is not a word" ++ newlin
 unfoldable pub words_field : ℕ → List ℕ
 words_field words = bytes " words " ++ decimal words ++ newline
 
--- the epoch of that number, decided
-unfoldable pub accept_line : ℕ → ActionSet → ActionSet → ℕ → List ℕ
+-- the epoch of that number, decided: the numbers of the accepted actions and of the cancelled ones
+unfoldable pub accept_line : ℕ → List ℕ → List ℕ → ℕ → List ℕ
 accept_line n accepted cancelled words =
-    decimal n ++ bytes " accept " ++ action_list accepted ++ bytes " cancel " ++ action_list cancelled ++ words_field words
+    decimal n ++ bytes " accept " ++ action_names accepted ++ bytes " cancel " ++ action_names cancelled ++ words_field words
 
 -- the epoch or the question of that number, refused
 abbrev pub refused_field : ℕ → Fault → List ℕ

@@ -1,7 +1,8 @@
 //! The actions of a set, by rising number.
 ghost use Rattle.std.specs.Prelude.{◌≡◌, if◌then◌else◌, [], ◌∷◌, ◌++◌};
 ghost use Rattle.output.specs.Sink.{fed};
-ghost use Rattle.report.specs.Report.{action_name, action_list};
+ghost use Rattle.policy.specs.Set.{members_of};
+ghost use Rattle.report.specs.Report.{action_name, action_names};
 
 use output::{Sink, put_number};
 use policy::{Action, ActionSet};
@@ -26,7 +27,7 @@ fn put_member<S: Sink>(sink: &mut S, number: u8, first: bool)
 
 /// Puts the names of the actions with commas between them, or `-` for none.
 pub(crate) fn put_actions<S: Sink>(sink: &mut S, set: ActionSet)
-    ensures { sink.new ≡ fed S.taken sink.old (action_list set) }
+    ensures { sink.new ≡ fed S.taken sink.old (action_names (members_of set)) }
 {
     let mut first = true;
     for number in 0..64 {

@@ -1,6 +1,7 @@
 //! The lines that the programs print.
 ghost use Rattle.std.specs.Prelude.{◌≡◌};
 ghost use Rattle.output.specs.Sink.{fed};
+ghost use Rattle.policy.specs.Set.{members_of};
 ghost use Rattle.report.specs.Report.{word_line, located_line, refusal_line, texts_refusal_line, image_refusal_line, not_word_line, words_field, accept_line, refused_field, refused_line};
 
 use crate::action::put_actions;
@@ -84,7 +85,7 @@ pub fn put_accept<S: Sink>(
     cancelled: ActionSet,
     words: u64,
 )
-    ensures { sink.new ≡ fed S.taken sink.old (accept_line number accepted cancelled words) }
+    ensures { sink.new ≡ fed S.taken sink.old (accept_line number (members_of accepted) (members_of cancelled) words) }
 {
     put_number(sink, number);
     sink.put(b" accept ");

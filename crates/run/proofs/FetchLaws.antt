@@ -1,33 +1,21 @@
 -- Laws of the number of words that are fetched. A run fetches at most as many as there are, and one more where the last of them has a
 -- constant.
-use Rattle.std.proofs.Common.{ℕ, zero, suc, ◌+◌, ◌-◌, ◌≤◌, Bool, true, false, cond, List, [], ◌∷◌, ◌≡◌, refl, sym, ap, ◌∙◌, add-zero, arith, length}
+use Rattle.std.proofs.Common.{ℕ, zero, suc, ◌+◌, ◌-◌, ◌≤◌, Bool, true, false, cond, List, [], ◌∷◌, ◌≡◌, refl, ap, arith, length}
 use Rattle.policy.specs.Set.{ActionSet}
 use Rattle.policy.specs.declared.epoch.Readings.{Readings}
 use Rattle.policy.specs.declared.set.Events.{Events}
-use Rattle.operation.specs.Fields.{operation_of}
-use Rattle.operation.specs.declared.operation.Operation.{Operation}
-use Rattle.run.specs.Run.{constants_behind, passes, ran, rule_test, constraint_test, is_never, ends_constraint, fetches_of, fetches, up_to, rule_fetches, trial_fetches}
+use Rattle.operation.specs.Said.{says, constants_of}
+use Rattle.operation.specs.declared.said.LinePart.{LinePart}
+use Rattle.run.specs.Run.{passes, ran, rule_test, constraint_test, ends_constraint, fetches, up_to, rule_fetches, trial_fetches}
 use Rattle.run.proofs.TestLaws.{constants_small}
 
--- ---- one word more
-
-pub fetches_more : (w : ℕ) (ws : List ℕ) (op : Operation) → op ≡ operation_of w → fetches (w ∷ ws) ≡ fetches_of op + fetches ws
-unfolding fetches
-fetches_more w ws op is = ap (λ (o : Operation). fetches_of o + fetches ws) (sym is)
-
-pub fetches_one : (w : ℕ) (op : Operation) → op ≡ operation_of w → fetches (w ∷ []) ≡ fetches_of op
-unfolding fetches
-fetches_one w op is = fetches_more w [] op is ∙ add-zero (fetches_of op)
-
 -- up to the end of a constraint
-pub fetches_up_to : (w : ℕ) (ws : List ℕ) (op : Operation) → op ≡ operation_of w
-    → fetches (up_to ends_constraint (w ∷ ws)) ≡ fetches_of op + cond (is_never op) 0 (fetches (up_to ends_constraint ws))
+pub fetches_up_to : (p : LinePart) (rest : List LinePart)
+    → fetches (up_to ends_constraint (p ∷ rest)) ≡ 1 + constants_of p + cond (ends_constraint p) 0 (fetches (up_to ends_constraint rest))
 unfolding up_to fetches
-fetches_up_to w ws op is =
-    fetches_more w (cond (ends_constraint w) [] (up_to ends_constraint ws)) op is
-    ∙ ap (λ (n : ℕ). fetches_of op + n) (go (is_never (operation_of w)) ∙ ap (λ (o : Operation). cond (is_never o) 0 (fetches (up_to ends_constraint ws))) (sym is))
+fetches_up_to p rest = ap (λ (n : ℕ). 1 + constants_of p + n) (go (ends_constraint p))
   where
-    go : (b : Bool) → fetches (cond b [] (up_to ends_constraint ws)) ≡ cond b 0 (fetches (up_to ends_constraint ws))
+    go : (b : Bool) → fetches (cond b [] (up_to ends_constraint rest)) ≡ cond b 0 (fetches (up_to ends_constraint rest))
     go true = refl
     go false = refl
 
@@ -36,7 +24,7 @@ fetches_up_to w ws op is =
 -- the constants of the last word
 abbrev pub last_constants : List ℕ → ℕ
 last_constants [] = 0
-last_constants (w ∷ []) = constants_behind (operation_of w)
+last_constants (w ∷ []) = constants_of (says w 0)
 last_constants (w ∷ v ∷ ws) = last_constants (v ∷ ws)
 
 pub last_behind : (w : ℕ) (ws : List ℕ) → 1 ≤ length ws → last_constants (w ∷ ws) ≡ last_constants ws
@@ -45,25 +33,25 @@ last_behind w (v ∷ ws) h = refl
 
 last_small : (ws : List ℕ) → last_constants ws ≤ 1
 last_small [] = omega arith
-last_small (w ∷ []) = constants_small (operation_of w)
+last_small (w ∷ []) = constants_small (says w 0)
 last_small (w ∷ v ∷ ws) = last_small (v ∷ ws)
 
-module _ (test : Operation → ℕ → ℕ → Bool) where
+module _ (test : LinePart → Bool) where
   ran_fetches : (n : ℕ) (ws : List ℕ) → fetches (ran test n ws) ≤ length ws - n + last_constants ws
   unfolding ran fetches
   ran_fetches n [] = omega arith
   ran_fetches (suc n) (w ∷ []) = omega (arith, ran_fetches n [])
   ran_fetches (suc n) (w ∷ v ∷ ws) = omega (arith, ran_fetches n (v ∷ ws))
-  ran_fetches zero (w ∷ []) = omega (arith, ran_fetches (passes (test (operation_of w) w 0) (operation_of w) w) [])
+  ran_fetches zero (w ∷ []) = omega (arith, ran_fetches (passes (test (says w 0)) (says w 0) w) [])
   ran_fetches zero (w ∷ v ∷ ws) =
-      omega (arith, constants_small (operation_of w), ran_fetches (passes (test (operation_of w) w v) (operation_of w) w) (v ∷ ws))
+      omega (arith, constants_small (says w v), ran_fetches (passes (test (says w v)) (says w v) w) (v ∷ ws))
 
-up_to_fetches : (test : ℕ → Bool) (ws : List ℕ) → fetches (up_to test ws) ≤ fetches ws
+up_to_fetches : (test : LinePart → Bool) (ps : List LinePart) → fetches (up_to test ps) ≤ fetches ps
 unfolding up_to fetches
 up_to_fetches test [] = omega arith
-up_to_fetches test (w ∷ ws) = go (test w) (up_to_fetches test ws)
+up_to_fetches test (p ∷ ps) = go (test p) (up_to_fetches test ps)
   where
-    go : (b : Bool) → fetches (up_to test ws) ≤ fetches ws → fetches (w ∷ cond b [] (up_to test ws)) ≤ fetches (w ∷ ws)
+    go : (b : Bool) → fetches (up_to test ps) ≤ fetches ps → fetches (p ∷ cond b [] (up_to test ps)) ≤ fetches (p ∷ ps)
     go true h = omega arith
     go false h = omega arith
 

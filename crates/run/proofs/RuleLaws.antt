@@ -3,8 +3,10 @@ use Rattle.std.proofs.Common.{ℕ, ◌+◌, ◌≤◌, ◌<◌, Bool, true, fals
 use Rattle.policy.specs.Set.{ActionSet, no_actions}
 use Rattle.policy.specs.declared.epoch.Readings.{Readings}
 use Rattle.policy.specs.declared.set.Events.{Events}
-use Rattle.operation.specs.Fields.{skip_of, operation_of}
-use Rattle.run.specs.Run.{constants_behind, ran, rule_test, proposing, fetches_of, fetches}
+use Rattle.operation.specs.Fields.{skip_of}
+use Rattle.operation.specs.Said.{says, constants_of}
+use Rattle.operation.specs.declared.said.LinePart.{LinePart}
+use Rattle.run.specs.Run.{ran, rule_test, proposing, fetches}
 use Rattle.run.specs.Steps.Test.{IsTestIn, AsksNothing}
 use Rattle.run.specs.declared.test.Tested.{Tested}
 use Rattle.run.proofs.RunLaws.{ran_end, turn}
@@ -28,16 +30,19 @@ module _ (ev : Events) (rs : Readings) (ws : List ℕ) where
   running_at {s} {s'} {at} {at'} {from} p q r = rw (sym p, sym q) r
 
   module _ (at w : ℕ) (s : ActionSet) (from : ℕ) (g : Running s at from) (within : at < length ws) (this : w ≡ get_or ws at 0) where
-    go_on : (holds : Bool) → holds ≡ rule_test ev rs (operation_of w) w (get_or ws (at + 1) 0)
-        → Running (proposing s w) (at + 1 + constants_behind (operation_of w) + cond holds 0 (skip_of w)) (from + cond holds 0 (skip_of w))
+    abbrev said : LinePart
+    said = says w (get_or ws (at + 1) 0)
+
+    go_on : (holds : Bool) → holds ≡ rule_test ev rs said
+        → Running (proposing s said) (at + 1 + constants_of said + cond holds 0 (skip_of w)) (from + cond holds 0 (skip_of w))
     unfolding fetches
     go_on holds h =
-        let next : ℕ = at + 1 + constants_behind (operation_of w) + cond holds 0 (skip_of w) in
-        let goes : ran (rule_test ev rs) 0 (drop at ws) ≡ w ∷ ran (rule_test ev rs) 0 (drop next ws) = turn (rule_test ev rs) ws at w next (operation_of w) within this refl holds h refl in
-        let f : fetched_from at ≡ fetches_of (operation_of w) + fetched_from next = ap fetches goes in
+        let next : ℕ = at + 1 + constants_of said + cond holds 0 (skip_of w) in
+        let goes : ran (rule_test ev rs) 0 (drop at ws) ≡ said ∷ ran (rule_test ev rs) 0 (drop next ws) = turn (rule_test ev rs) ws at w within this next holds h refl in
+        let f : fetched_from at ≡ 1 + constants_of said + fetched_from next = ap fetches goes in
         record { proposed = sym (ap (fold proposing s) goes) ∙ g.proposed; behind = omega (arith, g.behind); words = omega (arith, g.words, f) }
 
-    module _ (t : Tested) (is : IsTestIn ev rs w (get_or ws (at + 1) 0) (at + 1) t) where
+    module _ (t : Tested) (is : IsTestIn ev rs said (at + 1) t) where
       turned : (holds : Bool) → t.holds ≡ holds → Running s (t.next + cond holds 0 (skip_of w)) (from + cond holds 0 (skip_of w))
       turned holds e =
           running_at (is.proposes_none s) (ap (λ (n : ℕ). n + cond holds 0 (skip_of w)) (sym (ap (λ (x : Tested). x.next) is.is)))
@@ -52,10 +57,10 @@ module _ (ev : Events) (rs : Readings) (ws : List ℕ) where
       rules_failed e m n p q = rw (p, q) (turned false e)
 
     -- a word that asks for none
-    pub rules_pass : AsksNothing ev rs w (get_or ws (at + 1) 0) → Running (proposing s w) (at + 1) from
+    pub rules_pass : AsksNothing ev rs said → Running (proposing s said) (at + 1) from
     rules_pass none =
-        let next : at + 1 + constants_behind (operation_of w) + 0 ≡ at + 1 = omega (arith, none.alone) in
-        rw (sym next, sym (add-zero from)) (go_on true (sym none.holds))
+        let next : at + 1 + constants_of said + 0 ≡ at + 1 = omega (arith, none.alone) in
+        running_at refl next (rw (sym (add-zero from)) (go_on true (sym none.holds)))
 
   pub rules_end : (s : ActionSet) (at : ℕ) → length ws ≤ at → proposed_from s at ≡ s
   rules_end s at h = ap (fold proposing s) (ran_end (rule_test ev rs) ws at h)

@@ -1,72 +1,59 @@
--- What words do when they are run, by their operations and skips, and how many are fetched. Any words can be run.
+-- What words do when they are run, by what they say and by their skips, and how many are fetched. Any words can be run.
 use Rattle.std.specs.Prelude.{ℕ, zero, suc, ◌+◌, Bool, true, false, not, List, [], ◌∷◌, fold, if◌then◌else◌, slice_index_or}
 use Rattle.policy.specs.Comparison.{comparison_holds}
 use Rattle.policy.specs.declared.epoch.Readings.{Readings}
 use Rattle.std.specs.List.{list_any}
 use Rattle.policy.specs.Set.{ActionSet, has_event, no_actions, has_action, insert_action}
+use Rattle.policy.specs.declared.line.Ending.{Ending}
 use Rattle.policy.specs.declared.line.Part.{Part}
+use Rattle.policy.specs.declared.line.Test.{Test}
 use Rattle.policy.specs.declared.set.Events.{Events}
-use Rattle.operation.specs.Parts.{event_from, action_from, constant_comparison, reading_comparison}
-use Rattle.operation.specs.Fields.{skip_of, operation_of}
-use Rattle.operation.specs.declared.operation.Operation.{Operation}
+use Rattle.operation.specs.Fields.{skip_of}
+use Rattle.operation.specs.Said.{says, constants_of}
+use Rattle.operation.specs.declared.said.LinePart.{LinePart}
 
 -- ---- which words are run
 
--- a comparison with a constant has it in the word behind
-abbrev pub constants_behind : Operation → ℕ
-constants_behind Operation.AgainstConstant = 1
-constants_behind _ = 0
-
 -- how many of the words behind a word are passed over: its constant always, and where its test fails as many more as its skip tells
-abbrev pub passes : Bool → Operation → ℕ → ℕ
-passes holds op w = constants_behind op + (if holds then 0 else skip_of w)
+abbrev pub passes : Bool → LinePart → ℕ → ℕ
+passes holds said w = constants_of said + (if holds then 0 else skip_of w)
 
--- the words that are run, one after another, with the number of words still to pass over. Whether the test of a word holds is told
--- by its operation, itself and the word behind it.
-module _ (test : Operation → ℕ → ℕ → Bool) where
-  unfoldable pub ran : ℕ → List ℕ → List ℕ
+-- what the words say that are run, one after another, with the number of words still to pass over and a test of what a word says
+module _ (test : LinePart → Bool) where
+  unfoldable pub ran : ℕ → List ℕ → List LinePart
   ran n [] = []
   ran (suc n) (w ∷ ws) = ran n ws
-  ran zero (w ∷ ws) = w ∷ ran (passes (test (operation_of w) w (slice_index_or ws 0 0)) (operation_of w) w) ws
+  ran zero (w ∷ ws) =
+      let said : LinePart = says w (slice_index_or ws 0 0) in
+      said ∷ ran (passes (test said) said w) ws
 
 -- ---- tests
 
--- a comparison, in either part; any other word asks for none
-unfoldable pub comparison_test : Part → Readings → Operation → ℕ → ℕ → Bool
-comparison_test part rs Operation.AgainstConstant w k = comparison_holds part rs (constant_comparison w k)
-comparison_test part rs Operation.AgainstReading w k = comparison_holds part rs (reading_comparison w)
-comparison_test _ _ _ _ _ = true
-
--- in the rule part: an event present or absent, or a comparison
-unfoldable pub rule_test : Events → Readings → Operation → ℕ → ℕ → Bool
-rule_test ev rs Operation.Present w k = has_event ev.present (event_from w)
-rule_test ev rs Operation.Absent w k = not (has_event ev.occurred (event_from w))
-rule_test ev rs op w k = comparison_test Part.Rules rs op w k
+-- in the rule part: an event present or absent, or a comparison. Any other word asks for no test
+unfoldable pub rule_test : Events → Readings → LinePart → Bool
+rule_test ev rs (LinePart.Head (Test.Occurs l)) = if l.negated then not (has_event ev.occurred l.event) else has_event ev.present l.event
+rule_test ev rs (LinePart.Comparison c) = comparison_holds Part.Rules rs c
+rule_test _ _ _ = true
 
 -- in the constraint part: an action in the set, or a comparison
-unfoldable pub constraint_test : Readings → ActionSet → Operation → ℕ → ℕ → Bool
-constraint_test rs s Operation.Member w k = has_action s (action_from w)
-constraint_test rs s op w k = comparison_test Part.Constraints rs op w k
+unfoldable pub constraint_test : Readings → ActionSet → LinePart → Bool
+constraint_test rs s (LinePart.Head (Test.Member a)) = has_action s a
+constraint_test rs s (LinePart.Comparison c) = comparison_holds Part.Constraints rs c
+constraint_test _ _ _ = true
 
 -- ---- what the run of a part yields
 
-unfoldable pub proposes_at : Operation → ℕ → ActionSet → ActionSet
-proposes_at Operation.Proposes w s = insert_action s (action_from w)
-proposes_at _ _ s = s
-
-abbrev pub proposing : ActionSet → ℕ → ActionSet
-proposing s w = proposes_at (operation_of w) w s
+unfoldable pub proposing : ActionSet → LinePart → ActionSet
+proposing s (LinePart.Ending (Ending.Causes a)) = insert_action s a
+proposing s _ = s
 
 -- the actions of the words that propose one
 unfoldable pub run_rules : Events → Readings → List ℕ → ActionSet
 run_rules ev rs ws = fold proposing no_actions (ran (rule_test ev rs) 0 ws)
 
-unfoldable pub is_never : Operation → Bool
-is_never Operation.Never = true
-is_never _ = false
-
-abbrev pub ends_constraint : ℕ → Bool
-ends_constraint w = is_never (operation_of w)
+unfoldable pub ends_constraint : LinePart → Bool
+ends_constraint (LinePart.Ending Ending.Never) = true
+ends_constraint _ = false
 
 -- whether the end of some constraint is run
 unfoldable pub run_constraints : Readings → ActionSet → List ℕ → Bool
@@ -75,17 +62,14 @@ run_constraints rs s ws = list_any ends_constraint (ran (constraint_test rs s) 0
 -- ---- how many words are fetched
 
 -- a word that is run is fetched, and its constant with it
-abbrev pub fetches_of : Operation → ℕ
-fetches_of op = 1 + constants_behind op
-
-unfoldable pub fetches : List ℕ → ℕ
+unfoldable pub fetches : List LinePart → ℕ
 fetches [] = 0
-fetches (w ∷ ws) = fetches_of (operation_of w) + fetches ws
+fetches (said ∷ rest) = 1 + constants_of said + fetches rest
 
--- the words of a list up to the first that passes a test, that one included
-unfoldable pub up_to : (ℕ → Bool) → List ℕ → List ℕ
+-- the items of a list up to the first that passes a test, that one included
+unfoldable pub up_to : (LinePart → Bool) → List LinePart → List LinePart
 up_to test [] = []
-up_to test (w ∷ ws) = w ∷ (if test w then [] else up_to test ws)
+up_to test (said ∷ rest) = said ∷ (if test said then [] else up_to test rest)
 
 -- how many words the run of rules fetches
 unfoldable pub rule_fetches : Events → Readings → List ℕ → ℕ

@@ -1,10 +1,12 @@
 //! The constraint part of an image.
-ghost use Rattle.std.specs.Prelude.{◌≡◌, ◌<◌, ◌≤◌, length, slice_index_or, true, MatchOption};
+ghost use Rattle.std.specs.Prelude.{ℕ, ◌≡◌, ◌<◌, ◌≤◌, length, slice_index_or, true, MatchOption};
 ghost use Rattle.word.specs.Chunk.{words_in};
 ghost use Rattle.policy.specs.Epoch.{viewed};
 ghost use Rattle.operation.specs.Fields.{operation_of};
+ghost use Rattle.operation.specs.declared.operation.Operation.{Operation};
 ghost use Rattle.run.specs.Run.{ends_constraint, run_constraints, trial_fetches};
 ghost use Rattle.run.specs.Steps.Test.{IsTestOf, is_member_operation, is_constant_operation, left_at};
+ghost use Rattle.operation.specs.Said.{says};
 
 use crate::test::{Tested, against_constant, against_reading, fetches, last_of};
 use operation::{Operation, first, skip};
@@ -14,7 +16,8 @@ use word::nth_word;
 // Words are told apart by functions of their own, each of which compiles to one comparison.
 
 fn is_member(word: u32) -> bool
-    ensures { result ≡ is_member_operation (operation_of word) }
+    ensures value { result ≡ is_member_operation (operation_of word) }
+    ensures only { result ≡ true → operation_of word ≡ Operation.Member }
 {
     match Operation::of(word) {
         Operation::Member => true,
@@ -31,9 +34,9 @@ fn is_against_constant(word: u32) -> bool
     }
 }
 
-#[tactic(auto, unfolding(crate::specs::Run::is_never))]
+#[tactic(auto, unfolding(operation::specs::Said::says, operation::specs::Said::says_by, crate::specs::Run::ends_constraint))]
 fn is_never(word: u32) -> bool
-    ensures { result ≡ ends_constraint word }
+    ensures { (k : ℕ) → result ≡ ends_constraint (says word k) }
 {
     match Operation::of(word) {
         Operation::Never => true,
@@ -42,7 +45,7 @@ fn is_never(word: u32) -> bool
 }
 
 // The test of a word; none where it ends its constraint. Constants come first, which a trial meets most.
-#[tactic(auto, unfolding(crate::specs::Run::is_never, crate::specs::Run::constraint_test, crate::specs::Run::comparison_test))]
+#[tactic(auto, unfolding(operation::specs::Said::says, operation::specs::Said::says_by, operation::specs::Said::constants_of, crate::specs::Run::ends_constraint, crate::specs::Run::constraint_test))]
 fn test_constraint(
     words: &[[u8; 4]],
     behind: usize,
@@ -51,7 +54,7 @@ fn test_constraint(
     readings: ReadingView<'_>,
 ) -> Option<Tested>
     requires { behind < length words.now }
-    ensures { MatchOption result (ends_constraint word ≡ true) (IsTestOf (viewed readings.entry) set word (slice_index_or (words_in words.now) behind 0) behind) }
+    ensures { MatchOption result (ends_constraint (says word (slice_index_or (words_in words.now) behind 0)) ≡ true) (IsTestOf (viewed readings.entry) set (says word (slice_index_or (words_in words.now) behind 0)) behind) }
 {
     let part = Part::Constraints;
     if is_against_constant(word) {
@@ -90,7 +93,7 @@ fn left_at(words: &[[u8; 4]], at: usize, from: usize) -> Trial
         let last = nth_word(words, at);
         Trial {
             conflict: is_never(last),
-            words: at + fetches(Operation::of(last)) - from,
+            words: at + fetches(last) - from,
         }
     } else {
         Trial {

@@ -1,8 +1,9 @@
 //! The rule part of an image.
-ghost use Rattle.std.specs.Prelude.{◌≡◌, ◌≤◌, slice_index_or, length, MatchOption};
+ghost use Rattle.std.specs.Prelude.{ℕ, ◌≡◌, ◌≤◌, slice_index_or, length, MatchOption};
 ghost use Rattle.word.specs.Chunk.{words_in};
 ghost use Rattle.policy.specs.Epoch.{viewed};
 ghost use Rattle.operation.specs.Fields.{operation_of};
+ghost use Rattle.operation.specs.Said.{says};
 ghost use Rattle.run.specs.Run.{proposing, run_rules, rule_fetches};
 ghost use Rattle.run.specs.Steps.Test.{IsTestIn, AsksNothing, is_present_operation, is_absent_operation};
 
@@ -30,7 +31,7 @@ fn is_absent(word: u32) -> bool
 }
 
 // The test of a word; none where it asks for none. Heads come first, which a run meets most.
-#[tactic(auto, unfolding(crate::specs::Run::rule_test, crate::specs::Run::comparison_test, crate::specs::Run::proposes_at))]
+#[tactic(auto, unfolding(operation::specs::Said::says, operation::specs::Said::says_by, operation::specs::Said::constants_of, crate::specs::Run::rule_test, crate::specs::Run::proposing))]
 fn test_rule(
     words: &[[u8; 4]],
     behind: usize,
@@ -39,7 +40,7 @@ fn test_rule(
     readings: ReadingView<'_>,
 ) -> Option<Tested>
     requires { behind ≤ length words.now }
-    ensures { MatchOption result (AsksNothing events (viewed readings.entry) word (slice_index_or (words_in words.now) behind 0)) (IsTestIn events (viewed readings.entry) word (slice_index_or (words_in words.now) behind 0) behind) }
+    ensures { MatchOption result (AsksNothing events (viewed readings.entry) (says word (slice_index_or (words_in words.now) behind 0))) (IsTestIn events (viewed readings.entry) (says word (slice_index_or (words_in words.now) behind 0)) behind) }
 {
     let part = Part::Rules;
     if is_present(word) {
@@ -65,9 +66,9 @@ fn test_rule(
 }
 
 // The set with the action that a word proposes, if it does.
-#[tactic(auto, unfolding(crate::specs::Run::proposes_at))]
+#[tactic(auto, unfolding(operation::specs::Said::says, operation::specs::Said::says_by, crate::specs::Run::proposing))]
 fn with_proposal(set: ActionSet, word: u32) -> ActionSet
-    ensures { result ≡ proposing set word }
+    ensures { (k : ℕ) → result ≡ proposing set (says word k) }
 {
     match Operation::of(word) {
         Operation::Proposes => set.insert(Action(first(word) as u8)),

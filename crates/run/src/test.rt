@@ -1,10 +1,10 @@
 //! The test of a word, which both runs share: whether it holds, and where the run goes on.
-ghost use Rattle.std.specs.Prelude.{◌≡◌, ◌-◌, ◌≤◌};
+ghost use Rattle.std.specs.Prelude.{ℕ, ◌+◌, ◌≡◌, ◌-◌, ◌≤◌};
 ghost use Rattle.operation.specs.Parts.{constant_comparison, reading_comparison};
-ghost use Rattle.operation.specs.declared.operation.Operation.{Operation};
+ghost use Rattle.operation.specs.Said.{says, constants_of};
+ghost use Rattle.operation.specs.declared.said.LinePart.{LinePart};
 ghost use Rattle.policy.specs.Comparison.{comparison_holds};
 ghost use Rattle.policy.specs.Epoch.{viewed};
-ghost use Rattle.run.specs.Run.{fetches_of};
 ghost use Rattle.run.specs.Steps.Test.{tested};
 
 use operation::{Operation, constant_holds, reading_holds};
@@ -25,6 +25,7 @@ pub(crate) fn last_of(count: usize) -> usize
 }
 
 // A comparison with a constant, which is the word behind.
+#[tactic(auto, unfolding(operation::specs::Said::constants_of, operation::specs::Parts::constant_comparison))]
 pub(crate) fn against_constant(
     part: Part,
     behind: usize,
@@ -33,7 +34,7 @@ pub(crate) fn against_constant(
     readings: ReadingView<'_>,
 ) -> Tested
     requires { behind ≤ 0x4000_0000_0000_0000 }
-    ensures { result ≡ tested (comparison_holds part (viewed readings.entry) (constant_comparison word constant)) Operation.AgainstConstant behind }
+    ensures { result ≡ tested (comparison_holds part (viewed readings.entry) (constant_comparison word constant)) (LinePart.Comparison (constant_comparison word constant)) behind }
 {
     Tested {
         holds: constant_holds(part, word, constant, readings),
@@ -42,13 +43,14 @@ pub(crate) fn against_constant(
 }
 
 // A comparison with a reading.
+#[tactic(auto, unfolding(operation::specs::Said::constants_of, operation::specs::Parts::reading_comparison))]
 pub(crate) fn against_reading(
     part: Part,
     behind: usize,
     word: u32,
     readings: ReadingView<'_>,
 ) -> Tested
-    ensures { result ≡ tested (comparison_holds part (viewed readings.entry) (reading_comparison word)) Operation.AgainstReading behind }
+    ensures { result ≡ tested (comparison_holds part (viewed readings.entry) (reading_comparison word)) (LinePart.Comparison (reading_comparison word)) behind }
 {
     Tested {
         holds: reading_holds(part, word, readings),
@@ -57,10 +59,12 @@ pub(crate) fn against_reading(
 }
 
 // How many words are fetched for a word that is run: itself, and its constant.
-pub(crate) fn fetches(operation: Operation) -> usize
-    ensures { result ≡ fetches_of operation }
+#[tactic(auto, unfolding(operation::specs::Said::says, operation::specs::Said::says_by, operation::specs::Said::constants_of, operation::specs::Parts::constant_comparison, operation::specs::Parts::reading_comparison))]
+pub(crate) fn fetches(word: u32) -> usize
+    ensures count { (k : ℕ) → result ≡ 1 + constants_of (says word k) }
+    ensures few { result ≤ 2 }
 {
-    match operation {
+    match Operation::of(word) {
         Operation::AgainstConstant => 2,
         _ => 1,
     }

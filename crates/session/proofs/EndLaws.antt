@@ -7,7 +7,8 @@ use Rattle.policy.specs.declared.fault.Refusal.{Refusal}
 use Rattle.policy.specs.declared.mode.Mode.{Mode}
 use Rattle.lexer.specs.Lines.{pieces, lines_of}
 use Rattle.rule_text.specs.Text.{read_text}
-use Rattle.codegen.specs.Compile.{compiled}
+use Rattle.codegen.proofs.AcceptedLaws.{newest_known}
+use Rattle.codegen.specs.Compile.{newest_form, compiled}
 use Rattle.monitor.specs.Decision.{decision_in}
 use Rattle.monitor.specs.declared.decision.Actions.{Actions}
 use Rattle.report.specs.Report.{refusal_line, next_number}
@@ -21,6 +22,8 @@ use Rattle.output.proofs.RoomLaws.{put_end, put_take}
 use Rattle.codegen.proofs.RoomLaws.{Read, compiled_refusal, compiled_read}
 use Rattle.report.proofs.LengthLaws.{refusal_short}
 use Rattle.session.proofs.LengthLaws.{decision_short}
+use Rattle.layout.specs.Layout.{size_limit}
+use Rattle.session.specs.Steps.Sizes.{epoch_held, out_size}
 
 -- ---- a part of a slice
 
@@ -33,16 +36,16 @@ part_from l start count h k =
 -- ---- the end of the text
 
 module _ (text : List ℕ) (mode : Mode) (s : State) (image out : List ℕ) (answer : Result ℕ Refusal) (image' : List ℕ)
-    (made : answer ≡ (compiled text image).answer) (wrote : image' ≡ (compiled text image).buffer)
-    (within : IfOk answer (λ size. size ≤ length image')) (kept : length image' ≡ length image) (long : length image ≡ 13064) (out_long : length out ≡ 65536) (room : Room s) where
+    (made : answer ≡ (compiled newest_form text image).answer) (wrote : image' ≡ (compiled newest_form text image).buffer)
+    (within : IfOk answer (λ size. size ≤ length image')) (kept : length image' ≡ length image) (long : length image ≡ size_limit) (out_long : length out ≡ out_size) (room : Room s) where
   prints_refusal : (x : Refusal) → answer ≡ Err x → (t : Session) → printed_for text t ≡ refusal_line x
   unfolding printed_for answers_to
-  prints_refusal x e t = ap (λ (p : Result Policy Refusal). answers_to p t) (compiled_refusal text image long x (sym made ∙ e))
+  prints_refusal x e t = ap (λ (p : Result Policy Refusal). answers_to p t) (compiled_refusal newest_form newest_known text image long x (sym made ∙ e))
 
   prints_epochs : (size : ℕ) → answer ≡ Ok size → (epochs : List (List ℕ)) → printed_for text (with_epochs [] mode epochs) ≡ epoch_lines mode (take size image') 0 epochs
   unfolding printed_for answers_to
   prints_epochs size e epochs =
-      let r : Read (read_text text) (compiled text image).buffer size = compiled_read text image long size (sym made ∙ e) in
+      let r : Read newest_form (read_text text) (compiled newest_form text image).buffer size = compiled_read newest_form newest_known text image long size (sym made ∙ e) in
       ap (λ (p : Result Policy Refusal). answers_to p (with_epochs [] mode epochs)) r.read
       ∙ ap (λ (bytes : List ℕ). epoch_lines mode bytes 0 epochs) (sym (ap (take size) wrote ∙ r.image))
 
@@ -92,14 +95,14 @@ module _ (text : List ℕ) (mode : Mode) (s : State) (image out : List ℕ) (ans
               sized = omega arith;
               used = omega arith;
             };
-        tracks = λ held x ran none. (ran, ap (take 1025) (sym none));
+        tracks = λ held x ran none. (ran, ap (take epoch_held) (sym none));
         quiet = λ held. refl;
       }
 
 -- ---- the end of an epoch line
 
 pub line_ended_is : (s : State) (held image out : List ℕ) (d : Result Actions Refusal) (n : ℕ) (out' : List ℕ) (end : ℕ)
-    → s.start ≡ 0 → length out ≡ 65536 → Room s → n ≡ next_number s.epochs → d ≡ decision_in s.mode (take s.size image) (take s.count held)
+    → s.start ≡ 0 → length out ≡ out_size → Room s → n ≡ next_number s.epochs → d ≡ decision_in s.mode (take s.size image) (take s.count held)
     → Put out s.used (decision_line n d) out' end
     → LineEnded s held image out (record { phase = s.phase; mode = s.mode; start = 0; count = 0; epochs = n; size = s.size; used = end }) out'
 line_ended_is s held image out d n out' end zero' long room number decided p =

@@ -18,6 +18,8 @@ use Rattle.session.proofs.HeldLaws.{snoc}
 use Rattle.session.proofs.RunLaws.{long_none}
 use Rattle.session.proofs.TookLaws.{represents_start}
 use Rattle.session.proofs.TextByteLaws.{text_count, line_held}
+use Rattle.layout.specs.Layout.{size_limit}
+use Rattle.session.specs.Steps.Sizes.{held_size, epoch_held, out_size, text_held}
 
 -- ---- two views of the input that tell the same modes
 
@@ -58,7 +60,7 @@ picked_same : (p : Phase) (x : Seen) (s : State) (held : List ℕ) → TracksIn 
 unfolding TracksIn seen_in
 picked_same Phase.Text x s held (ran, line, first) bytes =
     ap is_some (sym (alike_ran (record { ran = None; tail = current s held }) x bytes
-    (record { ran = sym ran; line = λ l. ap (λ (c : List ℕ). mode_of (c ++ l)) line ∙ held_line (32780 - s.start) x.tail l (omega arith) })))
+    (record { ran = sym ran; line = λ l. ap (λ (c : List ℕ). mode_of (c ++ l)) line ∙ held_line (held_size - s.start) x.tail l (omega arith) })))
 picked_same Phase.Epochs x s held (ran, line) bytes = ap is_some (ran_stays_all x bytes ran ∙ sym (ran_stays_all (record { ran = Some s.mode; tail = current s held }) bytes refl))
 picked_same Phase.Over x s held ran bytes = ap is_some (ran_stays_all x bytes ran ∙ sym (ran_stays_all (record { ran = Some s.mode; tail = [] }) bytes refl))
 
@@ -73,8 +75,8 @@ tracks_starting Phase.Over x s held t = tt
 module _ (s : State) (held image out : List ℕ) (g : Good s held image out) where
   starting_in : (p : Phase) → s.phase ≡ p → Starting p s → TracksIn p (seen_in p s held) s held
   unfolding TracksIn Starting seen_in
-  starting_in Phase.Text t first = (refl, sym (take_all (32780 - s.start) (current s held) (omega (arith, line_held s held image out g t, text_count s held image out g t, g.held_long, g.ordered))), first)
-  starting_in Phase.Epochs t u = (refl, sym (take_all 1025 (current s held) (omega (arith, line_length_is s held image out g t, (limits s held image out g t).1))))
+  starting_in Phase.Text t first = (refl, sym (take_all (held_size - s.start) (current s held) (omega (arith, line_held s held image out g t, text_count s held image out g t, g.held_long, g.ordered))), first)
+  starting_in Phase.Epochs t u = (refl, sym (take_all epoch_held (current s held) (omega (arith, line_length_is s held image out g t, (limits s held image out g t).1))))
   starting_in Phase.Over t u = refl
 
   pub starting_tracks : Starting s.phase s → Tracks (seen_by s held) s held
@@ -182,9 +184,9 @@ module _ (held image out : List ℕ) where
     pub starts_due : (λ (bytes : List ℕ). given_for (seen_by s held) s held image out bytes) ≡ due
     starts_due = rw (e, start_seen) (pointwise _ due start_due)
 
-    pub starts_good : length held ≡ 32780 → length image ≡ 13064 → length out ≡ 65536 → Good s held image out
+    pub starts_good : length held ≡ held_size → length image ≡ size_limit → length out ≡ out_size → Good s held image out
     starts_good h i o = rw e (represents_start held image out h i o).good
 
     pub starts_starting : Starting s.phase s
     unfolding Starting
-    starts_starting = rw e (let z : 0 ≤ 32769 = omega arith in z)
+    starts_starting = rw e (let z : 0 ≤ text_held = omega arith in z)

@@ -16,9 +16,10 @@ use Rattle.session.proofs.HeldLaws.{owed_epochs, fitting_epochs, as_epochs, held
 use Rattle.session.proofs.LineLaws.{empty_line, line_more}
 use Rattle.session.proofs.SeenLaws.{held_grows, held_stays, see_end, see_other, ran_stays, tracks_at, at_tracks}
 use Rattle.report.specs.Report.{next_number}
+use Rattle.session.specs.Steps.Sizes.{held_size, epoch_held, out_size}
 
 module _ (s : State) (held image out : List ℕ) (g : Good s held image out) (t : s.phase ≡ Phase.Epochs) where
-  pub limits : (s.start ≡ 0) × (s.count ≤ 1025)
+  pub limits : (s.start ≡ 0) × (s.count ≤ epoch_held)
   limits = fitting_epochs s.phase s t g.fitting
 
   pub epoch_count : s.count ≤ length held
@@ -26,27 +27,27 @@ module _ (s : State) (held image out : List ℕ) (g : Good s held image out) (t 
 
   pub line_length_is : length (current s held) ≡ s.count
   line_length_is =
-      let l : length held ≡ 32780 = g.held_long in
+      let l : length held ≡ held_size = g.held_long in
       simp (length-drop, length-take) (omega (arith, limits.0, limits.1))
 
   -- a byte that is held, and one for which there is no room
-  grown_tracks : (b : ℕ) → s.count < 1025 → (b ≡ 10 → ⊥) → {line : List ℕ} → line ≡ current s held ++ b ∷ [] → (x : Seen) → TracksIn Phase.Epochs x s held
-      → ((see_byte x b).ran ≡ Some s.mode) × (line ≡ take 1025 (see_byte x b).tail)
+  grown_tracks : (b : ℕ) → s.count < epoch_held → (b ≡ 10 → ⊥) → {line : List ℕ} → line ≡ current s held ++ b ∷ [] → (x : Seen) → TracksIn Phase.Epochs x s held
+      → ((see_byte x b).ran ≡ Some s.mode) × (line ≡ take epoch_held (see_byte x b).tail)
   unfolding TracksIn
   grown_tracks b c n e x (ran, line) = (
     ran_stays x b ran,
-    e ∙ held_grows 1025 x.tail (current s held) line b (omega (arith, line_length_is)) ∙ ap (λ (y : Seen). take 1025 y.tail) (sym (see_other x b n)),
+    e ∙ held_grows epoch_held x.tail (current s held) line b (omega (arith, line_length_is)) ∙ ap (λ (y : Seen). take epoch_held y.tail) (sym (see_other x b n)),
   )
 
-  full_tracks : (b : ℕ) → 1025 ≤ s.count → (b ≡ 10 → ⊥) → (x : Seen) → TracksIn Phase.Epochs x s held
-      → ((see_byte x b).ran ≡ Some s.mode) × (current s held ≡ take 1025 (see_byte x b).tail)
+  full_tracks : (b : ℕ) → epoch_held ≤ s.count → (b ≡ 10 → ⊥) → (x : Seen) → TracksIn Phase.Epochs x s held
+      → ((see_byte x b).ran ≡ Some s.mode) × (current s held ≡ take epoch_held (see_byte x b).tail)
   unfolding TracksIn
   full_tracks b c n x (ran, line) = (
     ran_stays x b ran,
-    held_stays 1025 x.tail (current s held) line b (omega (arith, line_length_is)) ∙ ap (λ (y : Seen). take 1025 y.tail) (sym (see_other x b n)),
+    held_stays epoch_held x.tail (current s held) line b (omega (arith, line_length_is)) ∙ ap (λ (y : Seen). take epoch_held y.tail) (sym (see_other x b n)),
   )
 
-  epoch_counted : (b : ℕ) → s.count < 1025 → (b ≡ 10 → ⊥) → Byte s held image out b (one_more_held s) (set held s.count b) image out
+  epoch_counted : (b : ℕ) → s.count < epoch_held → (b ≡ 10 → ⊥) → Byte s held image out b (one_more_held s) (set held s.count b) image out
   unfolding TracksIn
   epoch_counted b h n =
       let k : s.count < length held = rw g.held_long (omega arith) in
@@ -73,7 +74,7 @@ module _ (s : State) (held image out : List ℕ) (g : Good s held image out) (t 
             };
       }
 
-  epoch_full : (b : ℕ) → 1025 ≤ s.count → (b ≡ 10 → ⊥) → Byte s held image out b s held image out
+  epoch_full : (b : ℕ) → epoch_held ≤ s.count → (b ≡ 10 → ⊥) → Byte s held image out b s held image out
   unfolding TracksIn
   epoch_full b h n =
       record {
@@ -88,11 +89,11 @@ module _ (s : State) (held image out : List ℕ) (g : Good s held image out) (t 
         good = g;
       }
 
-  pub epoch_pushed : (b : ℕ) (r : State) (held' : List ℕ) → (b ≡ 10 → ⊥) → Pushed 1025 s b held r held' → Took s held image out (b ∷ []) r held' image out
+  pub epoch_pushed : (b : ℕ) (r : State) (held' : List ℕ) → (b ≡ 10 → ⊥) → Pushed epoch_held s b held r held' → Took s held image out (b ∷ []) r held' image out
   epoch_pushed b r held' n (room h e k) = rw (e, k) (took_byte _ _ _ _ _ _ _ _ _ (epoch_counted b h n))
   epoch_pushed b r held' n (full h e k) = rw (e, k) (took_byte _ _ _ _ _ _ _ _ _ (epoch_full b h n))
 
-  pub decided_good : (out' : List ℕ) (u : ℕ) → length out' ≡ 65536 → u ≤ 65536 → Good (after_decision s u) held image out'
+  pub decided_good : (out' : List ℕ) (u : ℕ) → length out' ≡ out_size → u ≤ out_size → Good (after_decision s u) held image out'
   decided_good out' u l k =
       record {
         held_long = g.held_long;
@@ -119,7 +120,7 @@ module _ (s : State) (held image out : List ℕ) (g : Good s held image out) (t 
             ∙ sym (owed_epochs s held image out (10 ∷ rest) t);
         tracks = λ x h.
             at_tracks Phase.Epochs (see_byte x 10) (after_decision s r.used) held t
-            (ran_stays x 10 (tracks_at Phase.Epochs x s held t h).0, ap (λ (y : Seen). take 1025 y.tail) (sym (see_end x)));
+            (ran_stays x 10 (tracks_at Phase.Epochs x s held t h).0, ap (λ (y : Seen). take epoch_held y.tail) (sym (see_end x)));
         open_line = λ n. absurd (n refl);
         quiet = λ x h q.
             let z : ◌≡◌ {A = Option Mode} None (Some s.mode) = sym q ∙ ran_stays x 10 (tracks_at Phase.Epochs x s held t h).0 in

@@ -5,13 +5,14 @@ use Rattle.std.proofs.Common.{◌≡◌, ℕ, ◌<◌, List, [], ◌∷◌, ◌+
 use Rattle.policy.specs.declared.fault.Fault.{Fault}
 use Rattle.policy.specs.declared.mode.Mode.{Mode}
 use Rattle.lexer.specs.Lines.{pieces, lines_of}
-use Rattle.epoch_line.specs.Epoch.{read_epoch}
+use Rattle.epoch_line.specs.Epoch.{read_epoch, epoch_limit}
 use Rattle.image.specs.Load.{load}
 use Rattle.monitor.specs.Decision.{on_image, decision_in}
 use Rattle.monitor.specs.declared.decision.Actions.{Actions}
 use Rattle.session.specs.Printed.{decision_line, epoch_lines}
 use Rattle.session.proofs.LineLaws.{OneLine, first, others, prepend_parts, lines_begun, lines_ended, lines_last}
 use Rattle.report.specs.Report.{next_number}
+use Rattle.session.specs.Steps.Sizes.{epoch_held}
 
 module _ (mode : Mode) (image : List ℕ) (n : ℕ) where
   pub epoch_ends : (line rest : List ℕ) → OneLine line
@@ -23,16 +24,16 @@ module _ (mode : Mode) (image : List ℕ) (n : ℕ) where
   unfolding epoch_lines
   epoch_last b bs h = rw (lines_last b bs h) (append-nil (decision_line (next_number n) (decision_in mode image (b ∷ bs))))
 
-  long_epoch : (line : List ℕ) → 1024 < length line → read_epoch line ≡ Err (refusal Fault.TooLong 0)
+  long_epoch : (line : List ℕ) → epoch_limit < length line → read_epoch line ≡ Err (refusal Fault.TooLong 0)
   unfolding read_epoch
-  long_epoch line h = rw (lt-ltb 1024 (length line) h)
+  long_epoch line h = rw (lt-ltb epoch_limit (length line) h)
 
-  long_same : (x y : List ℕ) → 1024 < length x → 1024 < length y → decision_in mode image x ≡ decision_in mode image y
+  long_same : (x y : List ℕ) → epoch_limit < length x → epoch_limit < length y → decision_in mode image x ≡ decision_in mode image y
   unfolding decision_in
   long_same x y h k = ap (on_image mode (load image)) (long_epoch x h ∙ sym (long_epoch y k))
 
   -- a byte past the end of a full line makes no difference
-  pub full_line : (line : List ℕ) (b : ℕ) (rest : List ℕ) → OneLine line → length line ≡ 1025 → (b ≡ 10 → ⊥)
+  pub full_line : (line : List ℕ) (b : ℕ) (rest : List ℕ) → OneLine line → length line ≡ epoch_held → (b ≡ 10 → ⊥)
       → epoch_lines mode image n (lines_of (line ++ b ∷ rest)) ≡ epoch_lines mode image n (lines_of (line ++ rest))
   unfolding epoch_lines lines_of pieces
   full_line [] b rest h l m = absurd (omega arith)

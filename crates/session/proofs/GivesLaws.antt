@@ -10,6 +10,7 @@ use Rattle.session.specs.Steps.Owed.{left_in, owed, Good, Seen, see_byte, see, g
 use Rattle.session.specs.declared.state.Phase.{Phase}
 use Rattle.session.specs.declared.state.State.{State}
 use Rattle.session.proofs.SeenLaws.{see_end, ran_stays}
+use Rattle.session.specs.Steps.Sizes.{held_size, epoch_held}
 
 -- nothing is left to be printed for lines that have ended
 pub none_left : {mode : Mode} (p : Phase) (x : Seen) (s : State) (held image : List ℕ) → TracksIn p x s held → x.ran ≡ Some mode → x.tail ≡ []
@@ -17,7 +18,7 @@ pub none_left : {mode : Mode} (p : Phase) (x : Seen) (s : State) (held image : L
 unfolding TracksIn left_in epoch_lines lines_of pieces
 none_left Phase.Text x s held image (ran, line, first) r e = let z : ◌≡◌ {A = ℕ} 0 1 = cc in absurd (omega arith)
 none_left Phase.Epochs x s held image (ran, line) r e =
-    ap (λ (l : List ℕ). epoch_lines s.mode (take s.size image) s.epochs (lines_of (l ++ []))) (line ∙ ap (take 1025) e)
+    ap (λ (l : List ℕ). epoch_lines s.mode (take s.size image) s.epochs (lines_of (l ++ []))) (line ∙ ap (take epoch_held) e)
 none_left Phase.Over x s held image ran r e = refl
 
 -- ---- the mode that was picked
@@ -43,8 +44,8 @@ none_before x bytes (Some mode) e h = let z : ◌≡◌ {A = Option Mode} None (
 tracked_in : (p : Phase) (x : Seen) (s : State) (held : List ℕ) → TracksIn p x s held → TracksIn p (seen_in p s held) s held
 unfolding TracksIn seen_in
 tracked_in Phase.Text x s held (ran, line, first) =
-    let k = 32780 - s.start in (refl, line ∙ sym (take-take k k x.tail (omega arith)) ∙ ap (take k) (sym line), first)
-tracked_in Phase.Epochs x s held (ran, line) = (refl, line ∙ sym (take-take 1025 1025 x.tail (omega arith)) ∙ ap (take 1025) (sym line))
+    let k = held_size - s.start in (refl, line ∙ sym (take-take k k x.tail (omega arith)) ∙ ap (take k) (sym line), first)
+tracked_in Phase.Epochs x s held (ran, line) = (refl, line ∙ sym (take-take epoch_held epoch_held x.tail (omega arith)) ∙ ap (take epoch_held) (sym line))
 tracked_in Phase.Over x s held ran = refl
 
 pub tracked : (x : Seen) (s : State) (held : List ℕ) → Tracks x s held → Tracks (seen_by s held) s held

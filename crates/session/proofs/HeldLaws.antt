@@ -9,6 +9,7 @@ use Rattle.session.specs.declared.state.Phase.{Phase}
 use Rattle.session.specs.declared.state.State.{State}
 use Rattle.session.proofs.GivesLaws.{took_byte}
 use Rattle.session.proofs.SeenLaws.{ran_stays, tracks_at, at_tracks}
+use Rattle.session.specs.Steps.Sizes.{held_size, epoch_held}
 
 -- ---- the phases
 
@@ -26,19 +27,19 @@ module _ (s : State) (held image out rest : List ℕ) where
   unfolding owed left_in
   owed_over e = ap (λ (p : Phase). take s.used out ++ left_in p s held image rest) e ∙ append-nil (take s.used out)
 
-pub fitting_text : (p : Phase) (s : State) → p ≡ Phase.Text → Fitting p s → s.count ≤ 32780
+pub fitting_text : (p : Phase) (s : State) → p ≡ Phase.Text → Fitting p s → s.count ≤ held_size
 unfolding Fitting
 fitting_text p s e f = subst (λ (q : Phase). Fitting q s) e f
 
-pub fitting_epochs : (p : Phase) (s : State) → p ≡ Phase.Epochs → Fitting p s → (s.start ≡ 0) × (s.count ≤ 1025)
+pub fitting_epochs : (p : Phase) (s : State) → p ≡ Phase.Epochs → Fitting p s → (s.start ≡ 0) × (s.count ≤ epoch_held)
 unfolding Fitting
 fitting_epochs p s e f = subst (λ (q : Phase). Fitting q s) e f
 
-pub as_text : (p : Phase) (s : State) → p ≡ Phase.Text → s.count ≤ 32780 → Fitting p s
+pub as_text : (p : Phase) (s : State) → p ≡ Phase.Text → s.count ≤ held_size → Fitting p s
 unfolding Fitting
 as_text p s e f = subst (λ (q : Phase). Fitting q s) (sym e) f
 
-pub as_epochs : (p : Phase) (s : State) → p ≡ Phase.Epochs → (s.start ≡ 0) × (s.count ≤ 1025) → Fitting p s
+pub as_epochs : (p : Phase) (s : State) → p ≡ Phase.Epochs → (s.start ≡ 0) × (s.count ≤ epoch_held) → Fitting p s
 unfolding Fitting
 as_epochs p s e f = subst (λ (q : Phase). Fitting q s) (sym e) f
 

@@ -3,7 +3,7 @@ use Rattle.policy.specs.declared.fault.Refusal.{Refusal}
 use Rattle.std.proofs.Common.{◌≡◌, ℕ, zero, suc, ◌+◌, ◌*◌, ◌<◌, ◌≤◌, Bool, true, false, cond, not, ◌&&◌, List, [], ◌∷◌, ◌++◌, length, refl, arith, length-append, Result, Ok, Err}
 use Rattle.policy.specs.declared.epoch.Epoch.{Epoch}
 use Rattle.policy.specs.Fault.{refusal}
-use Rattle.policy.specs.Set.{has, difference}
+use Rattle.policy.specs.Set.{has, difference, members_from}
 use Rattle.policy.specs.declared.fault.Fault.{Fault}
 use Rattle.policy.specs.declared.mode.Mode.{Mode}
 use Rattle.policy.proofs.SetLaws.{has_difference, has_empty}
@@ -16,7 +16,7 @@ use Rattle.monitor.specs.declared.decision.Actions.{Actions}
 use Rattle.output.specs.Number.{decimal}
 use Rattle.output.proofs.DecimalLaws.{decimal_few, decimal_short}
 use Rattle.report.proofs.LengthLaws.{fault_digits}
-use Rattle.report.specs.Report.{members_from, action_name, further_names, action_names, action_list, words_field, accept_line, refused_line}
+use Rattle.report.specs.Report.{action_name, further_names, action_names, words_field, accept_line, refused_line}
 use Rattle.session.specs.Printed.{decision_line}
 
 -- ---- actions: no number is in both lists
@@ -85,7 +85,7 @@ decision_apart mode image line = go (load image) (read_epoch line)
 
 line_short : (n : ℕ) (d : Result Actions Refusal) → n < 18446744073709551616 → ApartIn d → visited_in d < 18446744073709551616
     → length (decision_line n d) ≤ 512
-unfolding decision_line accept_line refused_line words_field action_list bytes
+unfolding decision_line accept_line refused_line words_field bytes
 line_short n (Err x) h a v =
     simp length-append (omega (arith, decimal_short n h, fault_digits x.fault, decimal_short 0 v))
 line_short n (Ok actions) h a v =

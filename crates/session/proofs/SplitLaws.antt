@@ -8,12 +8,13 @@ use Rattle.policy.specs.declared.fault.Fault.{Fault}
 use Rattle.policy.specs.declared.mode.Mode.{Mode}
 use Rattle.lexer.specs.Byte.{bytes, bytes_equal, is}
 use Rattle.lexer.specs.Lines.{pieces, lines_of}
-use Rattle.rule_text.specs.Text.{read_text_behind, read_text}
+use Rattle.rule_text.specs.Text.{read_text_behind, read_text, text_limit}
 use Rattle.report.specs.Report.{refusal_line}
 use Rattle.session.specs.Printed.{Session, text_only, with_epochs, mode_of, to_text, split_at_run, ended, text_part, epoch_lines, answers_to, printed_for}
 use Rattle.session.specs.Steps.Owed.{printed_behind}
 use Rattle.session.proofs.LineLaws.{OneLine, first, others, lines_begun, lines_ended, lines_last}
 use Rattle.session.proofs.RunLaws.{long_none}
+use Rattle.session.specs.Steps.Sizes.{held_size}
 
 by_split : (done rest : List ℕ) (s : Session) → split_at_run (lines_of rest) ≡ s
     → printed_behind done rest ≡ printed_for (done ++ text_part rest s) s
@@ -96,9 +97,9 @@ end_text done (b ∷ bs) h e =
 
 -- ---- a text that is too long, whatever follows
 
-text_long : (text : List ℕ) (s : Session) → 32768 < length text → printed_for text s ≡ refusal_line (refusal Fault.TooLong 0)
+text_long : (text : List ℕ) (s : Session) → text_limit < length text → printed_for text s ≡ refusal_line (refusal Fault.TooLong 0)
 unfolding printed_for answers_to read_text read_text_behind refusal_line
-text_long text s h = rw (lt-ltb 32768 (length text) h)
+text_long text s h = rw (lt-ltb text_limit (length text) h)
 
 covers : (line rest : List ℕ) → OneLine line → 10 < length line
     → length line ≤ length (text_part (line ++ rest) (split_at_run (lines_of (line ++ rest))))
@@ -123,15 +124,15 @@ covers (b ∷ bs) rest h l = go (split_at_run (others (lines_of rest))) refl
     go (with_epochs t mode es) q = rw (at (with_epochs t mode es) q) (omega (arith, long, length-append whole (10 ∷ ended t)))
 
 -- more than the full length stands before the line
-pub over_text : (done rest : List ℕ) → 32768 < length done → printed_behind done rest ≡ refusal_line (refusal Fault.TooLong 0)
+pub over_text : (done rest : List ℕ) → text_limit < length done → printed_behind done rest ≡ refusal_line (refusal Fault.TooLong 0)
 over_text done rest l =
     let s : Session = split_at_run (lines_of rest) in
     by_split done rest s refl ∙ text_long (done ++ text_part rest s) s (omega (arith, length-append done (text_part rest s)))
 
 -- all that is held is full, whatever follows: the line is too long to pick a mode, or stands behind too many bytes
-pub full_text : (done line rest : List ℕ) → OneLine line → length done + length line ≡ 32780
+pub full_text : (done line rest : List ℕ) → OneLine line → length done + length line ≡ held_size
     → printed_behind done (line ++ rest) ≡ refusal_line (refusal Fault.TooLong 0)
-full_text done line rest h l = by_split done (line ++ rest) s refl ∙ text_long (done ++ text_part (line ++ rest) s) s (go (ltb 32768 (length done)) refl)
+full_text done line rest h l = by_split done (line ++ rest) s refl ∙ text_long (done ++ text_part (line ++ rest) s) s (go (ltb text_limit (length done)) refl)
   where
     s : Session
     s = split_at_run (lines_of (line ++ rest))
@@ -139,9 +140,9 @@ full_text done line rest h l = by_split done (line ++ rest) s refl ∙ text_long
     k : length (done ++ text_part (line ++ rest) s) ≡ length done + length (text_part (line ++ rest) s)
     k = length-append done (text_part (line ++ rest) s)
 
-    go : (b : Bool) → ltb 32768 (length done) ≡ b → 32768 < length (done ++ text_part (line ++ rest) s)
-    go true e = omega (arith, k, ltb-true 32768 (length done) e)
+    go : (b : Bool) → ltb text_limit (length done) ≡ b → text_limit < length (done ++ text_part (line ++ rest) s)
+    go true e = omega (arith, k, ltb-true text_limit (length done) e)
     go false e =
-        let n : length done ≤ 32768 = ltb-false 32768 (length done) e in
+        let n : length done ≤ text_limit = ltb-false text_limit (length done) e in
         let m : length line ≤ length (text_part (line ++ rest) s) = covers line rest h (omega arith) in
         omega (arith, k)

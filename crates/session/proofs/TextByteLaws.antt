@@ -18,12 +18,14 @@ use Rattle.session.proofs.HeldLaws.{owed_text, fitting_text, as_text, held_more,
 use Rattle.session.proofs.LineLaws.{empty_line, line_more}
 use Rattle.session.proofs.SeenLaws.{held_grows, held_stays, held_mode, see_end, see_other, tracks_at, at_tracks}
 use Rattle.session.proofs.SplitLaws.{behind_run, behind_line_is, over_text, full_text}
+use Rattle.rule_text.specs.Text.{text_limit}
+use Rattle.session.specs.Steps.Sizes.{held_size, text_held}
 
-line_long : (done line : List ℕ) → 32768 < length done + length line → 32768 < length (done ++ line ++ 10 ∷ [])
+line_long : (done line : List ℕ) → text_limit < length done + length line → text_limit < length (done ++ line ++ 10 ∷ [])
 line_long done line h = simp length-append (omega arith)
 
 module _ (s : State) (held image out : List ℕ) (g : Good s held image out) (t : s.phase ≡ Phase.Text) where
-  at_most : s.count ≤ 32780
+  at_most : s.count ≤ held_size
   at_most = fitting_text s.phase s t g.fitting
 
   pub text_count : s.count ≤ length held
@@ -31,8 +33,8 @@ module _ (s : State) (held image out : List ℕ) (g : Good s held image out) (t 
 
   held_length : length (take s.start held) + length (current s held) ≡ s.count
   held_length =
-      let c : s.count ≤ 32780 = at_most in
-      let l : length held ≡ 32780 = g.held_long in
+      let c : s.count ≤ held_size = at_most in
+      let l : length held ≡ held_size = g.held_long in
       let o : s.start ≤ s.count = g.ordered in
       simp (length-drop, length-take) (omega arith)
 
@@ -42,22 +44,22 @@ module _ (s : State) (held image out : List ℕ) (g : Good s held image out) (t 
   unfolding TracksIn
   line_seen x (ran, line, first) =
       ap (λ (y : Seen). y.ran) (see_end x) ∙ ap (λ (o : Option Mode). option_or o (mode_of x.tail)) ran
-      ∙ sym (held_mode (32780 - s.start) x.tail (current s held) line (omega (arith, first)))
+      ∙ sym (held_mode (held_size - s.start) x.tail (current s held) line (omega (arith, first)))
 
   -- the next line starts, and nothing of it is held
-  line_tracks : (n : ℕ) (held' : List ℕ) → n ≤ 32769 → mode_of (current s held) ≡ None → (x : Seen) → Tracks x s held → Tracks (see_byte x 10) (starting_at n s) held'
+  line_tracks : (n : ℕ) (held' : List ℕ) → n ≤ text_held → mode_of (current s held) ≡ None → (x : Seen) → Tracks x s held → Tracks (see_byte x 10) (starting_at n s) held'
   unfolding TracksIn
   line_tracks n held' k e x h =
       at_tracks Phase.Text (see_byte x 10) (starting_at n s) held' t (
         line_seen x (tracks_at Phase.Text x s held t h) ∙ e,
-        none_left held' n ∙ sym (ap (λ (y : Seen). take (32780 - n) y.tail) (see_end x) ∙ take-nil (32780 - n)),
+        none_left held' n ∙ sym (ap (λ (y : Seen). take (held_size - n) y.tail) (see_end x) ∙ take-nil (held_size - n)),
         k,
       )
 
   pub line_held : length (current s held) ≡ s.count - s.start
   line_held =
-      let c : s.count ≤ 32780 = at_most in
-      let l : length held ≡ 32780 = g.held_long in
+      let c : s.count ≤ held_size = at_most in
+      let l : length held ≡ held_size = g.held_long in
       simp (length-drop, length-take) (omega arith)
 
   -- ---- the line that picks a mode
@@ -82,16 +84,16 @@ module _ (s : State) (held image out : List ℕ) (g : Good s held image out) (t 
 
   -- ---- a byte that is held
 
-  byte_tracks : (b : ℕ) → s.count < 32780 → (b ≡ 10 → ⊥) → {line : List ℕ} → line ≡ current s held ++ b ∷ [] → (x : Seen) → TracksIn Phase.Text x s held
-      → ((see_byte x b).ran ≡ None) × (line ≡ take (32780 - s.start) (see_byte x b).tail) × (s.start ≤ 32769)
+  byte_tracks : (b : ℕ) → s.count < held_size → (b ≡ 10 → ⊥) → {line : List ℕ} → line ≡ current s held ++ b ∷ [] → (x : Seen) → TracksIn Phase.Text x s held
+      → ((see_byte x b).ran ≡ None) × (line ≡ take (held_size - s.start) (see_byte x b).tail) × (s.start ≤ text_held)
   unfolding TracksIn
   byte_tracks b c n e x (ran, line, first) = (
     ap (λ (y : Seen). y.ran) (see_other x b n) ∙ ran,
-    e ∙ held_grows (32780 - s.start) x.tail (current s held) line b (omega (arith, line_held, g.ordered)) ∙ ap (λ (y : Seen). take (32780 - s.start) y.tail) (sym (see_other x b n)),
+    e ∙ held_grows (held_size - s.start) x.tail (current s held) line b (omega (arith, line_held, g.ordered)) ∙ ap (λ (y : Seen). take (held_size - s.start) y.tail) (sym (see_other x b n)),
     first,
   )
 
-  text_counted : (b : ℕ) → s.count < 32780 → (b ≡ 10 → ⊥) → Byte s held image out b (one_more_held s) (set held s.count b) image out
+  text_counted : (b : ℕ) → s.count < held_size → (b ≡ 10 → ⊥) → Byte s held image out b (one_more_held s) (set held s.count b) image out
   unfolding TracksIn
   text_counted b h' n =
       let k : s.count < length held = rw g.held_long h' in
@@ -119,7 +121,7 @@ module _ (s : State) (held image out : List ℕ) (g : Good s held image out) (t 
             };
       }
 
-  line_good : (n : ℕ) (held' : List ℕ) → length held' ≡ 32780 → n ≤ 32780 → Good (starting_at n s) held' image out
+  line_good : (n : ℕ) (held' : List ℕ) → length held' ≡ held_size → n ≤ held_size → Good (starting_at n s) held' image out
   line_good n held' l k =
       record {
         held_long = l;
@@ -132,7 +134,7 @@ module _ (s : State) (held image out : List ℕ) (g : Good s held image out) (t 
         used = g.used;
       }
 
-  line_counted : mode_of (current s held) ≡ None → s.count < 32769
+  line_counted : mode_of (current s held) ≡ None → s.count < text_held
       → Byte s held image out 10 (starting_at (s.count + 1) s) (set held s.count 10) image out
   line_counted e h =
       let k : s.count < length held = rw g.held_long (omega arith) in
@@ -168,56 +170,56 @@ module _ (s : State) (held image out : List ℕ) (g : Good s held image out) (t 
         good = g';
       }
 
-  all_full : 32780 ≤ s.count → (rest : List ℕ) → printed_behind (take s.start held) (current s held ++ rest) ≡ refusal_line (refusal Fault.TooLong 0)
+  all_full : held_size ≤ s.count → (rest : List ℕ) → printed_behind (take s.start held) (current s held ++ rest) ≡ refusal_line (refusal Fault.TooLong 0)
   all_full h rest =
-      let c : s.count ≤ 32780 = at_most in
+      let c : s.count ≤ held_size = at_most in
       full_text (take s.start held) (current s held) rest g.one_line (held_length ∙ omega arith)
 
-  line_over : mode_of (current s held) ≡ None → 32769 ≤ s.count
+  line_over : mode_of (current s held) ≡ None → text_held ≤ s.count
       → (rest : List ℕ) → printed_behind (take s.start held) (current s held ++ 10 ∷ rest) ≡ refusal_line (refusal Fault.TooLong 0)
   line_over e h rest =
       behind_line_is (take s.start held) (current s held) g.one_line rest e
       ∙ over_text (take s.start held ++ current s held ++ 10 ∷ []) rest (line_long (take s.start held) (current s held) (omega (arith, held_length)))
 
-  next_over : (rest : List ℕ) → printed_behind (take 32769 held) (current (starting_at 32769 s) held ++ rest) ≡ refusal_line (refusal Fault.TooLong 0)
+  next_over : (rest : List ℕ) → printed_behind (take text_held held) (current (starting_at text_held s) held ++ rest) ≡ refusal_line (refusal Fault.TooLong 0)
   next_over rest =
-      let l : length (take 32769 held) ≡ 32769 = length-take-le 32769 held (rw g.held_long (omega arith)) in
-      over_text (take 32769 held) (current (starting_at 32769 s) held ++ rest) (omega arith)
+      let l : length (take text_held held) ≡ text_held = length-take-le text_held held (rw g.held_long (omega arith)) in
+      over_text (take text_held held) (current (starting_at text_held s) held ++ rest) (omega arith)
 
-  full_tracks : (b : ℕ) → 32780 ≤ s.count → (b ≡ 10 → ⊥) → (x : Seen) → Tracks x s held → Tracks (see_byte x b) s held
+  full_tracks : (b : ℕ) → held_size ≤ s.count → (b ≡ 10 → ⊥) → (x : Seen) → Tracks x s held → Tracks (see_byte x b) s held
   unfolding TracksIn
   full_tracks b c n x h = at_tracks Phase.Text (see_byte x b) s held t (go (tracks_at Phase.Text x s held t h))
     where
-      go : (x.ran ≡ None) × (current s held ≡ take (32780 - s.start) x.tail) × (s.start ≤ 32769)
-          → ((see_byte x b).ran ≡ None) × (current s held ≡ take (32780 - s.start) (see_byte x b).tail) × (s.start ≤ 32769)
+      go : (x.ran ≡ None) × (current s held ≡ take (held_size - s.start) x.tail) × (s.start ≤ text_held)
+          → ((see_byte x b).ran ≡ None) × (current s held ≡ take (held_size - s.start) (see_byte x b).tail) × (s.start ≤ text_held)
       go (ran, line, first) = (
         ap (λ (y : Seen). y.ran) (see_other x b n) ∙ ran,
-        held_stays (32780 - s.start) x.tail (current s held) line b (omega (arith, line_held, g.ordered)) ∙ ap (λ (y : Seen). take (32780 - s.start) y.tail) (sym (see_other x b n)),
+        held_stays (held_size - s.start) x.tail (current s held) line b (omega (arith, line_held, g.ordered)) ∙ ap (λ (y : Seen). take (held_size - s.start) y.tail) (sym (see_other x b n)),
         first,
       )
 
   -- ---- what the functions do
 
-  pub text_pushed : (b : ℕ) (r : State) (held' : List ℕ) → (b ≡ 10 → ⊥) → Pushed 32780 s b held r held' → Took s held image out (b ∷ []) r held' image out
+  pub text_pushed : (b : ℕ) (r : State) (held' : List ℕ) → (b ≡ 10 → ⊥) → Pushed held_size s b held r held' → Took s held image out (b ∷ []) r held' image out
   text_pushed b r held' n (room h e k) = rw (e, k) (took_byte _ _ _ _ _ _ _ _ _ (text_counted b h n))
   text_pushed b r held' n (full h e k) = rw (e, k) (took_byte _ _ _ _ _ _ _ _ _ (text_over b s t refl (λ rest. all_full h (b ∷ rest)) (all_full h) (full_tracks b h n) g))
 
   -- the end of a line that picks none
-  pub text_line : (r : State) (held' : List ℕ) → mode_of (current s held) ≡ None → Pushed 32769 s 10 held r held'
+  pub text_line : (r : State) (held' : List ℕ) → mode_of (current s held) ≡ None → Pushed text_held s 10 held r held'
       → Took s held image out (10 ∷ []) (line_behind r) held' image out
   text_line r held' e (room h q k) =
-      let m : min (s.count + 1) 32769 ≡ s.count + 1 = omega arith in
+      let m : min (s.count + 1) text_held ≡ s.count + 1 = omega arith in
       rw (q, k, m) (took_byte _ _ _ _ _ _ _ _ _ (line_counted e h))
   text_line r held' e (full h q k) =
-      let m : min s.count 32769 ≡ 32769 = omega arith in
+      let m : min s.count text_held ≡ text_held = omega arith in
       rw (q, k, m)
       (took_byte _ _ _ _ _ _ _ _ _
-      (text_over 10 (starting_at 32769 s) t refl (line_over e h) next_over (line_tracks 32769 held (omega arith) e) (line_good 32769 held g.held_long (omega arith))))
+      (text_over 10 (starting_at text_held s) t refl (line_over e h) next_over (line_tracks text_held held (omega arith) e) (line_good text_held held g.held_long (omega arith))))
 
 -- ---- where the next line starts
 
-pub starts_full : (s : State) → 32769 < s.count → starting_at 32769 s ≡ line_behind s
-starts_full s h = let m : min s.count 32769 ≡ 32769 = omega arith in rw m
+pub starts_full : (s : State) → text_held < s.count → starting_at text_held s ≡ line_behind s
+starts_full s h = let m : min s.count text_held ≡ text_held = omega arith in rw m
 
-pub starts_behind : (s : State) → s.count ≤ 32769 → starting_at s.count s ≡ line_behind s
-starts_behind s h = let m : min s.count 32769 ≡ s.count = omega arith in rw m
+pub starts_behind : (s : State) → s.count ≤ text_held → starting_at s.count s ≡ line_behind s
+starts_behind s h = let m : min s.count text_held ≡ s.count = omega arith in rw m

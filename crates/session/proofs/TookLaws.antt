@@ -7,6 +7,8 @@ use Rattle.session.specs.declared.state.Phase.{Phase}
 use Rattle.session.specs.declared.state.State.{State}
 use Rattle.session.proofs.LineLaws.{empty_line}
 use Rattle.session.proofs.SeenLaws.{tracks_same}
+use Rattle.layout.specs.Layout.{size_limit}
+use Rattle.session.specs.Steps.Sizes.{held_size, out_size, room_limit}
 
 module _ (s : State) (held image out : List ℕ) where
   pub took_none : Good s held image out → Took s held image out [] s held image out
@@ -35,7 +37,7 @@ pub moved : (s : State) (held image out bytes : List ℕ) (r : State) (held' ima
     → Moved s held image out bytes r held' image' out'
 moved s held image out bytes r held' image' out' p = record { owes = p.owes; tracks = p.tracks; good = p.good }
 
-pub has_moved : (i used before : ℕ) → (i ≡ 0 → used ≡ before) → before ≤ 65024 → 65024 < used → 0 < i
+pub has_moved : (i used before : ℕ) → (i ≡ 0 → used ≡ before) → before ≤ room_limit → room_limit < used → 0 < i
 has_moved zero used before f h k = let e : used ≡ before = f refl in absurd (omega arith)
 has_moved (suc i) used before f h k = omega arith
 
@@ -96,7 +98,7 @@ module _ (consumed handed : List ℕ) (s : State) (held image out : List ℕ) (w
   pub represents_all : (last : List ℕ) → last ≡ owed s held image out [] → handed ++ last ≡ printed consumed
   represents_all last e = ap (λ (x : List ℕ). handed ++ x) e ∙ sym (w.whole []) ∙ ap printed (append-nil consumed)
 
-pub represents_start : (held image out : List ℕ) → length held ≡ 32780 → length image ≡ 13064 → length out ≡ 65536
+pub represents_start : (held image out : List ℕ) → length held ≡ held_size → length image ≡ size_limit → length out ≡ out_size
     → Represents [] [] start_state held image out
 unfolding owed left_in printed_behind printed Fitting TracksIn
 represents_start held image out h i o =

@@ -15,6 +15,7 @@ use Rattle.stream.proofs.FrontLaws.{cut_before}
 use Rattle.session.proofs.ListingLaws.{listed_short, texts_listed_short}
 use Rattle.session.proofs.GivesLaws.{none_left}
 use Rattle.session.proofs.TookLaws.{Represents, represents_start, represents_took, represents_emptied, represents_all}
+use Rattle.session.specs.Steps.Sizes.{listing_size, text_held}
 
 -- ---- the engine
 
@@ -46,29 +47,29 @@ callable s held image out c = (represented c.calls).good
 -- ---- the compiler
 
 -- a buffer of 29,394 bytes has room for every listing, which then stands at its start
-pub listing_whole : (text out after : List ℕ) (end : ℕ) → 29394 ≤ length out
+pub listing_whole : (text out after : List ℕ) (end : ℕ) → listing_size ≤ length out
     → (end ≡ behind out 0 (listed text)) × (after ≡ appended out 0 (listed text)) → take end after ≡ listed text
 listing_whole text out after end room p = put_take out 0 (listed text) after end (omega (arith, listed_short text)) p
 
 -- of an input over the length of a text 32,769 bytes are enough
-pub listing_cut : (input : List ℕ) → listed (take 32769 input) ≡ listed input
+pub listing_cut : (input : List ℕ) → listed (take text_held input) ≡ listed input
 unfolding listed
 listing_cut input = ap (listing_of refusal_line) (text_cut input)
 
 -- so the first 32,769 bytes of what was read are kept
-pub listing_kept : (kept chunk next rest : List ℕ) → next ≡ take 32769 (kept ++ chunk) → listed (kept ++ (chunk ++ rest)) ≡ listed (next ++ rest)
+pub listing_kept : (kept chunk next rest : List ℕ) → next ≡ take text_held (kept ++ chunk) → listed (kept ++ (chunk ++ rest)) ≡ listed (next ++ rest)
 listing_kept kept chunk next rest e =
     ap listed (sym (append_assoc kept chunk rest)) ∙ sym (listing_cut ((kept ++ chunk) ++ rest))
-    ∙ ap listed (sym (cut_before 32769 (kept ++ chunk) rest)) ∙ listing_cut (take 32769 (kept ++ chunk) ++ rest)
+    ∙ ap listed (sym (cut_before text_held (kept ++ chunk) rest)) ∙ listing_cut (take text_held (kept ++ chunk) ++ rest)
     ∙ ap (λ (l : List ℕ). listed (l ++ rest)) (sym e)
 
 -- ---- the compiler on two texts
 
-pub texts_listing_whole : (maker site out after : List ℕ) (end : ℕ) → 29394 ≤ length out
+pub texts_listing_whole : (maker site out after : List ℕ) (end : ℕ) → listing_size ≤ length out
     → (end ≡ behind out 0 (listed_texts maker site)) × (after ≡ appended out 0 (listed_texts maker site)) → take end after ≡ listed_texts maker site
 texts_listing_whole maker site out after end room p = put_take out 0 (listed_texts maker site) after end (omega (arith, texts_listed_short maker site)) p
 
 -- and so they are of each
-pub texts_listing_cut : (maker site : List ℕ) → listed_texts (take 32769 maker) (take 32769 site) ≡ listed_texts maker site
+pub texts_listing_cut : (maker site : List ℕ) → listed_texts (take text_held maker) (take text_held site) ≡ listed_texts maker site
 unfolding listed_texts
 texts_listing_cut maker site = ap (listing_of texts_refusal_line) (texts_cut maker site)

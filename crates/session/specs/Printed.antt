@@ -12,6 +12,7 @@ use Rattle.codegen.specs.Compile.{newest_form}
 use Rattle.monitor.specs.Decision.{decision_in}
 use Rattle.monitor.specs.declared.decision.Actions.{Actions}
 use Rattle.stream.specs.Lines.{due_by_lines}
+use Rattle.policy.specs.Set.{members_of}
 use Rattle.report.specs.Report.{refusal_line, accept_line, refused_line, next_number}
 
 -- ---- a line `run` picks the first mode, and a line `run events` in its place the second
@@ -47,7 +48,7 @@ text_part input (with_epochs text mode epochs) = ended text
 
 unfoldable pub decision_line : ℕ → Result Actions Refusal → List ℕ
 decision_line n (Err r) = refused_line n r.fault
-decision_line n (Ok actions) = accept_line n actions.accepted actions.cancelled actions.visited
+decision_line n (Ok actions) = accept_line n (members_of actions.accepted) (members_of actions.cancelled) actions.visited
 
 -- after n epochs
 unfoldable pub epoch_lines : Mode → List ℕ → ℕ → List (List ℕ) → List ℕ

@@ -5,6 +5,7 @@ ghost use Rattle.session.specs.Steps.Owed.{Good, Room, Took};
 ghost use Rattle.session.specs.Printed.{decision_line};
 ghost use Rattle.session.specs.Steps.Ended.{LineEnded};
 ghost use Rattle.session.specs.declared.state.Phase.{Phase};
+ghost use Rattle.session.specs.Steps.Sizes.{out_size};
 
 use crate::state::{HELD_SIZE, LINE_HELD, OUT_SIZE, State, push};
 use image::IMAGE_SIZE;
@@ -35,7 +36,7 @@ pub(crate) fn end_line(state: State, held: &[u8], image: &[u8], out: &mut [u8; O
     requires start { state.start ≡ 0 }
     requires inside { state.count ≤ length held.now }
     requires loaded { state.size ≤ length image.now }
-    requires out_sized { length out.old ≡ 65536 }
+    requires out_sized { length out.old ≡ out_size }
     requires room { Room state }
     ensures { LineEnded state held.now image.now out.old result out.new }
 {

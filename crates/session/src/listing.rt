@@ -6,6 +6,7 @@ ghost use Rattle.output.specs.Buffer.{appended, behind};
 ghost use Rattle.output.specs.Sink.{fed};
 ghost use Rattle.session.specs.Listed.{word_lines, listed, listed_texts};
 
+use codegen::NEWEST_FORM;
 use image::IMAGE_SIZE;
 use output::{Page, Sink};
 use word::words;
@@ -24,7 +25,7 @@ fn put_listed<S: Sink>(sink: &mut S, text: &[u8])
     ensures { sink.new ≡ fed S.taken sink.old (listed text.now) }
 {
     let mut image = [0u8; IMAGE_SIZE];
-    match codegen::compile(text, &mut image) {
+    match codegen::compile(NEWEST_FORM, text, &mut image) {
         Err(refusal) => report::put_refusal(sink, refusal),
         Ok(size) => put_words(sink, words(&image[..size])),
     }
@@ -35,14 +36,14 @@ fn put_texts_listed<S: Sink>(sink: &mut S, maker: &[u8], site: &[u8])
     ensures { sink.new ≡ fed S.taken sink.old (listed_texts maker.now site.now) }
 {
     let mut image = [0u8; IMAGE_SIZE];
-    match codegen::compile_texts(maker, site, &mut image) {
+    match codegen::compile_texts(NEWEST_FORM, maker, site, &mut image) {
         Err(refusal) => report::put_texts_refusal(sink, refusal),
         Ok(size) => put_words(sink, words(&image[..size])),
     }
 }
 
-/// Bytes of the longest listing: the largest image has 3,266 words, a line of nine bytes each.
-pub(crate) const LISTING_SIZE: usize = 29394;
+/// Bytes of the longest listing: a line of nine bytes for each word of the largest image.
+pub(crate) const LISTING_SIZE: usize = IMAGE_SIZE / 4 * 9;
 
 /// Puts what the compiler prints for a text at the start of `out`, and answers how many bytes it has; `LISTING_SIZE` are enough.
 #[tactic(auto, using(output::proofs::SinkLaws::stored_all), unfolding(output::specs::Buffer::behind))]

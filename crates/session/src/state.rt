@@ -1,6 +1,7 @@
 //! What a session holds beside its buffers.
 ghost use Rattle.std.specs.Prelude.{◌≡◌, ◌≤◌, length};
 ghost use Rattle.session.specs.Steps.Held.{Pushed};
+ghost use Rattle.session.specs.Steps.Sizes.{held_size};
 
 use policy::Mode;
 
@@ -42,8 +43,8 @@ pub(crate) struct State {
 
 /// One byte more is held, up to a limit.
 pub(crate) fn push(state: State, byte: u8, limit: usize, held: &mut [u8; HELD_SIZE]) -> State
-    requires few { limit ≤ 32780 }
-    requires sized { length held.old ≡ 32780 }
+    requires few { limit ≤ held_size }
+    requires sized { length held.old ≡ held_size }
     ensures { Pushed limit state byte held.old result held.new }
 {
     let count = state.count;

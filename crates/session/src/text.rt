@@ -5,9 +5,12 @@ ghost use Rattle.session.specs.Steps.Owed.{current, Good, Room, Took};
 ghost use Rattle.session.specs.Steps.Held.{line_behind};
 ghost use Rattle.session.specs.Steps.Ended.{TextEnded};
 ghost use Rattle.session.specs.declared.state.Phase.{Phase};
+ghost use Rattle.layout.specs.Layout.{size_limit};
+ghost use Rattle.session.specs.Steps.Sizes.{out_size};
 
 use crate::mode::pick_mode;
 use crate::state::{HELD_SIZE, OUT_SIZE, Phase, State, TEXT_HELD, push};
+use codegen::NEWEST_FORM;
 use image::IMAGE_SIZE;
 use output::Page;
 use policy::Mode;
@@ -34,12 +37,12 @@ pub(crate) fn end_text(
     out: &mut [u8; OUT_SIZE],
 ) -> State
     requires inside { end ≤ length held.now }
-    requires image_sized { length image.old ≡ 13064 }
-    requires out_sized { length out.old ≡ 65536 }
+    requires image_sized { length image.old ≡ size_limit }
+    requires out_sized { length out.old ≡ out_size }
     requires room { Room state }
     ensures { TextEnded (take end held.now) mode state out.old result image.new out.new }
 {
-    match codegen::compile(&held[..end], image) {
+    match codegen::compile(NEWEST_FORM, &held[..end], image) {
         Err(refusal) => {
             let mut page = Page {
                 bytes: out,

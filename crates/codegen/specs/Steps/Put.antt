@@ -11,7 +11,6 @@ use Rattle.layout.specs.Header.{pack_header}
 use Rattle.layout.specs.Layout.{line_words, check_words}
 use Rattle.syntax.specs.Judge.{line_answer}
 use Rattle.rule_text.specs.declared.LineCounts.{LineCounts}
-use Rattle.codegen.specs.Compile.{newest_form}
 
 -- a word for each line, literal or action, comparison and constant
 abbrev pub word_count : LineCounts → ℕ
@@ -53,11 +52,11 @@ put_lines [] p buffer = buffer
 put_lines (l ∷ ls) p buffer = put_lines ls (cursors_after (line_part l) p (length (line_words l))) (put_words buffer (part_get p (line_part l)) (line_words l))
 
 -- word 0, the lines, and the check words from the words before them
-unfoldable pub put_content : List PolicyLine → ℕ → ℕ → List ℕ → List ℕ
-put_content ls rule_count constraint_count buffer =
-    put_lines ls (record { rules = 1; constraints = 1 + rule_count }) (put_words buffer 0 (pack_header newest_form rule_count constraint_count ∷ []))
+unfoldable pub put_content : ℕ → List PolicyLine → ℕ → ℕ → List ℕ → List ℕ
+put_content form ls rule_count constraint_count buffer =
+    put_lines ls (record { rules = 1; constraints = 1 + rule_count }) (put_words buffer 0 (pack_header form rule_count constraint_count ∷ []))
 
-unfoldable pub put_image : List PolicyLine → ℕ → ℕ → List ℕ → List ℕ
-put_image ls rule_count constraint_count buffer =
-    let content : List ℕ = put_content ls rule_count constraint_count buffer in
-    put_words content (1 + rule_count + constraint_count) (check_words newest_form (take (1 + rule_count + constraint_count) (words_of content)))
+unfoldable pub put_image : ℕ → List PolicyLine → ℕ → ℕ → List ℕ → List ℕ
+put_image form ls rule_count constraint_count buffer =
+    let content : List ℕ = put_content form ls rule_count constraint_count buffer in
+    put_words content (1 + rule_count + constraint_count) (check_words form (take (1 + rule_count + constraint_count) (words_of content)))

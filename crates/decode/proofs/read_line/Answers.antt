@@ -9,7 +9,7 @@ loop-at-init c = remains_none (words_in c.args.words.now) _ c.new-line.ensures
 
 pub loop-at-preserved : goal.loop-at-preserved
 loop-at-preserved c =
-    remains_past (words_in c.args.words.now) _ c.loop-at.at c.loop-at.invariant (rw words_in_length c.loop-at-test.true) _ _ _ c.part_at-part.ensures c.push_part.ensures (rw c.constants_of.ensures.count (omega arith))
+    remains_past (words_in c.args.words.now) _ c.loop-at.at c.loop-at.invariant (rw words_in_length c.loop-at-test.true) _ _ _ c.part_at-part.ensures c.push_part.ensures (rw c.constants.ensures.count (omega arith))
 
 pub returns : goal.returns
 returns c =

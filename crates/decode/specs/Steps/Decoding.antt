@@ -1,48 +1,39 @@
--- How the line at the start of words is found: by the operations alone a line is read, which then has to stand there. That this finds
+-- How the line at the start of words is found: by what its words say alone a line is read, which then has to stand there. That this finds
 -- what stands, and nothing else, is proved (`line_found_exactly` in proofs/DecodeLaws.antt): a reader need not believe this file.
-use Rattle.std.specs.Prelude.{ℕ, Bool, true, false, ◌&&◌, List, [], ◌∷◌, ◌==◌, if◌then◌else◌, Option, Some, None}
+use Rattle.std.specs.Prelude.{ℕ, zero, suc, slice_index_or, Bool, true, false, ◌&&◌, List, [], ◌∷◌, ◌==◌, if◌then◌else◌, Option, Some, None}
 use Rattle.policy.specs.Limits.{valid}
 use Rattle.policy.specs.Line.{PolicyLine, rule, constraint}
-use Rattle.policy.specs.declared.comparison.Comparison.{Comparison}
-use Rattle.policy.specs.declared.comparison.Literal.{Literal}
+use Rattle.policy.specs.declared.line.Ending.{Ending}
 use Rattle.policy.specs.declared.line.Part.{Part}
-use Rattle.policy.specs.declared.number.Action.{Action}
-use Rattle.operation.specs.Parts.{event_from, action_from, constant_comparison, reading_comparison}
-use Rattle.operation.specs.Fields.{operation_of}
-use Rattle.operation.specs.declared.operation.Operation.{Operation}
+use Rattle.policy.specs.declared.line.Test.{Test}
+use Rattle.operation.specs.Said.{says, constants_of}
+use Rattle.operation.specs.declared.said.LinePart.{LinePart}
 use Rattle.layout.specs.Layout.{line_words}
 use Rattle.decode.specs.Stands.{in_part}
 
--- one part more in front: a literal before a rule, an action before a constraint, a comparison before either
-unfoldable pub add_literal : Literal → Option PolicyLine → Option PolicyLine
-add_literal l (Some (rule r)) = Some (rule (record { literals = l ∷ r.literals; action = r.action; comparisons = r.comparisons }))
-add_literal _ _ = None
+-- what words say, one after another, of which the first k are constants
+unfoldable pub said_in : ℕ → List ℕ → List LinePart
+said_in k [] = []
+said_in (suc k) (w ∷ ws) = said_in k ws
+said_in zero (w ∷ ws) =
+    let said : LinePart = says w (slice_index_or ws 0 0) in
+    said ∷ said_in (constants_of said) ws
 
-unfoldable pub add_member : Action → Option PolicyLine → Option PolicyLine
-add_member a (Some (constraint c)) = Some (constraint (record { actions = a ∷ c.actions; comparisons = c.comparisons }))
-add_member _ _ = None
+-- a line with what a word says in front of it: a literal before a rule, an action before a constraint, a comparison before either. An
+-- ending is a line of its own.
+unfoldable pub add_part : LinePart → Option PolicyLine → Option PolicyLine
+add_part (LinePart.Head (Test.Occurs l)) (Some (rule r)) = Some (rule (record { literals = l ∷ r.literals; action = r.action; comparisons = r.comparisons }))
+add_part (LinePart.Head (Test.Member a)) (Some (constraint c)) = Some (constraint (record { actions = a ∷ c.actions; comparisons = c.comparisons }))
+add_part (LinePart.Comparison c) (Some (rule r)) = Some (rule (record { literals = r.literals; action = r.action; comparisons = c ∷ r.comparisons }))
+add_part (LinePart.Comparison c) (Some (constraint k)) = Some (constraint (record { actions = k.actions; comparisons = c ∷ k.comparisons }))
+add_part (LinePart.Ending (Ending.Causes a)) _ = Some (rule (record { literals = []; action = a; comparisons = [] }))
+add_part (LinePart.Ending Ending.Never) _ = Some (constraint (record { actions = []; comparisons = [] }))
+add_part _ _ = None
 
-unfoldable pub add_comparison : Comparison → Option PolicyLine → Option PolicyLine
-add_comparison c (Some (rule r)) = Some (rule (record { literals = r.literals; action = r.action; comparisons = c ∷ r.comparisons }))
-add_comparison c (Some (constraint k)) = Some (constraint (record { actions = k.actions; comparisons = c ∷ k.comparisons }))
-add_comparison c None = None
-
--- what a word says, with the word after it, the line behind it and the line behind that word
-unfoldable pub decode_word : Operation → ℕ → ℕ → Option PolicyLine → Option PolicyLine → Option PolicyLine
-decode_word Operation.Present w k rest behind = add_literal (record { event = event_from w; negated = false }) rest
-decode_word Operation.Absent w k rest behind = add_literal (record { event = event_from w; negated = true }) rest
-decode_word Operation.AgainstConstant w k rest behind = add_comparison (constant_comparison w k) behind
-decode_word Operation.AgainstReading w k rest behind = add_comparison (reading_comparison w) rest
-decode_word Operation.Proposes w k rest behind = Some (rule (record { literals = []; action = action_from w; comparisons = [] }))
-decode_word Operation.Member w k rest behind = add_member (action_from w) rest
-decode_word Operation.Never w k rest behind = Some (constraint (record { actions = []; comparisons = [] }))
-decode_word Operation.Unknown w k rest behind = None
-
--- by the operations alone: skips, unused fields and the order of the parts are not looked at
-unfoldable pub decode : List ℕ → Option PolicyLine
+-- the line that parts make: skips, unused fields and the order of the parts are not looked at
+unfoldable pub decode : List LinePart → Option PolicyLine
 decode [] = None
-decode (w ∷ []) = decode_word (operation_of w) w 0 None None
-decode (w ∷ k ∷ rest) = decode_word (operation_of w) w k (decode (k ∷ rest)) (decode rest)
+decode (said ∷ rest) = add_part said (decode rest)
 
 unfoldable pub is_prefix : List ℕ → List ℕ → Bool
 is_prefix [] ys = true

@@ -2,24 +2,25 @@
 -- (`scan_line_is` in proofs/ScanLines.antt, `line_from_is` in proofs/ReadLaws.antt): a reader need not believe this file.
 use Rattle.std.specs.Prelude.{ℕ, zero, suc, ◌+◌, ◌-◌, ◌*◌, ◌/◌, ◌%◌, ◌^◌, ◌<◌, ◌≤◌, ◌≡◌, Bool, true, false, not, ◌&&◌, ◌||◌, if◌then◌else◌, List, [], ◌∷◌, ◌++◌, map, fold, length, take, drop, ◌==◌, nat_lt, nat_le, slice_index_or}
 use Rattle.line_value.specs.Value.{no_parts}
-use Rattle.policy.specs.Line.{operand_constants}
 use Rattle.policy.specs.Limits.{head_limit, comparison_limit, repeats}
 use Rattle.policy.specs.Set.{insert}
+use Rattle.policy.specs.declared.comparison.Operand.{Operand}
 use Rattle.policy.specs.declared.line.Ending.{Ending}
 use Rattle.line_value.specs.declared.Line.{Line}
 use Rattle.policy.specs.declared.line.Test.{Test}
 use Rattle.operation.specs.Operation.{opcode}
-use Rattle.operation.specs.Parts.{ending_word, event_from, action_from, constant_comparison, reading_comparison}
-use Rattle.operation.specs.Fields.{opcode_of, operation_of, first_of, second_of, relation_code_of, skip_of}
+use Rattle.operation.specs.Parts.{ending_word}
+use Rattle.operation.specs.Fields.{first_of, second_of, relation_code_of, skip_of}
+use Rattle.operation.specs.Said.{says}
+use Rattle.decode.specs.Steps.Decoding.{said_in}
 use Rattle.operation.specs.declared.operation.Operation.{Operation}
-use Rattle.decode.specs.declared.LinePart.{LinePart}
+use Rattle.operation.specs.declared.said.LinePart.{LinePart}
 use Rattle.policy.specs.declared.line.Part.{Part}
 
--- whether an operation is that of a head in its part
-unfoldable pub is_head : Part → Operation → Bool
-is_head Part.Rules Operation.Present = true
-is_head Part.Rules Operation.Absent = true
-is_head Part.Constraints Operation.Member = true
+-- whether a word says a head of the part
+unfoldable pub is_head : Part → LinePart → Bool
+is_head Part.Rules (LinePart.Head (Test.Occurs l)) = true
+is_head Part.Constraints (LinePart.Head (Test.Member a)) = true
 is_head _ _ = false
 
 -- ---- words by one comparison: each less the word that is expected, and turned
@@ -56,14 +57,23 @@ ending_numbers Part.Constraints = 1
 
 -- ---- a line
 
--- the ending word of a line: the action of a rule is free, all other bits are given
+-- the endings of a part
+unfoldable pub ends : Part → Ending → Bool
+ends Part.Rules (Ending.Causes a) = true
+ends Part.Constraints Ending.Never = true
+ends _ _ = false
+
+-- the ending word of a line: it says an ending of the part, and nothing else is in it
+unfoldable pub is_ending_of : Part → ℕ → LinePart → Bool
+is_ending_of part w (LinePart.Ending e) = ends part e && w == ending_word e
+is_ending_of _ _ _ = false
+
 unfoldable pub is_ending : Part → ℕ → Bool
-is_ending Part.Rules w = opcode_of w == opcode Operation.Proposes && w % 2 ^ 22 == 0
-is_ending Part.Constraints w = w == ending_word Ending.Never
+is_ending part w = is_ending_of part w (says w 0)
 
 -- whether the word w may stand as a head, with `left` words of the line behind it
 unfoldable pub head_sound : Part → ℕ → ℕ → Bool
-head_sound part w left = w % 2 ^ 22 == left && is_head part (operation_of w)
+head_sound part w left = w % 2 ^ 22 == left && is_head part (says w 0)
 
 -- how many heads there are, of n words before the ending word
 unfoldable pub count_heads : Part → ℕ → List ℕ → ℕ
@@ -83,14 +93,17 @@ constant_sound w left = nat_lt (first_of w) 16 && nat_lt (relation_code_of w) 6 
 unfoldable pub reading_sound : ℕ → ℕ → Bool
 reading_sound w left = nat_lt (first_of w) 16 && nat_lt (relation_code_of w) 6 && nat_lt (second_of w) 16 && w % 2 ^ 13 == left
 
--- how many words the comparison has that w begins; 0 where none may stand
-unfoldable pub length_by : Operation → ℕ → ℕ → ℕ
-length_by Operation.AgainstConstant w left = if constant_sound w left then 2 else 0
-length_by Operation.AgainstReading w left = if reading_sound w left then 1 else 0
+-- how many words a comparison with the operand has, that w begins; 0 where none may stand
+unfoldable pub operand_length : Operand → ℕ → ℕ → ℕ
+operand_length (Operand.Constant k) w left = if constant_sound w left then 2 else 0
+operand_length (Operand.Reading r) w left = if reading_sound w left then 1 else 0
+
+unfoldable pub length_by : LinePart → ℕ → ℕ → ℕ
+length_by (LinePart.Comparison c) w left = operand_length c.operand w left
 length_by _ w left = 0
 
 unfoldable pub comparison_length : ℕ → ℕ → ℕ
-comparison_length w left = length_by (operation_of w) w left
+comparison_length w left = length_by (says w 0) w left
 
 -- the words behind the comparison that words begin with
 pub record IsBehind (ws behind : List ℕ) : Type 0 where
@@ -115,38 +128,13 @@ scan_line part ws =
 
 -- ---- the value of a line, word by word
 
--- what a word stands for, with the word that follows
-unfoldable pub part_of : Operation → ℕ → ℕ → LinePart
-part_of Operation.Present w k = LinePart.Head (Test.Occurs (record { event = event_from w; negated = false }))
-part_of Operation.Absent w k = LinePart.Head (Test.Occurs (record { event = event_from w; negated = true }))
-part_of Operation.AgainstConstant w k = LinePart.Comparison (constant_comparison w k)
-part_of Operation.AgainstReading w k = LinePart.Comparison (reading_comparison w)
-part_of Operation.Proposes w k = LinePart.Ending (Ending.Causes (action_from w))
-part_of Operation.Member w k = LinePart.Head (Test.Member (action_from w))
-part_of Operation.Never w k = LinePart.Ending Ending.Never
-part_of Operation.Unknown w k = LinePart.Nothing
-
-unfoldable pub line_part_at : List ℕ → ℕ → LinePart
-line_part_at ws at = part_of (operation_of (slice_index_or ws at 0)) (slice_index_or ws at 0) (slice_index_or ws (at + 1) 0)
-
--- how many constants follow the word
-unfoldable pub constants_of : LinePart → ℕ
-constants_of (LinePart.Comparison c) = operand_constants c.operand
-constants_of _ = 0
-
 -- a line with one part more, where there is room for it
-unfoldable pub with_part : LinePart → Line → Line
-with_part (LinePart.Head t) l = if nat_lt (length l.heads) head_limit then (record { heads = l.heads ++ t ∷ []; comparisons = l.comparisons; ending = l.ending }) else l
-with_part (LinePart.Comparison c) l = if nat_lt (length l.comparisons) comparison_limit then (record { heads = l.heads; comparisons = l.comparisons ++ c ∷ []; ending = l.ending }) else l
-with_part (LinePart.Ending e) l = record { heads = l.heads; comparisons = l.comparisons; ending = e }
-with_part LinePart.Nothing l = l
-
--- with the parts of more words, of which the first k are constants
-unfoldable pub with_words : Line → ℕ → List ℕ → Line
-with_words l k [] = l
-with_words l (suc k) (w ∷ ws) = with_words l k ws
-with_words l zero (w ∷ ws) = with_words (with_part (line_part_at (w ∷ ws) 0) l) (constants_of (line_part_at (w ∷ ws) 0)) ws
+unfoldable pub with_part : Line → LinePart → Line
+with_part l (LinePart.Head t) = if nat_lt (length l.heads) head_limit then (record { heads = l.heads ++ t ∷ []; comparisons = l.comparisons; ending = l.ending }) else l
+with_part l (LinePart.Comparison c) = if nat_lt (length l.comparisons) comparison_limit then (record { heads = l.heads; comparisons = l.comparisons ++ c ∷ []; ending = l.ending }) else l
+with_part l (LinePart.Ending e) = record { heads = l.heads; comparisons = l.comparisons; ending = e }
+with_part l LinePart.Nothing = l
 
 -- the line that words say
 abbrev pub value_from : List ℕ → Line
-value_from ws = with_words no_parts 0 ws
+value_from ws = fold with_part no_parts (said_in 0 ws)

@@ -4,6 +4,7 @@ use Rattle.std.specs.Prelude.{ℕ, true, false, List, [], ◌++◌, ◌≡◌, l
 use Rattle.report.specs.Report.{next_number}
 use Rattle.questions.specs.Steps.Answer.{question_line}
 use Rattle.questions.specs.Steps.Held.{start_question, is_open, Held, held_by, bytes_taken, line_taken}
+use Rattle.questions.specs.Steps.Sizes.{line_held}
 
 module _ (maker site image : List ℕ) where
   -- what is printed for the open line
@@ -11,7 +12,7 @@ module _ (maker site image : List ℕ) where
   answer_held n h = question_line maker site image (next_number n) h.question h.held
 
   pub data Asked : List ℕ → List ℕ → ℕ → Held → Type 0 where
-    begun : {held : List ℕ} → length held ≡ 1025 → Asked [] [] 0 (held_by start_question held)
+    begun : {held : List ℕ} → length held ≡ line_held → Asked [] [] 0 (held_by start_question held)
     -- a chunk in which the line goes on
     took : {consumed printed : List ℕ} {n : ℕ} {h : Held} (chunk : List ℕ) → Asked consumed printed n h
         → (line_taken h.question h.held chunk).ended ≡ false

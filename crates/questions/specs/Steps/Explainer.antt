@@ -5,6 +5,7 @@ use Rattle.questions.specs.Steps.Asked.{answer_held}
 use Rattle.questions.specs.Steps.Held.{start_question, Held, held_by}
 use Rattle.questions.specs.Steps.Left.{answers_to_end, answers_so_far}
 use Rattle.questions.specs.declared.explainer.Explainer.{Explainer}
+use Rattle.questions.specs.Steps.Sizes.{line_held}
 
 abbrev pub open_line : Explainer → Held
 open_line e = held_by e.question e.held
@@ -33,4 +34,4 @@ pub record Starts (e : Explainer) (first second words : List ℕ) : Type 0 where
   pub number : e.number ≡ 0
   pub question : e.question ≡ start_question
   pub used : e.used ≡ 0
-  pub long : length e.held ≡ 1025
+  pub long : length e.held ≡ line_held

@@ -3,30 +3,31 @@ use Rattle.std.specs.Prelude.{ℕ, ◌+◌, ◌-◌, Bool, true, false, List, le
 use Rattle.policy.specs.declared.epoch.Readings.{Readings}
 use Rattle.policy.specs.Set.{ActionSet}
 use Rattle.policy.specs.declared.set.Events.{Events}
-use Rattle.operation.specs.Fields.{operation_of}
+use Rattle.operation.specs.Said.{says, constants_of}
 use Rattle.operation.specs.declared.operation.Operation.{Operation}
-use Rattle.run.specs.Run.{constants_behind, rule_test, proposing, constraint_test, ends_constraint, fetches_of}
+use Rattle.operation.specs.declared.said.LinePart.{LinePart}
+use Rattle.run.specs.Run.{rule_test, proposing, constraint_test, ends_constraint}
 use Rattle.run.specs.declared.constraints.Trial.{Trial}
 use Rattle.run.specs.declared.test.Tested.{Tested}
 
--- the outcome of the test of an operation, whose word stands before the index `behind`
-abbrev pub tested : Bool → Operation → ℕ → Tested
-tested holds op behind = record { holds = holds; next = behind + constants_behind op }
+-- the outcome of the test of a word, by what it says; it stands before the index `behind`
+abbrev pub tested : Bool → LinePart → ℕ → Tested
+tested holds said behind = record { holds = holds; next = behind + constants_of said }
 
--- the test of a word that asks for one, and so proposes nothing, with the word behind it, which has the index `behind`
-pub record IsTestIn (ev : Events) (rs : Readings) (w k behind : ℕ) (t : Tested) : Type 0 where
-  pub proposes_none : (s : ActionSet) → proposing s w ≡ s
-  pub is : t ≡ tested (rule_test ev rs (operation_of w) w k) (operation_of w) behind
+-- the test of a word that asks for one, and so proposes nothing
+pub record IsTestIn (ev : Events) (rs : Readings) (said : LinePart) (behind : ℕ) (t : Tested) : Type 0 where
+  pub proposes_none : (s : ActionSet) → proposing s said ≡ s
+  pub is : t ≡ tested (rule_test ev rs said) said behind
 
 -- a word that asks for no test, and has no constant
-pub record AsksNothing (ev : Events) (rs : Readings) (w k : ℕ) : Type 0 where
-  pub holds : rule_test ev rs (operation_of w) w k ≡ true
-  pub alone : constants_behind (operation_of w) ≡ 0
+pub record AsksNothing (ev : Events) (rs : Readings) (said : LinePart) : Type 0 where
+  pub holds : rule_test ev rs said ≡ true
+  pub alone : constants_of said ≡ 0
 
--- the test of a word that ends no constraint, with the word behind it, which has the index `behind`
-pub record IsTestOf (rs : Readings) (s : ActionSet) (w k behind : ℕ) (t : Tested) : Type 0 where
-  pub goes_on : ends_constraint w ≡ false
-  pub is : t ≡ tested (constraint_test rs s (operation_of w) w k) (operation_of w) behind
+-- the test of a word that ends no constraint
+pub record IsTestOf (rs : Readings) (s : ActionSet) (said : LinePart) (behind : ℕ) (t : Tested) : Type 0 where
+  pub goes_on : ends_constraint said ≡ false
+  pub is : t ≡ tested (constraint_test rs s said) said behind
 
 abbrev pub is_member_operation : Operation → Bool
 is_member_operation Operation.Member = true
@@ -45,8 +46,12 @@ abbrev pub is_constant_operation : Operation → Bool
 is_constant_operation Operation.AgainstConstant = true
 is_constant_operation _ = false
 
+-- what the word at an index says
+abbrev pub said_at : List ℕ → ℕ → LinePart
+said_at ws at = says (slice_index_or ws at 0) (slice_index_or ws (at + 1) 0)
+
 -- the answer of a trial that was left at a word, before which as many words were fetched as lie between `from` and it
 unfoldable pub left_at : List ℕ → ℕ → ℕ → Trial
 left_at ws at from =
-    if nat_lt at (length ws) then record { conflict = ends_constraint (slice_index_or ws at 0); words = at + fetches_of (operation_of (slice_index_or ws at 0)) - from }
+    if nat_lt at (length ws) then record { conflict = ends_constraint (said_at ws at); words = at + (1 + constants_of (said_at ws at)) - from }
     else record { conflict = false; words = at - from }

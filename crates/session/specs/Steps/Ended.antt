@@ -7,11 +7,12 @@ use Rattle.session.specs.Printed.{with_epochs, printed_for, decision_line}
 use Rattle.session.specs.Steps.Owed.{current, left_in, owed, Good, Seen, Tracks}
 use Rattle.session.specs.declared.state.State.{State}
 use Rattle.report.specs.Report.{next_number}
+use Rattle.session.specs.Steps.Sizes.{held_size, out_size}
 
 -- the text is complete, and epochs are decided in the mode; nothing is held
 pub record TextEnded (text : List ℕ) (mode : Mode) (s : State) (out : List ℕ) (r : State) (image' out' : List ℕ) : Type 0 where
   pub owes : (held rest : List ℕ) → owed r held image' out' rest ≡ take s.used out ++ printed_for text (with_epochs [] mode (lines_of rest))
-  pub good : (held : List ℕ) → length held ≡ 32780 → Good r held image' out'
+  pub good : (held : List ℕ) → length held ≡ held_size → Good r held image' out'
   -- behind the line that picks the mode
   pub tracks : (held : List ℕ) (x : Seen) → x.ran ≡ Some mode → x.tail ≡ [] → Tracks x r held
   -- the end of the input adds nothing
@@ -24,5 +25,5 @@ after_decision s used = record { phase = s.phase; mode = s.mode; start = 0; coun
 pub record LineEnded (s : State) (held image out : List ℕ) (r : State) (out' : List ℕ) : Type 0 where
   pub state : r ≡ after_decision s r.used
   pub prints : take r.used out' ≡ take s.used out ++ decision_line (next_number s.epochs) (decision_in s.mode (take s.size image) (current s held))
-  pub out_long : length out' ≡ 65536
-  pub used : r.used ≤ 65536
+  pub out_long : length out' ≡ out_size
+  pub used : r.used ≤ out_size

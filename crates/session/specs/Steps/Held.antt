@@ -1,6 +1,7 @@
 -- A byte more is held, and where the next line starts.
 use Rattle.std.specs.Prelude.{◌≡◌, ℕ, ◌+◌, ◌<◌, ◌≤◌, min, List, slice_set}
 use Rattle.session.specs.declared.state.State.{State}
+use Rattle.session.specs.Steps.Sizes.{text_held}
 
 -- the next line starts behind so many bytes, and nothing of it is held
 abbrev pub starting_at : ℕ → State → State
@@ -8,7 +9,7 @@ starting_at n s = record { phase = s.phase; mode = s.mode; start = n; count = n;
 
 -- it starts behind what is held, of which 32,769 bytes count
 abbrev pub line_behind : State → State
-line_behind s = starting_at (min s.count 32769) s
+line_behind s = starting_at (min s.count text_held) s
 
 abbrev pub one_more_held : State → State
 one_more_held s = record { phase = s.phase; mode = s.mode; start = s.start; count = s.count + 1; epochs = s.epochs; size = s.size; used = s.used }

@@ -4,10 +4,11 @@ use denote.Struct.Props.{props}
 use Rattle.session.specs.Steps.Owed.{Fitting, Good}
 use Rattle.session.specs.declared.state.Phase.{Phase}
 use Rattle.session.specs.declared.state.State.{State}
+use Rattle.session.specs.Steps.Sizes.{text_held}
 
 -- a line of the text starts behind one byte more than the full length, or before
 unfoldable pub Starting : Phase → State → Type 0
-Starting Phase.Text s = s.start ≤ 32769
+Starting Phase.Text s = s.start ≤ text_held
 Starting _ s = ⊤
 
 pub Starting_prop : (p : Phase) (s : State) → IsProp (Starting p s)

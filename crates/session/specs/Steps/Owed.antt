@@ -9,6 +9,8 @@ use Rattle.stream.specs.Lines.{due_by_lines}
 use Rattle.session.specs.Printed.{Session, mode_of, split_at_run, text_part, printed_for, epoch_lines}
 use Rattle.session.specs.declared.state.Phase.{Phase}
 use Rattle.session.specs.declared.state.State.{State}
+use Rattle.layout.specs.Layout.{size_limit}
+use Rattle.session.specs.Steps.Sizes.{held_size, epoch_held, out_size, room_limit, text_held}
 
 -- what is printed where the lines of `done` are text, and the rest of the input starts a line
 unfoldable pub printed_behind : List ℕ → List ℕ → List ℕ
@@ -28,23 +30,23 @@ unfoldable pub owed : State → List ℕ → List ℕ → List ℕ → List ℕ 
 owed s held image out rest = take s.used out ++ left_in s.phase s held image rest
 
 unfoldable pub Fitting : Phase → State → Type 0
-Fitting Phase.Text s = s.count ≤ 32780
-Fitting Phase.Epochs s = (s.start ≡ 0) × (s.count ≤ 1025)
-Fitting Phase.Over s = s.count ≤ 32780
+Fitting Phase.Text s = s.count ≤ held_size
+Fitting Phase.Epochs s = (s.start ≡ 0) × (s.count ≤ epoch_held)
+Fitting Phase.Over s = s.count ≤ held_size
 
 pub record Good (s : State) (held image out : List ℕ) : Type 0 where
-  pub held_long : length held ≡ 32780
-  pub image_long : length image ≡ 13064
-  pub out_long : length out ≡ 65536
+  pub held_long : length held ≡ held_size
+  pub image_long : length image ≡ size_limit
+  pub out_long : length out ≡ out_size
   pub ordered : s.start ≤ s.count
   pub fitting : Fitting s.phase s
   pub one_line : list_any (nat_eq 10) (current s held) ≡ false
-  pub sized : s.size ≤ 13064
-  pub used : s.used ≤ 65536
+  pub sized : s.size ≤ size_limit
+  pub used : s.used ≤ out_size
 
 -- the output that waits leaves room for any line
 abbrev pub Room : State → Type 0
-Room s = s.used ≤ 65024
+Room s = s.used ≤ room_limit
 
 -- ---- what the lines of the input were so far
 
@@ -65,8 +67,8 @@ see x bytes = fold see_byte x bytes
 
 -- a state is past the text exactly if a mode was picked, which it then has; and it holds the start of the open line
 unfoldable pub TracksIn : Phase → Seen → State → List ℕ → Type 0
-TracksIn Phase.Text x s held = (x.ran ≡ None) × (current s held ≡ take (32780 - s.start) x.tail) × (s.start ≤ 32769)
-TracksIn Phase.Epochs x s held = (x.ran ≡ Some s.mode) × (current s held ≡ take 1025 x.tail)
+TracksIn Phase.Text x s held = (x.ran ≡ None) × (current s held ≡ take (held_size - s.start) x.tail) × (s.start ≤ text_held)
+TracksIn Phase.Epochs x s held = (x.ran ≡ Some s.mode) × (current s held ≡ take epoch_held x.tail)
 TracksIn Phase.Over x s held = x.ran ≡ Some s.mode
 
 abbrev pub Tracks : Seen → State → List ℕ → Type 0
@@ -108,7 +110,7 @@ pub record Fed (s : State) (held image out chunk : List ℕ) (taken : ℕ) (r : 
   pub within : taken ≤ length chunk
   pub took : Took s held image out (take taken chunk) r held' image' out'
   -- all of it, unless the output has to be handed out first
-  pub stops : taken < length chunk → 65024 < r.used
+  pub stops : taken < length chunk → room_limit < r.used
   pub moves : Room s → 0 < length chunk → 0 < taken
 
 -- the input has ended, and all that is still to be handed out waits
@@ -128,7 +130,7 @@ pub record Moved (s : State) (held image out bytes : List ℕ) (r : State) (held
 
 -- what was consumed and what was handed out by all of them together
 pub data Called : List ℕ → List ℕ → State → List ℕ → List ℕ → List ℕ → Type 0 where
-  begun : {held image out : List ℕ} → length held ≡ 32780 → length image ≡ 13064 → length out ≡ 65536 → Called [] [] start_state held image out
+  begun : {held image out : List ℕ} → length held ≡ held_size → length image ≡ size_limit → length out ≡ out_size → Called [] [] start_state held image out
   fed : {consumed handed held image out held' image' out' : List ℕ} {s r : State} (bytes : List ℕ)
       → Called consumed handed s held image out → Moved s held image out bytes r held' image' out' → Called (consumed ++ bytes) handed r held' image' out'
   handed_out : {consumed handed held image out : List ℕ} {s : State}

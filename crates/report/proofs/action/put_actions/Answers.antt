@@ -1,11 +1,10 @@
 use Rattle.std.proofs.Common.{refl, sym, ◌∙◌}
-use Rattle.report.specs.Report.{action_list}
 use Rattle.report.proofs.ActionLaws.{remaining, member_put, other_left, none_put, some_put}
 use Rattle.report.proofs.action.put_actions.Goals.{then-has, else-has}
 use Rattle.report.proofs.action.put_actions.Goals as goal
 
 pub loop-number-init : goal.loop-number-init
-unfolding remaining action_list
+unfolding remaining
 loop-number-init g c = refl
 
 pub loop-number-preserved : goal.loop-number-preserved

@@ -1,11 +1,12 @@
 use Rattle.policy.specs.Epoch.{viewed}
-use Rattle.std.proofs.Common.{ℕ, ◌<◌, ◌≤◌, List, sym, ap, ◌∙◌, length, arith}
+use Rattle.std.proofs.Common.{ℕ, ◌<◌, ◌≤◌, List, sym, ap, ◌∙◌, ◌+◌, get_or, length, arith}
 use Rattle.std.proofs.lemmas.Bool.{not-true, not-false}
 use Rattle.policy.specs.declared.epoch.Readings.{Readings}
 use Rattle.word.specs.Chunk.{words_in}
 use Rattle.word.proofs.ChunkLaws.{words_in_length}
 use Rattle.run.specs.Run.{run_rules, rule_fetches}
 use Rattle.run.proofs.RuleLaws.{rules_held, rules_failed, rules_pass, rules_end, rules_end_fetch}
+use Rattle.run.proofs.TestLaws.{tested_next}
 use Rattle.run.proofs.rules.run_rules.Goals as goal
 
 pub loop-at-preserved-then-not-test : goal.loop-at-preserved-then-not-test
@@ -28,7 +29,7 @@ loop-at-preserved c =
     let rs : Readings = viewed c.view-view.result in
     let ws : List ℕ = words_in c.args.words.now in
     let within : c.loop-at.at < length ws = omega (arith, words_in_length c.args.words.now) in
-    rw c.with_proposal-actions.ensures (rules_pass c.args.events rs ws c.loop-at.at _ _ _ c.loop-at.invariant within c.nth_word-word.ensures c.in-None.ensures)
+    rw (c.with_proposal-actions.ensures (get_or (words_in c.args.words.now) (c.loop-at.at + 1) 0)) (rules_pass c.args.events rs ws c.loop-at.at _ _ _ c.loop-at.invariant within c.nth_word-word.ensures c.in-None.ensures)
 
 pub returns : goal.returns
 unfolding run_rules rule_fetches
@@ -40,3 +41,6 @@ returns c =
       actions = sym (rules_end c.args.events rs ws c.loop-at.actions c.loop-at.at past) ∙ c.loop-at.invariant.proposed ∙ ap (λ (r : Readings). run_rules c.args.events r ws) c.view-view.ensures;
       words = omega (arith, c.loop-at.invariant.words, c.loop-at.invariant.behind, rules_end_fetch c.args.events rs ws c.loop-at.at past, ap (λ (r : Readings). rule_fetches c.args.events r ws) c.view-view.ensures);
     }
+
+pub overflow_add-at-then-not-test : goal.overflow_add-at-then-not-test
+overflow_add-at-then-not-test c = record { fits = omega (arith, tested_next c.in-Some.test _ _ _ c.in-Some.ensures.is) }

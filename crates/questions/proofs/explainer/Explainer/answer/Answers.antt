@@ -1,13 +1,14 @@
 use Rattle.std.proofs.Common.{◌+◌, ◌%◌, ◌^◌, ◌<◌, ◌≤◌, length, refl, arith, rules}
 use Rattle.questions.proofs.Room.{question-whole}
 use Rattle.questions.proofs.explainer.Explainer.answer.Goals as goal
+use Rattle.questions.specs.Steps.Sizes.{answer_size}
 
 pub returns : goal.returns
 returns c =
     let e = c.args.self.now in
     let put = c.put_answer-self.ensures in
     let number : (e.number + 1) % 2 ^ 64 < 2 ^ 64 = omega arith in
-    let room : 32802 ≤ length e.out = search rules in
+    let room : answer_size ≤ length e.out = search rules in
     record {
       maker = refl;
       site = refl;

@@ -1,0 +1,20 @@
+//! What depends on the form of an image: whether it is known, and how many check words there are.
+ghost use Rattle.std.specs.Prelude.{◌≡◌, ◌≤◌};
+ghost use Rattle.layout.specs.Layout.{known_form, check_count};
+
+/// Whether there are images of this form.
+#[tactic(auto, unfolding(crate::specs::Layout::known_form))]
+pub fn is_known_form(form: u8) -> bool
+    ensures { result ≡ known_form form }
+{
+    form == 1
+}
+
+/// How many check words an image of this form has.
+#[tactic(auto, unfolding(crate::specs::Layout::check_count))]
+pub fn check_count(_form: u8) -> usize
+    ensures count { result ≡ check_count _form }
+    ensures few { result ≤ 2 }
+{
+    1
+}

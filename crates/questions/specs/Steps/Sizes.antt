@@ -1,0 +1,15 @@
+-- How many bytes the buffers of the explainer have.
+use Rattle.std.specs.Prelude.{ℕ, suc, ◌+◌}
+use Rattle.epoch_line.specs.Epoch.{epoch_limit}
+use Rattle.rule_text.specs.Text.{text_limit}
+
+-- of a text, and of an epoch line: one over its limit, which tells that it is too long
+abbrev pub text_held : ℕ
+text_held = suc text_limit
+
+abbrev pub line_held : ℕ
+line_held = suc epoch_limit
+
+-- the longest answer to a question: a line of a text, and what stands around it
+abbrev pub answer_size : ℕ
+answer_size = text_limit + 34
