@@ -21,7 +21,7 @@ use Rattle.word.proofs.WordLaws.{words_length, words_below, words_of_bytes, byte
 use Rattle.layout.proofs.HeaderLaws.{header_below, form_header, rules_header, constraints_header, header_fields}
 use Rattle.word.specs.Word.{word_limit, Bytes, words_of, word_at, bytes_of, between, Below}
 use Rattle.layout.specs.Header.{pack_header, form_of, rule_count_of, constraint_count_of}
-use Rattle.image.specs.Check.{rule_count, constraint_count, form_byte, well_sized, counts_fit, sums_to_zero}
+use Rattle.image.specs.Check.{rule_words, constraint_words, form_byte, well_sized, counts_fit, sums_to_zero}
 use Rattle.image.specs.Held.{lines_in, policy_in}
 use Rattle.layout.specs.Layout.{known_form, check_count, rule_word_limit, constraint_word_limit, size_limit, sum, check_words, header_word, rule_part_words, constraint_part_words, content_words, image_words, image_of}
 use Rattle.image.specs.Lines.{lines_from, part_lines, rule_part, constraint_part, rule_lines, constraint_lines}
@@ -91,10 +91,10 @@ module _ (form : ℕ) (known : known_form form ≡ true) (p : Policy) (ok : Acce
   form_is : form_byte (image_words form p) ≡ form
   form_is = ap form_of first_word ∙ form_header form P N form_small P_small N_small
 
-  rules_are : rule_count (image_words form p) ≡ P
+  rules_are : rule_words (image_words form p) ≡ P
   rules_are = ap rule_count_of first_word ∙ rules_header form P N form_small P_small N_small
 
-  constraints_are : constraint_count (image_words form p) ≡ N
+  constraints_are : constraint_words (image_words form p) ≡ N
   constraints_are = ap constraint_count_of first_word ∙ constraints_header form P N form_small P_small N_small
 
   counts : counts_fit (image_words form p) ≡ true
@@ -187,8 +187,8 @@ pub record Took (bytes : List ℕ) (contents : Contents) : Type 0 where
   pub constraints : List PolicyLine
   pub rules_whole : rule_lines (words_of bytes) ≡ Ok rules
   pub constraints_whole : constraint_lines (words_of bytes) ≡ Ok constraints
-  pub rules_are : contents.rules ≡ rule_part (words_of bytes)
-  pub constraints_are : contents.constraints ≡ constraint_part (words_of bytes)
+  pub rules_are : contents.parts.rules ≡ rule_part (words_of bytes)
+  pub constraints_are : contents.parts.constraints ≡ constraint_part (words_of bytes)
 
 pub took : (bytes : List ℕ) (contents : Contents) → load bytes ≡ Ok contents → Took bytes contents
 took bytes contents e =
@@ -199,8 +199,8 @@ took bytes contents e =
       constraints = t.constraints;
       rules_whole = t.rules_whole;
       constraints_whole = t.constraints_whole;
-      rules_are = ap (λ (k : Contents). k.rules) t.same;
-      constraints_are = ap (λ (k : Contents). k.constraints) t.same;
+      rules_are = ap (λ (k : Contents). k.parts.rules) t.same;
+      constraints_are = ap (λ (k : Contents). k.parts.constraints) t.same;
     }
 
 -- ---- whatever is taken is the image of the policy that it holds
@@ -229,10 +229,10 @@ module _ (bytes : List ℕ) (bounded : Bytes bytes) (contents : Contents) (taken
   form = form_byte (words_of bytes)
 
   rule_size : ℕ
-  rule_size = rule_count (words_of bytes)
+  rule_size = rule_words (words_of bytes)
 
   constraint_size : ℕ
-  constraint_size = constraint_count (words_of bytes)
+  constraint_size = constraint_words (words_of bytes)
 
   R : List ℕ
   R = between 1 (1 + rule_size) ws
@@ -259,8 +259,8 @@ module _ (bytes : List ℕ) (bounded : Bytes bytes) (contents : Contents) (taken
   header_same : pack_header form (length R) (length C) ≡ get_or ws 0 0
   unfolding R C form rule_size constraint_size ws
   header_same =
-      let room : 1 + rule_count (words_of bytes) + constraint_count (words_of bytes) ≤ length (words_of bytes) = omega (arith, h.size) in
-      ap₂ (λ (a b : ℕ). pack_header (form_byte (words_of bytes)) a b) (rules_size (words_of bytes) (rule_count (words_of bytes)) (constraint_count (words_of bytes)) room) (constraints_size (words_of bytes) (rule_count (words_of bytes)) (constraint_count (words_of bytes)) room)
+      let room : 1 + rule_words (words_of bytes) + constraint_words (words_of bytes) ≤ length (words_of bytes) = omega (arith, h.size) in
+      ap₂ (λ (a b : ℕ). pack_header (form_byte (words_of bytes)) a b) (rules_size (words_of bytes) (rule_words (words_of bytes)) (constraint_words (words_of bytes)) room) (constraints_size (words_of bytes) (rule_words (words_of bytes)) (constraint_words (words_of bytes)) room)
       ∙ header_fields (get_or (words_of bytes) 0 0) (words_small 0)
 
   content : take (1 + rule_size + constraint_size) ws ≡ get_or ws 0 0 ∷ R ++ C
@@ -293,11 +293,11 @@ module _ (bytes : List ℕ) (bounded : Bytes bytes) (contents : Contents) (taken
   held_form = t.checked.form
 
   -- the parts of a taken image are the words of its policy
-  pub taken_rules : contents.rules ≡ rule_part_words (policy_in bytes)
+  pub taken_rules : contents.parts.rules ≡ rule_part_words (policy_in bytes)
   unfolding rule_part_words
   taken_rules = h.rule_part_is.words
 
-  pub taken_constraints : contents.constraints ≡ constraint_part_words (policy_in bytes)
+  pub taken_constraints : contents.parts.constraints ≡ constraint_part_words (policy_in bytes)
   unfolding constraint_part_words
   taken_constraints = h.constraint_part_is.words
 
@@ -319,9 +319,9 @@ module _ (ws : List ℕ) where
   unfolding part_lines
   rules_refused location = part_fault_exactly Part.Rules 128 1 (rule_part ws) location
 
-  constraints_refused : (location : ℕ) → (constraint_lines ws ≡ Err location) ↔ NoLineAt Part.Constraints 64 (1 + rule_count ws) (constraint_part ws) location
+  constraints_refused : (location : ℕ) → (constraint_lines ws ≡ Err location) ↔ NoLineAt Part.Constraints 64 (1 + rule_words ws) (constraint_part ws) location
   unfolding part_lines
-  constraints_refused location = part_fault_exactly Part.Constraints 64 (1 + rule_count ws) (constraint_part ws) location
+  constraints_refused location = part_fault_exactly Part.Constraints 64 (1 + rule_words ws) (constraint_part ws) location
 
 module _ (bytes : List ℕ) where
   -- each fault is told
@@ -406,11 +406,11 @@ refusals bytes r e = go (answered bytes)
     body c (Err n) y p q s =
         let k = counted ws' c.count in
         let a = among Part.Rules 128 1 n (rule_part ws') ((rules_refused ws' n).0 p) in
-        given n s a.0 (omega (arith, a.1, rules_size ws' (rule_count ws') (constraint_count ws') (omega (arith, k.all)), k.all, checks_few (form_byte ws')))
+        given n s a.0 (omega (arith, a.1, rules_size ws' (rule_words ws') (constraint_words ws') (omega (arith, k.all)), k.all, checks_few (form_byte ws')))
     body c (Ok rs) (Err n) p q s =
         let k = counted ws' c.count in
-        let a = among Part.Constraints 64 (1 + rule_count ws') n (constraint_part ws') ((constraints_refused ws' n).0 q) in
-        given n s (omega (arith, a.0)) (omega (arith, a.1, constraints_size ws' (rule_count ws') (constraint_count ws') (omega (arith, k.all)), k.all, checks_few (form_byte ws')))
+        let a = among Part.Constraints 64 (1 + rule_words ws') n (constraint_part ws') ((constraints_refused ws' n).0 q) in
+        given n s (omega (arith, a.0)) (omega (arith, a.1, constraints_size ws' (rule_words ws') (constraint_words ws') (omega (arith, k.all)), k.all, checks_few (form_byte ws')))
     body c (Ok rs) (Ok cs) p q s = let z : ◌≡◌ {A = ℕ} 0 1 = cc in absurd (omega arith)
 
     go : Answered bytes → RefusalOf (length ws') r

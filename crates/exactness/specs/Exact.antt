@@ -23,7 +23,7 @@ pub record IsImage (bytes : List ℕ) : Type 0 where
 
 -- what stands in the image of a policy
 abbrev pub contents_of : Policy → Contents
-contents_of p = record { rules = rule_part_words p; constraints = constraint_part_words p; rule_count = length p.rules; constraint_count = length p.constraints }
+contents_of p = record { parts = record { rules = rule_part_words p; constraints = constraint_part_words p }; counts = record { rules = length p.rules; constraints = length p.constraints } }
 
 -- the bytes with the value v for the word i
 abbrev pub changed : List ℕ → ℕ → ℕ → List ℕ

@@ -49,16 +49,18 @@ images =
           ∷ 3120500681 ∷ [];
       answer =
           Ok (record {
-            rules = 272629764 ∷ 545259523 ∷ 805339137 ∷ 40 ∷ 1354760192 ∷ 281018369 ∷ 1358954496 ∷ [];
-            constraints = 1623195650 ∷ 1627389953 ∷ 1879048192 ∷ [];
-            rule_count = 2;
-            constraint_count = 1;
+            parts =
+                record {
+                  rules = 272629764 ∷ 545259523 ∷ 805339137 ∷ 40 ∷ 1354760192 ∷ 281018369 ∷ 1358954496 ∷ [];
+                  constraints = 1623195650 ∷ 1627389953 ∷ 1879048192 ∷ [];
+                };
+            counts = record { rules = 2; constraints = 1 };
           });
       holds = worked;
     }
     ∷ record {
       words = 16777216 ∷ 4278190080 ∷ [];
-      answer = Ok (record { rules = []; constraints = []; rule_count = 0; constraint_count = 0 });
+      answer = Ok (record { parts = record { rules = []; constraints = [] }; counts = record { rules = 0; constraints = 0 } });
       holds = empty_policy;
     }
     ∷ []

@@ -9,7 +9,7 @@ use Rattle.policy.specs.declared.line.Part.{Part}
 use Rattle.word.specs.Word.{words_of}
 use Rattle.layout.specs.Layout.{known_form}
 use Rattle.decode.specs.Stands.{Stands, AreLines}
-use Rattle.image.specs.Check.{form_byte, rule_count, well_sized, counts_fit, sums_to_zero}
+use Rattle.image.specs.Check.{form_byte, rule_words, well_sized, counts_fit, sums_to_zero}
 use Rattle.image.specs.Lines.{rule_part, constraint_part}
 use Rattle.exactness.specs.Exact.{Checked}
 
@@ -38,5 +38,5 @@ pub data ImageFault (bytes : List ℕ) : Refusal → Type 0 where
   no_rule : Checked bytes → (location : ℕ) → NoLineAt Part.Rules rule_limit 1 (rule_part (words_of bytes)) location
       → ImageFault bytes (refusal Fault.ImageBody location)
   no_constraint : Checked bytes → (rules : List PolicyLine) → AreLines Part.Rules rule_limit (rule_part (words_of bytes)) rules
-      → (location : ℕ) → NoLineAt Part.Constraints constraint_limit (1 + rule_count (words_of bytes)) (constraint_part (words_of bytes)) location
+      → (location : ℕ) → NoLineAt Part.Constraints constraint_limit (1 + rule_words (words_of bytes)) (constraint_part (words_of bytes)) location
       → ImageFault bytes (refusal Fault.ImageBody location)

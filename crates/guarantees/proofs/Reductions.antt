@@ -61,7 +61,7 @@ module _ (p : Policy) (e : Epoch) (words : ℕ) where
 module _ (image : List ℕ) (contents : Contents) (p : Policy) (does : Implements image contents p) where
   module _ (line : List ℕ) (e : Epoch) (read : read_epoch line ≡ Ok e) where
     abbrev words : ℕ
-    words = tried_event_words contents.rules contents.constraints e
+    words = tried_event_words contents.parts.rules contents.parts.constraints e
 
     decided : decision_in Mode.Events image line ≡ reduction_of p e words
     decided = events_decided_are image contents p does line e read

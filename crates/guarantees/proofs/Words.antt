@@ -12,7 +12,7 @@ use Rattle.epoch_line.specs.Epoch.{read_epoch}
 use Rattle.word.specs.Word.{Bytes, words_of}
 use Rattle.image.specs.Held.{policy_in}
 use Rattle.layout.specs.Layout.{rule_word_limit, constraint_word_limit}
-use Rattle.image.specs.Check.{form_byte, rule_count, constraint_count}
+use Rattle.image.specs.Check.{form_byte, rule_words, constraint_words}
 use Rattle.image.specs.Load.{load, Contents}
 use Rattle.exactness.proofs.Exact.{took}
 use Rattle.meaning.proofs.Fetched.{taken_rules_fetch, taken_trial_fetch}
@@ -35,19 +35,19 @@ refused_fetches_none mode image line = go (decision_in mode image line)
 
 module _ (image : List ℕ) (bounded : Bytes image) (contents : Contents) (taken : load image ≡ Ok contents) where
   abbrev P : ℕ
-  P = length contents.rules
+  P = length contents.parts.rules
 
   abbrev N : ℕ
-  N = length contents.constraints
+  N = length contents.parts.constraints
 
   module _ (e : Epoch) where
-    issued_words : visited_by contents.rules contents.constraints e ≤ P + size (proposed_by contents.rules e).bits * N
+    issued_words : visited_by contents.parts.rules contents.parts.constraints e ≤ P + size (proposed_by contents.parts.rules e).bits * N
     unfolding tried_words
     issued_words =
         omega (
           arith,
           taken_rules_fetch image bounded contents taken e.readings (all_events e.events),
-          trials_cost_is (conflict_by contents.constraints e.readings) (trial_words contents.constraints e.readings) (proposed_by contents.rules e).bits N
+          trials_cost_is (conflict_by contents.parts.constraints e.readings) (trial_words contents.parts.constraints e.readings) (proposed_by contents.parts.rules e).bits N
               (λ s. taken_trial_fetch image bounded contents taken e.readings (set_of s)),
         )
 
@@ -60,8 +60,8 @@ module _ (image : List ℕ) (bounded : Bytes image) (contents : Contents) (taken
         go : (a : Result Epoch Refusal) → read_epoch line ≡ a → visited_in (decision image line) ≤ P + size (decided_actions (answer_of (decision image line))).bits * N
         go (Err r) q = rw (← line_refused Mode.Actions image line contents taken r q) (omega arith)
         go (Ok e) q =
-            let v : visited_in (decision image line) ≡ visited_by contents.rules contents.constraints e = ap visited_in (sym (line_accepted Mode.Actions image line contents taken e q)) in
-            let s : decided_actions (answer_of (decision image line)) ≡ proposed_by contents.rules e =
+            let v : visited_in (decision image line) ≡ visited_by contents.parts.rules contents.parts.constraints e = ap visited_in (sym (line_accepted Mode.Actions image line contents taken e q)) in
+            let s : decided_actions (answer_of (decision image line)) ≡ proposed_by contents.parts.rules e =
             ap decided_actions (holds_policy image contents (policy_in image) (taken_implements image bounded contents taken) line e q) ∙ accepted_with_cancelled (policy_in image) e
             ∙ sym (taken_rules_run image bounded contents taken (all_events e.events) e.readings) in
             omega (arith, v, issued_words e, ap (λ (x : ActionSet). size x.bits * N) s)
@@ -74,22 +74,22 @@ module _ (image : List ℕ) (bounded : Bytes image) (contents : Contents) (taken
     -- ---- the second mode
 
     -- a trial fetches at most the rule words and the constraint words
-    trial_words_is : (e : Epoch) (kept : ℕ) → clash_words contents.rules contents.constraints e kept ≤ P + N
+    trial_words_is : (e : Epoch) (kept : ℕ) → clash_words contents.parts.rules contents.parts.constraints e kept ≤ P + N
     trial_words_is e kept =
         omega (
           arith,
           taken_rules_fetch image bounded contents taken e.readings (keeping e.events (set_of kept)),
-          taken_trial_fetch image bounded contents taken e.readings (proposed_with_by contents.rules e (set_of kept)),
+          taken_trial_fetch image bounded contents taken e.readings (proposed_with_by contents.parts.rules e (set_of kept)),
         )
 
     -- one trial with no event, and one for each event of the epoch
     pub words_by_events : (e : Epoch) → read_epoch line ≡ Ok e → visited_in (decision_in Mode.Events image line) ≤ (P + N) + size e.events.bits * (P + N)
     unfolding decided_by reduction_by reduced_by tried_event_words
-    words_by_events e q = rw (← line_accepted Mode.Events image line contents taken e q) (go (clash_by contents.rules contents.constraints e 0))
+    words_by_events e q = rw (← line_accepted Mode.Events image line contents taken e q) (go (clash_by contents.parts.rules contents.parts.constraints e 0))
       where
-        go : (b : Bool) → visited_in (cond b (Err (refusal Fault.Unavoidable 0)) (Ok (reduced_by contents.rules contents.constraints e))) ≤ (P + N) + size e.events.bits * (P + N)
+        go : (b : Bool) → visited_in (cond b (Err (refusal Fault.Unavoidable 0)) (Ok (reduced_by contents.parts.rules contents.parts.constraints e))) ≤ (P + N) + size e.events.bits * (P + N)
         go true = omega arith
-        go false = omega (arith, trial_words_is e 0, trials_cost_is (clash_by contents.rules contents.constraints e) (clash_words contents.rules contents.constraints e) e.events.bits (P + N) (trial_words_is e))
+        go false = omega (arith, trial_words_is e 0, trials_cost_is (clash_by contents.parts.rules contents.parts.constraints e) (clash_words contents.parts.rules contents.parts.constraints e) e.events.bits (P + N) (trial_words_is e))
 
     -- so it is at most 65 × (P + N)
     pub events_words_bounded : visited_in (decision_in Mode.Events image line) ≤ 65 * (P + N)
@@ -103,14 +103,14 @@ module _ (image : List ℕ) (bounded : Bytes image) (contents : Contents) (taken
 
 -- the counts of an image that is taken
 counts : (image : List ℕ) (contents : Contents) → load image ≡ Ok contents
-    → (length contents.rules ≤ rule_word_limit (form_byte (words_of image))) × (length contents.constraints ≤ constraint_word_limit (form_byte (words_of image)))
+    → (length contents.parts.rules ≤ rule_word_limit (form_byte (words_of image))) × (length contents.parts.constraints ≤ constraint_word_limit (form_byte (words_of image)))
 counts image contents q =
     let t = took image contents q in
     let ws = words_of image in
     let c = counted ws t.checked.count in
-    let room : 1 + rule_count ws + constraint_count ws ≤ length ws = omega (arith, c.all) in (
-      omega (arith, ap length t.rules_are, rules_size ws (rule_count ws) (constraint_count ws) room, c.rules),
-      omega (arith, ap length t.constraints_are, constraints_size ws (rule_count ws) (constraint_count ws) room, c.constraints),
+    let room : 1 + rule_words ws + constraint_words ws ≤ length ws = omega (arith, c.all) in (
+      omega (arith, ap length t.rules_are, rules_size ws (rule_words ws) (constraint_words ws) room, c.rules),
+      omega (arith, ap length t.constraints_are, constraints_size ws (rule_words ws) (constraint_words ws) room, c.constraints),
     )
 
 pub words_limit : (image line : List ℕ) → Bytes image → visited_in (decision image line) ≤ 71808

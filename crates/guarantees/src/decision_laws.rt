@@ -115,12 +115,12 @@ pub fn lone_constraint_cancels()
 
 /// A decision by actions fetches at most P + 64 x N words, P and N the words of the rules and of the constraints.
 pub fn words_bounded()
-    ensures { (image : List ℕ) → Bytes image → (contents : Contents) → load image ≡ Ok contents → (line : List ℕ) → visited_in (decision image line) ≤ length contents.rules + 64 * length contents.constraints }
+    ensures { (image : List ℕ) → Bytes image → (contents : Contents) → load image ≡ Ok contents → (line : List ℕ) → visited_in (decision image line) ≤ length contents.parts.rules + 64 * length contents.parts.constraints }
 {}
 
 /// A decision by events fetches at most 65 x (P + N) words.
 pub fn events_words_bounded()
-    ensures { (image : List ℕ) → Bytes image → (contents : Contents) → load image ≡ Ok contents → (line : List ℕ) → visited_in (decision_in Mode.Events image line) ≤ 65 * (length contents.rules + length contents.constraints) }
+    ensures { (image : List ℕ) → Bytes image → (contents : Contents) → load image ≡ Ok contents → (line : List ℕ) → visited_in (decision_in Mode.Events image line) ≤ 65 * (length contents.parts.rules + length contents.parts.constraints) }
 {}
 
 /// Whatever the bytes and the line, a decision by actions fetches at most 71,808 words.

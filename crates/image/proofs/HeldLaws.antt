@@ -14,7 +14,7 @@ use Rattle.decode.proofs.DecodeLaws.{line_out}
 use Rattle.decode.specs.Decode.{line_at}
 use Rattle.decode.specs.Stands.{in_part, Stands, AreLines}
 use Rattle.image.proofs.ValueLaws.{lines_given}
-use Rattle.image.specs.Check.{form_byte, rule_count, constraint_count, well_sized, counts_fit, sums_to_zero}
+use Rattle.image.specs.Check.{form_byte, rule_words, constraint_words, well_sized, counts_fit, sums_to_zero}
 use Rattle.image.specs.Held.{rules_in, constraints_in, lines_in, policy_in, lines_held}
 use Rattle.image.specs.Lines.{add_line, after_line, lines_from, part_lines, rule_part, constraint_part, rule_lines, constraint_lines}
 use Rattle.image.proofs.LoadLaws.{ok_err}
@@ -88,7 +88,7 @@ pub record TakenParts (bytes : List ℕ) (contents : Contents) : Type 0 where
   pub constraints : List PolicyLine
   pub rules_whole : rule_lines (words_of bytes) ≡ Ok rules
   pub constraints_whole : constraint_lines (words_of bytes) ≡ Ok constraints
-  pub same : contents ≡ record { rules = rule_part (words_of bytes); constraints = constraint_part (words_of bytes); rule_count = length rules; constraint_count = length constraints }
+  pub same : contents ≡ record { parts = record { rules = rule_part (words_of bytes); constraints = constraint_part (words_of bytes) }; counts = record { rules = length rules; constraints = length constraints } }
 
 -- what one check lets pass
 passed : (b : Bool) (f : Fault) (next : Result Contents Refusal) (contents : Contents) → require b f next ≡ Ok contents → (b ≡ true) × (next ≡ Ok contents)
@@ -118,7 +118,7 @@ taken_parts bytes contents e = body (rule_lines ws) (constraint_lines ws) refl r
     body (Err n) y p q r = absurd (ok_err (sym r))
     body (Ok rs) (Err n) p q r = absurd (ok_err (sym r))
     body (Ok rs) (Ok cs) p q r =
-        let same : record { rules = rule_part ws; constraints = constraint_part ws; rule_count = length rs; constraint_count = length cs } ≡ contents = cc in
+        let same : record { parts = record { rules = rule_part ws; constraints = constraint_part ws }; counts = record { rules = length rs; constraints = length cs } } ≡ contents = cc in
         record {
           sized = a.0;
           known = f.0;
@@ -133,9 +133,9 @@ taken_parts bytes contents e = body (rule_lines ws) (constraint_lines ws) refl r
 
 -- counts that fit
 pub record Counted (ws : List ℕ) : Type 0 where
-  pub rules : rule_count ws ≤ rule_word_limit (form_byte ws)
-  pub constraints : constraint_count ws ≤ constraint_word_limit (form_byte ws)
-  pub all : length ws ≡ 1 + rule_count ws + constraint_count ws + check_count (form_byte ws)
+  pub rules : rule_words ws ≤ rule_word_limit (form_byte ws)
+  pub constraints : constraint_words ws ≤ constraint_word_limit (form_byte ws)
+  pub all : length ws ≡ 1 + rule_words ws + constraint_words ws + check_count (form_byte ws)
 
 pub counted : (ws : List ℕ) → counts_fit ws ≡ true → Counted ws
 unfolding counts_fit
@@ -146,40 +146,40 @@ counted ws c =
 
 -- the words of its parts are those of the lines of its policy
 pub record HeldParts (bytes : List ℕ) (contents : Contents) : Type 0 where
-  pub size : length (words_of bytes) ≡ 1 + rule_count (words_of bytes) + constraint_count (words_of bytes) + check_count (form_byte (words_of bytes))
-  pub rules_are : contents.rules ≡ rule_part (words_of bytes)
-  pub constraints_are : contents.constraints ≡ constraint_part (words_of bytes)
-  pub rule_part_is : AreLines Part.Rules 128 contents.rules (map rule (policy_in bytes).rules)
-  pub constraint_part_is : AreLines Part.Constraints 64 contents.constraints (map constraint (policy_in bytes).constraints)
-  pub rule_count_is : contents.rule_count ≡ length (map rule (policy_in bytes).rules)
-  pub constraint_count_is : contents.constraint_count ≡ length (map constraint (policy_in bytes).constraints)
+  pub size : length (words_of bytes) ≡ 1 + rule_words (words_of bytes) + constraint_words (words_of bytes) + check_count (form_byte (words_of bytes))
+  pub rules_are : contents.parts.rules ≡ rule_part (words_of bytes)
+  pub constraints_are : contents.parts.constraints ≡ constraint_part (words_of bytes)
+  pub rule_part_is : AreLines Part.Rules 128 contents.parts.rules (map rule (policy_in bytes).rules)
+  pub constraint_part_is : AreLines Part.Constraints 64 contents.parts.constraints (map constraint (policy_in bytes).constraints)
+  pub rule_count_is : contents.counts.rules ≡ length (map rule (policy_in bytes).rules)
+  pub constraint_count_is : contents.counts.constraints ≡ length (map constraint (policy_in bytes).constraints)
 
 pub held_parts : (bytes : List ℕ) (contents : Contents) → load bytes ≡ Ok contents → HeldParts bytes contents
 unfolding part_lines policy_in lines_in
 held_parts bytes contents taken =
     let t = taken_parts bytes contents taken in
     let r = lines_written Part.Rules 128 1 (rule_part (words_of bytes)) t.rules t.rules_whole in
-    let c = lines_written Part.Constraints 64 (1 + rule_count (words_of bytes)) (constraint_part (words_of bytes)) t.constraints t.constraints_whole in
+    let c = lines_written Part.Constraints 64 (1 + rule_words (words_of bytes)) (constraint_part (words_of bytes)) t.constraints t.constraints_whole in
     let rs : t.rules ≡ map rule (policy_in bytes).rules = sym (rw t.rules_whole (rules_there t.rules r.kind)) in
     let cs : t.constraints ≡ map constraint (policy_in bytes).constraints = sym (rw t.constraints_whole (constraints_there t.constraints c.kind)) in
     record {
       size = (counted (words_of bytes) t.counted).all;
-      rules_are = ap (λ (p : Contents). p.rules) t.same;
-      constraints_are = ap (λ (p : Contents). p.constraints) t.same;
-      rule_part_is = same_lines Part.Rules 128 (sym (ap (λ (p : Contents). p.rules) t.same)) rs r;
-      constraint_part_is = same_lines Part.Constraints 64 (sym (ap (λ (p : Contents). p.constraints) t.same)) cs c;
-      rule_count_is = ap (λ (p : Contents). p.rule_count) t.same ∙ ap length rs;
-      constraint_count_is = ap (λ (p : Contents). p.constraint_count) t.same ∙ ap length cs;
+      rules_are = ap (λ (p : Contents). p.parts.rules) t.same;
+      constraints_are = ap (λ (p : Contents). p.parts.constraints) t.same;
+      rule_part_is = same_lines Part.Rules 128 (sym (ap (λ (p : Contents). p.parts.rules) t.same)) rs r;
+      constraint_part_is = same_lines Part.Constraints 64 (sym (ap (λ (p : Contents). p.parts.constraints) t.same)) cs c;
+      rule_count_is = ap (λ (p : Contents). p.counts.rules) t.same ∙ ap length rs;
+      constraint_count_is = ap (λ (p : Contents). p.counts.constraints) t.same ∙ ap length cs;
     }
 
 -- its parts are short: the counts of their words are fields of 12 bits
-pub taken_small : (bytes : List ℕ) (contents : Contents) → load bytes ≡ Ok contents → (length contents.rules < 4096) × (length contents.constraints < 4096)
+pub taken_small : (bytes : List ℕ) (contents : Contents) → load bytes ≡ Ok contents → (length contents.parts.rules < 4096) × (length contents.parts.constraints < 4096)
 unfolding between
 taken_small bytes contents e =
     let h = held_parts bytes contents e in
     let ws : List ℕ = words_of bytes in (
-      omega (arith, ap length h.rules_are, length-drop 1 (take (1 + rule_count ws) ws), length-take (1 + rule_count ws) ws),
-      omega (arith, ap length h.constraints_are, length-drop (1 + rule_count ws) (take (1 + rule_count ws + constraint_count ws) ws), length-take (1 + rule_count ws + constraint_count ws) ws),
+      omega (arith, ap length h.rules_are, length-drop 1 (take (1 + rule_words ws) ws), length-take (1 + rule_words ws) ws),
+      omega (arith, ap length h.constraints_are, length-drop (1 + rule_words ws) (take (1 + rule_words ws + constraint_words ws) ws), length-take (1 + rule_words ws + constraint_words ws) ws),
     )
 
 -- ---- its lines, one after the other

@@ -9,7 +9,7 @@ use Rattle.policy.specs.Fault.{refusal}
 use Rattle.policy.specs.declared.fault.Fault.{Fault}
 use Rattle.word.specs.Word.{word_limit, words_of, word_at, between}
 use Rattle.layout.specs.Header.{form_of, rule_count_of, constraint_count_of}
-use Rattle.image.specs.Check.{rule_count, constraint_count, form_byte, well_sized, counts_fit, sums_to_zero}
+use Rattle.image.specs.Check.{rule_words, constraint_words, form_byte, well_sized, counts_fit, sums_to_zero}
 use Rattle.layout.specs.Layout.{known_form, check_count, rule_word_limit, constraint_word_limit, size_limit, sum}
 use Rattle.image.specs.Lines.{part_lines}
 use Rattle.image.specs.Load.{Contents, body_answer, load_words, load}
@@ -40,14 +40,14 @@ module _ (rules constraints : List ℕ) where
   constraints_fault (Ok rs) (Err m) n r e q = let z : refusal Fault.ImageBody m ≡ r = cc in ap Err (sym z)
 
   pub both_whole : (x y : Result (List PolicyLine) ℕ) (n m : ℕ) → part_answer 0 x ≡ Ok n → part_answer 0 y ≡ Ok m
-      → Ok (record { rules = rules; constraints = constraints; rule_count = n; constraint_count = m }) ≡ body_answer rules constraints x y
+      → Ok (record { parts = record { rules = rules; constraints = constraints }; counts = record { rules = n; constraints = m } }) ≡ body_answer rules constraints x y
   unfolding part_answer body_answer
   both_whole (Err k) y n m e q = absurd (ok_err (sym e))
   both_whole (Ok rs) (Err k) n m e q = absurd (ok_err (sym q))
   both_whole (Ok rs) (Ok cs) n m e q =
       let a : n ≡ 0 + length rs = cc in
       let b : m ≡ 0 + length cs = cc in
-      ap₂ (λ (i j : ℕ). Ok (record { rules = rules; constraints = constraints; rule_count = i; constraint_count = j })) (a ∙ zero-add (length rs)) (b ∙ zero-add (length cs))
+      ap₂ (λ (i j : ℕ). Ok (record { parts = record { rules = rules; constraints = constraints }; counts = record { rules = i; constraints = j } })) (a ∙ zero-add (length rs)) (b ∙ zero-add (length cs))
 
 -- ---- sizes
 
@@ -66,21 +66,21 @@ size_whole n h l = rw (le-leb 8 n h, le-leb n size_limit l)
 -- ---- counts
 
 module _ (ws : List ℕ) where
-  pub too_many_rules : rule_word_limit (form_byte ws) < rule_count ws → counts_fit ws ≡ false
+  pub too_many_rules : rule_word_limit (form_byte ws) < rule_words ws → counts_fit ws ≡ false
   unfolding counts_fit
-  too_many_rules h = rw (lt-leb (rule_count ws) (rule_word_limit (form_byte ws)) h)
+  too_many_rules h = rw (lt-leb (rule_words ws) (rule_word_limit (form_byte ws)) h)
 
-  pub too_many_constraints : rule_count ws ≤ rule_word_limit (form_byte ws) → constraint_word_limit (form_byte ws) < constraint_count ws → counts_fit ws ≡ false
+  pub too_many_constraints : rule_words ws ≤ rule_word_limit (form_byte ws) → constraint_word_limit (form_byte ws) < constraint_words ws → counts_fit ws ≡ false
   unfolding counts_fit
-  too_many_constraints r h = rw (le-leb (rule_count ws) (rule_word_limit (form_byte ws)) r, lt-leb (constraint_count ws) (constraint_word_limit (form_byte ws)) h)
+  too_many_constraints r h = rw (le-leb (rule_words ws) (rule_word_limit (form_byte ws)) r, lt-leb (constraint_words ws) (constraint_word_limit (form_byte ws)) h)
 
-  pub wrong_count : rule_count ws ≤ rule_word_limit (form_byte ws) → constraint_count ws ≤ constraint_word_limit (form_byte ws) → (length ws ≡ 1 + rule_count ws + constraint_count ws + check_count (form_byte ws) → ⊥) → counts_fit ws ≡ false
+  pub wrong_count : rule_words ws ≤ rule_word_limit (form_byte ws) → constraint_words ws ≤ constraint_word_limit (form_byte ws) → (length ws ≡ 1 + rule_words ws + constraint_words ws + check_count (form_byte ws) → ⊥) → counts_fit ws ≡ false
   unfolding counts_fit
-  wrong_count r c h = rw (le-leb (rule_count ws) (rule_word_limit (form_byte ws)) r, le-leb (constraint_count ws) (constraint_word_limit (form_byte ws)) c, ne_eqb (length ws) (1 + rule_count ws + constraint_count ws + check_count (form_byte ws)) h)
+  wrong_count r c h = rw (le-leb (rule_words ws) (rule_word_limit (form_byte ws)) r, le-leb (constraint_words ws) (constraint_word_limit (form_byte ws)) c, ne_eqb (length ws) (1 + rule_words ws + constraint_words ws + check_count (form_byte ws)) h)
 
-  pub right_count : rule_count ws ≤ rule_word_limit (form_byte ws) → constraint_count ws ≤ constraint_word_limit (form_byte ws) → length ws ≡ 1 + rule_count ws + constraint_count ws + check_count (form_byte ws) → counts_fit ws ≡ true
+  pub right_count : rule_words ws ≤ rule_word_limit (form_byte ws) → constraint_words ws ≤ constraint_word_limit (form_byte ws) → length ws ≡ 1 + rule_words ws + constraint_words ws + check_count (form_byte ws) → counts_fit ws ≡ true
   unfolding counts_fit
-  right_count r c h = rw (le-leb (rule_count ws) (rule_word_limit (form_byte ws)) r, le-leb (constraint_count ws) (constraint_word_limit (form_byte ws)) c, eq-eqb (length ws) (1 + rule_count ws + constraint_count ws + check_count (form_byte ws)) h)
+  right_count r c h = rw (le-leb (rule_words ws) (rule_word_limit (form_byte ws)) r, le-leb (constraint_words ws) (constraint_word_limit (form_byte ws)) c, eq-eqb (length ws) (1 + rule_words ws + constraint_words ws + check_count (form_byte ws)) h)
 
 -- ---- fault by fault
 
@@ -108,10 +108,10 @@ module _ (bytes : List ℕ) where
       known : known_form (form_byte (words_of bytes)) ≡ true
       known = ap known_form (sym form_is) ∙ is-known
 
-      rules_are : rules ≡ rule_count (words_of bytes)
+      rules_are : rules ≡ rule_words (words_of bytes)
       rules_are = is-rules ∙ ap rule_count_of is-header
 
-      constraints_are : constraints ≡ constraint_count (words_of bytes)
+      constraints_are : constraints ≡ constraint_words (words_of bytes)
       constraints_are = is-constraints ∙ ap constraint_count_of is-header
 
       uncounted : counts_fit (words_of bytes) ≡ false → Err (refusal Fault.ImageCount 0) ≡ load bytes

@@ -8,19 +8,19 @@ use Rattle.layout.specs.Layout.{check_count, rule_word_limit, constraint_word_li
 abbrev pub form_byte : List ℕ → ℕ
 form_byte ws = form_of (slice_index_or ws 0 0)
 
-abbrev pub rule_count : List ℕ → ℕ
-rule_count ws = rule_count_of (slice_index_or ws 0 0)
+abbrev pub rule_words : List ℕ → ℕ
+rule_words ws = rule_count_of (slice_index_or ws 0 0)
 
-abbrev pub constraint_count : List ℕ → ℕ
-constraint_count ws = constraint_count_of (slice_index_or ws 0 0)
+abbrev pub constraint_words : List ℕ → ℕ
+constraint_words ws = constraint_count_of (slice_index_or ws 0 0)
 
 unfoldable pub well_sized : ℕ → Bool
 well_sized size = nat_le 8 size && nat_le size size_limit && size % 4 == 0
 
 unfoldable pub counts_fit : List ℕ → Bool
 counts_fit ws =
-    nat_le (rule_count ws) (rule_word_limit (form_byte ws)) && nat_le (constraint_count ws) (constraint_word_limit (form_byte ws))
-    && length ws == 1 + rule_count ws + constraint_count ws + check_count (form_byte ws)
+    nat_le (rule_words ws) (rule_word_limit (form_byte ws)) && nat_le (constraint_words ws) (constraint_word_limit (form_byte ws))
+    && length ws == 1 + rule_words ws + constraint_words ws + check_count (form_byte ws)
 
 unfoldable pub sums_to_zero : List ℕ → Bool
 sums_to_zero ws = sum ws % word_limit == 0

@@ -5,7 +5,7 @@ use Rattle.policy.specs.Limits.{line_limit}
 use Rattle.policy.specs.Line.{PolicyLine}
 use Rattle.word.specs.Word.{between}
 use Rattle.decode.specs.Decode.{line_at}
-use Rattle.image.specs.Check.{rule_count, constraint_count}
+use Rattle.image.specs.Check.{rule_words, constraint_words}
 use Rattle.layout.specs.Layout.{line_words}
 use Rattle.policy.specs.declared.line.Part.{Part}
 
@@ -35,13 +35,13 @@ part_lines part from end ws = lines_from part (line_limit part) from (between fr
 
 -- the words of each part
 abbrev pub rule_part : List ℕ → List ℕ
-rule_part ws = between 1 (1 + rule_count ws) ws
+rule_part ws = between 1 (1 + rule_words ws) ws
 
 abbrev pub constraint_part : List ℕ → List ℕ
-constraint_part ws = between (1 + rule_count ws) (1 + rule_count ws + constraint_count ws) ws
+constraint_part ws = between (1 + rule_words ws) (1 + rule_words ws + constraint_words ws) ws
 
 abbrev pub rule_lines : List ℕ → Result (List PolicyLine) ℕ
-rule_lines ws = part_lines Part.Rules 1 (1 + rule_count ws) ws
+rule_lines ws = part_lines Part.Rules 1 (1 + rule_words ws) ws
 
 abbrev pub constraint_lines : List ℕ → Result (List PolicyLine) ℕ
-constraint_lines ws = part_lines Part.Constraints (1 + rule_count ws) (1 + rule_count ws + constraint_count ws) ws
+constraint_lines ws = part_lines Part.Constraints (1 + rule_words ws) (1 + rule_words ws + constraint_words ws) ws

@@ -5,6 +5,7 @@ use Rattle.std.specs.Prelude.{ℕ, Bool, if◌then◌else◌, List, ◌++◌, le
 use Rattle.policy.specs.Fault.{refusal}
 use Rattle.policy.specs.declared.fault.Fault.{Fault}
 use Rattle.policy.specs.declared.fault.Refusal.{Refusal}
+use Rattle.policy.specs.declared.line.PerPart.{PerPart}
 use Rattle.word.specs.Word.{words_of}
 use Rattle.image.specs.Check.{form_byte, well_sized, counts_fit, sums_to_zero}
 use Rattle.layout.specs.Layout.{known_form}
@@ -12,18 +13,16 @@ use Rattle.image.specs.Lines.{rule_part, constraint_part, rule_lines, constraint
 
 -- what stands in an image: the words of both parts, and how many lines each has
 pub record Contents : Type 0 where
-  pub rules : List ℕ
-  pub constraints : List ℕ
-  pub rule_count : ℕ
-  pub constraint_count : ℕ
+  pub parts : PerPart (List ℕ)
+  pub counts : PerPart ℕ
 
 -- the words of both parts, as they stand behind each other
 abbrev pub both_parts : Contents → List ℕ
-both_parts contents = contents.rules ++ contents.constraints
+both_parts contents = contents.parts.rules ++ contents.parts.constraints
 
 -- the answer for the words and the lines of both parts
 unfoldable pub body_answer : List ℕ → List ℕ → Result (List PolicyLine) ℕ → Result (List PolicyLine) ℕ → Result Contents Refusal
-body_answer rules constraints (Ok rs) (Ok cs) = Ok (record { rules = rules; constraints = constraints; rule_count = length rs; constraint_count = length cs })
+body_answer rules constraints (Ok rs) (Ok cs) = Ok (record { parts = record { rules = rules; constraints = constraints }; counts = record { rules = length rs; constraints = length cs } })
 body_answer rules constraints (Ok rs) (Err at) = Err (refusal Fault.ImageBody at)
 body_answer rules constraints (Err at) cs = Err (refusal Fault.ImageBody at)
 

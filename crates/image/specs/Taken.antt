@@ -5,4 +5,4 @@ use Rattle.image.specs.declared.taken.Image.{Image}
 
 abbrev pub image_contents : Image → Contents
 image_contents i =
-    record { rules = words_in i.rules.now; constraints = words_in i.constraints.now; rule_count = i.rule_count; constraint_count = i.constraint_count }
+    record { parts = record { rules = words_in i.parts.rules.now; constraints = words_in i.parts.constraints.now }; counts = i.counts }

@@ -12,7 +12,7 @@ ghost use Rattle.image.specs.Taken.{image_contents};
 use crate::taken::Image;
 use crate::walker::Walker;
 use layout::{check_count, constraint_words_of, form_of, is_known_form, rule_words_of, sum_words};
-use policy::{CONSTRAINT_LIMIT, Fault, Part, RULE_LIMIT, Refusal};
+use policy::{CONSTRAINT_LIMIT, Fault, Part, PerPart, RULE_LIMIT, Refusal};
 use word::{nth_word_or_zero, part, words};
 
 // Words of the rules: 128 lines of 17 words, which are eight heads, four comparisons with constants and the ending.
@@ -78,10 +78,11 @@ fn load_body(
     let rule_count = part_lines(rules, Part::Rules, RULE_LIMIT, 1)?;
     let constraint_count = part_lines(constraints, Part::Constraints, CONSTRAINT_LIMIT, middle)?;
     Ok(Image {
-        rules,
-        constraints,
-        rule_count,
-        constraint_count,
+        parts: PerPart { rules, constraints },
+        counts: PerPart {
+            rules: rule_count,
+            constraints: constraint_count,
+        },
         words: part(words, 1, end),
     })
 }

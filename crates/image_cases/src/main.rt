@@ -3,7 +3,7 @@
 #![tactic(auto)]
 
 use image::{Image, Walker};
-use policy::Ending;
+use policy::{Ending, PerPart};
 use std::io;
 use std::io::{BufWriter, Read, Write};
 
@@ -22,18 +22,12 @@ fn count(lines: Walker<'_>) -> (usize, usize) {
 
 fn show_image<W: Write>(out: &mut W, image: Image<'_>) -> io::Result<()> {
     let (first, second) = count(image.lines());
-    let Image {
-        rules,
-        constraints,
-        rule_count,
-        constraint_count,
-        ..
-    } = image;
-    let rule_words = rules.len();
-    let constraint_words = constraints.len();
+    let PerPart { rules, constraints } = image.counts;
+    let rule_words = image.parts.rules.len();
+    let constraint_words = image.parts.constraints.len();
     writeln!(
         out,
-        "image rules {rule_count} constraints {constraint_count} words {rule_words} {constraint_words} lines {first} {second}"
+        "image rules {rules} constraints {constraints} words {rule_words} {constraint_words} lines {first} {second}"
     )
 }
 

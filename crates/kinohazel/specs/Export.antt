@@ -23,4 +23,4 @@ text_written_of (Ok size) = record { fault = 0; word = 0; size = size }
 
 unfoldable pub check_of : Result Contents Refusal → ImageCheck
 check_of (Err r) = record { fault = fault_number r.fault; word = r.location; rules = 0; constraints = 0 }
-check_of (Ok contents) = record { fault = 0; word = 0; rules = contents.rule_count; constraints = contents.constraint_count }
+check_of (Ok contents) = record { fault = 0; word = 0; rules = contents.counts.rules; constraints = contents.counts.constraints }

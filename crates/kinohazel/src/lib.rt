@@ -129,8 +129,8 @@ pub extern "C" fn kinohazel_check_nonnull(image: &[u8]) -> ImageCheck
         Ok(image) => ImageCheck {
             fault: 0,
             word: 0,
-            rules: image.rule_count as u64,
-            constraints: image.constraint_count as u64,
+            rules: image.counts.rules as u64,
+            constraints: image.counts.constraints as u64,
         },
     }
 }

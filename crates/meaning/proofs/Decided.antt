@@ -30,33 +30,33 @@ abbrev pub reduction_of : Policy → Epoch → ℕ → Result Actions Refusal
 reduction_of p e words = if unavoidable p e then Err (refusal Fault.Unavoidable 0) else Ok (actions_of (proposed p.rules e) (issued p e) words)
 
 module _ (image : List ℕ) (contents : Contents) (p : Policy) (does : Implements image contents p) where
-  kept_is : (rs : Readings) (s : ActionSet) → kept_by contents.constraints rs s ≡ resolve p.constraints rs s
+  kept_is : (rs : Readings) (s : ActionSet) → kept_by contents.parts.constraints rs s ≡ resolve p.constraints rs s
   unfolding kept_by resolve
   kept_is rs s =
       λ i. set_of (greedy (λ (kept : ℕ). does.constraints rs (set_of kept) i) s.bits)
 
-  issued_is : (e : Epoch) → yielded_by contents.rules contents.constraints e ≡ actions_of (proposed p.rules e) (Yield.accepted p e) (visited_by contents.rules contents.constraints e)
+  issued_is : (e : Epoch) → yielded_by contents.parts.rules contents.parts.constraints e ≡ actions_of (proposed p.rules e) (Yield.accepted p e) (visited_by contents.parts.rules contents.parts.constraints e)
   unfolding yielded_by Yield.accepted
   issued_is e = rw (does.rules (all_events e.events) e.readings, kept_is e.readings (proposed p.rules e))
 
   pub decided_is : (line : List ℕ) (e : Epoch) → read_epoch line ≡ Ok e
-      → decision image line ≡ Ok (actions_of (proposed p.rules e) (Yield.accepted p e) (visited_by contents.rules contents.constraints e))
+      → decision image line ≡ Ok (actions_of (proposed p.rules e) (Yield.accepted p e) (visited_by contents.parts.rules contents.parts.constraints e))
   unfolding decided_by
   decided_is line e read = sym (line_accepted Mode.Actions image line contents does.taken e read) ∙ ap Ok (issued_is e)
 
   -- ---- the same in the second mode
 
-  clash_is : (e : Epoch) (kept : ℕ) → clash_by contents.rules contents.constraints e kept ≡ clashes p e (set_of kept)
+  clash_is : (e : Epoch) (kept : ℕ) → clash_by contents.parts.rules contents.parts.constraints e kept ≡ clashes p e (set_of kept)
   unfolding clashes
   clash_is e kept =
-      does.constraints e.readings (proposed_with_by contents.rules e (set_of kept))
+      does.constraints e.readings (proposed_with_by contents.parts.rules e (set_of kept))
       ∙ ap (conflict p.constraints e.readings) (does.rules (keeping e.events (set_of kept)) e.readings)
 
-  pub kept_events_are : (e : Epoch) → kept_events_by contents.rules contents.constraints e ≡ kept_events p e
+  pub kept_events_are : (e : Epoch) → kept_events_by contents.parts.rules contents.parts.constraints e ≡ kept_events p e
   unfolding kept_events_by kept_events
   kept_events_are e = λ i. set_of (greedy (λ (kept : ℕ). clash_is e kept i) e.events.bits)
 
-  reduced_is : (e : Epoch) → reduced_by contents.rules contents.constraints e ≡ actions_of (proposed p.rules e) (issued p e) (tried_event_words contents.rules contents.constraints e)
+  reduced_is : (e : Epoch) → reduced_by contents.parts.rules contents.parts.constraints e ≡ actions_of (proposed p.rules e) (issued p e) (tried_event_words contents.parts.rules contents.parts.constraints e)
   unfolding reduced_by issued
   reduced_is e =
       rw (
@@ -66,7 +66,7 @@ module _ (image : List ℕ) (contents : Contents) (p : Policy) (does : Implement
       )
 
   pub events_decided_are : (line : List ℕ) (e : Epoch) → read_epoch line ≡ Ok e
-      → decision_in Mode.Events image line ≡ reduction_of p e (tried_event_words contents.rules contents.constraints e)
+      → decision_in Mode.Events image line ≡ reduction_of p e (tried_event_words contents.parts.rules contents.parts.constraints e)
   unfolding decided_by reduction_by unavoidable
   events_decided_are line e read = sym (line_accepted Mode.Events image line contents does.taken e read) ∙ rw (clash_is e 0, reduced_is e)
 

@@ -63,18 +63,18 @@ lines_last (l ∷ ls) v =
 
 module _ (bytes : List ℕ) (bounded : Bytes bytes) (contents : Contents) (taken : load bytes ≡ Ok contents) (rs : Readings) where
   -- its rules fetch at most as many words as they have
-  pub taken_rules_fetch : (ev : Events) → rule_fetches ev rs contents.rules ≤ length contents.rules
+  pub taken_rules_fetch : (ev : Events) → rule_fetches ev rs contents.parts.rules ≤ length contents.parts.rules
   unfolding rule_part_words
   taken_rules_fetch ev =
       let ok = held_acceptable bytes bounded contents taken in
-      let last : last_constants contents.rules ≡ 0 = ap last_constants (taken_rules bytes bounded contents taken) ∙ lines_last (map rule (policy_in bytes).rules) ok.rules_valid in
-      omega (arith, rule_fetches_is rs contents.rules ev)
+      let last : last_constants contents.parts.rules ≡ 0 = ap last_constants (taken_rules bytes bounded contents taken) ∙ lines_last (map rule (policy_in bytes).rules) ok.rules_valid in
+      omega (arith, rule_fetches_is rs contents.parts.rules ev)
 
   -- and so does each trial by its constraints
-  pub taken_trial_fetch : (s : ActionSet) → trial_fetches rs s contents.constraints ≤ length contents.constraints
+  pub taken_trial_fetch : (s : ActionSet) → trial_fetches rs s contents.parts.constraints ≤ length contents.parts.constraints
   unfolding constraint_part_words
   taken_trial_fetch s =
       let ok = held_acceptable bytes bounded contents taken in
-      let last : last_constants contents.constraints ≡ 0 =
+      let last : last_constants contents.parts.constraints ≡ 0 =
       ap last_constants (taken_constraints bytes bounded contents taken) ∙ lines_last (map constraint (policy_in bytes).constraints) ok.constraints_valid in
-      omega (arith, trial_fetches_is rs contents.constraints s)
+      omega (arith, trial_fetches_is rs contents.parts.constraints s)

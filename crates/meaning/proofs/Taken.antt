@@ -19,8 +19,8 @@ use Rattle.meaning.proofs.Meaning.{rules_run, constraints_run}
 pub record Implements (image : List ℕ) (contents : Contents) (p : Policy) : Type 0 where
   pub taken : load image ≡ Ok contents
   pub acceptable : Acceptable p
-  pub rules : (ev : Events) (rs : Readings) → run_rules ev rs contents.rules ≡ proposals p.rules ev rs
-  pub constraints : (rs : Readings) (s : ActionSet) → run_constraints rs s contents.constraints ≡ conflict p.constraints rs s
+  pub rules : (ev : Events) (rs : Readings) → run_rules ev rs contents.parts.rules ≡ proposals p.rules ev rs
+  pub constraints : (rs : Readings) (s : ActionSet) → run_constraints rs s contents.parts.constraints ≡ conflict p.constraints rs s
 
 -- what was written for a policy
 pub written_implements : (form : ℕ) → known_form form ≡ true → (p : Policy) → Acceptable p → Implements (image_of form p) (contents_of p) p
@@ -29,12 +29,12 @@ written_implements form known p ok =
 
 module _ (bytes : List ℕ) (bounded : Bytes bytes) (contents : Contents) (taken : load bytes ≡ Ok contents) where
   -- its rule words yield what its policy's rules propose, on any events and readings
-  pub taken_rules_run : (ev : Events) (rs : Readings) → run_rules ev rs contents.rules ≡ proposals (policy_in bytes).rules ev rs
+  pub taken_rules_run : (ev : Events) (rs : Readings) → run_rules ev rs contents.parts.rules ≡ proposals (policy_in bytes).rules ev rs
   taken_rules_run ev rs = ap (run_rules ev rs) (taken_rules bytes bounded contents taken) ∙ rules_run (policy_in bytes) (held_acceptable bytes bounded contents taken).rules_valid ev rs
 
   -- its constraint words, run on a set, say whether a constraint of its policy holds on the set
   pub taken_constraints_run : (rs : Readings) (s : ActionSet)
-      → run_constraints rs s contents.constraints ≡ conflict (policy_in bytes).constraints rs s
+      → run_constraints rs s contents.parts.constraints ≡ conflict (policy_in bytes).constraints rs s
   taken_constraints_run rs s = ap (run_constraints rs s) (taken_constraints bytes bounded contents taken) ∙ constraints_run (policy_in bytes) (held_acceptable bytes bounded contents taken).constraints_valid rs s
 
   pub taken_implements : Implements bytes contents (policy_in bytes)

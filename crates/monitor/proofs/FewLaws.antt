@@ -54,6 +54,6 @@ visited_few mode image line = go (load image) refl (read_epoch line)
     go (Ok contents) q (Err r) = omega arith
     go (Ok contents) q (Ok e) = decided mode (taken_small image contents q)
       where
-        decided : (m : Mode) → (length contents.rules < 4096) × (length contents.constraints < 4096) → visited_in (decided_by m contents e) ≤ 65 * 8192
-        decided Mode.Actions small = yielded_few contents.rules contents.constraints small.0 small.1 e
-        decided Mode.Events small = reduced_few contents.rules contents.constraints small.0 small.1 e
+        decided : (m : Mode) → (length contents.parts.rules < 4096) × (length contents.parts.constraints < 4096) → visited_in (decided_by m contents e) ≤ 65 * 8192
+        decided Mode.Actions small = yielded_few contents.parts.rules contents.parts.constraints small.0 small.1 e
+        decided Mode.Events small = reduced_few contents.parts.rules contents.parts.constraints small.0 small.1 e

@@ -87,8 +87,8 @@ reduction_by rules constraints e =
 -- ---- the words of an image
 
 unfoldable pub decided_by : Mode → Contents → Epoch → Result Actions Refusal
-decided_by Mode.Actions image e = Ok (yielded_by image.rules image.constraints e)
-decided_by Mode.Events image e = reduction_by image.rules image.constraints e
+decided_by Mode.Actions image e = Ok (yielded_by image.parts.rules image.parts.constraints e)
+decided_by Mode.Events image e = reduction_by image.parts.rules image.parts.constraints e
 
 -- the image's faults come first, then those of the line
 unfoldable pub on_image : Mode → Result Contents Refusal → Result Epoch Refusal → Result Actions Refusal

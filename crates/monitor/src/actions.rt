@@ -48,11 +48,11 @@ fn resolve(constraints: &[[u8; 4]], proposed: ActionSet, readings: &Readings) ->
 
 // The words of an image, run on an epoch.
 pub(crate) fn issue(image: &Image<'_>, epoch: &Epoch) -> Actions
-    ensures { result ≡ yielded_by (words_in image.now.rules.now) (words_in image.now.constraints.now) epoch.now }
+    ensures { result ≡ yielded_by (words_in image.now.parts.rules.now) (words_in image.now.parts.constraints.now) epoch.now }
 {
-    let run = run_rules(image.rules, epoch.events.all(), &epoch.readings);
+    let run = run_rules(image.parts.rules, epoch.events.all(), &epoch.readings);
     let proposed = run.actions;
-    let kept = resolve(image.constraints, proposed, &epoch.readings);
+    let kept = resolve(image.parts.constraints, proposed, &epoch.readings);
     let accepted = kept.actions;
     Actions {
         accepted,

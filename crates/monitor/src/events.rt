@@ -21,11 +21,11 @@ pub struct EventTrial {
 
 // The trial of some events of an epoch: all rules are run, and then the constraints.
 fn try_events(image: &Image<'_>, events: Events, readings: &Readings) -> EventTrial
-    ensures { result ≡ trial_of (words_in image.now.rules.now) (words_in image.now.constraints.now) events readings.now }
+    ensures { result ≡ trial_of (words_in image.now.parts.rules.now) (words_in image.now.parts.constraints.now) events readings.now }
 {
-    let run = run_rules(image.rules, events, readings);
+    let run = run_rules(image.parts.rules, events, readings);
     let actions = run.actions;
-    let trial = run_constraints(image.constraints, actions, readings);
+    let trial = run_constraints(image.parts.constraints, actions, readings);
     EventTrial {
         actions,
         conflict: trial.conflict,
@@ -44,8 +44,8 @@ pub struct KeptEvents {
 // What is kept of an epoch's events: by rising number, each unless a constraint holds on what those kept so far together with it
 // propose. `none` is the trial with no event. What the last trial that was kept proposed is not run again.
 fn keep_events(image: &Image<'_>, none: EventTrial, epoch: &Epoch) -> KeptEvents
-    requires first { none ≡ trial_of (words_in image.now.rules.now) (words_in image.now.constraints.now) (keeping epoch.now.events no_events) epoch.now.readings }
-    ensures { result ≡ kept_of (words_in image.now.rules.now) (words_in image.now.constraints.now) epoch.now }
+    requires first { none ≡ trial_of (words_in image.now.parts.rules.now) (words_in image.now.parts.constraints.now) (keeping epoch.now.events no_events) epoch.now.readings }
+    ensures { result ≡ kept_of (words_in image.now.parts.rules.now) (words_in image.now.parts.constraints.now) epoch.now }
 {
     let mut kept = EventSet::EMPTY;
     let mut actions = none.actions;
@@ -75,19 +75,19 @@ fn keep_events(image: &Image<'_>, none: EventTrial, epoch: &Epoch) -> KeptEvents
 
 // What all events of an epoch propose. Where none was dropped, the last trial has shown it.
 fn propose_all(image: &Image<'_>, kept: KeptEvents, epoch: &Epoch) -> ActionSet
-    requires { kept.actions ≡ proposed_with_by (words_in image.now.rules.now) epoch.now kept.events }
-    ensures { result ≡ proposed_by (words_in image.now.rules.now) epoch.now }
+    requires { kept.actions ≡ proposed_with_by (words_in image.now.parts.rules.now) epoch.now kept.events }
+    ensures { result ≡ proposed_by (words_in image.now.parts.rules.now) epoch.now }
 {
     if kept.events.bits == epoch.events.bits {
         return kept.actions;
     }
-    let run = run_rules(image.rules, epoch.events.all(), &epoch.readings);
+    let run = run_rules(image.parts.rules, epoch.events.all(), &epoch.readings);
     run.actions
 }
 
 // The words of the rules and of the constraints of an image that the loader took, run on an epoch. It is refused where a constraint holds already with no event.
 pub(crate) fn issue_events(image: &Image<'_>, epoch: &Epoch) -> Result<Actions, Refusal>
-    ensures { result ≡ reduction_by (words_in image.now.rules.now) (words_in image.now.constraints.now) epoch.now }
+    ensures { result ≡ reduction_by (words_in image.now.parts.rules.now) (words_in image.now.parts.constraints.now) epoch.now }
 {
     let none = try_events(
         image,

@@ -84,34 +84,35 @@ pub struct Proposals {
 }
 
 /// The run of the words of the rules on the events and readings of an epoch.
-// Every word before `at` was fetched or passed over by a failed test, so that it is enough to move `from` along by what such a test
-// passes over.
+// The index that goes on is the one behind the next word, from where its constant and what it skips are counted: with the word's own
+// each word took an instruction more. Every word before the next was fetched or passed over by a failed test, so that it is enough to
+// move `from` along by what such a test passes over.
 pub fn run_rules(words: &[[u8; 4]], events: Events, readings: &Readings) -> Proposals
     ensures actions { result.actions ≡ run_rules events readings.now (words_in words.now) }
     ensures words { result.words ≡ rule_fetches events readings.now (words_in words.now) }
 {
     let view = readings.view();
     let mut actions = ActionSet::EMPTY;
-    let mut at = 0;
-    let mut from = 0;
-    while at < words.len() {
-        let word = nth_word(words, at);
-        match test_rule(words, at + 1, word, events, view) {
+    let mut behind = 1;
+    let mut from = 1;
+    while behind <= words.len() {
+        let word = nth_word(words, behind - 1);
+        match test_rule(words, behind, word, events, view) {
             Some(test) => {
-                at = test.next;
+                behind = test.next + 1;
                 if !test.holds {
-                    at += skip(word) as usize;
+                    behind += skip(word) as usize;
                     from += skip(word) as usize;
                 }
             }
             None => {
                 actions = with_proposal(actions, word);
-                at += 1;
+                behind += 1;
             }
         }
     }
     Proposals {
         actions,
-        words: at - from,
+        words: behind - from,
     }
 }

@@ -68,9 +68,9 @@ reduction_apart rules constraints e = go (clash_by rules constraints e 0)
 decided_apart : (mode : Mode) (contents : Contents) (e : Epoch) → ApartIn (decided_by mode contents e)
 unfolding decided_by yielded_by
 decided_apart Mode.Actions contents e =
-    let all = proposed_by contents.rules e in
-    difference_apart all.bits (kept_by contents.constraints e.readings all).bits
-decided_apart Mode.Events contents e = reduction_apart contents.rules contents.constraints e
+    let all = proposed_by contents.parts.rules e in
+    difference_apart all.bits (kept_by contents.parts.constraints e.readings all).bits
+decided_apart Mode.Events contents e = reduction_apart contents.parts.rules contents.parts.constraints e
 
 decision_apart : (mode : Mode) (image line : List ℕ) → ApartIn (decision_in mode image line)
 unfolding decision_in on_image

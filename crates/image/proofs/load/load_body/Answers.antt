@@ -1,7 +1,8 @@
-use Rattle.std.proofs.Common.{ℕ, List, ◌+◌, ◌++◌, sym, ap, ap₂, ◌∙◌, Ok, arith}
+use Rattle.std.proofs.Common.{ℕ, List, length, ◌<◌, ◌+◌, ◌++◌, sym, ap, ap₂, ◌∙◌, Ok, arith}
 use Rattle.word.proofs.ChunkLaws.{words_in_length}
 use Rattle.word.specs.Chunk.{words_in}
 use Rattle.image.proofs.PartLaws.{between_join}
+use Rattle.policy.specs.Line.{part_get}
 use Rattle.policy.specs.declared.line.Part.{Part}
 use Rattle.image.specs.Lines.{lines_from, part_lines}
 use Rattle.image.specs.Steps.Part.{part_answer}
@@ -15,9 +16,12 @@ invariant_of-result c =
     let both = between_join 1 (1 + c.args.rule_words) (1 + c.args.rule_words + c.args.constraint_words) (words_in c.args.words.now) (omega arith) (omega arith) (omega arith) in
     record {
       joined = c.part.ensures.words ∙ both ∙ sym (ap₂ (λ (x y : List ℕ). x ++ y) c.part-rules.ensures.words c.part-constraints.ensures.words);
-      few_rules = omega (arith, c.requires.few, c.part-rules.ensures.count);
-      few_constraints = omega (arith, c.requires.few, c.part-constraints.ensures.count);
+      few = few;
     }
+  where
+    few : (part : Part) → length (part_get (record { rules = c.part-rules.result; constraints = c.part-constraints.result }) part).now < 4096
+    few Part.Rules = omega (arith, c.requires.few, c.part-rules.ensures.count)
+    few Part.Constraints = omega (arith, c.requires.few, c.part-constraints.ensures.count)
 
 pub returns-in_err-rule_count : goal.returns-in_err-rule_count
 unfolding part_lines
@@ -34,5 +38,5 @@ returns-in_err-constraint_count c =
 pub returns : goal.returns
 unfolding part_lines
 returns c =
-    ap₂ (λ (r k : List ℕ). Ok (record { rules = r; constraints = k; rule_count = c.in_ok-rule_count.rule_count; constraint_count = c.in_ok-constraint_count.constraint_count })) c.part-rules.ensures.words c.part-constraints.ensures.words
+    ap₂ (λ (r k : List ℕ). Ok (record { parts = record { rules = r; constraints = k }; counts = record { rules = c.in_ok-rule_count.rule_count; constraints = c.in_ok-constraint_count.constraint_count } })) c.part-rules.ensures.words c.part-constraints.ensures.words
     ∙ both_whole _ _ _ _ _ _ (sym (c.part_lines.ensures ∙ ap (λ (ws : List ℕ). part_answer 0 (lines_from Part.Rules 128 1 ws)) c.part-rules.ensures.words) ∙ c.in_ok-rule_count.was) (sym (c.part_lines-2.ensures ∙ ap (λ (ws : List ℕ). part_answer 0 (lines_from Part.Constraints 64 (1 + c.args.rule_words) ws)) c.part-constraints.ensures.words) ∙ c.in_ok-constraint_count.was)

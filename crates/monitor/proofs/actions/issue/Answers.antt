@@ -1,5 +1,6 @@
 use Rattle.std.proofs.Common.{◌<◌, List, ℕ, length, arith}
 use Rattle.policy.specs.declared.epoch.Readings.{Readings}
+use Rattle.policy.specs.declared.line.Part.{Part}
 use Rattle.word.specs.Chunk.{words_in}
 use Rattle.word.proofs.ChunkLaws.{words_in_length}
 use Rattle.run.proofs.FetchLaws.{rule_fetches_few}
@@ -7,21 +8,24 @@ use Rattle.monitor.proofs.DecideLaws.{issues}
 use Rattle.monitor.proofs.FewLaws.{tried_few}
 use Rattle.monitor.proofs.actions.issue.Goals as goal
 
+pub resolve-kept-requires : goal.resolve-kept-requires
+resolve-kept-requires c = omega (arith, c.args.image.now.few Part.Rules, c.args.image.now.few Part.Constraints)
+
 pub overflow_add-result : goal.overflow_add-result
 overflow_add-result c =
     let rs : Readings = c.args.epoch.now.readings in
-    let constraints : List ℕ = words_in c.args.image.now.constraints.now in
-    let few : length constraints < 8192 = omega (arith, words_in_length c.args.image.now.constraints.now) in
+    let constraints : List ℕ = words_in c.args.image.now.parts.constraints.now in
+    let few : length constraints < 8192 = omega (arith, words_in_length c.args.image.now.parts.constraints.now, c.args.image.now.few Part.Constraints) in
     omega (
       arith,
       c.run_rules-run.ensures.words,
       c.resolve-kept.ensures.words,
-      rule_fetches_few rs (words_in c.args.image.now.rules.now) c.all.result,
-      words_in_length c.args.image.now.rules.now,
+      rule_fetches_few rs (words_in c.args.image.now.parts.rules.now) c.all.result,
+      words_in_length c.args.image.now.parts.rules.now,
       tried_few constraints few rs c.run_rules-run.result.actions,
     )
 
 pub returns : goal.returns
 returns c =
-    issues (words_in c.args.image.now.rules.now) (words_in c.args.image.now.constraints.now) c.args.epoch.now
+    issues (words_in c.args.image.now.parts.rules.now) (words_in c.args.image.now.parts.constraints.now) c.args.epoch.now
     _ _ _ _ _ _ c.all.ensures c.run_rules-run.ensures.actions c.run_rules-run.ensures.words c.resolve-kept.ensures.actions c.resolve-kept.ensures.words c.without.ensures

@@ -1,6 +1,7 @@
 use Rattle.std.proofs.Common.{◌^◌, ◌<◌, ⊎_elim, arith}
 use Rattle.std.proofs.lemmas.Bool.{not-true, not-false}
 use Rattle.policy.specs.declared.epoch.Epoch.{Epoch}
+use Rattle.policy.specs.declared.line.Part.{Part}
 use Rattle.word.specs.Chunk.{words_in}
 use Rattle.word.proofs.ChunkLaws.{words_in_length}
 use Rattle.monitor.proofs.EventLaws.{kept_none, other_event, kept_event, dropped_event, few_words, all_tried, all_few}
@@ -9,25 +10,26 @@ use Rattle.monitor.proofs.events.keep_events.Goals as goal
 pub loop-left-init : goal.loop-left-init
 loop-left-init c =
     let e : Epoch = c.args.epoch.now in
-    kept_none (words_in c.args.image.now.rules.now) (words_in c.args.image.now.constraints.now) e c.args.none c.requires.first
+    kept_none (words_in c.args.image.now.parts.rules.now) (words_in c.args.image.now.parts.constraints.now) e c.args.none c.requires.first
 
 pub overflow_add-words : goal.overflow_add-words
 overflow_add-words c =
-    let rules = words_in c.args.image.now.rules.now in
-    let constraints = words_in c.args.image.now.constraints.now in
+    let rules = words_in c.args.image.now.parts.rules.now in
+    let constraints = words_in c.args.image.now.parts.constraints.now in
     let e : Epoch = c.args.epoch.now in
     let small : c.args.epoch.now.events.bits < 2 ^ 64 = search rules in
     omega (
       arith,
       few_words rules constraints e small c.loop-left.kept c.loop-left.actions c.loop-left.words c.loop-left.left c.loop-left.n c.loop-left.invariant c.loop-left-test.true
           c.if-left-eq1.true _ c.insert-more.ensures _ c.keeping.ensures _ c.try_events-trial.ensures
-          (omega (arith, words_in_length c.args.image.now.rules.now)) (omega (arith, words_in_length c.args.image.now.constraints.now)),
+          (omega (arith, words_in_length c.args.image.now.parts.rules.now, c.args.image.now.few Part.Rules))
+          (omega (arith, words_in_length c.args.image.now.parts.constraints.now, c.args.image.now.few Part.Constraints)),
     )
 
 pub loop-left-preserved : goal.loop-left-preserved
 loop-left-preserved c =
-    let rules = words_in c.args.image.now.rules.now in
-    let constraints = words_in c.args.image.now.constraints.now in
+    let rules = words_in c.args.image.now.parts.rules.now in
+    let constraints = words_in c.args.image.now.parts.constraints.now in
     let e : Epoch = c.args.epoch.now in
     let small : c.args.epoch.now.events.bits < 2 ^ 64 = search rules in
     ⊎_elim
@@ -39,18 +41,19 @@ loop-left-preserved c =
 
 pub overflow_add-result : goal.overflow_add-result
 overflow_add-result c =
-    let rules = words_in c.args.image.now.rules.now in
-    let constraints = words_in c.args.image.now.constraints.now in
+    let rules = words_in c.args.image.now.parts.rules.now in
+    let constraints = words_in c.args.image.now.parts.constraints.now in
     let e : Epoch = c.args.epoch.now in
     omega (
       arith,
       all_few rules constraints e c.loop-left.kept c.loop-left.actions c.loop-left.words c.loop-left.left c.loop-left.n c.loop-left.invariant c.loop-left-test.false c.args.none c.requires.first
-          (omega (arith, words_in_length c.args.image.now.rules.now)) (omega (arith, words_in_length c.args.image.now.constraints.now)),
+          (omega (arith, words_in_length c.args.image.now.parts.rules.now, c.args.image.now.few Part.Rules))
+          (omega (arith, words_in_length c.args.image.now.parts.constraints.now, c.args.image.now.few Part.Constraints)),
     )
 
 pub returns : goal.returns
 returns c =
-    let rules = words_in c.args.image.now.rules.now in
-    let constraints = words_in c.args.image.now.constraints.now in
+    let rules = words_in c.args.image.now.parts.rules.now in
+    let constraints = words_in c.args.image.now.parts.constraints.now in
     let e : Epoch = c.args.epoch.now in
     all_tried rules constraints e c.loop-left.kept c.loop-left.actions c.loop-left.words c.loop-left.left c.loop-left.n c.loop-left.invariant c.loop-left-test.false c.args.none c.requires.first
