@@ -2,12 +2,11 @@
 use Rattle.policy.specs.declared.fault.Refusal.{Refusal}
 use Rattle.policy.specs.Fault.{refusal}
 use Rattle.std.specs.Prelude.{Result, Ok, Err, Some}
-use Rattle.std.proofs.Common.{ℕ, zero, suc, ◌<◌, Bool, true, false, not, cond, List, [], ◌∷◌, ◌≢◌, ◌≡◌, refl, sym, ap, ◌∙◌, subst, arith, ltb-true, ℤ, length, length-set, slice_get, lt-length-set, get_or-set_same, Some, fold}
+use Rattle.std.proofs.Common.{ℕ, zero, suc, ◌<◌, Bool, true, false, not, cond, List, [], ◌∷◌, Contains, ◌≢◌, ◌≡◌, refl, sym, ap, ◌∙◌, subst, arith, ltb-true, ℤ, length, length-set, slice_get, lt-length-set, get_or-set_same, Some, fold}
 use Rattle.std.proofs.lemmas.Bool.{eqb-false}
 use Rattle.std.proofs.Math.Dec.{ltb, eqb}
 use Rattle.std.proofs.Math.ListN.{set}
 use Rattle.std.proofs.lemmas.Option.{slice_get-get_or}
-use mathlib.Core.List.{Memᴰ}
 use Rattle.policy.proofs.ListLaws.{true_false, and_out, or_out}
 use Rattle.policy.proofs.SetLaws.{has_empty, has_insert_same, has_insert_other}
 use Rattle.policy.specs.Epoch.{reading_value}
@@ -75,20 +74,20 @@ module _ (n : ℕ) where
     abbrev Gives : Epoch → List Item → Type 0
     Gives e is = reading_value (fold add_item e is).readings this ≡ Some k
 
-    gives : (is : List Item) (e : Epoch) → length e.readings.values ≡ reading_limit → all item_in_range is ≡ true → repeats (given_by is) ≡ false → Memᴰ (value n k) is → Gives e is
+    gives : (is : List Item) (e : Epoch) → length e.readings.values ≡ reading_limit → all item_in_range is ≡ true → repeats (given_by is) ≡ false → Contains is (value n k) → Gives e is
     unfolding given_by repeats
-    gives [] e l r u x4 = elim x4 [ ]
-    gives (i ∷ is) e l r u (Memᴰ.head p) = subst (λ (x : Item). all item_in_range (x ∷ is) ≡ true → repeats (given_by (x ∷ is)) ≡ false → Gives e (x ∷ is)) p first r u
+    gives [] e l r u m = absurd (omega (arith, m.1))
+    gives (i ∷ is) e l r u (zero, b, p) = subst (λ (x : Item). all item_in_range (x ∷ is) ≡ true → repeats (given_by (x ∷ is)) ≡ false → Gives e (x ∷ is)) (sym p) first r u
       where
         first : all item_in_range (value n k ∷ is) ≡ true → repeats (given_by (value n k ∷ is)) ≡ false → Gives e (value n k ∷ is)
         first r' u' =
             value_kept is (add_item e (value n k)) (or_out (any (eqb n) (given_by is)) (repeats (given_by is)) u').0
             ∙ added e l (and_out (item_in_range (value n k)) (all item_in_range is) r').0
-    gives (event m ∷ is) e l r u (Memᴰ.tail later) =
-        gives is (add_item e (event m)) (places e (event m) ∙ l) (and_out (item_in_range (event m)) (all item_in_range is) r).1 u later
-    gives (value m j ∷ is) e l r u (Memᴰ.tail later) =
+    gives (event m ∷ is) e l r u (suc i, b, p) =
+        gives is (add_item e (event m)) (places e (event m) ∙ l) (and_out (item_in_range (event m)) (all item_in_range is) r).1 u (i, omega arith, p)
+    gives (value m j ∷ is) e l r u (suc i, b, p) =
         gives is (add_item e (value m j)) (places e (value m j) ∙ l) (and_out (item_in_range (value m j)) (all item_in_range is) r).1
-        (or_out (any (eqb m) (given_by is)) (repeats (given_by is)) u).1 later
+        (or_out (any (eqb m) (given_by is)) (repeats (given_by is)) u).1 (i, omega arith, p)
 
 -- ---- an accepted line
 
@@ -130,7 +129,7 @@ module _ (e : Epoch) where
     read = items_read_is line is shape taken
 
     -- `R4=0` gives R4 the value 0
-    pub line_gives : (n : ℕ) (k : ℤ) → Memᴰ (value n k) is → reading_value e.readings (record { 0 = n }) ≡ Some k
+    pub line_gives : (n : ℕ) (k : ℤ) → Contains is (value n k) → reading_value e.readings (record { 0 = n }) ≡ Some k
     line_gives n k m = sym (ap (λ (x : Epoch). reading_value x.readings (record { 0 = n })) read.whole) ∙ gives n k is empty_epoch refl read.ranges read.once m
 
     -- a reading of which the line has no value is not given

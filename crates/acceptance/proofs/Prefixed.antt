@@ -2,11 +2,11 @@
 -- has one with no digits, or with another byte behind it, has a wrong shape, and one with more than eight digits a constant out of range.
 use Rattle.policy.specs.Fault.{refusal}
 use Rattle.std.specs.Prelude.{Err, Option, Some, None, option_map}
-use Rattle.std.proofs.Common.{ℕ, ◌≤◌, ◌<◌, Bool, true, false, cond, List, [], ◌∷◌, ◌++◌, ◌⊎◌, inl, inr, ◌≡◌, refl, sym, ap, ◌∙◌, arith, subst, eqb-true, length}
-use mathlib.Core.List.{Memᴰ}
+use Rattle.std.proofs.Common.{ℕ, ◌≤◌, ◌<◌, Bool, true, false, cond, zero, suc, List, [], ◌∷◌, ◌++◌, Contains, ◌⊎◌, inl, inr, ◌≡◌, refl, sym, ap, ◌∙◌, arith, subst, eqb-true, length}
+use Rattle.std.proofs.lemmas.List.Elements.{Contains-append_cases}
 use Rattle.std.proofs.Math.Bool.{and-false}
 use Rattle.std.proofs.Math.Dec.{eqb, ltb}
-use Rattle.policy.proofs.ListLaws.{true_false, not_true_is, all_out}
+use Rattle.policy.proofs.ListLaws.{true_false, not_true_is, contains_first, contains_later, all_out}
 use Rattle.policy.specs.Limits.{in_range, test_number, comparison_in_range}
 use Rattle.policy.specs.Line.{PolicyLine, rule, constraint, heads_of, comparisons_of}
 use Rattle.policy.specs.List.{all, any}
@@ -35,11 +35,6 @@ use Rattle.acceptance.specs.Written.{AreJoined, AreComparisons, AreCondition, Is
 none_some : {A B : Type 0} {x : A} → ◌≡◌ {A = Option A} None (Some x) → B
 none_some e = let w : ◌≡◌ {A = ℕ} 0 1 = cc in absurd (omega arith)
 
-split : {A : Type 0} (x : A) (xs ys : List A) → Memᴰ x (xs ++ ys) → Memᴰ x xs ⊎ Memᴰ x ys
-split x [] ys m = inr m
-split x (y ∷ xs) ys (Memᴰ.head e) = inl (Memᴰ.head e)
-split x (y ∷ xs) ys (Memᴰ.tail m) = elim (split x xs ys m) [ inl h ↦ inl (Memᴰ.tail h) | inr h ↦ inr h ]
-
 broken : (ds : List ℕ) → (ds ≡ []) ⊎ (all is_hex_digit ds ≡ false) → constant_of (prefixed ds) ≡ None
 broken ds (inl e) = ap (λ (s : List ℕ). constant_of (prefixed s)) e ∙ bare_prefix
 broken ds (inr e) = other_byte ds e
@@ -48,17 +43,17 @@ broken ds (inr e) = other_byte ds e
 
 -- what is no item and no `&` is nowhere among items
 module _ {A : Type 0} (item : Token → Option A) (t : Token) (no_item : item t ≡ None) (no_and : is "&" t ≡ false) where
-  not_joined : (ts : List Token) (xs : List A) → AreJoined item ts xs → Memᴰ t ts → ⊥
+  not_joined : (ts : List Token) (xs : List A) → AreJoined item ts xs → Contains ts t → ⊥
   unfolding AreJoined
   not_joined [] xs h m = h
   not_joined (s ∷ []) [] h m = h
-  not_joined (s ∷ []) (x ∷ []) h (Memᴰ.head e) = none_some (sym no_item ∙ ap item e ∙ h)
-  not_joined (s ∷ []) (x ∷ []) h (Memᴰ.tail m) = elim m [ ]
+  not_joined (s ∷ []) (x ∷ []) h (zero, l, e) = none_some (sym (ap item e ∙ no_item) ∙ h)
+  not_joined (s ∷ []) (x ∷ []) h (suc k, l, e) = omega arith
   not_joined (s ∷ []) (x ∷ y ∷ xs) h m = h
   not_joined (s ∷ u ∷ ts) [] h m = h
-  not_joined (s ∷ u ∷ ts) (x ∷ xs) h (Memᴰ.head e) = none_some (sym no_item ∙ ap item e ∙ h.0)
-  not_joined (s ∷ u ∷ ts) (x ∷ xs) h (Memᴰ.tail (Memᴰ.head e)) = true_false h.1 (sym (ap (is "&") e) ∙ no_and)
-  not_joined (s ∷ u ∷ ts) (x ∷ xs) h (Memᴰ.tail (Memᴰ.tail m)) = not_joined ts xs h.2 m
+  not_joined (s ∷ u ∷ ts) (x ∷ xs) h (zero, l, e) = none_some (sym (ap item e ∙ no_item) ∙ h.0)
+  not_joined (s ∷ u ∷ ts) (x ∷ xs) h (suc zero, l, e) = true_false h.1 (ap (is "&") e ∙ no_and)
+  not_joined (s ∷ u ∷ ts) (x ∷ xs) h (suc (suc k), l, e) = not_joined ts xs h.2 (k, omega arith, e)
 
 module _ (ds : List ℕ) where
   abbrev token : Token
@@ -67,7 +62,7 @@ module _ (ds : List ℕ) where
   -- a comparison among these has the token on its right-hand side
   record Stands (cs : List Comparison) : Type 0 where
     comparison : Comparison
-    among : Memᴰ comparison cs
+    among : Contains cs comparison
     reading : Token
     relation : Token
     here : comparison_of reading relation token ≡ Some comparison
@@ -84,63 +79,63 @@ module _ (ds : List ℕ) where
       go None b k = none_some k
       go (Some x) b k = none_some k
 
-  in_comparisons : (ts : List Token) (cs : List Comparison) → AreComparisons ts cs → Memᴰ token ts → Stands cs
+  in_comparisons : (ts : List Token) (cs : List Comparison) → AreComparisons ts cs → Contains ts token → Stands cs
   unfolding AreComparisons is bytes bytes_equal
   in_comparisons [] cs h m = absurd h
   in_comparisons (r ∷ []) cs h m = absurd h
   in_comparisons (r ∷ q ∷ []) cs h m = absurd h
   in_comparisons (r ∷ q ∷ o ∷ []) [] h m = absurd h
   in_comparisons (r ∷ q ∷ o ∷ []) (c ∷ d ∷ cs) h m = absurd h
-  in_comparisons (r ∷ q ∷ o ∷ []) (c ∷ []) h (Memᴰ.head e) = absurd (not_first q o c (ap (λ (x : Token). comparison_of x q o) e ∙ h))
-  in_comparisons (r ∷ q ∷ o ∷ []) (c ∷ []) h (Memᴰ.tail (Memᴰ.head e)) = absurd (not_second r o c (ap (λ (x : Token). comparison_of r x o) e ∙ h))
-  in_comparisons (r ∷ q ∷ o ∷ []) (c ∷ []) h (Memᴰ.tail (Memᴰ.tail (Memᴰ.head e))) =
-      record { comparison = c; among = Memᴰ.head refl; reading = r; relation = q; here = ap (comparison_of r q) e ∙ h }
-  in_comparisons (r ∷ q ∷ o ∷ []) (c ∷ []) h (Memᴰ.tail (Memᴰ.tail (Memᴰ.tail m))) = elim m [ ]
+  in_comparisons (r ∷ q ∷ o ∷ []) (c ∷ []) h (zero, l, e) = absurd (not_first q o c (sym (ap (λ (x : Token). comparison_of x q o) e) ∙ h))
+  in_comparisons (r ∷ q ∷ o ∷ []) (c ∷ []) h (suc zero, l, e) = absurd (not_second r o c (sym (ap (λ (x : Token). comparison_of r x o) e) ∙ h))
+  in_comparisons (r ∷ q ∷ o ∷ []) (c ∷ []) h (suc (suc zero), l, e) =
+      record { comparison = c; among = contains_first c []; reading = r; relation = q; here = sym (ap (comparison_of r q) e) ∙ h }
+  in_comparisons (r ∷ q ∷ o ∷ []) (c ∷ []) h (suc (suc (suc k)), l, e) = absurd (omega arith)
   in_comparisons (r ∷ q ∷ o ∷ s ∷ ts) [] h m = absurd h
-  in_comparisons (r ∷ q ∷ o ∷ s ∷ ts) (c ∷ cs) h (Memᴰ.head e) = absurd (not_first q o c (ap (λ (x : Token). comparison_of x q o) e ∙ h.0))
-  in_comparisons (r ∷ q ∷ o ∷ s ∷ ts) (c ∷ cs) h (Memᴰ.tail (Memᴰ.head e)) = absurd (not_second r o c (ap (λ (x : Token). comparison_of r x o) e ∙ h.0))
-  in_comparisons (r ∷ q ∷ o ∷ s ∷ ts) (c ∷ cs) h (Memᴰ.tail (Memᴰ.tail (Memᴰ.head e))) =
-      record { comparison = c; among = Memᴰ.head refl; reading = r; relation = q; here = ap (comparison_of r q) e ∙ h.0 }
-  in_comparisons (r ∷ q ∷ o ∷ s ∷ ts) (c ∷ cs) h (Memᴰ.tail (Memᴰ.tail (Memᴰ.tail (Memᴰ.head e)))) = absurd (true_false h.1 (sym (ap (is ",") e)))
-  in_comparisons (r ∷ q ∷ o ∷ s ∷ ts) (c ∷ cs) h (Memᴰ.tail (Memᴰ.tail (Memᴰ.tail (Memᴰ.tail m)))) =
-      let f = in_comparisons ts cs h.2 m in
-      record { comparison = f.comparison; among = Memᴰ.tail f.among; reading = f.reading; relation = f.relation; here = f.here }
+  in_comparisons (r ∷ q ∷ o ∷ s ∷ ts) (c ∷ cs) h (zero, l, e) = absurd (not_first q o c (sym (ap (λ (x : Token). comparison_of x q o) e) ∙ h.0))
+  in_comparisons (r ∷ q ∷ o ∷ s ∷ ts) (c ∷ cs) h (suc zero, l, e) = absurd (not_second r o c (sym (ap (λ (x : Token). comparison_of r x o) e) ∙ h.0))
+  in_comparisons (r ∷ q ∷ o ∷ s ∷ ts) (c ∷ cs) h (suc (suc zero), l, e) =
+      record { comparison = c; among = contains_first c cs; reading = r; relation = q; here = sym (ap (comparison_of r q) e) ∙ h.0 }
+  in_comparisons (r ∷ q ∷ o ∷ s ∷ ts) (c ∷ cs) h (suc (suc (suc zero)), l, e) = absurd (true_false h.1 (ap (is ",") e))
+  in_comparisons (r ∷ q ∷ o ∷ s ∷ ts) (c ∷ cs) h (suc (suc (suc (suc k))), l, e) =
+      let f = in_comparisons ts cs h.2 (k, omega arith, e) in
+      record { comparison = f.comparison; among = contains_later c cs f.comparison f.among; reading = f.reading; relation = f.relation; here = f.here }
 
-  in_condition : (ts : List Token) (cs : List Comparison) → AreCondition ts cs → Memᴰ token ts → Stands cs
+  in_condition : (ts : List Token) (cs : List Comparison) → AreCondition ts cs → Contains ts token → Stands cs
   unfolding AreCondition is bytes bytes_equal
-  in_condition [] cs h m = elim m [ ]
-  in_condition (t ∷ ts) cs h (Memᴰ.head e) = absurd (true_false h.0 (sym (ap (is "if") e)))
-  in_condition (t ∷ ts) cs h (Memᴰ.tail m) = in_comparisons ts cs h.1 m
+  in_condition [] cs h m = absurd (omega (arith, m.1))
+  in_condition (t ∷ ts) cs h (zero, l, e) = absurd (true_false h.0 (ap (is "if") e))
+  in_condition (t ∷ ts) cs h (suc k, l, e) = in_comparisons ts cs h.1 (k, omega arith, e)
 
-  in_rule : (ts : List Token) (x : Rule) → IsRule ts x → Memᴰ token ts → Stands x.comparisons
+  in_rule : (ts : List Token) (x : Rule) → IsRule ts x → Contains ts token → Stands x.comparisons
   unfolding is bytes bytes_equal literal_of action_of named
-  in_rule ts x r m = elim (split token r.literals (r.keyword ∷ r.action ∷ r.condition) (subst (Memᴰ token) r.tokens m)) [ inl h ↦ absurd (not_joined literal_of token refl refl r.literals x.literals r.are_literals h) | inr h ↦ behind h ]
+  in_rule ts x r m = elim (Contains-append_cases r.literals (r.keyword ∷ r.action ∷ r.condition) token (subst (λ (ts : List Token). Contains ts token) r.tokens m)) [ inl h ↦ absurd (not_joined literal_of token refl refl r.literals x.literals r.are_literals h) | inr h ↦ behind h ]
     where
-      behind : Memᴰ token (r.keyword ∷ r.action ∷ r.condition) → Stands x.comparisons
-      behind (Memᴰ.head e) = absurd (true_false r.causes (sym (ap (is "causes") e)))
-      behind (Memᴰ.tail (Memᴰ.head e)) = none_some (ap action_of e ∙ r.names)
-      behind (Memᴰ.tail (Memᴰ.tail h)) = in_condition r.condition x.comparisons r.are_condition h
+      behind : Contains (r.keyword ∷ r.action ∷ r.condition) token → Stands x.comparisons
+      behind (zero, l, e) = absurd (true_false r.causes (ap (is "causes") e))
+      behind (suc zero, l, e) = none_some (sym (ap action_of e) ∙ r.names)
+      behind (suc (suc k), l, e) = in_condition r.condition x.comparisons r.are_condition (k, omega arith, e)
 
-  in_constraint : (ts : List Token) (x : Constraint) → IsConstraint ts x → Memᴰ token ts → Stands x.comparisons
+  in_constraint : (ts : List Token) (x : Constraint) → IsConstraint ts x → Contains ts token → Stands x.comparisons
   unfolding is bytes bytes_equal action_of named
-  in_constraint ts x r m = from (subst (Memᴰ token) r.tokens m)
+  in_constraint ts x r m = from (subst (λ (ts : List Token). Contains ts token) r.tokens m)
     where
-      from : Memᴰ token (r.keyword ∷ r.actions ++ r.condition) → Stands x.comparisons
-      from (Memᴰ.head e) = absurd (true_false r.never (sym (ap (is "never") e)))
-      from (Memᴰ.tail h) =
-          elim (split token r.actions r.condition h) [
+      from : Contains (r.keyword ∷ r.actions ++ r.condition) token → Stands x.comparisons
+      from (zero, l, e) = absurd (true_false r.never (ap (is "never") e))
+      from (suc k, l, e) =
+          elim (Contains-append_cases r.actions r.condition token (k, omega arith, e)) [
             | inl k ↦ absurd (not_joined action_of token refl refl r.actions x.actions r.are_actions k)
             | inr k ↦ in_condition r.condition x.comparisons r.are_condition k
           ]
 
-  in_line : (ts : List Token) (l : PolicyLine) → IsLine ts l → Memᴰ token ts → Stands (comparisons_of l)
+  in_line : (ts : List Token) (l : PolicyLine) → IsLine ts l → Contains ts token → Stands (comparisons_of l)
   unfolding comparisons_of
   in_line ts (rule x) r m = in_rule ts x r m
   in_line ts (constraint x) r m = in_constraint ts x r m
 
-  module _ (line : List ℕ) (m : Memᴰ token (tokens_of line)) where
+  module _ (line : List ℕ) (m : Contains (tokens_of line) token) where
     stands : (l : PolicyLine) → IsWritten line l → Stands (comparisons_of l)
-    stands l w = in_line (w.first ∷ w.others) l w.written (subst (Memᴰ token) w.tokens m)
+    stands l w = in_line (w.first ∷ w.others) l w.written (subst (λ (ts : List Token). Contains ts token) w.tokens m)
 
     pub bare_prefix_refused : (ds ≡ []) ⊎ (all is_hex_digit ds ≡ false) → is_skipped (tokens_of line) ≡ false → line_answer line ≡ Err Fault.Syntax
     unfolding operand_of reading_of named bytes comparison_of
@@ -201,21 +196,21 @@ module _ (t : Token) (left ds : List ℕ) (halves : at_equals t ≡ Some (record
   unfolding item_of
   item_is = rw (unnamed t (record { left = left; right = prefixed ds }) halves, halves) refl
 
-  item_there : (ts : List Token) (is : List Item) → items_of ts ≡ Some is → Memᴰ t ts → (i : Item) × Memᴰ i is × (item_of t ≡ Some i)
+  item_there : (ts : List Token) (is : List Item) → items_of ts ≡ Some is → Contains ts t → (i : Item) × Contains is i × (item_of t ≡ Some i)
   unfolding items_of both
-  item_there [] is e m = elim m [ ]
+  item_there [] is e m = absurd (omega (arith, m.1))
   item_there (s ∷ ts) is e m = go (item_of s) refl (items_of ts) refl (item_there ts) e m
     where
-      go : (o : Option Item) → item_of s ≡ o → (p : Option (List Item)) → items_of ts ≡ p → ((js : List Item) → items_of ts ≡ Some js → Memᴰ t ts → (i : Item) × Memᴰ i js × (item_of t ≡ Some i)) → both ◌∷◌ o p ≡ Some is → Memᴰ t (s ∷ ts) → (i : Item) × Memᴰ i is × (item_of t ≡ Some i)
+      go : (o : Option Item) → item_of s ≡ o → (p : Option (List Item)) → items_of ts ≡ p → ((js : List Item) → items_of ts ≡ Some js → Contains ts t → (i : Item) × Contains js i × (item_of t ≡ Some i)) → both ◌∷◌ o p ≡ Some is → Contains (s ∷ ts) t → (i : Item) × Contains is i × (item_of t ≡ Some i)
       go None q p f later k m = none_some k
       go (Some i) q None f later k m = none_some k
-      go (Some i) q (Some js) f later k (Memᴰ.head h) = let same : i ∷ js ≡ is = cc in (i, subst (Memᴰ i) same (Memᴰ.head refl), ap item_of h ∙ q)
-      go (Some i) q (Some js) f later k (Memᴰ.tail h) =
+      go (Some i) q (Some js) f later k (zero, l, h) = let same : i ∷ js ≡ is = cc in (i, rw (← same) (contains_first i js), sym (ap item_of h) ∙ q)
+      go (Some i) q (Some js) f later k (suc n, l, h) =
           let same : i ∷ js ≡ is = cc in
-          let r = later js f h in
-          (r.0, subst (Memᴰ r.0) same (Memᴰ.tail r.1), r.2)
+          let r = later js f (n, omega arith, h) in
+          (r.0, rw (← same) (contains_later i js r.0 r.1), r.2)
 
-  module _ (line : List ℕ) (short : length line ≤ epoch_limit) (m : Memᴰ t (tokens_of line)) where
+  module _ (line : List ℕ) (short : length line ≤ epoch_limit) (m : Contains (tokens_of line) t) where
     pub epoch_bare_prefix_refused : (ds ≡ []) ⊎ (all is_hex_digit ds ≡ false) → read_epoch line ≡ Err (refusal Fault.EpochSyntax 0)
     unfolding assignment_of both
     epoch_bare_prefix_refused b = (epoch_refused_exactly line (refusal Fault.EpochSyntax 0)).1 (EpochFault.wrong_shape short (inr (go (items_of (tokens_of line)) refl)))

@@ -133,10 +133,6 @@ unfolding put_lines cursors_behind
 lines_behind [] ms p buffer = refl
 lines_behind (l ∷ ls) ms p buffer = lines_behind ls ms (cursors_after (line_part l) p (length (line_words l))) (put_words buffer (part_get p (line_part l)) (line_words l))
 
--- cursors behind those of the first text are near enough for the second
-pub near_behind : (p q : PerPart ℕ) → Near 4096 p → Further p q → Near 600000 q
-near_behind p q n f part = omega (arith, n part, f part)
-
 pub image_put : (form : ℕ) (ls ms : List PolicyLine) (P N h : ℕ) (cursors : PerPart ℕ) (buffer₀ buffer₁ buffer₂ buffer₃ buffer₄ : List ℕ) → P ≤ rule_word_limit form → N ≤ constraint_word_limit form → h ≡ pack_header form (P % 4096) (N % 4096)
     → buffer₁ ≡ put_words buffer₀ 0 (h ∷ []) → cursors ≡ cursors_behind ls (record { rules = 1; constraints = 1 + P }) → buffer₂ ≡ put_lines ls (record { rules = 1; constraints = 1 + P }) buffer₁
     → buffer₃ ≡ put_lines ms cursors buffer₂

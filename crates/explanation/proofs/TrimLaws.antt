@@ -1,5 +1,5 @@
 -- Laws of trimming.
-use Rattle.std.proofs.Common.{ℕ, suc, ◌+◌, ◌-◌, ◌≤◌, ◌<◌, true, false, cond, List, [], ◌∷◌, ◌≡◌, refl, ◌∙◌, arith, eq-eqb, ne_eqb, length, take, drop, length-take, ap}
+use Rattle.std.proofs.Common.{ℕ, suc, ◌+◌, ◌-◌, ◌≤◌, ◌<◌, true, false, cond, List, [], ◌∷◌, ◌≡◌, refl, ◌∙◌, arith, eq-eqb, ne_eqb, length, take, drop, ap}
 use Rattle.std.proofs.lemmas.List.{take_rest}
 use Rattle.std.proofs.Math.ListN.{get_or}
 use Rattle.lexer.specs.Byte.{is_space}
@@ -61,6 +61,3 @@ trimmed_front (b ∷ s) =
     go : (t : List ℕ) → take (length t) s ≡ t → take (length (add_to_trimmed b t)) (b ∷ s) ≡ add_to_trimmed b t
     go [] e = elim (is_space b) as (λ x. take (length (cond x [] (b ∷ []))) (b ∷ s) ≡ cond x [] (b ∷ [])) [ true ↦ refl | false ↦ refl ]
     go (c ∷ t) e = ap (λ (u : List ℕ). b ∷ u) e
-
-pub trimmed_inside : (s : List ℕ) → length (trim_end (first_line s)) ≤ length s
-trimmed_inside s = omega (arith, ap length (trimmed_front s), length-take (length (trim_end (first_line s))) s)

@@ -1,8 +1,8 @@
 -- What holds of every decision: when it is refused and what it then carries, that it is what the image's policy yields in the first
 -- mode, and that an image in which one word was changed is refused. Of the second mode speaks Reductions.
-use Rattle.std.proofs.Common.{ℕ, ◌<◌, true, List, [], ◌∷◌, map, ◌⊎◌, inl, inr, ◌≡◌, refl, sym, ap, ◌∙◌, subst, arith, length, Result, Ok, Err}
-use mathlib.Core.List.Memᴰ
-use Rattle.policy.proofs.ListLaws.{and_out}
+use Rattle.std.proofs.Common.{ℕ, ◌<◌, true, List, [], map, ◌⊎◌, inl, inr, ◌≡◌, refl, sym, ap, ◌∙◌, subst, arith, length, Result, Ok, Err}
+use Rattle.std.proofs.lemmas.List.Folds.{list_all-map}
+use Rattle.policy.proofs.ListLaws.{all_out}
 use Rattle.policy.proofs.ValidLaws.{valid_out}
 use Rattle.policy.specs.declared.epoch.Epoch.{Epoch}
 use Rattle.policy.specs.Fault.{refusal}
@@ -86,11 +86,7 @@ has_action_is c v q =
     absurd (omega (arith, (valid_out (constraint c) v).some, ap (λ (actions : List Action). length (map Test.Member actions)) q))
 
 name_actions : (cs : List Constraint) → all valid (map constraint cs) ≡ true → NameActions cs
-name_actions [] v c m = absurd (Memᴰ.not-nil m)
-name_actions (k ∷ cs) v c (Memᴰ.head q) =
-    has_action_is c (ap (λ (x : Constraint). valid (constraint x)) q ∙ (and_out (valid (constraint k)) (all valid (map constraint cs)) v).0)
-name_actions (k ∷ cs) v c (Memᴰ.tail m) =
-    name_actions cs (and_out (valid (constraint k)) (all valid (map constraint cs)) v).1 c m
+name_actions cs v c m = has_action_is c (all_out (λ (x : Constraint). valid (constraint x)) cs (sym (list_all-map valid constraint cs) ∙ v) c m)
 
 -- what a policy accepts is the best of all sets of proposed actions on which no constraint holds
 accepted_is_best : (p : Policy) (e : Epoch) → NameActions p.constraints → IsBest p e (Yield.accepted p e)

@@ -1,12 +1,11 @@
 -- When an action is explained, what is told of it, and which part of which text is shown.
-use Rattle.std.proofs.Common.{ℕ, ◌<◌, Bool, true, false, cond, ◌&&◌, List, [], ◌∷◌, ◌++◌, ◌↔◌, ◌≡◌, refl, sym, ap, ◌∙◌, subst, arith, lt-ltb, le-ltb, ltb-true, ltb-false, eqb-true, eq-eqb, Result}
+use Rattle.std.proofs.Common.{ℕ, ◌<◌, Bool, true, false, cond, ◌&&◌, List, [], ◌∷◌, ◌++◌, Contains, ◌↔◌, ◌≡◌, refl, sym, ap, ◌∙◌, subst, arith, lt-ltb, le-ltb, ltb-true, ltb-false, eqb-true, eq-eqb, Result}
 use Rattle.std.specs.Result.{result_ok}
 use Rattle.std.specs.Prelude.{Option, Some, None, Ok, Err}
 use Rattle.std.specs.Option.{option_map_or}
 use Rattle.std.proofs.Math.Path.{subst⁻¹}
 use Rattle.std.proofs.Math.Dec.{ltb, eqb}
-use mathlib.Core.List.{Memᴰ}
-use Rattle.policy.proofs.ListLaws.{true_false, and_in, and_out}
+use Rattle.policy.proofs.ListLaws.{true_false, and_in, and_out, contains_first, contains_one}
 use Rattle.policy.proofs.SetLaws.{has_insert_same}
 use Rattle.policy.specs.declared.epoch.Epoch.{Epoch}
 use Rattle.policy.specs.Fault.{refusal}
@@ -126,7 +125,7 @@ proposed_means e a small (rule r) = (there, back)
 
     back : Derives (r ∷ []) ev e.readings a → rule_holds ev e.readings r && eqb r.action.0 a.0 ≡ true
     back d =
-        let w : r ≡ d.rule = sym (mathlib.Core.List.Memᴰ.eq_of_singleton d.listed) in
+        let w : r ≡ d.rule = contains_one r d.rule d.listed in
         and_in (ap (rule_holds ev e.readings) w ∙ rule_holds_is ev e.readings d.rule d.event d.condition)
         (eq-eqb r.action.0 a.0 (ap (λ (x : Rule). x.action.0) w ∙ ap (λ (x : Action). x.0) d.causes))
 
@@ -142,8 +141,8 @@ module _ (maker site : List ℕ) (p : Policy) (e : Epoch) (a : Action) (small : 
   by_rule : has_action (Yield.accepted p e) a ≡ true → FirstShown (is_proposing_rule e a) (Proposes e a) p maker site
   by_rule k =
       let d = (proposals_derived p.rules (all_events e.events) e.readings a small).0 (accepted_within p e a k) in
-      let m : Memᴰ (rule d.rule) (lines_of_both maker site) = rule_line (lines_of_both maker site) d.rule (rw b.rules d.listed) in
-      let alone : Derives (d.rule ∷ []) (all_events e.events) e.readings a = record { rule = d.rule; listed = mathlib.Core.List.Memᴰ.head refl; causes = d.causes; event = d.event; condition = d.condition } in
+      let m : Contains (lines_of_both maker site) (rule d.rule) = rule_line (lines_of_both maker site) d.rule (rw b.rules d.listed) in
+      let alone : Derives (d.rule ∷ []) (all_events e.events) e.readings a = record { rule = d.rule; listed = contains_first d.rule []; causes = d.causes; event = d.event; condition = d.condition } in
       let means = proposed_means e a small in
       first_line (is_proposing_rule e a) (Proposes e a) means maker site p b (rule d.rule) m ((means (rule d.rule)).1 alone)
 
@@ -151,7 +150,7 @@ module _ (maker site : List ℕ) (p : Policy) (e : Epoch) (a : Action) (small : 
   by_constraint : has_action (Yield.cancelled p e) a ≡ true → FirstShown (is_cancelling_constraint e.readings (Yield.accepted p e) a) (Cancels e (Yield.accepted p e) a) p maker site
   by_constraint k =
       let v = cancelled_trial p e a k in
-      let m : Memᴰ (constraint v.constraint) (lines_of_both maker site) = constraint_line (lines_of_both maker site) v.constraint (rw b.constraints v.listed) in
+      let m : Contains (lines_of_both maker site) (constraint v.constraint) = constraint_line (lines_of_both maker site) v.constraint (rw b.constraints v.listed) in
       let means = cancelled_means e (Yield.accepted p e) a in
       first_line (is_cancelling_constraint e.readings (Yield.accepted p e) a) (Cancels e (Yield.accepted p e) a) means maker site p b (constraint v.constraint) m
       ((means (constraint v.constraint)).1 v.holds)

@@ -1,10 +1,9 @@
 -- The first line of both texts that passes a test: where some line of their policy does, one is shown, and it is the first.
-use Rattle.std.proofs.Common.{ℕ, suc, ◌+◌, Bool, true, false, cond, List, [], ◌∷◌, ◌++◌, ◌↔◌, ◌⊎◌, inl, inr, ⊎_elim, ◌≡◌, refl, sym, ap, ap₂, ◌∙◌, subst, arith, length}
+use Rattle.std.proofs.Common.{ℕ, zero, suc, ◌+◌, Bool, true, false, cond, List, [], ◌∷◌, ◌++◌, Contains, ◌↔◌, ◌⊎◌, inl, inr, ⊎_elim, ◌≡◌, refl, sym, ap, ap₂, ◌∙◌, subst, arith, length}
 use Rattle.std.specs.Prelude.{Option, Some, None, Result, Ok, Err}
 use Rattle.std.proofs.Math.Path.{subst⁻¹}
-use mathlib.Core.List.Memᴰ
-use mathlib.Core.List.{Memᴰ}
-use Rattle.policy.proofs.ListLaws.{true_false}
+use Rattle.std.proofs.lemmas.List.Elements.{Contains-append_left, Contains-append_right, Contains-append_cases}
+use Rattle.policy.proofs.ListLaws.{true_false, contains_cases, contains_first, contains_later}
 use Rattle.policy.proofs.ResultLaws.{and_then_ok, in_text_ok}
 use Rattle.policy.specs.Fault.{in_text}
 use Rattle.policy.specs.Line.{PolicyLine, rule, constraint}
@@ -26,54 +25,54 @@ use Rattle.guarantees.specs.Explanations.{Listed, ended_length, Trimmed, FirstOf
 
 -- ---- the lines of a policy
 
-pub rule_line : (ls : List PolicyLine) (r : Rule) → Memᴰ r (rules_in ls) → Memᴰ (rule r) ls
+pub rule_line : (ls : List PolicyLine) (r : Rule) → Contains (rules_in ls) r → Contains ls (rule r)
 unfolding rules_in
-rule_line [] r m = elim m [ ]
-rule_line (rule k ∷ ls) r (Memᴰ.head q) = Memᴰ.head (ap rule q)
-rule_line (rule k ∷ ls) r (Memᴰ.tail m) = Memᴰ.tail (rule_line ls r m)
-rule_line (constraint c ∷ ls) r m = Memᴰ.tail (rule_line ls r m)
+rule_line [] r m = absurd (omega (arith, m.1))
+rule_line (rule k ∷ ls) r (zero, l, q) = (0, omega arith, ap rule q)
+rule_line (rule k ∷ ls) r (suc n, l, q) = contains_later (rule k) ls (rule r) (rule_line ls r (n, omega arith, q))
+rule_line (constraint c ∷ ls) r m = contains_later (constraint c) ls (rule r) (rule_line ls r m)
 
-pub constraint_line : (ls : List PolicyLine) (c : Constraint) → Memᴰ c (constraints_in ls) → Memᴰ (constraint c) ls
+pub constraint_line : (ls : List PolicyLine) (c : Constraint) → Contains (constraints_in ls) c → Contains ls (constraint c)
 unfolding constraints_in
-constraint_line [] c m = elim m [ ]
-constraint_line (rule r ∷ ls) c m = Memᴰ.tail (constraint_line ls c m)
-constraint_line (constraint k ∷ ls) c (Memᴰ.head q) = Memᴰ.head (ap constraint q)
-constraint_line (constraint k ∷ ls) c (Memᴰ.tail m) = Memᴰ.tail (constraint_line ls c m)
+constraint_line [] c m = absurd (omega (arith, m.1))
+constraint_line (rule r ∷ ls) c m = contains_later (rule r) ls (constraint c) (constraint_line ls c m)
+constraint_line (constraint k ∷ ls) c (zero, l, q) = (0, omega arith, ap constraint q)
+constraint_line (constraint k ∷ ls) c (suc n, l, q) = contains_later (constraint k) ls (constraint c) (constraint_line ls c (n, omega arith, q))
 
-line_listed : (ls : List PolicyLine) (l : PolicyLine) → Memᴰ l ls → Listed (record { rules = rules_in ls; constraints = constraints_in ls }) l
+line_listed : (ls : List PolicyLine) (l : PolicyLine) → Contains ls l → Listed (record { rules = rules_in ls; constraints = constraints_in ls }) l
 unfolding rules_in constraints_in
-line_listed [] l x' = elim x' [ ]
-line_listed (rule k ∷ ls) (rule r) (Memᴰ.head q) = let w : r ≡ k = cc in Memᴰ.head w
-line_listed (constraint k ∷ ls) (rule r) (Memᴰ.head q) = let w : ◌≡◌ {A = ℕ} 0 1 = cc in absurd (omega arith)
-line_listed (rule k ∷ ls) (constraint c) (Memᴰ.head q) = let w : ◌≡◌ {A = ℕ} 0 1 = cc in absurd (omega arith)
-line_listed (constraint k ∷ ls) (constraint c) (Memᴰ.head q) = let w : c ≡ k = cc in Memᴰ.head w
-line_listed (rule k ∷ ls) (rule r) (Memᴰ.tail m) = Memᴰ.tail (line_listed ls (rule r) m)
-line_listed (constraint k ∷ ls) (rule r) (Memᴰ.tail m) = line_listed ls (rule r) m
-line_listed (rule k ∷ ls) (constraint c) (Memᴰ.tail m) = line_listed ls (constraint c) m
-line_listed (constraint k ∷ ls) (constraint c) (Memᴰ.tail m) = Memᴰ.tail (line_listed ls (constraint c) m)
+line_listed [] l m = absurd (omega (arith, m.1))
+line_listed (rule k ∷ ls) (rule r) (zero, i, q) = let w : k ≡ r = cc in (0, omega arith, w)
+line_listed (constraint k ∷ ls) (rule r) (zero, i, q) = let z : ⊥ = cc in absurd z
+line_listed (rule k ∷ ls) (constraint c) (zero, i, q) = let z : ⊥ = cc in absurd z
+line_listed (constraint k ∷ ls) (constraint c) (zero, i, q) = let w : k ≡ c = cc in (0, omega arith, w)
+line_listed (rule k ∷ ls) (rule r) (suc n, i, q) = contains_later k (rules_in ls) r (line_listed ls (rule r) (n, omega arith, q))
+line_listed (constraint k ∷ ls) (rule r) (suc n, i, q) = line_listed ls (rule r) (n, omega arith, q)
+line_listed (rule k ∷ ls) (constraint c) (suc n, i, q) = line_listed ls (constraint c) (n, omega arith, q)
+line_listed (constraint k ∷ ls) (constraint c) (suc n, i, q) = contains_later k (constraints_in ls) c (line_listed ls (constraint c) (n, omega arith, q))
 
 -- ---- lines that were read
 
 -- none was refused: a line that is accepted is one of the policy's
 abbrev pub Held : List (List ℕ) → Type 0
-Held ls = (line : List ℕ) → Memᴰ line ls → (l : PolicyLine) → line_answer line ≡ Ok (Some l) → Memᴰ l (accepted_lines ls)
+Held ls = (line : List ℕ) → Contains ls line → (l : PolicyLine) → line_answer line ≡ Ok (Some l) → Contains (accepted_lines ls) l
 
 held : (ls : List (List ℕ)) (n : ℕ) (p q : Policy) → read_lines n p ls ≡ Ok q → Held ls
 unfolding accepted_lines accepted_line
-held [] n p q e line i l k = absurd (Memᴰ.not-nil i)
+held [] n p q e line i l k = absurd (omega (arith, i.1))
 held (x ∷ ls) n p q e line i l k =
     let r = lines_read n p x ls q e in
-    go r.0 r.1 (line_reads p x) (Memᴰ.cases_cons i) (held ls (suc n) r.0 q r.2)
+    go r.0 r.1 (line_reads p x) (contains_cases x ls line i) (held ls (suc n) r.0 q r.2)
   where
-    go : (m : Policy) → read_line p x ≡ Ok m → LineRead p x → (line ≡ x) ⊎ Memᴰ line ls → Held ls → Memᴰ l (accepted_line (line_answer x) (accepted_lines ls))
-    go m r (LineRead.skips a s) (inl w) later = let v : line_answer line ≡ line_answer x = ap line_answer w in let z : ⊥ = cc in absurd z
+    go : (m : Policy) → read_line p x ≡ Ok m → LineRead p x → (x ≡ line) ⊎ Contains ls line → Held ls → Contains (accepted_line (line_answer x) (accepted_lines ls)) l
+    go m r (LineRead.skips a s) (inl w) later = let v : line_answer x ≡ line_answer line = ap line_answer w in let z : ⊥ = cc in absurd z
     go m r (LineRead.skips a s) (inr j) later = rw a (later line j l k)
     go m r (LineRead.fails f a s) c later = let z : ⊥ = cc in absurd z
     go m r (LineRead.adds y a h s) (inl w) later =
-        let v : line_answer line ≡ line_answer x = ap line_answer w in
-        let i : l ≡ y = cc in
-        rw a (Memᴰ.head i)
-    go m r (LineRead.adds y a h s) (inr j) later = rw a (Memᴰ.tail (later line j l k))
+        let v : line_answer x ≡ line_answer line = ap line_answer w in
+        let i : y ≡ l = cc in
+        rw a (0, omega arith, i)
+    go m r (LineRead.adds y a h s) (inr j) later = rw a (contains_later y (accepted_lines ls) l (later line j l k))
     go m r (LineRead.is_over y a h s) c later = let z : ⊥ = cc in absurd z
 
 -- ---- the first line of a text that passes
@@ -87,7 +86,7 @@ module _ (test : PolicyLine → Bool) where
     is : PolicyLine
     read : line_answer line ≡ Ok (Some is)
     passes : test is ≡ true
-    first : (x : List ℕ) → Memᴰ x before → (l : PolicyLine) → line_answer x ≡ Ok (Some l) → test l ≡ true → ⊥
+    first : (x : List ℕ) → Contains before x → (l : PolicyLine) → line_answer x ≡ Ok (Some l) → test l ≡ true → ⊥
     shows : shown ≡ shown_at (at + ended_length before) line
 
   module _ (at : ℕ) (line : List ℕ) (lines : List (List ℕ)) (shown : Stretch) where
@@ -103,7 +102,7 @@ module _ (test : PolicyLine → Bool) where
           is = l;
           read = k;
           passes = t;
-          first = λ x m. absurd (Memᴰ.not-nil m);
+          first = λ x m. absurd (omega (arith, m.1));
           shows = sym e ∙ ap (λ (n : ℕ). shown_at n line) (sym z);
         }
 
@@ -119,7 +118,7 @@ module _ (test : PolicyLine → Bool) where
           is = f.is;
           read = f.read;
           passes = f.passes;
-          first = λ x m l k. ⊎_elim (λ w. fails l (sym (ap line_answer w) ∙ k)) (λ i. f.first x i l k) (Memᴰ.cases_cons m);
+          first = λ x m l k. ⊎_elim (λ w. fails l (ap line_answer w ∙ k)) (λ i. f.first x i l k) (contains_cases line f.before x m);
           shows = f.shows ∙ ap (λ (n : ℕ). shown_at n f.line) n;
         }
 
@@ -141,23 +140,23 @@ module _ (test : PolicyLine → Bool) where
           passing false t v = found_later at line lines shown (λ m j u. let w : l ≡ m = cc in true_false (ap test w ∙ u) t) (rec v)
 
   -- where none is found, no line of the policy passes
-  none_found : (lines : List (List ℕ)) (at : ℕ) → first_from test at lines ≡ None → (l : PolicyLine) → Memᴰ l (accepted_lines lines) → test l ≡ true → ⊥
+  none_found : (lines : List (List ℕ)) (at : ℕ) → first_from test at lines ≡ None → (l : PolicyLine) → Contains (accepted_lines lines) l → test l ≡ true → ⊥
   unfolding first_from or_later accepted_lines accepted_line
-  none_found [] at e l m t = Memᴰ.not-nil m
+  none_found [] at e l m t = omega (arith, m.1)
   none_found (line ∷ lines) at e l m t = go (line_answer line) (none_found lines (at + length line + 1)) e m
     where
       next : Option Stretch
       next = first_from test (at + length line + 1) lines
 
-      go : (a : Result (Option PolicyLine) Fault) → (next ≡ None → (l : PolicyLine) → Memᴰ l (accepted_lines lines) → test l ≡ true → ⊥)
-          → or_later test a at line next ≡ None → Memᴰ l (accepted_line a (accepted_lines lines)) → ⊥
+      go : (a : Result (Option PolicyLine) Fault) → (next ≡ None → (l : PolicyLine) → Contains (accepted_lines lines) l → test l ≡ true → ⊥)
+          → or_later test a at line next ≡ None → Contains (accepted_line a (accepted_lines lines)) l → ⊥
       go (Ok None) rec h i = rec h l i t
-      go (Err f) rec h i = Memᴰ.not-nil i
-      go (Ok (Some k)) rec h i = passing (test k) refl h (Memᴰ.cases_cons i)
+      go (Err f) rec h i = omega (arith, i.1)
+      go (Ok (Some k)) rec h i = passing (test k) refl h (contains_cases k (accepted_lines lines) l i)
         where
-          passing : (b : Bool) → test k ≡ b → cond b (Some (shown_at at line)) next ≡ None → (l ≡ k) ⊎ Memᴰ l (accepted_lines lines) → ⊥
+          passing : (b : Bool) → test k ≡ b → cond b (Some (shown_at at line)) next ≡ None → (k ≡ l) ⊎ Contains (accepted_lines lines) l → ⊥
           passing true q v c = let w : ◌≡◌ {A = ℕ} 0 1 = cc in omega arith
-          passing false q v (inl w) = true_false t (ap test w ∙ q)
+          passing false q v (inl w) = true_false t (sym (ap test w) ∙ q)
           passing false q v (inr j) = rec v l j t
 
 -- ---- of both texts
@@ -193,12 +192,12 @@ pub record FirstShown (test : PolicyLine → Bool) (Says : PolicyLine → Type 0
   pub line : FirstLine Says p maker site shown
 
 module _ (test : PolicyLine → Bool) (Says : PolicyLine → Type 0) (means : (l : PolicyLine) → (test l ≡ true) ↔ Says l) (maker site : List ℕ) (p : Policy) (b : Both maker site p) where
-  both_listed : (l : PolicyLine) → Memᴰ l (lines_of_both maker site) → Listed p l
+  both_listed : (l : PolicyLine) → Contains (lines_of_both maker site) l → Listed p l
   both_listed l m =
       subst (λ (q : Policy). Listed q l) (ap₂ (λ (x : List Rule) (y : List Constraint). record { rules = x; constraints = y }) b.rules b.constraints)
       (line_listed (lines_of_both maker site) l m)
 
-  first_in : (text : List ℕ) → ((l : PolicyLine) → Memᴰ l (accepted_lines (lines_of text)) → Listed p l) → Held (lines_of text) → (shown : Stretch) → Found test 0 (lines_of text) shown → FirstOf Says p text shown
+  first_in : (text : List ℕ) → ((l : PolicyLine) → Contains (accepted_lines (lines_of text)) l → Listed p l) → Held (lines_of text) → (shown : Stretch) → Found test 0 (lines_of text) shown → FirstOf Says p text shown
   unfolding shown_at trimming
   first_in text listed holds shown f =
       let n : 0 + ended_length f.before ≡ ended_length f.before = omega arith in
@@ -219,7 +218,7 @@ module _ (test : PolicyLine → Bool) (Says : PolicyLine → Type 0) (means : (l
             stands = f.stands;
             is = f.is;
             read = f.read;
-            listed = listed f.is (holds f.line (rw f.stands (Memᴰ.append_right f.before (Memᴰ.head refl))) f.is f.read);
+            listed = listed f.is (holds f.line (rw f.stands (Contains-append_right f.before (f.line ∷ f.behind) f.line (contains_first f.line f.behind))) f.is f.read);
             says = (means f.is).0 f.passes;
             first = λ x i k j s. f.first x i k j ((means k).1 s);
             trimmed = t;
@@ -228,7 +227,7 @@ module _ (test : PolicyLine → Bool) (Says : PolicyLine → Type 0) (means : (l
           }
 
   -- where a line of the policy passes, there is one
-  pub first_line : (l : PolicyLine) → Memᴰ l (lines_of_both maker site) → test l ≡ true → FirstShown test Says p maker site
+  pub first_line : (l : PolicyLine) → Contains (lines_of_both maker site) l → test l ≡ true → FirstShown test Says p maker site
   unfolding first_shown
   first_line l m t = go (first_from test 0 (lines_of maker)) (first_from test 0 (lines_of site)) refl refl
     where
@@ -237,7 +236,7 @@ module _ (test : PolicyLine → Bool) (Says : PolicyLine → Type 0) (means : (l
           record {
             shown = of_maker x;
             found = rw e;
-            line = first_in maker (λ l i. both_listed l (Memᴰ.append_left (accepted_lines (lines_of site)) i)) b.makers x (found test (lines_of maker) 0 x e);
+            line = first_in maker (λ l i. both_listed l (Contains-append_left (accepted_lines (lines_of maker)) (accepted_lines (lines_of site)) l i)) b.makers x (found test (lines_of maker) 0 x e);
           }
       go None (Some y) e k =
           record {
@@ -245,9 +244,9 @@ module _ (test : PolicyLine → Bool) (Says : PolicyLine → Type 0) (means : (l
             found = rw (e, k);
             line = (
               λ line i l j s. none_found test (lines_of maker) 0 e l (b.makers line i l j) ((means l).1 s),
-              first_in site (λ l i. both_listed l (Memᴰ.append_right (accepted_lines (lines_of maker)) i)) b.sites y (found test (lines_of site) 0 y k),
+              first_in site (λ l i. both_listed l (Contains-append_right (accepted_lines (lines_of maker)) (accepted_lines (lines_of site)) l i)) b.sites y (found test (lines_of site) 0 y k),
             );
           }
       go None None e k =
           absurd (⊎_elim (λ i. none_found test (lines_of maker) 0 e l i t) (λ i. none_found test (lines_of site) 0 k l i t)
-          (Memᴰ.append_cases (accepted_lines (lines_of maker)) m))
+          (Contains-append_cases (accepted_lines (lines_of maker)) (accepted_lines (lines_of site)) l m))

@@ -1,10 +1,8 @@
 -- A constraint with one action and no comparison keeps that action out of every decision.
 use Rattle.std.specs.Prelude.{Some}
-use Rattle.std.proofs.Common.{ℕ, Bool, true, false, cond, List, ◌≡◌, refl, sym, ap, ◌∙◌, arith, Ok}
+use Rattle.std.proofs.Common.{ℕ, Bool, true, false, cond, List, Contains, ◌≡◌, refl, sym, ap, ◌∙◌, arith, Ok}
 use Rattle.std.proofs.Math.Path.{subst⁻¹}
-use mathlib.Core.List.Memᴰ
-use mathlib.Core.List.{Memᴰ}
-use Rattle.policy.proofs.ListLaws.{not_true_is}
+use Rattle.policy.proofs.ListLaws.{not_true_is, contains_one}
 use Rattle.policy.proofs.SetLaws.{has_empty}
 use Rattle.policy.specs.declared.epoch.Epoch.{Epoch}
 use Rattle.policy.specs.Fault.{refusal}
@@ -28,11 +26,11 @@ use Rattle.guarantees.specs.Claims.{TextsCompileTo}
 use Rattle.guarantees.specs.Decisions.{KeptOut}
 use Rattle.guarantees.specs.Machine.{yield_in, answer, step}
 
-module _ (p : Policy) (e : Epoch) (a : Action) (listed : Memᴰ (lone a) p.constraints) where
+module _ (p : Policy) (e : Epoch) (a : Action) (listed : Contains p.constraints (lone a)) where
   rejects : (s : ActionSet) → Satisfies p.constraints e.readings s → has_action s a ≡ false
   rejects s good =
       not_true_is (has_action s a)
-      (λ h. good (lone a) listed (record { members = λ b k. ap (has_action s) (Memᴰ.eq_of_singleton k) ∙ h; condition = λ c k. absurd (Memᴰ.not-nil k) }))
+      (λ h. good (lone a) listed (record { members = λ b k. ap (has_action s) (sym (contains_one a b k)) ∙ h; condition = λ c k. absurd (omega (arith, k.1)) }))
 
   kept_out : (mode : Mode) → KeptOut p e a (yield_in mode p e)
   unfolding yield_in
@@ -49,7 +47,7 @@ module _ (p : Policy) (e : Epoch) (a : Action) (listed : Memᴰ (lone a) p.const
           }
 
 pub lone_constraint_cancels : (form : ℕ) (maker site image : List ℕ) → TextsCompileTo form maker site image → (p : Policy) → policy_of_texts maker site ≡ Some p
-    → (x : Action) → Memᴰ (lone x) p.constraints → (mode : Mode) (line : List ℕ) (e : Epoch) → read_epoch line ≡ Ok e
+    → (x : Action) → Contains p.constraints (lone x) → (mode : Mode) (line : List ℕ) (e : Epoch) → read_epoch line ≡ Ok e
     → KeptOut p e x (answer_of (decision_in mode image line))
 unfolding step answer
 lone_constraint_cancels form maker site image c p q x listed mode line e r =

@@ -1,12 +1,11 @@
 -- What is shown of a line: it stands in its text, without line end and trimmed of spaces at both ends.
 use Rattle.std.specs.Prelude.{Some, None, Ok}
-use Rattle.std.proofs.Common.{ℕ, suc, ◌+◌, ◌≤◌, Bool, true, false, cond, List, [], ◌∷◌, ◌++◌, append_assoc, ⊎_elim, ◌≡◌, refl, sym, ap, ◌∙◌, arith, eqb-true, eq-eqb, length, take, drop, length-append, length-drop, take-append-drop, drop-drop, length-take-le}
+use Rattle.std.proofs.Common.{ℕ, suc, ◌+◌, ◌≤◌, Bool, true, false, cond, List, [], ◌∷◌, ◌++◌, Contains, append_assoc, ⊎_elim, ◌≡◌, refl, sym, ap, ◌∙◌, arith, eqb-true, eq-eqb, length, take, drop, length-append, length-drop, take-append-drop, drop-drop, length-take-le}
 use Rattle.std.proofs.lemmas.Bool.{eqb-false}
 use Rattle.std.proofs.Math.Dec.{eqb}
 use Rattle.std.proofs.Math.Seq.{drop-append_seam, drop-append-add}
-use mathlib.Core.List.Memᴰ
-use mathlib.Core.List.{Memᴰ}
-use Rattle.policy.proofs.ListLaws.{all_out}
+use Rattle.std.proofs.lemmas.List.Elements.{Contains-append_left, Contains-append_right, Contains-append_cases}
+use Rattle.policy.proofs.ListLaws.{contains_cases, contains_first, contains_later, contains_one, all_out}
 use Rattle.policy.specs.Line.{PolicyLine}
 use Rattle.lexer.proofs.LeadingLaws.{leading_joined, leading_pass, leading_ends}
 use Rattle.lexer.specs.Byte.{is_space}
@@ -41,8 +40,7 @@ unfolding add_to_trimmed
 kept c s [] r = go (is_space c) refl
   where
     spaces : c ≡ 32 → Spaces (c ∷ s)
-    spaces h b (Memᴰ.head q) = q ∙ h
-    spaces h b (Memᴰ.tail m) = r.spaces b (rw r.whole at m)
+    spaces h b m = ⊎_elim (λ q. sym q ∙ h) (λ k. r.spaces b (rw r.whole at k)) (contains_cases c s b m)
 
     go : (x : Bool) → is_space c ≡ x → Ended (c ∷ s) (cond x [] (c ∷ []))
     go true h = record { behind = c ∷ s; whole = refl; spaces = spaces (eqb-true c 32 h); last = λ rest b e. absurd (no_last rest b e) }
@@ -57,7 +55,7 @@ kept c s (d ∷ t) r = record { behind = r.behind; whole = ap (λ (t : List ℕ)
 
 pub ended : (s : List ℕ) → Ended s (trim_end s)
 unfolding trim_end
-ended [] = record { behind = []; whole = refl; spaces = λ b m. absurd (Memᴰ.not-nil m); last = λ rest b e. absurd (no_last rest b e) }
+ended [] = record { behind = []; whole = refl; spaces = λ b m. absurd (omega (arith, m.1)); last = λ rest b e. absurd (no_last rest b e) }
 ended (c ∷ s) = kept c s (trim_end s) (ended s)
 
 -- a byte of which nothing is taken in front is no space
@@ -88,13 +86,13 @@ trimming line =
 spaces_skipped : (s : List ℕ) → Spaces s → tokens_of s ≡ []
 unfolding tokens_of pieces non_empty
 spaces_skipped [] h = refl
-spaces_skipped (b ∷ s) h = rw (eq-eqb b 32 (h b (Memᴰ.head refl))) (spaces_skipped s (λ c m. h c (Memᴰ.tail m)))
+spaces_skipped (b ∷ s) h = rw (eq-eqb b 32 (h b (contains_first b s))) (spaces_skipped s (λ c m. h c (contains_later b s c m)))
 
 pub not_empty : (line part : List ℕ) (l : PolicyLine) → line_answer line ≡ Ok (Some l) → Trimmed line part → part ≡ [] → ⊥
 unfolding line_answer tokens_answer
 not_empty line part l e t z =
     let same : line ≡ t.ahead ++ t.behind = t.whole ∙ ap (λ (p : List ℕ). t.ahead ++ (p ++ t.behind)) z in
-    let none : tokens_of line ≡ [] = spaces_skipped line (λ b m. ⊎_elim (t.spaces_ahead b) (t.spaces_behind b) (Memᴰ.append_cases t.ahead (rw same at m))) in
+    let none : tokens_of line ≡ [] = spaces_skipped line (λ b m. ⊎_elim (t.spaces_ahead b) (t.spaces_behind b) (Contains-append_cases t.ahead t.behind b (rw same at m))) in
     let k : line_answer line ≡ Ok None = ap tokens_answer none in
     cc
 
@@ -105,7 +103,7 @@ record Cut (s line : List ℕ) (lines : List (List ℕ)) : Type 0 where
   rest : List ℕ
   whole : s ≡ line ++ rest
   later : lines ≡ pieces 10 (drop 1 rest)
-  no_end : Memᴰ 10 line → ⊥
+  no_end : Contains line 10 → ⊥
 
 no_pieces : (s : List ℕ) → pieces 10 s ≡ [] → s ≡ []
 unfolding pieces prepend
@@ -133,7 +131,7 @@ cut (b ∷ s) line lines e = go (eqb b 10) refl (pieces 10 s) refl (cut s) e
           rest = b ∷ s;
           whole = ap (λ (t : List ℕ). t ++ b ∷ s) i;
           later = sym j ∙ sym k;
-          no_end = λ m. Memᴰ.not-nil (rw (← i) at m);
+          no_end = λ m. omega (arith, m.1, ap length i);
         }
     go false q [] k c h =
         let i : b ∷ [] ≡ line = cc in
@@ -142,7 +140,7 @@ cut (b ∷ s) line lines e = go (eqb b 10) refl (pieces 10 s) refl (cut s) e
           rest = [];
           whole = ap (λ (t : List ℕ). b ∷ t) (no_pieces s k) ∙ ap (λ (t : List ℕ). t ++ []) i;
           later = sym j;
-          no_end = λ m. eqb-false b 10 q (sym (Memᴰ.eq_of_singleton (rw (← i) at m)));
+          no_end = λ m. eqb-false b 10 q (contains_one b 10 (rw (← i) at m));
         }
     go false q (p ∷ ps) k c h =
         let i : b ∷ p ≡ line = cc in
@@ -152,7 +150,7 @@ cut (b ∷ s) line lines e = go (eqb b 10) refl (pieces 10 s) refl (cut s) e
           rest = r.rest;
           whole = ap (λ (t : List ℕ). b ∷ t) r.whole ∙ ap (λ (t : List ℕ). t ++ r.rest) i;
           later = sym j ∙ r.later;
-          no_end = λ m. ⊎_elim (λ e. eqb-false b 10 q (sym e)) r.no_end (Memᴰ.cases_cons (rw (← i) at m));
+          no_end = λ m. ⊎_elim (eqb-false b 10 q) r.no_end (contains_cases b p 10 (rw (← i) at m));
         }
 
 -- the line that starts at a position
@@ -160,7 +158,7 @@ pub record LineAt (text : List ℕ) (at : ℕ) (line : List ℕ) : Type 0 where
   pub rest : List ℕ
   pub inside : at ≤ length text
   pub whole : drop at text ≡ line ++ rest
-  pub no_end : Memᴰ 10 line → ⊥
+  pub no_end : Contains line 10 → ⊥
 
 pub line_at : (before : List (List ℕ)) (text line : List ℕ) (behind : List (List ℕ)) → lines_of text ≡ before ++ line ∷ behind → LineAt text (ended_length before) line
 unfolding lines_of ended_length pieces
@@ -209,5 +207,5 @@ module _ (text : List ℕ) (at : ℕ) (line part : List ℕ) (l : LineAt text at
         start = length-take-le start text start_inside;
         some = some;
         unspaced = t.unspaced;
-        no_line_end = λ m. l.no_end (rw t.whole (Memᴰ.append_right t.ahead (Memᴰ.append_left t.behind m)));
+        no_line_end = λ m. l.no_end (rw t.whole (Contains-append_right t.ahead (part ++ t.behind) 10 (Contains-append_left part t.behind 10 m)));
       }

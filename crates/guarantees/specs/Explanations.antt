@@ -1,7 +1,6 @@
 -- What is claimed of explanations: when there is one, what it says became of an action, which line it shows, and that
 -- what it shows stands in the text.
-use Rattle.std.specs.Prelude.{ℕ, ◌+◌, ◌<◌, ◌≤◌, true, false, ◌≡◌, length, List, [], ◌∷◌, ◌++◌, Ok, Err, Some}
-use mathlib.Core.List.{Memᴰ}
+use Rattle.std.specs.Prelude.{ℕ, ◌+◌, ◌<◌, ◌≤◌, true, false, ◌≡◌, length, List, [], ◌∷◌, ◌++◌, Contains, Ok, Err, Some}
 use Rattle.policy.specs.declared.epoch.Epoch.{Epoch}
 use Rattle.policy.specs.Fault.{refusal}
 use Rattle.policy.specs.Line.{PolicyLine, rule, constraint}
@@ -63,12 +62,12 @@ Cancels e accepts a (constraint c) = HoldsOn e.readings (insert_action (actions_
 
 -- a line of a policy
 abbrev pub Listed : Policy → PolicyLine → Type 0
-Listed p (rule r) = Memᴰ r p.rules
-Listed p (constraint c) = Memᴰ c p.constraints
+Listed p (rule r) = Contains p.rules r
+Listed p (constraint c) = Contains p.constraints c
 
 -- no line of a text that is read as a line of a policy says so
 abbrev pub NoneSays : (PolicyLine → Type 0) → List (List ℕ) → Type 0
-NoneSays Says lines = (line : List ℕ) → Memᴰ line lines → (l : PolicyLine) → line_answer line ≡ Ok (Some l) → ¬ Says l
+NoneSays Says lines = (line : List ℕ) → Contains lines line → (l : PolicyLine) → line_answer line ≡ Ok (Some l) → ¬ Says l
 
 -- how many bytes lines have, with their line ends
 unfoldable pub ended_length : List (List ℕ) → ℕ
@@ -77,7 +76,7 @@ ended_length (line ∷ lines) = length line + 1 + ended_length lines
 
 -- no byte but spaces
 abbrev pub Spaces : List ℕ → Type 0
-Spaces s = (b : ℕ) → Memᴰ b s → b ≡ 32
+Spaces s = (b : ℕ) → Contains s b → b ≡ 32
 
 -- bytes with no space at either end
 pub record Unspaced (part : List ℕ) : Type 0 where
@@ -101,7 +100,7 @@ pub record Straight (text : List ℕ) (shown : Stretch) : Type 0 where
   pub start : length before ≡ shown.start
   pub some : ¬ (shown.bytes ≡ [])
   pub unspaced : Unspaced shown.bytes
-  pub no_line_end : ¬ Memᴰ 10 shown.bytes
+  pub no_line_end : ¬ Contains shown.bytes 10
 
 -- of the text that it is from
 abbrev pub QuotedStraight : (maker site : List ℕ) → Quote → Type 0

@@ -1,12 +1,11 @@
 //! Laws of decisions. A law is a function with no parameters and an empty body, whose contract is the statement.
 
-ghost use Rattle.std.specs.Prelude.{List, ℕ, ◌≡◌, ◌<◌, length, set, ◌↔◌, true, ◌*◌, ◌+◌, ◌≤◌, Ok, Err, Some};
+ghost use Rattle.std.specs.Prelude.{List, Contains, ℕ, ◌≡◌, ◌<◌, length, set, ◌↔◌, true, ◌*◌, ◌+◌, ◌≤◌, Ok, Err, Some};
 ghost use Rattle.guarantees.specs.Claims.{CompilesTo, answers, TextsCompileTo};
 ghost use Rattle.guarantees.specs.Machine.{ToldLine, machine, machine_of_texts};
 ghost use Rattle.guarantees.specs.Decisions.{CheckFailed, RefusedIn, OfDecisionIn, KeptOut, Obeys, IsBest, ObeysEvents};
 ghost use Rattle.policy.specs.declared.mode.Mode.{Mode};
 ghost use Rattle.policy.specs.declared.number.Action.{Action};
-ghost use mathlib.Core.List.{Memᴰ};
 ghost use Rattle.monitor.specs.Decision.{answer_of, decision_in, decision, visited_in};
 ghost use Rattle.exactness.specs.Exact.{changed};
 ghost use Rattle.word.specs.Word.{word_at, word_limit, words_of, Bytes};
@@ -110,7 +109,7 @@ pub fn events_conflict_refused()
 
 /// A constraint with one action and no comparison keeps that action out of every decision, in either mode.
 pub fn lone_constraint_cancels()
-    ensures { (form : ℕ) (maker site image : List ℕ) → TextsCompileTo form maker site image → (p : Policy) → policy_of_texts maker site ≡ Some p → (x : Action) → Memᴰ (lone x) p.constraints → (mode : Mode) (line : List ℕ) (e : Epoch) → read_epoch line ≡ Ok e → KeptOut p e x (answer_of (decision_in mode image line)) }
+    ensures { (form : ℕ) (maker site image : List ℕ) → TextsCompileTo form maker site image → (p : Policy) → policy_of_texts maker site ≡ Some p → (x : Action) → Contains p.constraints (lone x) → (mode : Mode) (line : List ℕ) (e : Epoch) → read_epoch line ≡ Ok e → KeptOut p e x (answer_of (decision_in mode image line)) }
 {}
 
 /// A decision by actions fetches at most P + 64 x N words, P and N the words of the rules and of the constraints.

@@ -1,8 +1,7 @@
 //! Laws of reading texts and epoch lines.
 
 ghost use Rattle.policy.specs.Fault.{refusal};
-ghost use Rattle.std.specs.Prelude.{List, [], ◌∷◌, ◌++◌, length, ℕ, ◌<◌, ◌≤◌, ℤ, ◌≡◌, ◌⊎◌, ◌↔◌, true, false, nat_eq, Ok, Err, Some, None};
-ghost use mathlib.Core.List.{Memᴰ};
+ghost use Rattle.std.specs.Prelude.{List, [], ◌∷◌, ◌++◌, Contains, length, ℕ, ◌<◌, ◌≤◌, ℤ, ◌≡◌, ◌⊎◌, ◌↔◌, true, false, nat_eq, Ok, Err, Some, None};
 ghost use Rattle.policy.specs.declared.fault.Fault.{Fault};
 ghost use Rattle.policy.specs.declared.fault.Refusal.{Refusal};
 ghost use Rattle.policy.specs.Epoch.{reading_value};
@@ -56,12 +55,12 @@ pub fn wide_constant_refused()
 
 /// The same by the token alone: a line that is written right and has, at any place, a token of `0x` and more than eight digits.
 pub fn wide_token_refused()
-    ensures { (ds line : List ℕ) → Memᴰ (prefixed ds) (tokens_of line) → list_all is_hex_digit ds ≡ true → pattern_digits < length ds → (l : PolicyLine) → IsWritten line l → line_answer line ≡ Err Fault.OutOfRange }
+    ensures { (ds line : List ℕ) → Contains (tokens_of line) (prefixed ds) → list_all is_hex_digit ds ≡ true → pattern_digits < length ds → (l : PolicyLine) → IsWritten line l → line_answer line ≡ Err Fault.OutOfRange }
 {}
 
 /// A line that has, at any place, the token `0x`, or one of `0x` and bytes of which some one is no hexadecimal digit, has a wrong shape, unless it is skipped.
 pub fn bare_prefix_refused()
-    ensures { (ds line : List ℕ) → Memᴰ (prefixed ds) (tokens_of line) → (ds ≡ []) ⊎ (list_all is_hex_digit ds ≡ false) → is_skipped (tokens_of line) ≡ false → line_answer line ≡ Err Fault.Syntax }
+    ensures { (ds line : List ℕ) → Contains (tokens_of line) (prefixed ds) → (ds ≡ []) ⊎ (list_all is_hex_digit ds ≡ false) → is_skipped (tokens_of line) ≡ false → line_answer line ≡ Err Fault.Syntax }
 {}
 
 /// One to eight hexadecimal digits behind `0x` are the constant whose word of 32 bits in two's complement they are.
@@ -98,12 +97,12 @@ pub fn epoch_refused_exactly()
 /// An epoch line has a wrong shape where a value in it, behind the first `=` of a token, is `0x` alone, or `0x` and bytes of which some one is no
 /// hexadecimal digit, whatever else the line has.
 pub fn epoch_bare_prefix_refused()
-    ensures { (t : Token) (left ds : List ℕ) → at_equals t ≡ Some (record { left = left; right = prefixed ds }) → (line : List ℕ) → length line ≤ epoch_limit → Memᴰ t (tokens_of line) → (ds ≡ []) ⊎ (list_all is_hex_digit ds ≡ false) → read_epoch line ≡ Err (refusal Fault.EpochSyntax 0) }
+    ensures { (t : Token) (left ds : List ℕ) → at_equals t ≡ Some (record { left = left; right = prefixed ds }) → (line : List ℕ) → length line ≤ epoch_limit → Contains (tokens_of line) t → (ds ≡ []) ⊎ (list_all is_hex_digit ds ≡ false) → read_epoch line ≡ Err (refusal Fault.EpochSyntax 0) }
 {}
 
 /// An epoch line of items, in which a value is `0x` and more than eight hexadecimal digits, is out of range, whatever else it has.
 pub fn epoch_wide_constant_refused()
-    ensures { (t : Token) (left ds : List ℕ) → at_equals t ≡ Some (record { left = left; right = prefixed ds }) → (line : List ℕ) → length line ≤ epoch_limit → Memᴰ t (tokens_of line) → list_all is_hex_digit ds ≡ true → pattern_digits < length ds → list_any (nat_eq 10) line ≡ false → (is : List Item) → items_of (tokens_of line) ≡ Some is → read_epoch line ≡ Err (refusal Fault.EpochRange 0) }
+    ensures { (t : Token) (left ds : List ℕ) → at_equals t ≡ Some (record { left = left; right = prefixed ds }) → (line : List ℕ) → length line ≤ epoch_limit → Contains (tokens_of line) t → list_all is_hex_digit ds ≡ true → pattern_digits < length ds → list_any (nat_eq 10) line ≡ false → (is : List Item) → items_of (tokens_of line) ≡ Some is → read_epoch line ≡ Err (refusal Fault.EpochRange 0) }
 {}
 
 /// With an empty site's text two texts have the answer of the maker's alone.
@@ -123,7 +122,7 @@ pub fn line_names()
 
 /// On an accepted line a reading that is given has the value that stands there.
 pub fn line_gives()
-    ensures { (e : Epoch) (line : List ℕ) (is : List Item) → items_of (tokens_of line) ≡ Some is → read_epoch line ≡ Ok e → (n : ℕ) (k : ℤ) → Memᴰ (value n k) is → reading_value e.readings (record { 0 = n }) ≡ Some k }
+    ensures { (e : Epoch) (line : List ℕ) (is : List Item) → items_of (tokens_of line) ≡ Some is → read_epoch line ≡ Ok e → (n : ℕ) (k : ℤ) → Contains is (value n k) → reading_value e.readings (record { 0 = n }) ≡ Some k }
 {}
 
 /// On an accepted line a reading that the line does not give is missing.

@@ -3,7 +3,7 @@ use Rattle.std.proofs.Common.{ℕ, ◌+◌, Bool, true, false, cond, List, ◌�
 use Rattle.policy.specs.declared.epoch.Epoch.{Epoch}
 use Rattle.policy.specs.declared.epoch.Readings.{Readings}
 use Rattle.policy.specs.Fault.{refusal}
-use Rattle.policy.specs.Set.{ActionSet, EventSet, all_events, keeping, no_events, actions_without, set_of}
+use Rattle.policy.specs.Set.{ActionSet, all_events, keeping, no_events, actions_without}
 use Rattle.policy.specs.declared.fault.Fault.{Fault}
 use Rattle.policy.specs.declared.fault.Refusal.{Refusal}
 use Rattle.policy.specs.declared.mode.Mode.{Mode}
@@ -60,10 +60,6 @@ module _ (rules constraints : List ℕ) (e : Epoch) where
       ap Ok (rw (o, k, a))
       ∙ ap (λ (b : Bool). cond b (Err (refusal Fault.Unavoidable 0)) (Ok (reduced_by rules constraints e)))
       (sym c ∙ ap (λ (x : EventTrial). x.conflict) t)
-
--- where no event is dropped, what those kept propose is what all propose
-pub none_dropped : (rules : List ℕ) (e : Epoch) (kept : EventSet) → kept.bits ≡ e.events.bits → proposed_with_by rules e kept ≡ proposed_by rules e
-none_dropped rules e kept q = ap (λ (n : ℕ). proposed_with_by rules e (set_of n)) q
 
 -- ---- the answer
 

@@ -1,9 +1,7 @@
 -- The accepted and the cancelled actions of an epoch: a maximal action cancellation of what the rules propose, lower numbers kept
 -- first (Definitions 11.1 to 11.3 of Chomicki, Lobo and Naqvi, "Conflict Resolution Using Logic Programming", TKDE 2003).
-use Rattle.std.proofs.Common.{true, false, not, ◌&&◌, List, [], ◌≡◌, sym, ap, ◌∙◌}
-use mathlib.Core.List.Memᴰ
-use mathlib.Core.List.{Memᴰ}
-use Rattle.policy.proofs.ListLaws.{not_true_is, not_false_is, and_out}
+use Rattle.std.proofs.Common.{true, false, not, ◌&&◌, List, [], Contains, ◌≡◌, sym, ap, ◌∙◌, arith}
+use Rattle.policy.proofs.ListLaws.{not_true_is, not_false_is, and_out, contains_one}
 use Rattle.pdl.proofs.Others.{has_others, others_apart, with_others, no_others}
 use Rattle.pdl.proofs.Proposals.{proposals_limit}
 use Rattle.pdl.proofs.Resolution.{satisfied, conflict_out, resolve_within, resolve_satisfies, resolve_maximal, resolve_dropped, resolve_kept, resolve_limit}
@@ -78,14 +76,14 @@ module _ (p : Policy) where
       (cancelled_apart e a h)
 
   -- a constraint with one action, where its condition holds
-  module _ (a : Action) (cs : List Comparison) (listed : Memᴰ (of_one_action a cs) p.constraints) (e : Epoch) (holds : Condition Part.Constraints e.readings cs) where
+  module _ (a : Action) (cs : List Comparison) (listed : Contains p.constraints (of_one_action a cs)) (e : Epoch) (holds : Condition Part.Constraints e.readings cs) where
     one_rejected : has_action (accepted p e) a ≡ false
     unfolding accepted
     one_rejected =
         not_true_is (has_action (accepted p e) a)
         (λ h. resolve_kept p.constraints e.readings (proposed p.rules e) a h (of_one_action a cs) listed
         (record {
-          members = λ b k. ap (has_action (insert_action (actions_below (accepted p e) a) a)) (Memᴰ.eq_of_singleton k)
+          members = λ b k. ap (has_action (insert_action (actions_below (accepted p e) a) a)) (sym (contains_one a b k))
               ∙ has_insert_same (actions_below (accepted p e) a).bits a.0 (resolve_limit p.constraints e.readings (proposed p.rules e) a h);
           condition = holds;
         }))
@@ -93,13 +91,13 @@ module _ (p : Policy) where
     one_cancelled : has_action (proposed p.rules e) a ≡ true → has_action (cancelled p e) a ≡ true
     one_cancelled h = has_cancelled e a ∙ rw (h, one_rejected)
 
-  pub lone_never_accepted : (a : Action) → Memᴰ (lone a) p.constraints → (e : Epoch) → has_action (accepted p e) a ≡ false
-  lone_never_accepted a m e = one_rejected a [] m e (λ c k. absurd (Memᴰ.not-nil k))
+  pub lone_never_accepted : (a : Action) → Contains p.constraints (lone a) → (e : Epoch) → has_action (accepted p e) a ≡ false
+  lone_never_accepted a m e = one_rejected a [] m e (λ c k. absurd (omega (arith, k.1)))
 
-  pub lone_always_cancelled : (a : Action) → Memᴰ (lone a) p.constraints → (e : Epoch) → has_action (proposed p.rules e) a ≡ true → has_action (cancelled p e) a ≡ true
-  lone_always_cancelled a m e = one_cancelled a [] m e (λ c k. absurd (Memᴰ.not-nil k))
+  pub lone_always_cancelled : (a : Action) → Contains p.constraints (lone a) → (e : Epoch) → has_action (proposed p.rules e) a ≡ true → has_action (cancelled p e) a ≡ true
+  lone_always_cancelled a m e = one_cancelled a [] m e (λ c k. absurd (omega (arith, k.1)))
 
   -- where each comparison of such a constraint names a missing reading, its action is cancelled whenever it is proposed
-  pub missing_always_cancelled : (a : Action) (cs : List Comparison) → Memᴰ (of_one_action a cs) p.constraints → (e : Epoch)
-      → ((c : Comparison) → Memᴰ c cs → NamesMissing e.readings c) → has_action (proposed p.rules e) a ≡ true → has_action (cancelled p e) a ≡ true
+  pub missing_always_cancelled : (a : Action) (cs : List Comparison) → Contains p.constraints (of_one_action a cs) → (e : Epoch)
+      → ((c : Comparison) → Contains cs c → NamesMissing e.readings c) → has_action (proposed p.rules e) a ≡ true → has_action (cancelled p e) a ≡ true
   missing_always_cancelled a cs m e missing = one_cancelled a cs m e (λ c k. missing_in_constraint e.readings c (missing c k))

@@ -1,7 +1,6 @@
 -- The proposed set is what Definition 6 of Chomicki, Lobo and Naqvi, "Conflict Resolution Using Logic Programming" (TKDE 2003), says.
-use Rattle.std.proofs.Common.{◌<◌, ◌^◌, Bool, true, false, not, ◌&&◌, cond, List, [], ◌∷◌, ◌↔◌, ◌⊎◌, inl, inr, ⊎_elim, ◌≡◌, refl, sym, ap, ◌∙◌, subst, lit<, fold}
-use mathlib.Core.List.{Memᴰ}
-use Rattle.policy.proofs.ListLaws.{true_false, not_true_is, and_in, and_out, all_in, all_out}
+use Rattle.std.proofs.Common.{◌<◌, ◌^◌, Bool, true, false, not, ◌&&◌, cond, zero, suc, List, [], ◌∷◌, Contains, ◌↔◌, ◌⊎◌, inl, inr, ⊎_elim, ◌≡◌, refl, sym, ap, ◌∙◌, subst, lit<, fold, arith}
+use Rattle.policy.proofs.ListLaws.{true_false, not_true_is, and_in, and_out, contains_first, contains_later, all_in, all_out}
 use Rattle.policy.proofs.SetLaws.{has_empty, has_limit, has_insert_same, has_insert_old, has_insert_cases, insert_limit}
 use Rattle.policy.proofs.MissingLaws.{missing_in_rule, fewer_in_rule}
 use Rattle.policy.specs.Comparison.{NamesMissing, comparison_holds}
@@ -30,14 +29,14 @@ literal_occurs ev l = go l.negated (has_event ev.present l.event) (has_event ev.
     go true present true = (λ h _. true_false h refl, λ h. absurd (h refl))
     go true present false = (λ _ h. true_false h refl, λ _. refl)
 
-pub rule_holds_is : (ev : Events) (rs : Readings) (r : Rule) → ((l : Literal) → Memᴰ l r.literals → Occurs ev l) → Condition Part.Rules rs r.comparisons → rule_holds ev rs r ≡ true
+pub rule_holds_is : (ev : Events) (rs : Readings) (r : Rule) → ((l : Literal) → Contains r.literals l → Occurs ev l) → Condition Part.Rules rs r.comparisons → rule_holds ev rs r ≡ true
 unfolding rule_holds
 rule_holds_is ev rs r occurs condition =
     and_in (all_in (literal_holds ev) r.literals (λ l m. (literal_occurs ev l).1 (occurs l m)))
     (all_in (comparison_holds Part.Rules rs) r.comparisons condition)
 
 -- the rule that holds derives its action
-rule_derives : (rules : List Rule) (ev : Events) (rs : Readings) (r : Rule) → Memᴰ r rules → rule_holds ev rs r ≡ true → Derives rules ev rs r.action
+rule_derives : (rules : List Rule) (ev : Events) (rs : Readings) (r : Rule) → Contains rules r → rule_holds ev rs r ≡ true → Derives rules ev rs r.action
 unfolding rule_holds
 rule_derives rules ev rs r m h =
     let parts = and_out _ _ h in
@@ -50,7 +49,7 @@ rule_derives rules ev rs r m h =
     }
 
 -- a rule with a comparison that names a missing reading does not hold
-pub missing_rule : (ev : Events) (rs : Readings) (r : Rule) (c : Comparison) → Memᴰ c r.comparisons → NamesMissing rs c → rule_holds ev rs r ≡ false
+pub missing_rule : (ev : Events) (rs : Readings) (r : Rule) (c : Comparison) → Contains r.comparisons c → NamesMissing rs c → rule_holds ev rs r ≡ false
 unfolding rule_holds
 missing_rule ev rs r c m missing =
     not_true_is (all (literal_holds ev) r.literals && all (comparison_holds Part.Rules rs) r.comparisons)
@@ -86,21 +85,21 @@ module _ (ev : Events) (rs : Readings) (a : Action) where
   more_old [] s h = h
   more_old (r ∷ rest) s h = more_old rest (propose ev rs s r) (propose_old ev rs s r a h)
 
-  more_new : (rules : List Rule) (s : ActionSet) (r : Rule) → Memᴰ r rules → a.0 < set_limit → r.action ≡ a → rule_holds ev rs r ≡ true → has_action (fold (propose ev rs) s rules) a ≡ true
-  more_new [] s r x4 l q h = elim x4 [ ]
-  more_new (x ∷ xs) s r (Memᴰ.head p) l q h = more_old xs (propose ev rs s x) (propose_new ev rs s x a l (sym (ap (λ (y : Rule). y.action) p) ∙ q) (sym (ap (rule_holds ev rs) p) ∙ h))
-  more_new (x ∷ xs) s r (Memᴰ.tail m) l q h = more_new xs (propose ev rs s x) r m l q h
+  more_new : (rules : List Rule) (s : ActionSet) (r : Rule) → Contains rules r → a.0 < set_limit → r.action ≡ a → rule_holds ev rs r ≡ true → has_action (fold (propose ev rs) s rules) a ≡ true
+  more_new [] s r m l q h = absurd (omega (arith, m.1))
+  more_new (x ∷ xs) s r (zero, i, p) l q h = more_old xs (propose ev rs s x) (propose_new ev rs s x a l (ap (λ (y : Rule). y.action) p ∙ q) (ap (rule_holds ev rs) p ∙ h))
+  more_new (x ∷ xs) s r (suc k, i, p) l q h = more_new xs (propose ev rs s x) r (k, omega arith, p) l q h
 
-  more_cases : (rules : List Rule) (s : ActionSet) → has_action (fold (propose ev rs) s rules) a ≡ true → (has_action s a ≡ true) ⊎ ((r : Rule) × Memᴰ r rules × (r.action ≡ a) × (rule_holds ev rs r ≡ true))
+  more_cases : (rules : List Rule) (s : ActionSet) → has_action (fold (propose ev rs) s rules) a ≡ true → (has_action s a ≡ true) ⊎ ((r : Rule) × Contains rules r × (r.action ≡ a) × (rule_holds ev rs r ≡ true))
   more_cases [] s h = inl h
   more_cases (x ∷ xs) s h = go (more_cases xs (propose ev rs s x) h)
     where
       Found : List Rule → Type 0
-      Found rules = (r : Rule) × Memᴰ r rules × (r.action ≡ a) × (rule_holds ev rs r ≡ true)
+      Found rules = (r : Rule) × Contains rules r × (r.action ≡ a) × (rule_holds ev rs r ≡ true)
 
       go : (has_action (propose ev rs s x) a ≡ true) ⊎ Found xs → (has_action s a ≡ true) ⊎ Found (x ∷ xs)
-      go (inl k) = ⊎_elim (λ p. inr (x, Memᴰ.head refl, p.0, p.1)) inl (propose_cases ev rs s x a k)
-      go (inr f) = inr (f.0, Memᴰ.tail f.1, f.2, f.3)
+      go (inl k) = ⊎_elim (λ p. inr (x, contains_first x xs, p.0, p.1)) inl (propose_cases ev rs s x a k)
+      go (inr f) = inr (f.0, contains_later x xs f.0 f.1, f.2, f.3)
 
 -- an action is proposed exactly if some rule has it, and all the rule's literals and comparisons hold
 pub proposals_derived : (rules : List Rule) (ev : Events) (rs : Readings) (a : Action) → a.0 < set_limit → (has_action (proposals rules ev rs) a ≡ true) ↔ Derives rules ev rs a

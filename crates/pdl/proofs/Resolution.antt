@@ -1,8 +1,7 @@
 -- Laws of resolving: when a set of actions has a conflict, and what is kept of it.
-use Rattle.std.proofs.Common.{ap, ℕ, ◌^◌, ◌<◌, Bool, true, false, List, [], ◌∷◌, ◌≡◌, refl}
-use mathlib.Core.List.{Memᴰ}
+use Rattle.std.proofs.Common.{ap, ℕ, ◌^◌, ◌<◌, Bool, true, false, List, [], ◌∷◌, Contains, ◌≡◌, refl}
 use Rattle.pdl.proofs.GreedyLaws.{Monotone, greedy_kept, greedy_dropped, greedy_within, greedy_good, greedy_maximal, greedy_limit}
-use Rattle.policy.proofs.ListLaws.{true_false, not_true_is, and_in, and_out, all_in, all_out, any_in, any_out}
+use Rattle.policy.proofs.ListLaws.{true_false, not_true_is, and_in, and_out, contains_first, all_in, all_out, any_in, any_out}
 use Rattle.policy.proofs.MissingLaws.{fewer_in_constraint}
 use Rattle.policy.proofs.SetLaws.{has_empty, has_limit, set_ext}
 use Rattle.policy.specs.Comparison.{comparison_holds}
@@ -69,9 +68,9 @@ module _ (constraints : List Constraint) (rs : Readings) where
   bad_empty : NameActions constraints → bad 0 ≡ false
   bad_empty named = no_conflict no_actions (λ c m h. none c.actions (named c m) h.members)
     where
-      none : (as' : List Action) → ¬ (as' ≡ []) → ((a : Action) → Memᴰ a as' → has_action no_actions a ≡ true) → ⊥
+      none : (as' : List Action) → ¬ (as' ≡ []) → ((a : Action) → Contains as' a → has_action no_actions a ≡ true) → ⊥
       none [] named' h = named' refl
-      none (a ∷ rest) named' h = true_false (h a (Memᴰ.head refl)) (has_empty a.0)
+      none (a ∷ rest) named' h = true_false (h a (contains_first a rest)) (has_empty a.0)
 
   -- what is violated stays so with fewer readings
   pub fewer_violated : (fewer : Readings) → SomeOf fewer rs → (s : ActionSet) → Violated constraints rs s → Violated constraints fewer s

@@ -1,7 +1,6 @@
 -- Definitions 4 to 11 of Chomicki, Lobo and Naqvi, "Conflict Resolution Using Logic Programming" (TKDE 2003), in its own terms, for
 -- ground rules and an epoch that carries readings. Definitions and sections below are the paper's.
-use Rattle.std.specs.Prelude.{Bool, true, false, ◌↔◌, ◌≡◌, ◌<◌, List, [], ◌∷◌}
-use mathlib.Core.List.{Memᴰ}
+use Rattle.std.specs.Prelude.{Bool, true, false, ◌↔◌, ◌≡◌, ◌<◌, List, [], ◌∷◌, Contains}
 use Rattle.policy.specs.Comparison.{comparison_holds}
 use Rattle.policy.specs.Epoch.{InAlphabet}
 use Rattle.policy.specs.declared.epoch.Epoch.{Epoch}
@@ -18,7 +17,7 @@ use Rattle.policy.specs.declared.set.Events.{Events}
 
 -- the condition of a rule or of a constraint: the conjunction of its comparisons (Definition 4)
 abbrev pub Condition : Part → Readings → List Comparison → Type 0
-Condition part rs cs = (c : Comparison) → Memᴰ c cs → comparison_holds part rs c ≡ true
+Condition part rs cs = (c : Comparison) → Contains cs c → comparison_holds part rs c ≡ true
 
 -- Definition 5: an event occurs in the epoch if it is a member, and `!e` occurs if `e` is not. Where events of the epoch are left
 -- out, membership is taken from those that are present, and absence from all that occurred.
@@ -32,9 +31,9 @@ Occurs ev l = OccursAs l.negated (has_event ev.present l.event ≡ true) (has_ev
 -- some rule has the action, and all its literals and comparisons hold
 pub record Derives (rules : List Rule) (ev : Events) (rs : Readings) (a : Action) : Type 0 where
   pub rule : Rule
-  pub listed : Memᴰ rule rules
+  pub listed : Contains rules rule
   pub causes : rule.action ≡ a
-  pub event : (l : Literal) → Memᴰ l rule.literals → Occurs ev l
+  pub event : (l : Literal) → Contains rule.literals l → Occurs ev l
   pub condition : Condition Part.Rules rs rule.comparisons
 
 -- what `occ` and `exec` may mean
@@ -45,7 +44,7 @@ pub record Interpretation : Type 1 where
 -- a model of the program of the rules, `exec(a) ← occ(e₁) ∧ … ∧ occ(eₗ) ∧ C` for each, and of `occ(E)`
 pub record Model (rules : List Rule) (ev : Events) (rs : Readings) (I : Interpretation) : Type 0 where
   pub facts : (l : Literal) → Occurs ev l → I.occ l
-  pub implications : (r : Rule) → Memᴰ r rules → ((l : Literal) → Memᴰ l r.literals → I.occ l) → Condition Part.Rules rs r.comparisons → I.exec r.action
+  pub implications : (r : Rule) → Contains rules r → ((l : Literal) → Contains r.literals l → I.occ l) → Condition Part.Rules rs r.comparisons → I.exec r.action
 
 -- `exec(a)` holds in every model
 abbrev pub Entails : List Rule → Events → Readings → Action → Type 1
@@ -57,17 +56,17 @@ DefinedBy rules π = (e : Epoch) (a : Action) → a.0 < set_limit → (has_actio
 
 -- Definitions 7 and 8: a set satisfies a constraint if not all its actions are in the set while its condition holds
 pub record HoldsOn (rs : Readings) (s : ActionSet) (c : Constraint) : Type 0 where
-  pub members : (a : Action) → Memᴰ a c.actions → has_action s a ≡ true
+  pub members : (a : Action) → Contains c.actions a → has_action s a ≡ true
   pub condition : Condition Part.Constraints rs c.comparisons
 
 -- some constraint holds on the set
 pub record Violated (constraints : List Constraint) (rs : Readings) (s : ActionSet) : Type 0 where
   pub constraint : Constraint
-  pub listed : Memᴰ constraint constraints
+  pub listed : Contains constraints constraint
   pub holds : HoldsOn rs s constraint
 
 abbrev pub Satisfies : List Constraint → Readings → ActionSet → Type 0
-Satisfies constraints rs s = (c : Constraint) → Memᴰ c constraints → ¬ HoldsOn rs s c
+Satisfies constraints rs s = (c : Constraint) → Contains constraints c → ¬ HoldsOn rs s c
 
 -- a constraint with one action
 abbrev pub of_one_action : Action → List Comparison → Constraint
@@ -79,7 +78,7 @@ lone a = of_one_action a []
 
 -- each constraint has at least one action, as every line of a text has
 abbrev pub NameActions : List Constraint → Type 0
-NameActions constraints = (c : Constraint) → Memᴰ c constraints → ¬ (c.actions ≡ [])
+NameActions constraints = (c : Constraint) → Contains constraints c → ¬ (c.actions ≡ [])
 
 -- Definition 9: a monitor's output satisfies the constraints on every epoch
 abbrev pub Monitor : List Constraint → (Epoch → ActionSet) → Type 0

@@ -1,6 +1,7 @@
 -- Tests as facts: what it says that a test of Bools, or of a whole list, holds.
-use Rattle.std.proofs.Common.{ℕ, Bool, true, false, ◌&&◌, ◌||◌, List, [], ◌∷◌, ◌++◌, ◌≡◌, refl, sym, ap, ◌∙◌, arith}
-use mathlib.Core.List.{Memᴰ}
+use Rattle.std.proofs.Common.{ℕ, zero, suc, Bool, true, false, ◌&&◌, ◌||◌, List, [], ◌∷◌, ◌++◌, Contains, ◌≡◌, refl, sym, ap, ◌∙◌, ◌⊎◌, inl, inr, arith}
+use Rattle.std.proofs.lemmas.List.Elements.{Contains-append_right}
+use Rattle.std.proofs.lemmas.List.Folds.{Any-from_list_any, list_all_at, list_any_at}
 use Rattle.policy.specs.List.{all, any}
 
 pub true_false : {b : Bool} → b ≡ true → b ≡ false → ⊥
@@ -30,37 +31,36 @@ pub bool_ext : (a b : Bool) → (a ≡ true → b ≡ true) → (b ≡ true → 
 bool_ext true b f g = sym (f refl)
 bool_ext false b f g = sym (not_true_is b (λ e. true_false (g e) refl))
 
-module _ {A : Type 0} (p : A → Bool) where
-  pub all_in : (xs : List A) → ((x : A) → Memᴰ x xs → p x ≡ true) → all p xs ≡ true
-  all_in [] h = refl
-  all_in (x ∷ xs) h = and_in (h x (Memᴰ.head refl)) (all_in xs (λ y m. h y (Memᴰ.tail m)))
+module _ {A : Type 0} where
+  -- an element is the first or one of the others
+  pub contains_cases : (y : A) (ys : List A) (x : A) → Contains (y ∷ ys) x → (y ≡ x) ⊎ Contains ys x
+  contains_cases y ys x (zero, l, e) = inl e
+  contains_cases y ys x (suc k, l, e) = inr (k, omega arith, e)
 
-  pub all_out : (xs : List A) → all p xs ≡ true → (x : A) → Memᴰ x xs → p x ≡ true
-  all_out [] e x m = elim m [ ]
-  all_out (y ∷ ys) e x (Memᴰ.head q) = ap p q ∙ (and_out (p y) (all p ys) e).0
-  all_out (y ∷ ys) e x (Memᴰ.tail m) = all_out ys (and_out (p y) (all p ys) e).1 x m
+  pub contains_first : (x : A) (xs : List A) → Contains (x ∷ xs) x
+  contains_first x xs = (0, omega arith, refl)
+
+  pub contains_later : (y : A) (ys : List A) (x : A) → Contains ys x → Contains (y ∷ ys) x
+  contains_later y = Contains-append_right (y ∷ [])
+
+  pub contains_one : (y x : A) → Contains (y ∷ []) x → y ≡ x
+  contains_one y x (zero, l, e) = e
+  contains_one y x (suc k, l, e) = absurd (omega arith)
+
+module _ {A : Type 0} (p : A → Bool) where
+  pub all_in : (xs : List A) → ((x : A) → Contains xs x → p x ≡ true) → all p xs ≡ true
+  all_in [] h = refl
+  all_in (x ∷ xs) h = and_in (h x (contains_first x xs)) (all_in xs (λ y m. h y (contains_later x xs y m)))
+
+  pub all_out : (xs : List A) → all p xs ≡ true → (x : A) → Contains xs x → p x ≡ true
+  all_out xs e x m = not_false_is (p x) (λ f. true_false e (list_all_at p xs m.0 x m.1 (ap p m.2 ∙ f)))
 
   pub all_append : (xs ys : List A) → all p xs ≡ true → all p ys ≡ true → all p (xs ++ ys) ≡ true
   all_append [] ys e f = f
   all_append (x ∷ xs) ys e f = let h = and_out (p x) (all p xs) e in and_in h.0 (all_append xs ys h.1 f)
 
-  pub any_in : (xs : List A) (x : A) → Memᴰ x xs → p x ≡ true → any p xs ≡ true
-  any_in [] x m h = elim m [ ]
-  any_in (y ∷ ys) x (Memᴰ.head q) h = rw (sym (ap p q) ∙ h)
-  any_in (y ∷ ys) x (Memᴰ.tail m) h = or_right (p y) (any_in ys x m h)
-    where
-      or_right : (a : Bool) {b : Bool} → b ≡ true → a || b ≡ true
-      or_right true e = refl
-      or_right false e = e
+  pub any_in : (xs : List A) (x : A) → Contains xs x → p x ≡ true → any p xs ≡ true
+  any_in xs x m h = list_any_at p xs m.0 x m.1 (ap p m.2 ∙ h)
 
-  pub any_out : (xs : List A) → any p xs ≡ true → (x : A) × Memᴰ x xs × (p x ≡ true)
-  any_out [] e = absurd (true_false e refl)
-  any_out (y ∷ ys) e = go (p y) refl e (any_out ys)
-    where
-      go : (b : Bool) → p y ≡ b → b || any p ys ≡ true → (any p ys ≡ true → (x : A) × Memᴰ x ys × (p x ≡ true)) → (x : A) × Memᴰ x (y ∷ ys) × (p x ≡ true)
-      go true q h later = (y, Memᴰ.head refl, q)
-      go false q h later = let r = later h in (r.0, Memᴰ.tail r.1, r.2)
-
-  -- a test that no element passes
-  pub any_false : (xs : List A) → ((x : A) → Memᴰ x xs → p x ≡ true → ⊥) → any p xs ≡ false
-  any_false xs h = not_true_is (any p xs) (λ e. let r = any_out xs e in h r.0 r.1 r.2)
+  pub any_out : (xs : List A) → any p xs ≡ true → (x : A) × Contains xs x × (p x ≡ true)
+  any_out xs e = let a = Any-from_list_any p xs e in (a.1, (a.0, a.2, a.3), a.4)

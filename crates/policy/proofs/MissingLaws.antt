@@ -1,7 +1,6 @@
 -- What a comparison counts as that names a missing reading; where none is missing, the values alone count.
-use Rattle.std.proofs.Common.{Bool, true, false, cond, List, ◌∷◌, ◌⊎◌, inl, inr, ⊎_elim, ◌≡◌, refl, sym, ap, ap₂, ◌∙◌, ℤ, Option, Some, None, slice_get}
-use mathlib.Core.List.{Memᴰ}
-use Rattle.policy.proofs.ListLaws.{true_false}
+use Rattle.std.proofs.Common.{Bool, true, false, cond, List, Contains, ◌⊎◌, inl, inr, ⊎_elim, ◌≡◌, refl, sym, ap, ap₂, ◌∙◌, ℤ, Option, Some, None, slice_get, arith}
+use Rattle.policy.proofs.ListLaws.{true_false, contains_cases, contains_one}
 use Rattle.policy.specs.Comparison.{relation_holds, operand_readings, readings_of, NamesMissing, missing_holds, values_relate, operand_value, comparison_holds}
 use Rattle.policy.specs.Epoch.{reading_value, SomeOf}
 use Rattle.policy.specs.declared.epoch.Readings.{Readings}
@@ -42,20 +41,19 @@ module _ (rs : Readings) (c : Comparison) where
     unfolding comparison_holds
     right_missing h = rw h (relate_missing (missing_holds part) c.relation (reading_value rs c.reading))
 
-    operand_missing : (o : Operand) (r : Reading) → Memᴰ r (operand_readings o) → has_reading rs.given r ≡ false → operand_value rs o ≡ None
+    operand_missing : (o : Operand) (r : Reading) → Contains (operand_readings o) r → has_reading rs.given r ≡ false → operand_value rs o ≡ None
     unfolding operand_readings operand_value
-    operand_missing (Operand.Constant k) r m h = elim m [ ]
-    operand_missing (Operand.Reading x) r (Memᴰ.tail m) h = elim m [ ]
-    operand_missing (Operand.Reading x) r (Memᴰ.head p) h = value_missing rs x (sym (ap (has_reading rs.given) p) ∙ h)
+    operand_missing (Operand.Constant k) r m h = absurd (omega (arith, m.1))
+    operand_missing (Operand.Reading x) r m h = value_missing rs x (ap (has_reading rs.given) (contains_one x r m) ∙ h)
 
     -- a missing reading on either side
     missing_counts : NamesMissing rs c → comparison_holds part rs c ≡ missing_holds part
     unfolding readings_of
-    missing_counts m = go m.named
+    missing_counts m = go (contains_cases c.reading (operand_readings c.operand) m.which m.named)
       where
-        go : Memᴰ m.which (c.reading ∷ operand_readings c.operand) → comparison_holds part rs c ≡ missing_holds part
-        go (Memᴰ.head p) = left_missing (value_missing rs c.reading (sym (ap (has_reading rs.given) p) ∙ m.missing))
-        go (Memᴰ.tail k) = right_missing (operand_missing c.operand m.which k m.missing)
+        go : (c.reading ≡ m.which) ⊎ Contains (operand_readings c.operand) m.which → comparison_holds part rs c ≡ missing_holds part
+        go (inl p) = left_missing (value_missing rs c.reading (ap (has_reading rs.given) p ∙ m.missing))
+        go (inr k) = right_missing (operand_missing c.operand m.which k m.missing)
 
   pub missing_in_rule : NamesMissing rs c → comparison_holds Part.Rules rs c ≡ false
   unfolding missing_holds

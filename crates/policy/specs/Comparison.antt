@@ -1,6 +1,5 @@
 -- When a relation holds between two numbers, and when a comparison holds on the readings of an epoch.
-use Rattle.std.specs.Prelude.{Bool, true, false, not, ◌&&◌, ◌≡◌, ℤ, Option, Some, List, [], ◌∷◌}
-use mathlib.Core.List.{Memᴰ}
+use Rattle.std.specs.Prelude.{Bool, true, false, not, ◌&&◌, ◌≡◌, ℤ, Option, Some, List, [], ◌∷◌, Contains}
 use Rattle.std.specs.Int.Signed.{lt_z, le_z}
 use Rattle.policy.specs.Epoch.{reading_value}
 use Rattle.policy.specs.declared.epoch.Readings.{Readings}
@@ -34,7 +33,7 @@ readings_of c = c.reading ∷ operand_readings c.operand
 -- it names a reading which the epoch does not give
 pub record NamesMissing (rs : Readings) (c : Comparison) : Type 0 where
   pub which : Reading
-  pub named : Memᴰ which (readings_of c)
+  pub named : Contains (readings_of c) which
   pub missing : has_reading rs.given which ≡ false
 
 -- what such a comparison counts as: it does not hold in a rule and does hold in a constraint, so that a dead sensor permits nothing

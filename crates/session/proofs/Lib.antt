@@ -1,3 +1,4 @@
+pub mod KeptLaws
 pub mod RunLaws
 pub mod SeenLaws
 pub mod GivesLaws

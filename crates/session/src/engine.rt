@@ -3,7 +3,7 @@ ghost use Rattle.std.specs.Prelude.{◌≡◌, OnOk, IfErr};
 ghost use Rattle.stream.specs.Machine.{AnswersAll, EndsBy};
 ghost use Rattle.session.specs.Printed.{printed, due};
 ghost use Rattle.session.specs.Steps.Owed.{start_state, Good};
-ghost use Rattle.session.specs.Steps.Kept.{Starting, Starting_prop, Good_prop};
+ghost use Rattle.session.specs.Steps.Kept.{Starting};
 
 use crate::state::{HELD_SIZE, OUT_SIZE, State};
 use image::IMAGE_SIZE;
@@ -19,8 +19,8 @@ struct Engine {
     held: [u8; HELD_SIZE],
     image: [u8; IMAGE_SIZE],
     out: [u8; OUT_SIZE],
-    ghost good: { Good state held image out } by { Good_prop state held image out },
-    ghost starting: { Starting state.phase state } by { Starting_prop state.phase state },
+    ghost good: { ∥ Good state held image out ∥₁ },
+    ghost starting: { ∥ Starting state.phase state ∥₁ },
 }
 
 impl Engine {

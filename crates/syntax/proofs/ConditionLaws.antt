@@ -12,8 +12,9 @@ use Rattle.lexer.specs.Lines.{behind_line}
 use Rattle.lexer.specs.Number.{is_empty, decimal_of, hexadecimal_of, constant_of}
 use Rattle.lexer.specs.Steps.Scan.{without_spaces, keyword_in, tokens_in}
 use Rattle.lexer.specs.Token.{Token, both, comparison_by, named, reading_of, relation_of, operand_of, comparison_of}
+use Rattle.token.proofs.PartLaws.{Parted, part_some, part_none}
 use Rattle.token.specs.Steps.PartIn.{kept, comparison_in}
-use Rattle.syntax.proofs.FrontLaws.{behind_first, first_token, Ended, ended, Started, started, by_first, worded, Parted, part_some, part_none}
+use Rattle.syntax.proofs.FrontLaws.{behind_first, first_token, Ended, ended, Started, started, by_first, worded}
 use Rattle.syntax.specs.Grammar.{comparisons_from, condition_from}
 use Rattle.syntax.specs.Steps.Draft.{push_comparison, comparisons_into}
 use Rattle.syntax.specs.Steps.Outcome.{condition_outcome}

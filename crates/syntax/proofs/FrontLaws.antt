@@ -1,5 +1,5 @@
 -- Laws of the first token of a line: either there is none, or it stands before the others.
-use Rattle.std.specs.Prelude.{Some, None, Option, option_map}
+use Rattle.std.specs.Prelude.{Some}
 use Rattle.std.proofs.Common.{ℕ, ◌<◌, Bool, true, false, not, ◌||◌, cond, List, [], ◌∷◌, ◌≡◌, refl, sym, ap, ap₂, ◌∙◌, subst, arith, length}
 use Rattle.std.proofs.Math.Dec.{eqb}
 use Rattle.policy.proofs.ListLaws.{true_false}
@@ -10,27 +10,7 @@ use Rattle.lexer.specs.Byte.{is_space}
 use Rattle.lexer.specs.Lines.{behind_line}
 use Rattle.lexer.specs.Number.{is_empty}
 use Rattle.lexer.specs.Token.{Token}
-use Rattle.token.specs.Steps.PartIn.{kept, kept_before}
 use Rattle.lexer.specs.Steps.Scan.{in_token, token_in, behind_token, without_spaces, keyword_in, tokens_in}
-
--- ---- a part that was read
-
-pub record Parted (A : Type 0) (ok : A → Bool) (rest : List ℕ) (o : Option A) (m : Option A) (k : List ℕ) : Type 0 where
-  pub part : A
-  pub is : o ≡ Some part
-  pub made : m ≡ kept ok part
-  pub behind : k ≡ rest
-
-module _ {A : Type 0} (ok : A → Bool) (rest : List ℕ) where
-  pub part_none : (o : Option A) → option_map (kept_before ok rest) o ≡ None → o ≡ None
-  part_none None q = refl
-  part_none (Some x) q = cc
-
-  pub part_some : (o : Option A) (m : Option A) (k : List ℕ) → option_map (kept_before ok rest) o ≡ Some (m, k) → Parted A ok rest o m k
-  part_some None m k q = cc
-  part_some (Some x) m k q =
-      let p : (kept ok x, rest) ≡ (m, k) = cc in
-      record { part = x; is = refl; made = sym (ap (λ (r : Option A × List ℕ). r.0) p); behind = sym (ap (λ (r : Option A × List ℕ). r.1) p) }
 
 -- ---- the first token
 

@@ -9,8 +9,9 @@ use Rattle.lexer.specs.Lines.{behind_line}
 use Rattle.lexer.specs.Number.{is_empty}
 use Rattle.lexer.specs.Steps.Scan.{without_spaces, keyword_in, tokens_in}
 use Rattle.lexer.specs.Token.{Token, both, literal_of, action_of, named}
+use Rattle.token.proofs.PartLaws.{Parted, part_some, part_none}
 use Rattle.token.specs.Steps.PartIn.{kept, test_in_range, test_of, head_in}
-use Rattle.syntax.proofs.FrontLaws.{behind_first, first_token, Started, started, by_first, worded, Parted, part_some, part_none}
+use Rattle.syntax.proofs.FrontLaws.{behind_first, first_token, Started, started, by_first, worded}
 use Rattle.syntax.specs.Grammar.{Joined, last, before, joined}
 use Rattle.syntax.specs.Steps.Draft.{push_head, heads_into}
 use Rattle.syntax.specs.Steps.Outcome.{HeadsRead, heads_read, heads_outcome}
