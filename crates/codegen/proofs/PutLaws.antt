@@ -1,23 +1,19 @@
 -- Putting the lines of a text one after another: what one turn of the loop does.
 use Rattle.std.specs.Prelude.{Option, Some, None, Result, Ok, Err}
 use Rattle.std.proofs.Common.{ℕ, ◌+◌, ◌*◌, ◌%◌, ◌≤◌, ◌<◌, List, [], ◌∷◌, ◌++◌, ◌≡◌, refl, sym, ap, ap₂, ◌∙◌, arith, length, take}
-use Rattle.policy.specs.Line.{PolicyLine, ending_of, ending_part, line_part, part_get}
+use Rattle.policy.specs.Line.{PolicyLine, line_part, part_get}
 use Rattle.policy.specs.declared.line.Part.{Part}
 use Rattle.policy.specs.declared.line.PerPart.{PerPart}
 use Rattle.policy.specs.declared.fault.Fault.{Fault}
-use Rattle.policy.specs.declared.line.Ending.{Ending}
-use Rattle.line_value.specs.declared.Line.{Line}
 use Rattle.layout.proofs.CheckLaws.{limits_small}
-use Rattle.layout.proofs.LayoutLaws.{value_words_is}
 use Rattle.layout.specs.Layout.{line_words, check_words, rule_word_limit, constraint_word_limit}
-use Rattle.layout.specs.Steps.Value.{value_words}
 use Rattle.exactness.proofs.PartLines.{line_limit_is}
 use Rattle.word.proofs.WriteLaws.{put_length}
 use Rattle.word.specs.Steps.Write.{put_words}
 use Rattle.word.specs.Word.{words_of}
 use Rattle.layout.specs.Header.{pack_header}
 use Rattle.acceptance.proofs.Accepted.{accepted_valid}
-use Rattle.syntax.proofs.AnswerLaws.{lines_here, next_shorter, read_refused, read_skipped, read_accepted}
+use Rattle.syntax.proofs.AnswerLaws.{lines_here, next_shorter, read_refused, read_ok}
 use Rattle.syntax.specs.Answer.{next_line, line_read}
 use Rattle.lexer.specs.Lines.{pieces, lines_of, first_line}
 use Rattle.syntax.specs.Judge.{line_answer}
@@ -84,46 +80,36 @@ module _ (text buffer₀ : List ℕ) (start : PerPart ℕ) where
         pub putting_skip : Ok (None, behind) ≡ line_read rest → (length behind < length rest) × Putting text buffer₀ start buffer cursors behind
         unfolding accepted_line
         putting_skip q =
-            let k = read_skipped rest behind q in
+            let k = read_ok rest None behind q in
             let e : accepted_in rest ≡ accepted_in behind = here rest (Ok None) h k.0 ∙ ap accepted_in (sym k.1) in
             let l : length behind < length rest = rw k.1 (next_shorter rest h) in
             (l, record { long = p.long; near = λ part. omega (arith, p.near part); ends = ap (λ (ls : List PolicyLine). cursors_behind ls cursors) (sym e) ∙ p.ends; same = ap (λ (ls : List PolicyLine). put_lines ls cursors buffer) (sym e) ∙ p.same })
 
-        -- a line put in
-        after : (k : PolicyLine) (buffer' : List ℕ) (cursors' : PerPart ℕ) → length behind < length rest → accepted_in rest ≡ k ∷ accepted_in behind → length (line_words k) ≤ 17
-            → cursors' ≡ cursors_after (line_part k) cursors (length (line_words k)) → buffer' ≡ put_words buffer (part_get cursors (line_part k)) (line_words k) → Putting text buffer₀ start buffer' cursors' behind
-        unfolding put_lines cursors_behind
-        after k buffer' cursors' n e small f g =
-            let a : (part : Part) → part_get cursors' part ≤ part_get cursors part + 17 = rw f (after_near (line_part k) cursors (length (line_words k)) small) in
-            record {
-              long = ap length g ∙ put_length buffer (part_get cursors (line_part k)) (line_words k) ∙ p.long;
-              ends = ap (cursors_behind (accepted_in behind)) f ∙ ap (λ (ls : List PolicyLine). cursors_behind ls cursors) (sym e) ∙ p.ends;
-              near = λ part. omega (arith, a part, p.near part);
-              same = ap₂ (put_lines (accepted_in behind)) f g ∙ ap (λ (ls : List PolicyLine). put_lines ls cursors buffer) (sym e) ∙ p.same;
-            }
-
         -- an accepted line: how long it is, and what is left after it
-        pub record Taking (l : Line) : Type 0 where
-          pub small : length (value_words l) ≤ 17
+        pub record Taking (l : PolicyLine) : Type 0 where
+          pub small : length (line_words l) ≤ 17
           pub shorter : length behind < length rest
-          pub next : (buffer' : List ℕ) (cursors' : PerPart ℕ) → cursors' ≡ cursors_after (ending_part l.ending) cursors (length (value_words l))
-              → buffer' ≡ put_words buffer (part_get cursors (ending_part l.ending)) (value_words l) → Putting text buffer₀ start buffer' cursors' behind
+          pub next : (buffer' : List ℕ) (cursors' : PerPart ℕ) → cursors' ≡ cursors_after (line_part l) cursors (length (line_words l))
+              → buffer' ≡ put_words buffer (part_get cursors (line_part l)) (line_words l) → Putting text buffer₀ start buffer' cursors' behind
 
-        pub putting_take : (l : Line) → Ok (Some l, behind) ≡ line_read rest → Taking l
-        unfolding accepted_line
+        pub putting_take : (l : PolicyLine) → Ok (Some l, behind) ≡ line_read rest → Taking l
+        unfolding accepted_line put_lines cursors_behind
         putting_take l q =
-            let r = read_accepted rest l behind q in
-            let k : PolicyLine = r.line in
-            let small : length (line_words k) ≤ 17 = line_limit_is k (accepted_valid (first_line rest) k r.answer) in
-            let words : value_words l ≡ line_words k = ap value_words r.value ∙ value_words_is k in
-            let ends : l.ending ≡ ending_of k = ap (λ (x : Line). x.ending) r.value in
-            let e : accepted_in rest ≡ k ∷ accepted_in behind = here rest (Ok (Some k)) h r.answer ∙ ap (λ (t : List ℕ). k ∷ accepted_in t) (sym r.behind) in
-            let n : length behind < length rest = rw r.behind (next_shorter rest h) in
+            let r = read_ok rest (Some l) behind q in
+            let small : length (line_words l) ≤ 17 = line_limit_is l (accepted_valid (first_line rest) l r.0) in
+            let e : accepted_in rest ≡ l ∷ accepted_in behind = here rest (Ok (Some l)) h r.0 ∙ ap (λ (t : List ℕ). l ∷ accepted_in t) (sym r.1) in
+            let n : length behind < length rest = rw r.1 (next_shorter rest h) in
             record {
-              small = rw words small;
+              small = small;
               shorter = n;
-              next = λ b ps f g. after k b ps n e small (f ∙ ap₂ (λ (x : Ending) (ws : List ℕ). cursors_after (ending_part x) cursors (length ws)) ends words)
-                  (g ∙ ap₂ (λ (x : Ending) (ws : List ℕ). put_words buffer (part_get cursors (ending_part x)) ws) ends words);
+              next = λ buffer' cursors' f g.
+                  let a : (part : Part) → part_get cursors' part ≤ part_get cursors part + 17 = rw f (after_near (line_part l) cursors (length (line_words l)) small) in
+                  record {
+                    long = ap length g ∙ put_length buffer (part_get cursors (line_part l)) (line_words l) ∙ p.long;
+                    ends = ap (cursors_behind (accepted_in behind)) f ∙ ap (λ (ls : List PolicyLine). cursors_behind ls cursors) (sym e) ∙ p.ends;
+                    near = λ part. omega (arith, a part, p.near part);
+                    same = ap₂ (put_lines (accepted_in behind)) f g ∙ ap (λ (ls : List PolicyLine). put_lines ls cursors buffer) (sym e) ∙ p.same;
+                  };
             }
 
 -- ---- the whole image

@@ -3,11 +3,10 @@
 
 ghost use Rattle.std.specs.Prelude.{◌≡◌, ◌+◌, ◌*◌, ◌≤◌, length, IfOk};
 ghost use Rattle.word.specs.Steps.Write.{put_words};
-ghost use Rattle.layout.specs.Layout.{check_count, rule_word_limit, constraint_word_limit};
-ghost use Rattle.layout.specs.Steps.Value.{value_words};
+ghost use Rattle.layout.specs.Layout.{line_words, check_count, rule_word_limit, constraint_word_limit};
 ghost use Rattle.lexer.specs.Lines.{lines_of};
 ghost use Rattle.rule_text.specs.Text.{text_limit};
-ghost use Rattle.policy.specs.Line.{ending_part, part_get};
+ghost use Rattle.policy.specs.Line.{line_part, part_get};
 ghost use Rattle.codegen.specs.Compile.{newest_form, compiled, compiled_texts};
 ghost use Rattle.codegen.specs.Steps.Put.{word_count, cursors_after, cursors_behind, accepted_lines, lines_of_both, put_lines, put_image, Near, Further};
 
@@ -41,11 +40,11 @@ fn image_size(form: u8, rule_words: usize, constraint_words: usize) -> usize
 /// A line put in behind those of its kind. Cursors are the words at which the next rule and the next constraint go.
 fn put_next(out: &mut [u8], cursors: PerPart<usize>, line: &Line) -> PerPart<usize>
     requires near { Near 2000000 cursors }
-    requires short { length (value_words line.now) ≤ 17 }
-    ensures answer { result ≡ cursors_after (ending_part line.now.ending) cursors (length (value_words line.now)) }
-    ensures buffer { out.new ≡ put_words out.old (part_get cursors (ending_part line.now.ending)) (value_words line.now) }
+    requires short { length (line_words line.now) ≤ 17 }
+    ensures answer { result ≡ cursors_after (line_part line.now) cursors (length (line_words line.now)) }
+    ensures buffer { out.new ≡ put_words out.old (part_get cursors (line_part line.now)) (line_words line.now) }
 {
-    let part = line.ending.part();
+    let part = line.ending().part();
     let at = cursors.get(part);
     let words = put_line(out, at, line);
     cursors.with(part, at + words)

@@ -3,6 +3,7 @@ use Rattle.std.proofs.Common.{ℕ, ◌+◌, ◌-◌, ◌*◌, ◌/◌, ◌%◌, 
 use Rattle.std.proofs.Math.Dec.{ltb, eqb}
 use Rattle.policy.proofs.ListLaws.{true_false}
 use Rattle.policy.specs.declared.line.Part.{Part}
+use Rattle.line_value.specs.Value.{fits}
 use Rattle.word.specs.Word.{word_limit}
 use Rattle.operation.proofs.OperationLaws.{operation_back, operation_number}
 use Rattle.operation.specs.Fields.{InFields, pack, operation_of, opcode_of, first_of, second_of, relation_code_of}
@@ -63,7 +64,7 @@ record HeadRange (part : Part) (first count : ℕ) : Type 0 where
   back : (w : ℕ) → is_head part (says w 0) ≡ true → (first ≤ opcode_of w) × (opcode_of w < first + count)
 
 rules_range : HeadRange Part.Rules 1 2
-unfolding is_head says_by operation_from test_operation
+unfolding is_head fits says_by operation_from test_operation
 rules_range = record { word = refl; below = omega arith; count_is = refl; few = omega arith; there = there; back = λ w h. back w h (said w 0) }
   where
     there : (w : ℕ) → 1 ≤ opcode_of w → opcode_of w < 3 → is_head Part.Rules (says w 0) ≡ true
@@ -90,7 +91,7 @@ rules_range = record { word = refl; below = omega arith; count_is = refl; few = 
     back w h (said_nothing e) = absurd (true_false h (ap (is_head Part.Rules) e))
 
 constraints_range : HeadRange Part.Constraints 6 1
-unfolding is_head says_by operation_from test_operation
+unfolding is_head fits says_by operation_from test_operation
 constraints_range = record { word = refl; below = omega arith; count_is = refl; few = omega arith; there = there; back = λ w h. back w h (said w 0) }
   where
     there : (w : ℕ) → 6 ≤ opcode_of w → opcode_of w < 7 → is_head Part.Constraints (says w 0) ≡ true

@@ -22,7 +22,7 @@ pub said_in_by : (w : ℕ) (ws : List ℕ) (p : LinePart) → says w (get_or ws 
 unfolding said_in
 said_in_by w ws p e = ap (λ (x : LinePart). x ∷ said_in (constants_of x) ws) e
 
-comparison_parts : (c : Comparison) (k : ℕ) (ws : List ℕ) → Written c k → said_in 0 (comparison_words c k ++ ws) ≡ LinePart.Comparison c ∷ said_in 0 ws
+pub comparison_parts : (c : Comparison) (k : ℕ) (ws : List ℕ) → Written c k → said_in 0 (comparison_words c k ++ ws) ≡ LinePart.Comparison c ∷ said_in 0 ws
 unfolding said_in
 comparison_parts c k ws (with_constant w v e o s b _ _) =
     let said = constant_said c w v o b in

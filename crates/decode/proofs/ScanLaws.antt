@@ -8,13 +8,13 @@ use Rattle.policy.specs.Limits.{valid, repeats, test_number, comparison_in_range
 use Rattle.policy.specs.Line.{PolicyLine, rule, constraint, heads_of, comparisons_of, ending_of}
 use Rattle.policy.specs.List.{all}
 use Rattle.policy.specs.declared.comparison.Comparison.{Comparison}
-use Rattle.policy.specs.declared.comparison.Literal.{Literal}
 use Rattle.policy.specs.declared.line.Ending.{Ending}
 use Rattle.policy.specs.declared.line.Test.{Test}
-use Rattle.policy.specs.declared.number.Action.{Action}
 use Rattle.operation.proofs.PartsLaws.{Compares, Written, with_constant, with_reading, written, test_skip, test_first, test_low}
 use Rattle.layout.proofs.LayoutLaws.{condition_length, part_length, condition_size_limit}
 use Rattle.policy.proofs.ValidLaws.{ValidParts, valid_out, test_in_range}
+use Rattle.line_value.proofs.LineLaws.{heads_fit}
+use Rattle.line_value.specs.Value.{fits}
 use Rattle.operation.specs.Parts.{test_operation, test_word, comparison_words, ending_word, constant_comparison, reading_comparison}
 use Rattle.word.specs.Word.{word_limit}
 use Rattle.operation.specs.Fields.{operation_of, first_of, second_of, relation_code_of, skip_of}
@@ -233,7 +233,7 @@ part_last (t ∷ ts) cs e =
     let w : ℕ = test_word t (length (part_words ts cs e)) in
     (w ∷ h.0, ap (λ (x : List ℕ). w ∷ x) h.1)
 
-last_word : (ts : List Test) (cs : List Comparison) (e : Ending) (rest : List ℕ) (m : ℕ) → length (part_words ts cs e) ≡ suc m → get_or (part_words ts cs e ++ rest) m 0 ≡ ending_word e
+pub last_word : (ts : List Test) (cs : List Comparison) (e : Ending) (rest : List ℕ) (m : ℕ) → length (part_words ts cs e) ≡ suc m → get_or (part_words ts cs e ++ rest) m 0 ≡ ending_word e
 last_word ts cs e rest m l =
     let h = part_last ts cs e in
     let n : length h.0 ≡ m = omega (arith, ap length h.1, length-append h.0 (ending_word e ∷ [])) in
@@ -242,19 +242,11 @@ last_word ts cs e rest m l =
 -- ---- the kinds of lines
 
 kind_heads : (part : Part) (l : PolicyLine) → in_part part l ≡ true → all (λ (t : Test). is_head part (LinePart.Head t)) (heads_of l) ≡ true
-unfolding in_part heads_of is_head
-kind_heads Part.Rules (rule r) k = each r.literals
-  where
-    each : (ls : List Literal) → all (λ (t : Test). is_head Part.Rules (LinePart.Head t)) (map Test.Occurs ls) ≡ true
-    each [] = refl
-    each (l ∷ ls) = each ls
+unfolding in_part ending_of is_head
+kind_heads Part.Rules (rule r) k = heads_fit (rule r)
 kind_heads Part.Rules (constraint c) k = absurd (true_false k refl)
 kind_heads Part.Constraints (rule r) k = absurd (true_false k refl)
-kind_heads Part.Constraints (constraint c) k = each c.actions
-  where
-    each : (as' : List Action) → all (λ (t : Test). is_head Part.Constraints (LinePart.Head t)) (map Test.Member as') ≡ true
-    each [] = refl
-    each (a ∷ rest) = each rest
+kind_heads Part.Constraints (constraint c) k = heads_fit (constraint c)
 
 pub ending_there : (part : Part) (e : Ending) → ends part e ≡ true → ending_in_range e ≡ true → is_ending part (ending_word e) ≡ true
 unfolding is_ending is_ending_of
@@ -335,7 +327,7 @@ pub record HeadOn (part : Part) (w : ℕ) (l : PolicyLine) : Type 0 where
   pub number : test_number test ≡ first_of w
 
 pub add_head : (part : Part) (w : ℕ) (l : PolicyLine) → is_head part (says w 0) ≡ true → in_part part l ≡ true → HeadOn part w l
-unfolding in_part line_words heads_of comparisons_of ending_of part_words is_head
+unfolding in_part line_words heads_of comparisons_of ending_of part_words is_head fits
 add_head part w l h k = go (said w 0)
   where
     other : (p : LinePart) → says w 0 ≡ p → is_head part p ≡ false → HeadOn part w l
@@ -371,10 +363,10 @@ add_head part w l h k = go (said w 0)
 
     go : Said w 0 → HeadOn part w l
     go (said_head t e o n) = on part l t (sym (ap (is_head part) e) ∙ h) k o n
-    go (said_constant e o) = other _ e ((not_head part).0 _)
-    go (said_reading e o) = other _ e ((not_head part).0 _)
-    go (said_ending x e r) = other _ e ((not_head part).1 x)
-    go (said_nothing e) = other _ e (not_head part).2
+    go (said_constant e o) = other (LinePart.Comparison (constant_comparison w 0)) e ((not_head part).0 (constant_comparison w 0))
+    go (said_reading e o) = other (LinePart.Comparison (reading_comparison w)) e ((not_head part).0 (reading_comparison w))
+    go (said_ending x e r) = other (LinePart.Ending x) e ((not_head part).1 x)
+    go (said_nothing e) = other LinePart.Nothing e (not_head part).2
 
 pub record ComparisonOn (part : Part) (c : Comparison) (l : PolicyLine) : Type 0 where
   pub line : PolicyLine

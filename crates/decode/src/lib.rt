@@ -6,11 +6,11 @@ ghost use Rattle.word.specs.Word.{word_limit, Below};
 ghost use Rattle.word.specs.Chunk.{words_in};
 ghost use Rattle.operation.specs.Fields.{first_of};
 ghost use Rattle.decode.specs.Decode.{line_at, line_length};
-ghost use Rattle.decode.specs.Steps.Scan.{first_head, head_operations, first_ending, ending_numbers, number_lowest, relation_lowest, is_ending, head_sound, count_heads, head_numbers, numbers_of, comparison_length, IsBehind, comparisons_fill, value_from, with_part};
+ghost use Rattle.decode.specs.Steps.Scan.{first_head, head_operations, first_ending, ending_numbers, number_lowest, relation_lowest, is_ending, head_sound, count_heads, head_numbers, numbers_of, comparison_length, IsBehind, comparisons_fill, last_ending, with_part, line_from};
 
-use line_value::Line;
+use line_value::{Comparisons, Line, Tests, fits};
 use operation::{LinePart, Operation, part_at, skip};
-use policy::{COMPARISON_LIMIT, HEAD_LIMIT, Part, with_member};
+use policy::{COMPARISON_LIMIT, Ending, HEAD_LIMIT, Part, with_member};
 use word::{nth_word, part as part_of};
 
 // Numbers that a field has.
@@ -233,37 +233,64 @@ pub fn line_length(words: &[[u8; 4]], part: Part) -> usize
     0
 }
 
-// The line with one part more, where there is room for it.
-#[tactic(auto, unfolding(crate::specs::Steps::Scan::with_part))]
-fn push_part(line: &mut Line, part: LinePart)
-    ensures { line.new ≡ with_part line.old part }
+// What a line ends as whose last word says so.
+#[tactic(auto, unfolding(crate::specs::Steps::Scan::ending_said))]
+fn last_ending(words: &[[u8; 4]]) -> Ending
+    requires { 0 < length words.now }
+    ensures { result ≡ last_ending (words_in words.now) }
 {
-    match part {
-        LinePart::Head(test) => {
-            if line.heads.len() < HEAD_LIMIT {
-                line.heads.push(test);
-            }
-        }
-        LinePart::Comparison(comparison) => {
-            if line.comparisons.len() < COMPARISON_LIMIT {
-                line.comparisons.push(comparison);
-            }
-        }
-        LinePart::Ending(ending) => line.ending = ending,
-        LinePart::Nothing => {}
+    match part_at(words, words.len() - 1) {
+        LinePart::Ending(ending) => ending,
+        LinePart::Head(_) | LinePart::Comparison(_) | LinePart::Nothing => Ending::Never,
     }
 }
 
-/// The value of the line whose words these are. Nothing is checked, so it is for images that the loader takes.
-pub fn read_line(words: &[[u8; 4]]) -> Line
-    ensures { result ≡ value_from (words_in words.now) }
+// The parts of a line before its ending.
+#[derive(Drop)]
+struct Parts {
+    heads: Tests,
+    comparisons: Comparisons,
+}
+
+// One part more, where it is of the kind and there is room for it.
+#[tactic(auto, unfolding(crate::specs::Steps::Scan::with_part))]
+fn push_part(parts: &mut Parts, part: Part, said: LinePart)
+    ensures { parts.new ≡ with_part part parts.old said }
 {
-    let mut line = Line::new();
-    let mut at = 0;
-    while at < words.len() {
-        let part = part_at(words, at);
-        push_part(&mut line, part);
-        at += 1 + part.constants();
+    match said {
+        LinePart::Head(test) => {
+            if fits(part, test) && parts.heads.len() < HEAD_LIMIT {
+                parts.heads.push(test);
+            }
+        }
+        LinePart::Comparison(comparison) => {
+            if parts.comparisons.len() < COMPARISON_LIMIT {
+                parts.comparisons.push(comparison);
+            }
+        }
+        LinePart::Ending(_) | LinePart::Nothing => {}
     }
-    line
+}
+
+/// The line whose words these are. Nothing is checked but that its heads fit its ending, so it is for images that the loader takes.
+pub fn read_line(words: &[[u8; 4]]) -> Line
+    ensures { result ≡ line_from (words_in words.now) }
+{
+    let mut parts = Parts {
+        heads: Tests::new(),
+        comparisons: Comparisons::new(),
+    };
+    if words.is_empty() {
+        return Line::new(parts.heads, parts.comparisons, Ending::Never);
+    }
+    let ending = last_ending(words);
+    let part = ending.part();
+    let front = part_of(words, 0, words.len() - 1);
+    let mut at = 0;
+    while at < front.len() {
+        let said = part_at(front, at);
+        at += 1 + said.constants();
+        push_part(&mut parts, part, said);
+    }
+    Line::new(parts.heads, parts.comparisons, ending)
 }

@@ -5,20 +5,19 @@ use Rattle.policy.proofs.ListLaws.{and_out, all_append}
 use Rattle.policy.specs.Limits.{Acceptable, valid}
 use Rattle.policy.specs.Line.{PolicyLine, rule, constraint}
 use Rattle.policy.specs.List.{all}
-use Rattle.line_value.specs.Value.{line_value}
 use Rattle.image.proofs.HeldLaws.{held_parts, held_given}
 use Rattle.image.specs.Held.{policy_in}
 use Rattle.image.specs.Load.{Contents, both_parts, load}
-use Rattle.image.specs.Walk.{lines_ahead, values_behind, IsAtFirstLine}
+use Rattle.image.specs.Walk.{lines_ahead, lines_behind, IsAtFirstLine}
 use Rattle.image.specs.declared.walker.Walker.{Walker}
 use Rattle.printer.proofs.Printing.{text_length}
 use Rattle.printer.proofs.ValueLaws.{value_text_is}
 use Rattle.printer.specs.Printed.{longest_text, line_bytes, lines_text, text_of}
 use Rattle.decompile.specs.Steps.Walk.{text_of_values}
 
--- ---- the values of lines
+-- ---- lines
 
-values_text : (ls : List PolicyLine) → all valid ls ≡ true → text_of_values (map line_value ls) ≡ lines_text ls
+values_text : (ls : List PolicyLine) → all valid ls ≡ true → text_of_values ls ≡ lines_text ls
 unfolding text_of_values lines_text
 values_text [] h = refl
 values_text (l ∷ ls) h =
@@ -40,8 +39,8 @@ taken_text bytes contents lines e first =
     let rs : List PolicyLine = map rule (policy_in bytes).rules in
     let cs : List PolicyLine = map constraint (policy_in bytes).constraints in
     let v : all valid (rs ++ cs) ≡ true = all_append valid rs cs h.rule_part_is.sound h.constraint_part_is.sound in
-    let ahead : lines_ahead lines ≡ map line_value (rs ++ cs) =
-    ap₂ (λ (ws : List ℕ) (at : ℕ). values_behind 0 (drop at ws)) first.words first.start ∙ held_given bytes contents (sym e) in
+    let ahead : lines_ahead lines ≡ rs ++ cs =
+    ap₂ (λ (ws : List ℕ) (at : ℕ). lines_behind 0 (drop at ws)) first.words first.start ∙ held_given bytes contents (sym e) in
     let text : text_of_values (lines_ahead lines) ≡ lines_text (rs ++ cs) = ap text_of_values ahead ∙ values_text (rs ++ cs) v in
     let acceptable : Acceptable (policy_in bytes) = record {
       rules_valid = h.rule_part_is.sound;

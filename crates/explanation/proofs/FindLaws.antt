@@ -2,26 +2,22 @@
 use Rattle.std.specs.Prelude.{Result, Option, Some, None, Ok, Err}
 use Rattle.std.proofs.Common.{ℕ, ◌+◌, ◌-◌, ◌≤◌, ◌<◌, Bool, true, false, cond, List, [], ◌∷◌, ◌≡◌, refl, sym, ap, ap₂, ◌∙◌, arith, eqb-true, length, take}
 use Rattle.policy.specs.Limits.{valid}
-use Rattle.policy.specs.Line.{PolicyLine, ending_of}
+use Rattle.policy.specs.Line.{PolicyLine}
 use Rattle.policy.specs.declared.fault.Fault.{Fault}
-use Rattle.policy.specs.declared.line.Ending.{Ending}
-use Rattle.line_value.specs.declared.Line.{Line}
-use Rattle.layout.proofs.LayoutLaws.{value_words_is}
 use Rattle.layout.specs.Layout.{line_words}
-use Rattle.layout.specs.Steps.Value.{value_words}
 use Rattle.exactness.proofs.PartLines.{line_limit_is}
 use Rattle.acceptance.proofs.Accepted.{accepted_valid}
 use Rattle.lexer.proofs.LeadingLaws.{leading_length}
 use Rattle.lexer.specs.Byte.{is_space}
 use Rattle.lexer.specs.Lines.{pieces, lines_of, take_leading, drop_leading, in_line, first_line, behind_line, without_end}
 use Rattle.lexer.specs.Steps.Scan.{without_spaces}
-use Rattle.syntax.proofs.AnswerLaws.{lines_here, next_shorter, read_refused, read_skipped, read_accepted}
+use Rattle.syntax.proofs.AnswerLaws.{lines_here, next_shorter, read_refused, read_ok}
 use Rattle.syntax.specs.Answer.{next_line, line_read}
 use Rattle.syntax.specs.Judge.{line_answer}
 use Rattle.explanation.proofs.TellLaws.{line_below}
 use Rattle.explanation.proofs.TrimLaws.{trimmed_front}
 use Rattle.explanation.specs.Part.{trim_start, trim_end, trim, Stretch, shown_at, or_later, first_from}
-use Rattle.explanation.specs.Steps.Sought.{tells, sought_by, Writable}
+use Rattle.explanation.specs.Steps.Sought.{sought_by, Writable}
 use Rattle.explanation.specs.declared.find.Sought.{Sought}
 use Rattle.policy.specs.declared.epoch.Epoch.{Epoch}
 
@@ -116,30 +112,26 @@ module _ (text : List ℕ) (q : Sought) (epoch : Epoch) where
 
         pub seeking_skip : Ok (None, behind) ≡ line_read rest → (length behind < length rest) × Seeking behind
         unfolding or_later
-        seeking_skip e = let k = read_skipped rest behind e in (shorter k.1, onward k.1 (turned (Ok None) k.0))
+        seeking_skip e = let k = read_ok rest None behind e in (shorter k.1, onward k.1 (turned (Ok None) k.0))
 
         -- an accepted line: its words can be run, and what is left where it is sought or not
-        pub record Judging (l : Line) : Type 0 where
-          pub writable : Writable (value_words l)
+        pub record Judging (l : PolicyLine) : Type 0 where
+          pub writable : Writable (line_words l)
           pub later : length behind < length rest
-          pub hit : (b : Bool) → b ≡ tells q epoch l.ending (value_words l) → b ≡ true → (x : Stretch) → x ≡ shown_at at (first_line rest)
+          pub hit : (b : Bool) → b ≡ sought_by q epoch l → b ≡ true → (x : Stretch) → x ≡ shown_at at (first_line rest)
               → Some x ≡ first_from (sought_by q epoch) 0 (lines_of text)
-          pub miss : (b : Bool) → b ≡ tells q epoch l.ending (value_words l) → b ≡ false → Seeking behind
+          pub miss : (b : Bool) → b ≡ sought_by q epoch l → b ≡ false → Seeking behind
 
-        pub seeking_judge : (l : Line) → Ok (Some l, behind) ≡ line_read rest → Judging l
-        unfolding sought_by or_later
+        pub seeking_judge : (l : PolicyLine) → Ok (Some l, behind) ≡ line_read rest → Judging l
+        unfolding or_later
         seeking_judge l e =
-            let r = read_accepted rest l behind e in
-            let k : PolicyLine = r.line in
-            let v : valid k ≡ true = accepted_valid (first_line rest) k r.answer in
-            let words : value_words l ≡ line_words k = ap value_words r.value ∙ value_words_is k in
-            let ends : l.ending ≡ ending_of k = ap (λ (x : Line). x.ending) r.value in
-            let same : tells q epoch l.ending (value_words l) ≡ sought_by q epoch k = ap₂ (λ (x : Ending) (ws : List ℕ). tells q epoch x ws) ends words in
+            let r = read_ok rest (Some l) behind e in
+            let v : valid l ≡ true = accepted_valid (first_line rest) l r.0 in
             record {
-              writable = rw words (record { few = line_limit_is k v; small = line_below k v });
-              later = shorter r.behind;
+              writable = record { few = line_limit_is l v; small = line_below l v };
+              later = shorter r.1;
               hit = λ b j t x u.
                   ap Some u
-                  ∙ sym (turned (Ok (Some k)) r.answer ∙ ap (λ (y : Bool). cond y (Some (shown_at at (first_line rest))) (found (next_line rest))) (sym (j ∙ same) ∙ t));
-              miss = λ b j t. onward r.behind (turned (Ok (Some k)) r.answer ∙ ap (λ (y : Bool). cond y (Some (shown_at at (first_line rest))) (found (next_line rest))) (sym (j ∙ same) ∙ t));
+                  ∙ sym (turned (Ok (Some l)) r.0 ∙ ap (λ (y : Bool). cond y (Some (shown_at at (first_line rest))) (found (next_line rest))) (sym j ∙ t));
+              miss = λ b j t. onward r.1 (turned (Ok (Some l)) r.0 ∙ ap (λ (y : Bool). cond y (Some (shown_at at (first_line rest))) (found (next_line rest))) (sym j ∙ t));
             }

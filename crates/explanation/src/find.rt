@@ -1,9 +1,9 @@
 //! The first line of a text that tells why. A line is judged by running its words, as the engine runs those of an image.
 ghost use Rattle.std.specs.Prelude.{◌≡◌, ◌+◌, ◌^◌, ◌<◌, length, option_map};
 ghost use Rattle.lexer.specs.Lines.{lines_of, first_line};
-ghost use Rattle.layout.specs.Steps.Value.{value_words};
+ghost use Rattle.layout.specs.Layout.{line_words};
 ghost use Rattle.explanation.specs.Part.{trim_end, stretch_of, shown_at, first_from};
-ghost use Rattle.explanation.specs.Steps.Sought.{Writable, tells, sought_by};
+ghost use Rattle.explanation.specs.Steps.Sought.{Writable, sought_by};
 
 use crate::part::Excerpt;
 use layout::put_line;
@@ -26,13 +26,13 @@ const LINE_SIZE: usize = 68;
 
 /// Whether a line is sought in an epoch.
 fn told(line: &Line, sought: Sought, epoch: &Epoch) -> bool
-    requires { Writable (value_words line.now) }
-    ensures { result ≡ tells sought epoch.now line.now.ending (value_words line.now) }
+    requires { Writable (line_words line.now) }
+    ensures { result ≡ sought_by sought epoch.now line.now }
 {
     let mut bytes = [0u8; LINE_SIZE];
     let count = put_line(&mut bytes, 0, line);
     let words = part(words(&bytes), 0, count);
-    match (sought, line.ending) {
+    match (sought, line.ending()) {
         (Sought::Proposing(action), Ending::Causes(_)) => {
             let run = run_rules(words, epoch.events.all(), &epoch.readings);
             run.actions.has(action)

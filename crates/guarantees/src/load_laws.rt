@@ -1,19 +1,18 @@
 //! Laws of what the loader takes and refuses, by the lines whose words stand in the bytes.
 
 ghost use Rattle.policy.specs.Fault.{refusal};
-ghost use Rattle.std.specs.Prelude.{List, ℕ, ◌+◌, ◌∷◌, ◌↔◌, ◌≡◌, length, drop, map, Err, Ok, Some};
+ghost use Rattle.std.specs.Prelude.{List, ℕ, ◌+◌, ◌∷◌, ◌↔◌, ◌≡◌, length, drop, Err, Ok, Some};
 ghost use Rattle.word.specs.Word.{Bytes};
 ghost use Rattle.policy.specs.Line.{PolicyLine};
 ghost use Rattle.policy.specs.declared.fault.Refusal.{Refusal};
 ghost use Rattle.policy.specs.declared.line.Part.{Part};
-ghost use Rattle.line_value.specs.Value.{line_value};
 ghost use Rattle.layout.specs.Layout.{line_words};
 ghost use Rattle.decode.specs.Stands.{Stands, AreLines};
 ghost use Rattle.decode.specs.Decode.{line_at};
 ghost use Rattle.image.specs.Lines.{lines_from};
 ghost use Rattle.image.specs.Held.{lines_held};
 ghost use Rattle.image.specs.Load.{Contents, both_parts, load};
-ghost use Rattle.image.specs.Walk.{lines_left, values_behind};
+ghost use Rattle.image.specs.Walk.{lines_left, lines_behind};
 ghost use Rattle.exactness.specs.ImageFault.{ImageFault, NoLineAt};
 ghost use Rattle.guarantees.specs.Claims.{SomeText};
 
@@ -52,12 +51,12 @@ pub fn part_fault_exactly()
     ensures { (part : Part) (room from : ℕ) (words : List ℕ) (location : ℕ) → (lines_from part room from words ≡ Err location) ↔ NoLineAt part room from words location }
 {}
 
-/// Going over words, where a line of either part stands its value comes first, and then what comes from behind its words on.
+/// Going over words, where a line of either part stands it comes first, and then what comes from behind its words on.
 pub fn standing_given()
-    ensures { (part : Part) (words : List ℕ) (at : ℕ) (line : PolicyLine) → Stands part (drop at words) line → lines_left words at ≡ line_value line ∷ lines_left words (at + length (line_words line)) }
+    ensures { (part : Part) (words : List ℕ) (at : ℕ) (line : PolicyLine) → Stands part (drop at words) line → lines_left words at ≡ line ∷ lines_left words (at + length (line_words line)) }
 {}
 
-/// Going over the words of an image that the loader takes, exactly the values of the lines of the policy that it holds come, in order: its rules, and then its constraints.
+/// Going over the words of an image that the loader takes, exactly the lines of the policy that it holds come, in order: its rules, and then its constraints.
 pub fn held_given()
-    ensures { (bytes : List ℕ) (contents : Contents) → load bytes ≡ Ok contents → values_behind 0 (both_parts contents) ≡ map line_value (lines_held bytes) }
+    ensures { (bytes : List ℕ) (contents : Contents) → load bytes ≡ Ok contents → lines_behind 0 (both_parts contents) ≡ lines_held bytes }
 {}

@@ -7,20 +7,19 @@ use Rattle.policy.specs.Line.{PolicyLine, rule, constraint}
 use Rattle.policy.specs.List.{all}
 use Rattle.policy.specs.declared.fault.Fault.{Fault}
 use Rattle.policy.specs.declared.line.Part.{Part}
-use Rattle.line_value.specs.Value.{line_value}
 use Rattle.word.specs.Word.{words_of, between}
 use Rattle.layout.specs.Layout.{line_words, lines_words, known_form, check_count, rule_word_limit, constraint_word_limit}
 use Rattle.decode.proofs.DecodeLaws.{line_out}
 use Rattle.decode.specs.Decode.{line_at}
 use Rattle.decode.specs.Stands.{in_part, Stands, AreLines}
-use Rattle.image.proofs.ValueLaws.{lines_given}
+use Rattle.image.proofs.GivenLaws.{lines_given}
 use Rattle.image.specs.Check.{form_byte, rule_words, constraint_words, well_sized, counts_fit, sums_to_zero}
 use Rattle.image.specs.Held.{rules_in, constraints_in, lines_in, policy_in, lines_held}
 use Rattle.image.specs.Lines.{add_line, after_line, lines_from, part_lines, rule_part, constraint_part, rule_lines, constraint_lines}
 use Rattle.image.proofs.LoadLaws.{ok_err}
 use Rattle.policy.specs.declared.fault.Refusal.{Refusal}
 use Rattle.image.specs.Load.{Contents, both_parts, body_answer, require, load_words, load}
-use Rattle.image.specs.Walk.{values_behind}
+use Rattle.image.specs.Walk.{lines_behind}
 
 -- ---- what is found was written
 
@@ -190,10 +189,10 @@ lines_append [] ms = refl
 lines_append (l ∷ ls) ms = ap (λ (ws : List ℕ). line_words l ++ ws) (lines_append ls ms) ∙ sym (append_assoc (line_words l) (lines_words ls) (lines_words ms))
 
 -- the lines of both parts are those of its policy
-pub held_given : (bytes : List ℕ) (contents : Contents) → load bytes ≡ Ok contents → values_behind 0 (both_parts contents) ≡ map line_value (lines_held bytes)
+pub held_given : (bytes : List ℕ) (contents : Contents) → load bytes ≡ Ok contents → lines_behind 0 (both_parts contents) ≡ lines_held bytes
 held_given bytes contents taken =
     let h = held_parts bytes contents taken in
     let rs : List PolicyLine = map rule (policy_in bytes).rules in
     let cs : List PolicyLine = map constraint (policy_in bytes).constraints in
-    ap (values_behind 0) (ap₂ (λ (x y : List ℕ). x ++ y) h.rule_part_is.words h.constraint_part_is.words ∙ sym (lines_append rs cs))
+    ap (lines_behind 0) (ap₂ (λ (x y : List ℕ). x ++ y) h.rule_part_is.words h.constraint_part_is.words ∙ sym (lines_append rs cs))
     ∙ lines_given (rs ++ cs) (all_append valid rs cs h.rule_part_is.sound h.constraint_part_is.sound)

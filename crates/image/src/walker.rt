@@ -66,7 +66,7 @@ fn told_length(words: &[[u8; 4]]) -> usize
     (skip(nth_word(words, 0)) as usize + 1).min(words.len())
 }
 
-/// The values of the lines from here on. Nothing is checked, so it is for images that the loader takes.
+/// The lines from here on. Nothing is checked, so it is for images that the loader takes.
 impl<'a> Iterator for Walker<'a> {
     type Item = Line;
 

@@ -2,18 +2,16 @@
 use Rattle.std.proofs.Common.{◌≡◌, ℕ, suc, ◌+◌, ◌-◌, ◌*◌, ◌/◌, ◌<◌, ◌≤◌, List, [], ◌∷◌, ◌++◌, length, get_or, drop, sym, refl, ap, ◌∙◌, ap₂, arith, length-append, length-drop, drop_of_length-le, drop-cons}
 use Rattle.std.proofs.Math.Nat.{sub-zero}
 use Rattle.layout.specs.Steps.Size.{operand_size, comparisons_size, condition_size}
-use Rattle.policy.specs.Line.{PolicyLine, operand_constants, constant_count}
-use Rattle.line_value.specs.Value.{line_value}
+use Rattle.policy.specs.Line.{PolicyLine, heads_of, comparisons_of, ending_of, operand_constants, constant_count}
 use Rattle.policy.specs.declared.comparison.Comparison.{Comparison}
 use Rattle.policy.specs.declared.comparison.Operand.{Operand}
 use Rattle.policy.specs.declared.line.Ending.{Ending}
-use Rattle.line_value.specs.declared.Line.{Line}
 use Rattle.policy.specs.declared.line.Test.{Test}
 use Rattle.word.proofs.WriteLaws.{put_append, put_length, put_none}
 use Rattle.operation.specs.Parts.{test_word, constant_words, comparison_words, ending_word}
 use Rattle.word.specs.Steps.Write.{put_words}
 use Rattle.layout.specs.Layout.{condition_words, part_words, line_words}
-use Rattle.layout.specs.Steps.Value.{head_words, value_words}
+use Rattle.layout.specs.Steps.Heads.{head_words}
 
 -- ---- how many words
 
@@ -215,29 +213,25 @@ unfolding condition_size comparisons_size constant_count
 condition_counted [] = refl
 condition_counted (c ∷ cs) = omega (arith, operand_counted c.operand, condition_counted cs)
 
-module _ (line : Line) (constants : ℕ) (ek : constants ≡ constant_count line.comparisons) where
-  pub rest_counted : length line.comparisons + constants + 1 ≡ condition_size line.comparisons
-  rest_counted = omega (arith, condition_counted line.comparisons, ek)
+module _ (line : PolicyLine) (constants : ℕ) (ek : constants ≡ constant_count (comparisons_of line)) where
+  pub rest_counted : length (comparisons_of line) + constants + 1 ≡ condition_size (comparisons_of line)
+  rest_counted = omega (arith, condition_counted (comparisons_of line), ek)
 
   -- the words of the heads
   abbrev first : List ℕ
-  first = head_words line.heads (length line.heads + condition_size line.comparisons)
+  first = head_words (heads_of line) (length (heads_of line) + condition_size (comparisons_of line))
 
-  pub value_counted : length line.heads + (length line.comparisons + constants + 1) ≡ length (value_words line)
-  unfolding value_words
-  value_counted = omega (arith, part_length line.heads line.comparisons line.ending, rest_counted)
+  pub line_counted : length (heads_of line) + (length (comparisons_of line) + constants + 1) ≡ length (line_words line)
+  unfolding line_words
+  line_counted = omega (arith, part_length (heads_of line) (comparisons_of line) (ending_of line), rest_counted)
 
-  pub value_put : (buffer buffer₁ buffer₂ : List ℕ) (index : ℕ) → index + (length line.heads + (length line.comparisons + constants + 1)) ≤ length buffer / 4
-      → buffer₁ ≡ put_words buffer index (head_words line.heads (length line.heads + (length line.comparisons + constants + 1)))
-      → buffer₂ ≡ put_words buffer₁ (index + length line.heads) (condition_words line.comparisons line.ending)
-      → buffer₂ ≡ put_words buffer index (value_words line)
-  unfolding value_words
-  value_put buffer buffer₁ buffer₂ index h e₁ e₂ =
-      let n : length first ≡ length line.heads = head_length line.heads (length line.heads + condition_size line.comparisons) in
-      e₂ ∙ ap₂ (λ (b : List ℕ) (k : ℕ). put_words b (index + k) (condition_words line.comparisons line.ending)) (e₁ ∙ ap (λ (k : ℕ). put_words buffer index (head_words line.heads (length line.heads + k))) rest_counted) (sym n)
-      ∙ put_append buffer index first (condition_words line.comparisons line.ending) (omega (arith, n, condition_length line.comparisons line.ending, rest_counted))
-      ∙ ap (put_words buffer index) (part_split line.heads line.comparisons line.ending)
-
-pub value_words_is : (l : PolicyLine) → value_words (line_value l) ≡ line_words l
-unfolding value_words line_words
-value_words_is l = refl
+  pub line_put : (buffer buffer₁ buffer₂ : List ℕ) (index : ℕ) → index + (length (heads_of line) + (length (comparisons_of line) + constants + 1)) ≤ length buffer / 4
+      → buffer₁ ≡ put_words buffer index (head_words (heads_of line) (length (heads_of line) + (length (comparisons_of line) + constants + 1)))
+      → buffer₂ ≡ put_words buffer₁ (index + length (heads_of line)) (condition_words (comparisons_of line) (ending_of line))
+      → buffer₂ ≡ put_words buffer index (line_words line)
+  unfolding line_words
+  line_put buffer buffer₁ buffer₂ index h e₁ e₂ =
+      let n : length first ≡ length (heads_of line) = head_length (heads_of line) (length (heads_of line) + condition_size (comparisons_of line)) in
+      e₂ ∙ ap₂ (λ (b : List ℕ) (k : ℕ). put_words b (index + k) (condition_words (comparisons_of line) (ending_of line))) (e₁ ∙ ap (λ (k : ℕ). put_words buffer index (head_words (heads_of line) (length (heads_of line) + k))) rest_counted) (sym n)
+      ∙ put_append buffer index first (condition_words (comparisons_of line) (ending_of line)) (omega (arith, n, condition_length (comparisons_of line) (ending_of line), rest_counted))
+      ∙ ap (put_words buffer index) (part_split (heads_of line) (comparisons_of line) (ending_of line))

@@ -2,9 +2,9 @@
 ghost use Rattle.std.specs.Prelude.{◌≡◌, ◌+◌, ◌/◌, ◌<◌, ◌≤◌, length};
 ghost use Rattle.operation.specs.Parts.{comparison_words};
 ghost use Rattle.word.specs.Steps.Write.{put_words};
-ghost use Rattle.layout.specs.Layout.{condition_words};
+ghost use Rattle.layout.specs.Layout.{condition_words, line_words};
+ghost use Rattle.layout.specs.Steps.Heads.{head_words};
 ghost use Rattle.layout.specs.Steps.Size.{operand_size, condition_size};
-ghost use Rattle.layout.specs.Steps.Value.{head_words, value_words};
 
 use line_value::Line;
 use operation::{comparison_word, ending_word, test_word};
@@ -68,19 +68,25 @@ fn put_heads(buffer: &mut [u8], index: usize, heads: &[Test], size: usize)
 
 /// The words of a line put in at a word index, and how many they are. Where they do not fit, the buffer stays as it is.
 #[inline(never)]
-#[tactic(auto, using(crate::proofs::LayoutLaws::rest_counted, crate::proofs::LayoutLaws::value_counted, crate::proofs::LayoutLaws::value_put, word::proofs::WriteLaws::put_out))]
+#[tactic(auto, using(crate::proofs::LayoutLaws::rest_counted, crate::proofs::LayoutLaws::line_counted, crate::proofs::LayoutLaws::line_put, word::proofs::WriteLaws::put_out))]
 pub fn put_line(buffer: &mut [u8], index: usize, line: &Line) -> usize
-    ensures answer { result ≡ length (value_words line.now) }
-    ensures buffer { buffer.new ≡ put_words buffer.old index (value_words line.now) }
+    ensures answer { result ≡ length (line_words line.now) }
+    ensures buffer { buffer.new ≡ put_words buffer.old index (line_words line.now) }
 {
-    let heads = line.heads.as_slice();
-    let comparisons = line.comparisons.as_slice();
+    let heads = line.heads();
+    let comparisons = line.comparisons();
     let rest = comparisons.len() + line.constants() + 1;
     let size = heads.len() + rest;
     let room = (buffer.len() / 4).saturating_sub(index);
     if size <= room {
         put_heads(buffer, index, heads, size);
-        put_condition(buffer, index + heads.len(), comparisons, line.ending, rest);
+        put_condition(
+            buffer,
+            index + heads.len(),
+            comparisons,
+            line.ending(),
+            rest,
+        );
     }
     size
 }

@@ -1,2 +1,2 @@
--- What a reader must believe of this layer: `Value`, the value that holds a line.
+-- What a reader must believe of this layer: `Value`, the line that its parts are.
 pub mod Value

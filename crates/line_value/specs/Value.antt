@@ -1,11 +1,31 @@
--- The value that holds a line: its heads, its comparisons, and what it ends as.
-use Rattle.std.specs.Prelude.{[]}
-use Rattle.policy.specs.Line.{PolicyLine, heads_of, comparisons_of, ending_of}
+-- The line that heads, comparisons and an ending are.
+use Rattle.std.specs.Prelude.{Bool, true, false, List, [], ◌∷◌}
+use Rattle.policy.specs.Line.{PolicyLine, rule, constraint}
+use Rattle.policy.specs.declared.comparison.Comparison.{Comparison}
+use Rattle.policy.specs.declared.comparison.Literal.{Literal}
 use Rattle.policy.specs.declared.line.Ending.{Ending}
-use Rattle.line_value.specs.declared.Line.{Line}
+use Rattle.policy.specs.declared.line.Part.{Part}
+use Rattle.policy.specs.declared.line.Test.{Test}
+use Rattle.policy.specs.declared.number.Action.{Action}
 
-abbrev pub no_parts : Line
-no_parts = record { heads = []; comparisons = []; ending = Ending.Never }
+-- whether a head may stand in a line of the kind: a literal in a rule, an action in a constraint
+unfoldable pub fits : Part → Test → Bool
+fits Part.Rules (Test.Occurs l) = true
+fits Part.Constraints (Test.Member a) = true
+fits _ _ = false
 
-abbrev pub line_value : PolicyLine → Line
-line_value l = record { heads = heads_of l; comparisons = comparisons_of l; ending = ending_of l }
+-- the literals among heads, and the actions
+unfoldable pub literals_among : List Test → List Literal
+literals_among [] = []
+literals_among (Test.Occurs l ∷ ts) = l ∷ literals_among ts
+literals_among (Test.Member a ∷ ts) = literals_among ts
+
+unfoldable pub actions_among : List Test → List Action
+actions_among [] = []
+actions_among (Test.Occurs l ∷ ts) = actions_among ts
+actions_among (Test.Member a ∷ ts) = a ∷ actions_among ts
+
+-- the line that ends so. Of its heads those count that fit it.
+unfoldable pub line_of : List Test → List Comparison → Ending → PolicyLine
+line_of ts cs (Ending.Causes a) = rule (record { literals = literals_among ts; action = a; comparisons = cs })
+line_of ts cs Ending.Never = constraint (record { actions = actions_among ts; comparisons = cs })

@@ -4,60 +4,95 @@
 mod comparison_list;
 mod test_list;
 
-ghost use Rattle.std.specs.Prelude.{◌≡◌, [], map, ◌≤◌};
-ghost use Rattle.policy.specs.Limits.{test_number};
-ghost use Rattle.policy.specs.Line.{constant_count};
-ghost use Rattle.policy.specs.Steps.Seen.{seen_in};
-ghost use Rattle.line_value.specs.Value.{no_parts};
+ghost use Rattle.std.specs.Prelude.{◌≡◌, ◌≤◌, true, length};
+ghost use Rattle.std.specs.List.{list_all};
+ghost use Rattle.policy.specs.Line.{heads_of, comparisons_of, ending_of, constant_count, ending_part};
+ghost use Rattle.line_value.specs.Value.{fits, line_of};
 
 pub use comparison_list::Comparisons;
-use policy::{Ending, member, with_member};
+use policy::{Comparison, Ending, Part, Test};
+use std::marker::Model;
 pub use test_list::Tests;
 
-/// The heads and the comparisons of a line, and what it ends as.
+/// Whether a head may stand in a line of the kind: a literal in a rule, an action in a constraint.
+#[tactic(auto, unfolding(crate::specs::Value::fits))]
+pub fn fits(part: Part, head: Test) -> bool
+    ensures { result ≡ fits part head }
+{
+    matches!(
+        (part, head),
+        (Part::Rules, Test::Occurs(_)) | (Part::Constraints, Test::Member(_))
+    )
+}
+
+/// A line: its heads, which are of the kind that the ending wants, its comparisons, and what it ends as.
 #[derive(Drop)]
 pub struct Line {
-    pub heads: Tests,
-    pub comparisons: Comparisons,
-    pub ending: Ending,
+    heads: Tests,
+    comparisons: Comparisons,
+    ending: Ending,
+}
+
+impl Model for Line {
+    ghost use Rattle.std.specs.Prelude.{◌≡◌, true};
+    ghost use Rattle.std.specs.List.{list_all};
+    ghost use Rattle.policy.specs.Line.{PolicyLine, ending_part};
+    ghost use Rattle.line_value.specs.Value.{fits, line_of};
+
+    ghost Value = { PolicyLine };
+
+    ghost view = { λ l. line_of l.heads l.comparisons l.ending };
+
+    ghost invariant = { λ l. list_all (fits (ending_part l.ending)) l.heads ≡ true };
 }
 
 impl Line {
-    /// A line with no part yet.
-    pub fn new() -> Line
-        ensures { result ≡ no_parts }
+    /// The line of its parts.
+    pub fn new(heads: Tests, comparisons: Comparisons, ending: Ending) -> Line
+        requires { list_all (fits (ending_part ending)) heads ≡ true }
+        ensures { result ≡ line_of heads comparisons ending }
     {
         Line {
-            heads: Tests::new(),
-            comparisons: Comparisons::new(),
-            ending: Ending::Never,
+            heads,
+            comparisons,
+            ending,
         }
     }
 
-    /// Whether some event or action stands twice among the heads.
-    #[tactic(auto, using(policy::proofs::SeenLaws::seen_none, policy::proofs::SeenLaws::seen_here, policy::proofs::SeenLaws::seen_past, crate::proofs::LineLaws::items_past, crate::proofs::LineLaws::items_ended))]
-    pub fn has_repeats(&self) -> bool
-        ensures { result ≡ seen_in 0 (map test_number self.now.heads) }
+    /// Its literals or its actions.
+    #[tactic(auto, using(crate::proofs::LineLaws::heads_back))]
+    pub fn heads(&self) -> &[Test]
+        ensures items { result.now ≡ heads_of self.now }
+        ensures few { length result.now ≤ 8 }
     {
-        let mut seen = 0;
-        for head in self.heads.as_slice() {
-            let n = head.number();
-            if member(seen, n) {
-                return true;
-            }
-            seen = with_member(seen, n);
-        }
-        false
+        self.heads.as_slice()
+    }
+
+    /// Its comparisons.
+    #[tactic(auto, using(crate::proofs::LineLaws::comparisons_back))]
+    pub fn comparisons(&self) -> &[Comparison]
+        ensures items { result.now ≡ comparisons_of self.now }
+        ensures few { length result.now ≤ 4 }
+    {
+        self.comparisons.as_slice()
+    }
+
+    /// What it ends as.
+    #[tactic(auto, using(crate::proofs::LineLaws::ending_back))]
+    pub fn ending(&self) -> Ending
+        ensures { result ≡ ending_of self.now }
+    {
+        self.ending
     }
 
     /// How many of the comparisons have a constant.
     #[tactic(auto, using(policy::proofs::SeenLaws::constants_none, policy::proofs::SeenLaws::constants_past, policy::proofs::SeenLaws::one_constant, crate::proofs::LineLaws::items_past, crate::proofs::LineLaws::items_ended))]
     pub fn constants(&self) -> usize
-        ensures value { result ≡ constant_count self.now.comparisons }
+        ensures value { result ≡ constant_count (comparisons_of self.now) }
         ensures upper_bound { result ≤ 4 }
     {
         let mut constants = 0;
-        for comparison in self.comparisons.as_slice() {
+        for comparison in self.comparisons() {
             constants += comparison.operand.constants();
         }
         constants

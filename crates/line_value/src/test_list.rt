@@ -1,7 +1,9 @@
 //! The tests of a line, at most eight.
-ghost use Rattle.std.specs.Prelude.{◌≡◌, ◌≤◌, ◌<◌, ◌++◌, ◌∷◌, [], length};
+ghost use Rattle.std.specs.Prelude.{◌≡◌, ◌≤◌, ◌<◌, ◌++◌, ◌∷◌, [], map, length};
+ghost use Rattle.policy.specs.Limits.{test_number};
+ghost use Rattle.policy.specs.Steps.Seen.{seen_in};
 
-use policy::{Action, HEAD_LIMIT, Test};
+use policy::{Action, HEAD_LIMIT, Test, member, with_member};
 use std::marker::Model;
 
 /// A list of at most eight tests.
@@ -57,5 +59,21 @@ impl Tests {
         ensures few { length result.now ≤ 8 }
     {
         &self.items[..self.count.min(HEAD_LIMIT)]
+    }
+
+    /// Whether some event or action stands twice.
+    #[tactic(auto, using(policy::proofs::SeenLaws::seen_none, policy::proofs::SeenLaws::seen_here, policy::proofs::SeenLaws::seen_past, crate::proofs::LineLaws::items_past, crate::proofs::LineLaws::items_ended))]
+    pub fn has_repeats(&self) -> bool
+        ensures { result ≡ seen_in 0 (map test_number self.now) }
+    {
+        let mut seen = 0;
+        for test in self.as_slice() {
+            let n = test.number();
+            if member(seen, n) {
+                return true;
+            }
+            seen = with_member(seen, n);
+        }
+        false
     }
 }

@@ -1,12 +1,14 @@
 -- Each fault has a number of its own.
-use Rattle.std.proofs.Common.{ℕ, List, [], ◌∷◌, ◌≡◌, refl, sym, ap, ◌∙◌}
+use Rattle.std.proofs.Common.{ℕ, ◌<◌, ◌≤◌, ◌⊎◌, inl, inr, List, [], ◌∷◌, length, ◌≡◌, refl, sym, ap, ◌∙◌, arith}
+use Rattle.std.proofs.lemmas.Bool.{cases_lt}
+use Rattle.std.proofs.lemmas.List.{get_or_past}
 use Rattle.std.proofs.Math.ListN.{get_or}
 use Rattle.policy.specs.Fault.{fault_number}
 use Rattle.policy.specs.declared.fault.Fault.{Fault}
 use Rattle.policy.specs.declared.fault.Fault.TheVariants.{TooLong, Syntax, OutOfRange, TooManyParts, TooManyLines, Duplicate, ImageSize, ImageForm, ImageCount, ImageSum, ImageBody, EpochSyntax, EpochRange, DuplicateReading, BufferTooSmall, Unavoidable}
 
 -- the faults by their numbers; no fault has number 0 or 16
-abbrev by_number : List Fault
+abbrev pub by_number : List Fault
 by_number =
     TooLong ∷ TooLong ∷ Syntax ∷ OutOfRange ∷ TooManyParts ∷ TooManyLines ∷ Duplicate ∷ ImageSize ∷ ImageForm ∷ ImageCount ∷ ImageSum ∷ ImageBody
     ∷ EpochSyntax ∷ EpochRange ∷ DuplicateReading ∷ BufferTooSmall ∷ TooLong ∷ Unavoidable ∷ []
@@ -31,3 +33,11 @@ found Unavoidable = refl
 
 pub fault_number_distinct : (f g : Fault) → fault_number f ≡ fault_number g → f ≡ g
 fault_number_distinct f g e = sym (found f) ∙ ap (λ (n : ℕ). get_or by_number n TooLong) e ∙ found g
+
+-- and each is under how many there are by number
+pub fault_number_small : (f : Fault) → fault_number f < length by_number
+fault_number_small f = go (cases_lt (fault_number f) (length by_number))
+  where
+    go : (fault_number f < length by_number) ⊎ (length by_number ≤ fault_number f) → fault_number f < length by_number
+    go (inl h) = h
+    go (inr h) = let e : 1 ≡ fault_number f = ap fault_number (sym (get_or_past by_number (fault_number f) TooLong h) ∙ found f) in absurd (omega (arith, e))

@@ -1,31 +1,15 @@
--- The text of a line's value: from its parts, and that it is the text of the line.
+-- The text of a line from its parts is the text of the line.
 use Rattle.std.proofs.Common.{ℕ, ◌<◌, true, List, [], ◌∷◌, ◌++◌, map, append_assoc, append-nil, ◌≡◌, refl, sym, ap, ap₂, ◌∙◌, arith, length, length-append}
 use Rattle.std.proofs.Math.ListN.{length-map}
 use Rattle.policy.proofs.ValidLaws.{valid_out}
 use Rattle.policy.specs.Limits.{valid}
 use Rattle.policy.specs.Line.{PolicyLine, rule, constraint, heads_of, comparisons_of, ending_of}
 use Rattle.policy.specs.declared.comparison.Comparison.{Comparison}
-use Rattle.policy.specs.declared.line.Ending.{Ending}
 use Rattle.policy.specs.declared.line.Test.{Test}
-use Rattle.policy.specs.declared.number.Action.{Action}
-use Rattle.line_value.specs.Value.{line_value}
-use Rattle.line_value.specs.declared.Line.{Line}
 use Rattle.lexer.specs.Byte.{bytes}
 use Rattle.lexer.specs.Token.{Token}
 use Rattle.printer.specs.Printed.{action_token, literal_token, comparison_tokens, joined_by, head_tokens, condition_tokens, line_tokens, line_bytes}
 use Rattle.printer.specs.Steps.Value.{test_token, comparison_text, linked, heads_text, condition_text, ending_text, value_text}
-
--- ---- from its parts, in the order in which they are appended
-
-pub value_causes : (l : Line) (a : Action) → l.ending ≡ Ending.Causes a → ((heads_text l.heads ++ bytes " causes ") ++ action_token a) ++ (condition_text l.comparisons ++ 10 ∷ []) ≡ value_text l
-unfolding value_text ending_text
-value_causes l a e = (simp append_assoc) ∙ ap (λ (x : Ending). ending_text x (heads_text l.heads) (condition_text l.comparisons)) (sym e)
-
-pub value_never : (l : Line) → l.ending ≡ Ending.Never → (bytes "never " ++ heads_text l.heads) ++ (condition_text l.comparisons ++ 10 ∷ []) ≡ value_text l
-unfolding value_text ending_text
-value_never l e = (simp append_assoc) ∙ ap (λ (x : Ending). ending_text x (heads_text l.heads) (condition_text l.comparisons)) (sym e)
-
--- ---- it is the text of the line
 
 -- tokens with a space before each
 spaced : List Token → List ℕ
@@ -101,6 +85,6 @@ line_spaced (constraint c) h =
     ap (λ (s : List ℕ). s ++ 10 ∷ []) (spaced_joined (bytes "never" ∷ heads ++ rest) (omega arith) ∙ ap (λ (s : List ℕ). (32 ∷ bytes "never") ++ s) all)
     ∙ rw (name, condition_spaced c.comparisons) (ap (λ (s : List ℕ). 32 ∷ s) (grouped [] (bytes "never ") (linked action_token [] (bytes " & ") c.actions) (condition_text c.comparisons) (10 ∷ [])))
 
-pub value_text_is : (l : PolicyLine) → valid l ≡ true → value_text (line_value l) ≡ line_bytes l ++ 10 ∷ []
+pub value_text_is : (l : PolicyLine) → valid l ≡ true → value_text l ≡ line_bytes l ++ 10 ∷ []
 unfolding value_text
-value_text_is l v = let both : 32 ∷ (line_bytes l ++ 10 ∷ []) ≡ 32 ∷ value_text (line_value l) = line_spaced l (valid_out l v).some in cc
+value_text_is l v = let both : 32 ∷ (line_bytes l ++ 10 ∷ []) ≡ 32 ∷ value_text l = line_spaced l (valid_out l v).some in cc

@@ -43,17 +43,17 @@ fn put_condition<S: Sink>(sink: &mut S, comparisons: &[Comparison])
 pub fn put_line<S: Sink>(sink: &mut S, line: &Line)
     ensures { sink.new ≡ fed S.taken sink.old (value_text line.now) }
 {
-    match line.ending {
+    match line.ending() {
         Ending::Causes(action) => {
-            put_heads(sink, line.heads.as_slice());
+            put_heads(sink, line.heads());
             sink.put(b" causes ");
             put_name(sink, b'A', action.0);
         }
         Ending::Never => {
             sink.put(b"never ");
-            put_heads(sink, line.heads.as_slice());
+            put_heads(sink, line.heads());
         }
     }
-    put_condition(sink, line.comparisons.as_slice());
+    put_condition(sink, line.comparisons());
     sink.put(b"\n");
 }

@@ -1,5 +1,6 @@
 -- How long the lines are that tell a refusal or answer a question. Numbers of questions have 64 bits.
 use Rattle.std.proofs.Common.{ℕ, ◌+◌, ◌^◌, ◌≤◌, ◌<◌, List, arith, length, length-append}
+use Rattle.policy.proofs.FaultLaws.{fault_number_small}
 use Rattle.policy.specs.Fault.{fault_number, source_number}
 use Rattle.policy.specs.declared.fault.Fault.{Fault}
 use Rattle.policy.specs.declared.fault.Refusal.{Refusal}
@@ -11,25 +12,7 @@ use Rattle.report.specs.Report.{refusal_line, texts_refusal_line, not_proposed_l
 
 -- a fault's number has at most two digits, and a text's has one
 pub fault_digits : (f : Fault) → length (decimal (fault_number f)) ≤ 2
-fault_digits f = decimal_few (fault_number f) 1 (small f)
-  where
-    small : (f : Fault) → fault_number f < 10 ^ 2
-    small Fault.TooLong = omega arith
-    small Fault.Syntax = omega arith
-    small Fault.OutOfRange = omega arith
-    small Fault.TooManyParts = omega arith
-    small Fault.TooManyLines = omega arith
-    small Fault.Duplicate = omega arith
-    small Fault.ImageSize = omega arith
-    small Fault.ImageForm = omega arith
-    small Fault.ImageCount = omega arith
-    small Fault.ImageSum = omega arith
-    small Fault.ImageBody = omega arith
-    small Fault.EpochSyntax = omega arith
-    small Fault.EpochRange = omega arith
-    small Fault.DuplicateReading = omega arith
-    small Fault.BufferTooSmall = omega arith
-    small Fault.Unavoidable = omega arith
+fault_digits f = decimal_few (fault_number f) 1 (omega (arith, fault_number_small f))
 
 source_digits : (s : Source) → length (decimal (source_number s)) ≤ 1
 source_digits s = decimal_few (source_number s) 0 (small s)

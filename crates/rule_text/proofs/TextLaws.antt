@@ -18,13 +18,12 @@ use Rattle.policy.specs.declared.fault.Refusal.{Refusal}
 use Rattle.policy.specs.declared.fault.Source.{Source}
 use Rattle.policy.specs.declared.line.Part.{Part}
 use Rattle.policy.specs.declared.line.PerPart.{PerPart}
-use Rattle.line_value.specs.declared.Line.{Line}
-use Rattle.syntax.proofs.AnswerLaws.{lines_here, next_shorter, Accepted, read_refused, read_skipped, read_accepted}
+use Rattle.syntax.proofs.AnswerLaws.{lines_here, next_shorter, read_refused, read_ok}
 use Rattle.syntax.proofs.JudgeLaws.{accepted_uncrowded}
 use Rattle.rule_text.specs.Answer.{total, counts_in, counts_of, counted, text_read, texts_read}
-use Rattle.rule_text.specs.Steps.Counting.{no_lines, no_counts, plus, count_more, count_line, counted_before, count_lines, count_behind}
+use Rattle.rule_text.specs.Steps.Counting.{no_lines, no_counts, count_more, count_line, counted_before, count_lines, count_behind}
 use Rattle.syntax.specs.Answer.{next_line, line_read}
-use Rattle.rule_text.specs.Steps.Tally.{Within, Small, with_line, tally_as, tallied_by}
+use Rattle.rule_text.specs.Steps.Tally.{Within, Small, plus, tally_as, tallied_by}
 use Rattle.lexer.specs.Lines.{pieces, lines_of, first_line}
 use Rattle.syntax.specs.Judge.{line_answer}
 use Rattle.rule_text.specs.Text.{has_room, with_line as line_added, with_any_line, read_line, read_lines, empty_policy, text_limit, read_text_behind, read_text, read_texts}
@@ -57,7 +56,7 @@ added_counts p (rule r) = rw (map-append rule p.rules (r ∷ []), counts_snoc (m
 added_counts p (constraint c) = rw (map-append constraint p.constraints (c ∷ []), counts_snoc (map constraint p.constraints) (constraint c))
 
 more_counts : (p : Policy) (o : Option PolicyLine) → count_more (counts_of p) o ≡ result_map_both counts_of (λ f. f) (with_any_line p o)
-unfolding count_more with_any_line tally_as
+unfolding count_more with_any_line tallied_by tally_as
 more_counts p None = refl
 more_counts p (Some l) = rw (room_counts p l, added_counts p l) (go (has_room p l))
   where
@@ -137,7 +136,7 @@ small_line c d l u s = go (line_part l)
         room false e q = let z : ⊥ = cc in absurd z
 
 small_more : (c d : Counts) (line : List ℕ) → Small c → count_line c line ≡ Ok d → Small d
-unfolding count_line count_more
+unfolding count_line count_more tallied_by
 small_more c d line s = go (line_answer line) (accepted_uncrowded line)
   where
     go : (a : Result (Option PolicyLine) Fault) → ((l : PolicyLine) → a ≡ Ok (Some l) → crowded l ≡ false) → result_and_then (count_more c) a ≡ Ok d → Small d
@@ -158,22 +157,19 @@ module _ (c : Counts) (text : List ℕ) where
 
   pub step_skipped : (rest : List ℕ) → Ok (None, rest) ≡ line_read text → Ok (c, rest) ≡ more
   unfolding count_line count_more
-  step_skipped rest q = let k = read_skipped text rest q in rw (k.0, k.1)
+  step_skipped rest q = let k = read_ok text None rest q in rw (k.0, k.1)
 
-  module _ (l : Line) (rest : List ℕ) (q : Ok (Some l, rest) ≡ line_read text) where
-    read : Accepted text l rest
-    read = read_accepted text l rest q
-
+  module _ (l : PolicyLine) (rest : List ℕ) (q : Ok (Some l, rest) ≡ line_read text) where
     step_taken : tallied_by c l ≡ count_line c (first_line text)
-    unfolding count_line count_more tallied_by with_line
-    step_taken = ap (tallied_by c) read.value ∙ ap (result_and_then (count_more c)) (sym read.answer)
+    unfolding count_line count_more
+    step_taken = ap (result_and_then (count_more c)) (sym (read_ok text (Some l) rest q).0)
 
     pub step_full : (f : Fault) → tallied_by c l ≡ Err f → Err f ≡ more
     step_full f k = rw (sym step_taken ∙ k)
 
     module _ (d : Counts) (k : tallied_by c l ≡ Ok d) where
       pub step_more : Ok (d, rest) ≡ more
-      step_more = rw (sym step_taken ∙ k, read.behind)
+      step_more = rw (sym step_taken ∙ k, (read_ok text (Some l) rest q).1)
 
       pub step_small : Small c → Small d
       step_small s = small_more c d (first_line text) s (sym step_taken ∙ k)

@@ -8,7 +8,7 @@ ghost use Rattle.policy.specs.Limits.{rule_limit};
 ghost use Rattle.rule_text.specs.Answer.{text_read, texts_read};
 ghost use Rattle.rule_text.specs.Steps.Counting.{count_line, counted_before, count_behind};
 ghost use Rattle.syntax.specs.Answer.{next_line};
-ghost use Rattle.rule_text.specs.Steps.Tally.{Within, Small, with_line, tallied_by};
+ghost use Rattle.rule_text.specs.Steps.Tally.{Within, Small, plus, tallied_by};
 
 use line_value::Line;
 use policy::{Fault, PerPart, Refusal, Source};
@@ -27,15 +27,14 @@ pub struct LineCounts {
 }
 
 // The counts of a kind with one line more.
-#[tactic(auto, unfolding(crate::specs::Steps::Tally::with_line))]
 fn with_line(counts: LineCounts, line: &Line) -> LineCounts
     requires { Within rule_limit counts }
-    ensures { result ≡ with_line counts line.now }
+    ensures { result ≡ plus counts line.now }
 {
     LineCounts {
         lines: counts.lines + 1,
-        heads: counts.heads + line.heads.len(),
-        comparisons: counts.comparisons + line.comparisons.len(),
+        heads: counts.heads + line.heads().len(),
+        comparisons: counts.comparisons + line.comparisons().len(),
         constants: counts.constants + line.constants(),
     }
 }
@@ -45,7 +44,7 @@ fn tallied(counts: PerPart<LineCounts>, line: &Line) -> Result<PerPart<LineCount
     requires { Small counts }
     ensures { result ≡ tallied_by counts line.now }
 {
-    let part = line.ending.part();
+    let part = line.ending().part();
     let before = counts.get(part);
     if before.lines < part.line_limit() {
         Ok(counts.with(part, with_line(before, line)))

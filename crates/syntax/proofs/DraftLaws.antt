@@ -78,13 +78,15 @@ line_range l =
 abbrev pub draft_of : List Test → List Comparison → Ending → Draft
 draft_of ts cs e =
     record {
-      line = record { heads = take head_limit ts; comparisons = take comparison_limit cs; ending = e };
+      heads = take head_limit ts;
+      comparisons = take comparison_limit cs;
+      ending = e;
       in_range = true;
       crowded = ltb head_limit (length ts) || ltb comparison_limit (length cs);
     }
 
 abbrev headed : List Test → Draft
-headed ts = record { line = record { heads = take head_limit ts; comparisons = []; ending = Ending.Never }; in_range = true; crowded = ltb head_limit (length ts) }
+headed ts = record { heads = take head_limit ts; comparisons = []; ending = Ending.Never; in_range = true; crowded = ltb head_limit (length ts) }
 
 pub line_held : (l : PolicyLine) → in_range l ≡ true → line_into new_draft l ≡ draft_of (heads_of l) (comparisons_of l) (ending_of l)
 unfolding line_into heads_into comparisons_into ending_into push_head push_comparison end_as in_range test_in_range
@@ -100,6 +102,6 @@ line_held l h =
     comparison_more : (cs : List Comparison) (c : Comparison) → push_comparison (draft_of (heads_of l) cs (ending_of l)) (Some c) ≡ draft_of (heads_of l) (cs ++ c ∷ []) (ending_of l)
     comparison_more cs c = rw (held_more comparison_limit cs c, crowded_more comparison_limit cs c (ltb head_limit (length (heads_of l)))) refl
 
-    start : comparisons_into (record { line = record { heads = take head_limit (heads_of l); comparisons = []; ending = ending_of l }; in_range = true; crowded = ltb head_limit (length (heads_of l)) }) (comparisons_of l)
+    start : comparisons_into (record { heads = take head_limit (heads_of l); comparisons = []; ending = ending_of l; in_range = true; crowded = ltb head_limit (length (heads_of l)) }) (comparisons_of l)
         ≡ comparisons_into (draft_of (heads_of l) [] (ending_of l)) (comparisons_of l)
-    start = ap (λ (b : Bool). comparisons_into (record { line = record { heads = take head_limit (heads_of l); comparisons = []; ending = ending_of l }; in_range = true; crowded = b }) (comparisons_of l)) (sym (or-false (ltb head_limit (length (heads_of l)))))
+    start = ap (λ (b : Bool). comparisons_into (record { heads = take head_limit (heads_of l); comparisons = []; ending = ending_of l; in_range = true; crowded = b }) (comparisons_of l)) (sym (or-false (ltb head_limit (length (heads_of l)))))

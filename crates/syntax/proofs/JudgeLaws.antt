@@ -1,18 +1,18 @@
 -- Laws of judging a line: by its draft as by the line.
 use Rattle.std.specs.Prelude.{Some, None, Result, Ok, Err, Option}
-use Rattle.std.proofs.Common.{ℕ, ◌<◌, Bool, true, false, not, ◌&&◌, cond, List, [], ◌∷◌, map, ◌≡◌, refl, sym, ap, ap₂, ◌∙◌, arith, ltb-false, eq-eqb, length, take, take_all}
+use Rattle.std.proofs.Common.{ℕ, zero, suc, ◌<◌, Bool, true, false, not, ◌&&◌, cond, List, [], ◌∷◌, map, ◌≡◌, refl, sym, ap, ap₂, ◌∙◌, arith, ltb-false, eq-eqb, length, take, take_all}
 use Rattle.std.proofs.Math.Dec.{eqb, ltb}
 use Rattle.std.proofs.Math.ListN.{get_or}
-use Rattle.policy.proofs.ListLaws.{and_out, or_out, true_false}
+use Rattle.policy.proofs.ListLaws.{and_in, and_out, or_out, true_false}
 use Rattle.policy.proofs.SeenLaws.{seen_repeats}
 use Rattle.policy.specs.Limits.{in_range, crowded, repeated, test_number, comparison_in_range, ending_in_range, head_limit, comparison_limit}
 use Rattle.policy.specs.Steps.Seen.{seen_in}
-use Rattle.policy.specs.Line.{PolicyLine, heads_of, comparisons_of, ending_of}
-use Rattle.line_value.specs.Value.{line_value}
+use Rattle.policy.specs.Line.{PolicyLine, heads_of, comparisons_of, ending_of, ending_part}
+use Rattle.line_value.proofs.LineLaws.{line_again, heads_fit}
+use Rattle.line_value.specs.Value.{fits}
 use Rattle.policy.specs.List.{all}
 use Rattle.policy.specs.Number.{set_limit}
 use Rattle.policy.specs.declared.fault.Fault.{Fault}
-use Rattle.line_value.specs.declared.Line.{Line}
 use Rattle.policy.specs.declared.line.Test.{Test}
 use Rattle.lexer.proofs.TokenLaws.{tokens_after_spaces, line_past_spaces, tokens_first}
 use Rattle.lexer.specs.Lines.{tokens_of, behind_line, without_end}
@@ -31,6 +31,11 @@ use Rattle.syntax.specs.declared.draft.Draft.{Draft}
 
 -- ---- the line of a draft, or its first fault
 
+all_taken : {A : Type 0} (p : A → Bool) (n : ℕ) (xs : List A) → all p xs ≡ true → all p (take n xs) ≡ true
+all_taken p zero xs h = refl
+all_taken p (suc n) [] h = refl
+all_taken p (suc n) (x ∷ xs) h = let q = and_out (p x) (all p xs) h in and_in q.0 (all_taken p n xs q.1)
+
 all_numbers : (ts : List Test) → all (λ (n : ℕ). ltb n set_limit) (map test_number ts) ≡ all test_in_range ts
 unfolding test_in_range
 all_numbers [] = refl
@@ -43,21 +48,17 @@ value_repeats l h =
     let q = and_out (all test_in_range (heads_of l)) (all comparison_in_range (comparisons_of l)) p.0 in
     seen_repeats (map test_number (heads_of l)) (all_numbers (heads_of l) ∙ q.0)
 
--- the line with as many parts as a line may have
-abbrev first_parts : PolicyLine → Line
-first_parts l = record { heads = take head_limit (heads_of l); comparisons = take comparison_limit (comparisons_of l); ending = ending_of l }
-
--- the value of a line that is not crowded holds all of it
-held_whole : (l : PolicyLine) → crowded l ≡ false → first_parts l ≡ line_value l
+-- a line that is not crowded is held whole
+held_whole : (l : PolicyLine) → crowded l ≡ false → (take head_limit (heads_of l) ≡ heads_of l) × (take comparison_limit (comparisons_of l) ≡ comparisons_of l)
 unfolding crowded
 held_whole l h =
     let p = or_out (ltb head_limit (length (heads_of l))) (ltb comparison_limit (length (comparisons_of l))) h in
-    rw (take_all head_limit (heads_of l) (ltb-false head_limit (length (heads_of l)) p.0), take_all comparison_limit (comparisons_of l) (ltb-false comparison_limit (length (comparisons_of l)) p.1)) refl
+    (take_all head_limit (heads_of l) (ltb-false head_limit (length (heads_of l)) p.0), take_all comparison_limit (comparisons_of l) (ltb-false comparison_limit (length (comparisons_of l)) p.1))
 
-value_of : Result (Option PolicyLine) Fault → Result Line Fault
+value_of : Result (Option PolicyLine) Fault → Result PolicyLine Fault
 value_of (Ok None) = Err Fault.Syntax
 value_of (Err f) = Err f
-value_of (Ok (Some l)) = Ok (line_value l)
+value_of (Ok (Some l)) = Ok l
 
 draft_judged : (l : PolicyLine) → judged (line_into new_draft l) ≡ value_of (judge_line (Some l))
 unfolding judged judge_line value_of crowded
@@ -67,22 +68,22 @@ draft_judged l =
       | false ↦ λ h. rw (line_range l, h)
     ] refl
   where
-    twice : (b : Bool) → cond b (Err Fault.Duplicate) (Ok (line_value l)) ≡ value_of (cond b (Err Fault.Duplicate) (Ok (Some l)))
+    twice : (b : Bool) → cond b (Err Fault.Duplicate) (Ok l) ≡ value_of (cond b (Err Fault.Duplicate) (Ok (Some l)))
     twice true = refl
     twice false = refl
 
     inside : in_range l ≡ true → judged (draft_of (heads_of l) (comparisons_of l) (ending_of l)) ≡ value_of (cond (crowded l) (Err Fault.TooManyParts) (cond (repeated l) (Err Fault.Duplicate) (Ok (Some l))))
     inside h = go (crowded l) refl
       where
-        drafted : Bool → Line → Draft
-        drafted x v = record { line = v; in_range = true; crowded = x }
+        drafted : Bool → Draft
+        drafted x = record { heads = take head_limit (heads_of l); comparisons = take comparison_limit (comparisons_of l); ending = ending_of l; in_range = true; crowded = x }
 
         go : (x : Bool) → crowded l ≡ x → judged (draft_of (heads_of l) (comparisons_of l) (ending_of l)) ≡ value_of (cond x (Err Fault.TooManyParts) (cond (repeated l) (Err Fault.Duplicate) (Ok (Some l))))
-        go true e = ap (λ (x : Bool). judged (drafted x (first_parts l))) e
-        go false e = ap (λ (x : Bool). judged (drafted x (first_parts l))) e ∙ ap (λ (v : Line). judged (drafted false v)) (held_whole l e) ∙ rw (value_repeats l h) (twice (repeated l))
+        go true e = ap (λ (x : Bool). judged (drafted x)) e
+        go false e = let p = held_whole l e in ap (λ (x : Bool). judged (drafted x)) e ∙ rw (p.0, p.1, line_again l, value_repeats l h) (twice (repeated l))
 
 -- a line that was read, with what stands behind it
-with_rest : List ℕ → Result Line Fault → Result (Option Line × List ℕ) Fault
+with_rest : List ℕ → Result PolicyLine Fault → Result (Option PolicyLine × List ℕ) Fault
 with_rest rest (Err f) = Err f
 with_rest rest (Ok l) = Ok (Some l, rest)
 
@@ -169,7 +170,7 @@ module _ (text : List ℕ) where
           go (Some l) k = cc
 
       module _ (d : Draft) (rest : List ℕ) (e : Some (d, rest) ≡ line_outcome new_draft (behind_line start) (line_from (tokens_in start))) where
-        parted : (r : Result Line Fault) → judged d ≡ r → line_read text ≡ with_rest (without_end rest) r
+        parted : (r : Result PolicyLine Fault) → judged d ≡ r → line_read text ≡ with_rest (without_end rest) r
         unfolding line_outcome line_result with_rest value_of
         parted r k = line_other ∙ go (line_from (tokens_in start)) e
           where
@@ -181,11 +182,28 @@ module _ (text : List ℕ) where
                 let j : d ≡ line_into new_draft l = ap (λ (x : Draft × List ℕ). x.0) p in
                 judged_answer (without_end (behind_line start)) l ∙ ap₂ (λ s v. with_rest (without_end s) v) (sym i) (sym (draft_judged l) ∙ ap judged (sym j) ∙ k)
 
+        -- the heads of a line without a fault are of the kind that its ending wants
+        pub line_fitting : (l : PolicyLine) → Ok l ≡ judged d → all (fits (ending_part d.ending)) d.heads ≡ true
+        unfolding line_outcome judged
+        line_fitting l₀ k = go (line_from (tokens_in start)) e
+          where
+            within : (b : Bool) (r : Result PolicyLine Fault) → Ok l₀ ≡ cond b r (Err Fault.OutOfRange) → b ≡ true
+            within true r q = refl
+            within false r q = let w : ⊥ = cc in absurd w
+
+            go : (o : Option PolicyLine) → Some (d, rest) ≡ line_outcome new_draft (behind_line start) o → all (fits (ending_part d.ending)) d.heads ≡ true
+            go None m = cc
+            go (Some l) m =
+                let p : (d, rest) ≡ (line_into new_draft l, behind_line start) = cc in
+                let j : d ≡ line_into new_draft l = ap (λ (x : Draft × List ℕ). x.0) p in
+                let r : in_range l ≡ true = sym (line_range l) ∙ ap (λ (x : Draft). x.in_range) (sym j) ∙ within d.in_range _ k in
+                rw (j ∙ line_held l r) (all_taken (fits (ending_part (ending_of l))) head_limit (heads_of l) (heads_fit l))
+
         pub line_faulty : (f : Fault) → Err f ≡ judged d → line_read text ≡ Err f
         unfolding with_rest
         line_faulty f k = parted (Err f) (sym k)
 
-        pub line_good : (l : Line) → Ok l ≡ judged d → line_read text ≡ Ok (Some l, without_end rest)
+        pub line_good : (l : PolicyLine) → Ok l ≡ judged d → line_read text ≡ Ok (Some l, without_end rest)
         unfolding with_rest
         line_good l k = parted (Ok l) (sym k)
 

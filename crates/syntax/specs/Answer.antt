@@ -1,9 +1,7 @@
 -- What `read_line` answers for every text, by `Judge`.
-use Rattle.std.specs.Prelude.{ℕ, List, Option, option_map, Result}
+use Rattle.std.specs.Prelude.{ℕ, List, Option, Result}
 use Rattle.std.specs.Result.{result_map_both}
 use Rattle.policy.specs.Line.{PolicyLine}
-use Rattle.line_value.specs.Value.{line_value}
-use Rattle.line_value.specs.declared.Line.{Line}
 use Rattle.policy.specs.declared.fault.Fault.{Fault}
 use Rattle.lexer.specs.Lines.{first_line, behind_line, without_end}
 use Rattle.syntax.specs.Judge.{line_answer}
@@ -12,10 +10,10 @@ use Rattle.syntax.specs.Judge.{line_answer}
 abbrev pub next_line : List ℕ → List ℕ
 next_line text = without_end (behind_line text)
 
--- the value of a line, none where it is skipped, and the lines behind it
-unfoldable pub line_result : List ℕ → Result (Option PolicyLine) Fault → Result (Option Line × List ℕ) Fault
-line_result rest answer = result_map_both (λ l. (option_map line_value l, rest)) (λ fault. fault) answer
+-- a line, none where it is skipped, and the lines behind it
+unfoldable pub line_result : List ℕ → Result (Option PolicyLine) Fault → Result (Option PolicyLine × List ℕ) Fault
+line_result rest answer = result_map_both (λ l. (l, rest)) (λ fault. fault) answer
 
 -- the first line of a text
-unfoldable pub line_read : List ℕ → Result (Option Line × List ℕ) Fault
+unfoldable pub line_read : List ℕ → Result (Option PolicyLine × List ℕ) Fault
 line_read text = line_result (next_line text) (line_answer (first_line text))

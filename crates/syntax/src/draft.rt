@@ -1,17 +1,20 @@
 //! A line as it is read, part by part, before it is judged.
 ghost use Rattle.std.specs.Prelude.{◌≡◌};
 ghost use Rattle.std.specs.Result.{result_map_both};
+ghost use Rattle.line_value.specs.Value.{line_of};
 ghost use Rattle.syntax.specs.Steps.Draft.{new_draft, push_head, push_comparison, end_as};
 ghost use Rattle.syntax.specs.Steps.Judged.{judged};
 
-use line_value::Line;
+use line_value::{Comparisons, Tests};
 use policy::{COMPARISON_LIMIT, Comparison, Ending, Fault, HEAD_LIMIT, Test};
 
 /// The parts that were read, whether each number of them is in range, and whether there were more parts than a line may have. A part
 /// that is out of range, or for which there is no room, is not held.
 #[derive(Drop)]
 pub struct Draft {
-    pub line: Line,
+    pub heads: Tests,
+    pub comparisons: Comparisons,
+    pub ending: Ending,
     pub in_range: bool,
     pub crowded: bool,
 }
@@ -21,7 +24,9 @@ impl Draft {
         ensures { result ≡ new_draft }
     {
         Draft {
-            line: Line::new(),
+            heads: Tests::new(),
+            comparisons: Comparisons::new(),
+            ending: Ending::Never,
             in_range: true,
             crowded: false,
         }
@@ -36,8 +41,8 @@ impl Draft {
             self.in_range = false;
             return;
         };
-        if self.line.heads.len() < HEAD_LIMIT {
-            self.line.heads.push(test);
+        if self.heads.len() < HEAD_LIMIT {
+            self.heads.push(test);
         } else {
             self.crowded = true;
         }
@@ -52,8 +57,8 @@ impl Draft {
             self.in_range = false;
             return;
         };
-        if self.line.comparisons.len() < COMPARISON_LIMIT {
-            self.line.comparisons.push(comparison);
+        if self.comparisons.len() < COMPARISON_LIMIT {
+            self.comparisons.push(comparison);
         } else {
             self.crowded = true;
         }
@@ -64,7 +69,7 @@ impl Draft {
         ensures { self.new ≡ end_as self.old ending }
     {
         match ending {
-            Some(ending) => self.line.ending = ending,
+            Some(ending) => self.ending = ending,
             None => self.in_range = false,
         }
     }
@@ -72,7 +77,7 @@ impl Draft {
     // The first of the faults of the line, if it has one.
     #[tactic(auto, unfolding(crate::specs::Steps::Judged::judged))]
     pub(crate) fn judged(&self) -> Result<(), Fault>
-        ensures { result_map_both (λ _. self.now.line) (λ fault. fault) result ≡ judged self.now }
+        ensures { result_map_both (λ _. line_of self.now.heads self.now.comparisons self.now.ending) (λ fault. fault) result ≡ judged self.now }
     {
         if !self.in_range {
             return Err(Fault::OutOfRange);
@@ -80,7 +85,7 @@ impl Draft {
         if self.crowded {
             return Err(Fault::TooManyParts);
         }
-        if self.line.has_repeats() {
+        if self.heads.has_repeats() {
             return Err(Fault::Duplicate);
         }
         Ok(())

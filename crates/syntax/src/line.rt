@@ -135,5 +135,6 @@ pub fn read_line(text: &[u8]) -> Result<(Option<Line>, &[u8]), Fault>
     let mut draft = Draft::new();
     let behind = read_parts(&mut draft, first).ok_or(Fault::Syntax)?;
     draft.judged()?;
-    Ok((Some(draft.line), without_end(behind)))
+    let line = Line::new(draft.heads, draft.comparisons, draft.ending);
+    Ok((Some(line), without_end(behind)))
 }

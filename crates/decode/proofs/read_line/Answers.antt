@@ -1,16 +1,18 @@
-use Rattle.std.proofs.Common.{arith}
+use Rattle.std.proofs.Common.{◌-◌, ◌∙◌, sym, ap, ℕ, arith, eqb-true, length}
 use Rattle.word.proofs.ChunkLaws.{words_in_length}
-use Rattle.word.specs.Chunk.{words_in}
-use Rattle.decode.proofs.ReadLaws.{remains_none, remains_past, remains_all}
+use Rattle.decode.proofs.ReadLaws.{line_from_none, remains_past, line_done}
 use Rattle.decode.proofs.read_line.Goals as goal
 
-pub loop-at-init : goal.loop-at-init
-loop-at-init c = remains_none (words_in c.args.words.now) _ c.new-line.ensures
+pub returns-then-is_empty : goal.returns-then-is_empty
+returns-then-is_empty c =
+    rw (c.new-then-is_empty.ensures, c.new.ensures, c.new-2.ensures)
+    (line_from_none _ (omega (arith, words_in_length c.args.words.now, eqb-true (length c.args.words.now) 0 (sym c.is_empty.ensures ∙ c.if-is_empty.true))))
 
 pub loop-at-preserved : goal.loop-at-preserved
 loop-at-preserved c =
-    remains_past (words_in c.args.words.now) _ c.loop-at.at c.loop-at.invariant (rw words_in_length c.loop-at-test.true) _ _ _ c.part_at-part.ensures c.push_part.ensures (rw c.constants.ensures.count (omega arith))
+    remains_past _ _ _ c.loop-at.at c.loop-at.invariant (rw words_in_length c.loop-at-test.true) _ _ _ c.part_at-said.ensures c.push_part.ensures (rw c.constants.ensures.count (omega arith))
 
 pub returns : goal.returns
 returns c =
-    remains_all (words_in c.args.words.now) _ _ c.loop-at.invariant (rw words_in_length c.loop-at-test.false)
+    c.new-3.ensures
+    ∙ line_done _ _ _ _ _ _ _ (ap (λ (n : ℕ). n - 1) (sym (words_in_length c.args.words.now))) c.last_ending-ending.ensures c.part-part.ensures c.part-front.ensures.words c.loop-at.invariant (rw words_in_length c.loop-at-test.false)

@@ -4,7 +4,7 @@ use Rattle.decode.proofs.ReadLaws.{Remains}
 use Rattle.decode.proofs.read_line.Given as goal
 
 abbrev pub invariant-loop-at : goal.invariant-loop-at
-invariant-loop-at l = Remains (words_in l.words) l.line l.at
+invariant-loop-at l = Remains l.part (words_in l.front) l.parts l.at
 
 abbrev pub decreases-loop-at : goal.decreases-loop-at
-decreases-loop-at l = length l.words - l.at
+decreases-loop-at l = length l.front - l.at

@@ -1,26 +1,25 @@
 -- How the code goes over a line, word by word. That this finds the lines that `line_at` finds, and their values, is proved
 -- (`scan_line_is` in proofs/ScanLines.antt, `line_from_is` in proofs/ReadLaws.antt): a reader need not believe this file.
 use Rattle.std.specs.Prelude.{ℕ, zero, suc, ◌+◌, ◌-◌, ◌*◌, ◌/◌, ◌%◌, ◌^◌, ◌<◌, ◌≤◌, ◌≡◌, Bool, true, false, not, ◌&&◌, ◌||◌, if◌then◌else◌, List, [], ◌∷◌, ◌++◌, map, fold, length, take, drop, ◌==◌, nat_lt, nat_le, slice_index_or}
-use Rattle.line_value.specs.Value.{no_parts}
+use Rattle.line_value.specs.Value.{fits, line_of}
 use Rattle.policy.specs.Limits.{head_limit, comparison_limit, repeats}
+use Rattle.policy.specs.Line.{PolicyLine, ending_part}
 use Rattle.policy.specs.Set.{insert}
 use Rattle.policy.specs.declared.comparison.Operand.{Operand}
 use Rattle.policy.specs.declared.line.Ending.{Ending}
-use Rattle.line_value.specs.declared.Line.{Line}
-use Rattle.policy.specs.declared.line.Test.{Test}
 use Rattle.operation.specs.Operation.{opcode}
 use Rattle.operation.specs.Parts.{ending_word}
 use Rattle.operation.specs.Fields.{first_of, second_of, relation_code_of, skip_of}
 use Rattle.operation.specs.Said.{says}
 use Rattle.decode.specs.Steps.Decoding.{said_in}
+use Rattle.decode.specs.declared.Parts.{Parts}
 use Rattle.operation.specs.declared.operation.Operation.{Operation}
 use Rattle.operation.specs.declared.said.LinePart.{LinePart}
 use Rattle.policy.specs.declared.line.Part.{Part}
 
 -- whether a word says a head of the part
 unfoldable pub is_head : Part → LinePart → Bool
-is_head Part.Rules (LinePart.Head (Test.Occurs l)) = true
-is_head Part.Constraints (LinePart.Head (Test.Member a)) = true
+is_head part (LinePart.Head t) = fits part t
 is_head _ _ = false
 
 -- ---- words by one comparison: each less the word that is expected, and turned
@@ -126,15 +125,30 @@ scan_line part ws =
     let h : ℕ = count_heads part n ws in
     if nat_lt n (length ws) && is_ending part (slice_index_or ws n 0) && nat_lt 0 h && nat_le h 8 && not (repeats (head_numbers h ws)) && comparisons_fill 4 (n - h) (drop h ws) then n + 1 else 0
 
--- ---- the value of a line, word by word
+-- ---- the line that words say, word by word
 
--- a line with one part more, where there is room for it
-unfoldable pub with_part : Line → LinePart → Line
-with_part l (LinePart.Head t) = if nat_lt (length l.heads) head_limit then (record { heads = l.heads ++ t ∷ []; comparisons = l.comparisons; ending = l.ending }) else l
-with_part l (LinePart.Comparison c) = if nat_lt (length l.comparisons) comparison_limit then (record { heads = l.heads; comparisons = l.comparisons ++ c ∷ []; ending = l.ending }) else l
-with_part l (LinePart.Ending e) = record { heads = l.heads; comparisons = l.comparisons; ending = e }
-with_part l LinePart.Nothing = l
+-- what a line ends as whose last word says so
+unfoldable pub ending_said : LinePart → Ending
+ending_said (LinePart.Ending e) = e
+ending_said _ = Ending.Never
 
--- the line that words say
-abbrev pub value_from : List ℕ → Line
-value_from ws = fold with_part no_parts (said_in 0 ws)
+abbrev pub last_ending : List ℕ → Ending
+last_ending ws = ending_said (says (slice_index_or ws (length ws - 1) 0) 0)
+
+abbrev pub no_parts : Parts
+no_parts = record { heads = []; comparisons = [] }
+
+-- one part more, where it is of the kind and there is room for it
+unfoldable pub with_part : Part → Parts → LinePart → Parts
+with_part part p (LinePart.Head t) = if fits part t && nat_lt (length p.heads) head_limit then (record { heads = p.heads ++ t ∷ []; comparisons = p.comparisons }) else p
+with_part part p (LinePart.Comparison c) = if nat_lt (length p.comparisons) comparison_limit then (record { heads = p.heads; comparisons = p.comparisons ++ c ∷ [] }) else p
+with_part part p _ = p
+
+-- the parts that the words before the last say
+abbrev pub parts_from : Part → List ℕ → Parts
+parts_from part ws = fold (with_part part) no_parts (said_in 0 (take (length ws - 1) ws))
+
+abbrev pub line_from : List ℕ → PolicyLine
+line_from ws =
+    let p : Parts = parts_from (ending_part (last_ending ws)) ws in
+    line_of p.heads p.comparisons (last_ending ws)

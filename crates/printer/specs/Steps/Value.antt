@@ -1,11 +1,11 @@
--- The text of a line's value, as the code appends it. That the value of a line has the line's text is proved (`value_text_is` in
--- proofs/ValueLaws.antt).
+-- The text of a line and its end, as the code appends it: from the parts of the line. That it is the line's text is proved
+-- (`value_text_is` in proofs/ValueLaws.antt).
 use Rattle.std.specs.Prelude.{ℕ, List, [], ◌∷◌, ◌++◌}
 use Rattle.std.specs.Str.{byte}
+use Rattle.policy.specs.Line.{PolicyLine, heads_of, comparisons_of, ending_of}
 use Rattle.policy.specs.declared.comparison.Comparison.{Comparison}
 use Rattle.policy.specs.declared.line.Ending.{Ending}
 use Rattle.policy.specs.declared.line.Test.{Test}
-use Rattle.line_value.specs.declared.Line.{Line}
 use Rattle.lexer.specs.Byte.{bytes}
 use Rattle.lexer.specs.Token.{Token}
 use Rattle.printer.specs.Printed.{literal_token, action_token, reading_token, relation_token, operand_token}
@@ -34,5 +34,5 @@ unfoldable pub ending_text : Ending → List ℕ → List ℕ → List ℕ
 ending_text (Ending.Causes a) heads condition = heads ++ bytes " causes " ++ action_token a ++ condition ++ 10 ∷ []
 ending_text Ending.Never heads condition = bytes "never " ++ heads ++ condition ++ 10 ∷ []
 
-unfoldable pub value_text : Line → List ℕ
-value_text l = ending_text l.ending (heads_text l.heads) (condition_text l.comparisons)
+unfoldable pub value_text : PolicyLine → List ℕ
+value_text l = ending_text (ending_of l) (heads_text (heads_of l)) (condition_text (comparisons_of l))

@@ -2,7 +2,7 @@
 use Rattle.std.specs.Prelude.{ℕ, ◌+◌, if◌then◌else◌, nat_lt, length, List, [], ◌∷◌, Option, Some, None, Result, Ok, Err}
 use Rattle.std.specs.Result.{result_map_both}
 use Rattle.policy.specs.Fault.{refusal, located}
-use Rattle.policy.specs.Line.{PolicyLine, heads_of, comparisons_of, constant_count, line_part, part_get}
+use Rattle.policy.specs.Line.{PolicyLine}
 use Rattle.policy.specs.Result.{result_and_then}
 use Rattle.policy.specs.declared.fault.Fault.{Fault}
 use Rattle.policy.specs.declared.fault.Refusal.{Refusal}
@@ -10,7 +10,7 @@ use Rattle.policy.specs.declared.line.PerPart.{PerPart}
 use Rattle.syntax.specs.Judge.{line_answer}
 use Rattle.lexer.specs.Lines.{lines_of}
 use Rattle.rule_text.specs.Text.{text_limit}
-use Rattle.rule_text.specs.Steps.Tally.{one_more, tally_as}
+use Rattle.rule_text.specs.Steps.Tally.{tallied_by}
 use Rattle.rule_text.specs.declared.LineCounts.{LineCounts}
 
 abbrev pub no_lines : LineCounts
@@ -20,14 +20,10 @@ no_lines = record { lines = 0; heads = 0; comparisons = 0; constants = 0 }
 abbrev pub no_counts : PerPart LineCounts
 no_counts = record { rules = no_lines; constraints = no_lines }
 
--- one line more, to the counts of its kind
-abbrev pub plus : LineCounts → PolicyLine → LineCounts
-plus c l = one_more c (length (heads_of l)) (length (comparisons_of l)) (constant_count (comparisons_of l))
-
 -- what a line is, to the counts
 unfoldable pub count_more : PerPart LineCounts → Option PolicyLine → Result (PerPart LineCounts) Fault
 count_more c None = Ok c
-count_more c (Some l) = tally_as (line_part l) c (plus (part_get c (line_part l)) l)
+count_more c (Some l) = tallied_by c l
 
 unfoldable pub count_line : PerPart LineCounts → List ℕ → Result (PerPart LineCounts) Fault
 count_line c line = result_and_then (count_more c) (line_answer line)

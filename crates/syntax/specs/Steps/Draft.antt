@@ -5,17 +5,16 @@ use Rattle.policy.specs.Line.{PolicyLine, heads_of, comparisons_of, ending_of}
 use Rattle.policy.specs.declared.comparison.Comparison.{Comparison}
 use Rattle.policy.specs.declared.line.Ending.{Ending}
 use Rattle.policy.specs.declared.line.Test.{Test}
-use Rattle.line_value.specs.Value.{no_parts}
 use Rattle.token.specs.Steps.PartIn.{kept, test_in_range}
 use Rattle.syntax.specs.declared.draft.Draft.{Draft}
 
 abbrev pub new_draft : Draft
-new_draft = record { line = no_parts; in_range = true; crowded = false }
+new_draft = record { heads = []; comparisons = []; ending = Ending.Never; in_range = true; crowded = false }
 
 -- ---- one part more, none where a number of it is out of range
 
 abbrev pub out_of_range : Draft → Draft
-out_of_range d = record { line = d.line; in_range = false; crowded = d.crowded }
+out_of_range d = record { heads = d.heads; comparisons = d.comparisons; ending = d.ending; in_range = false; crowded = d.crowded }
 
 module _ {A : Type 0} (limit : ℕ) where
   -- a list with one item more, where there is room for it
@@ -30,23 +29,27 @@ unfoldable pub push_head : Draft → Option Test → Draft
 push_head d None = out_of_range d
 push_head d (Some t) =
     record {
-      line = record { heads = with_item head_limit d.line.heads t; comparisons = d.line.comparisons; ending = d.line.ending };
+      heads = with_item head_limit d.heads t;
+      comparisons = d.comparisons;
+      ending = d.ending;
       in_range = d.in_range;
-      crowded = more_crowded head_limit d.crowded d.line.heads;
+      crowded = more_crowded head_limit d.crowded d.heads;
     }
 
 unfoldable pub push_comparison : Draft → Option Comparison → Draft
 push_comparison d None = out_of_range d
 push_comparison d (Some c) =
     record {
-      line = record { heads = d.line.heads; comparisons = with_item comparison_limit d.line.comparisons c; ending = d.line.ending };
+      heads = d.heads;
+      comparisons = with_item comparison_limit d.comparisons c;
+      ending = d.ending;
       in_range = d.in_range;
-      crowded = more_crowded comparison_limit d.crowded d.line.comparisons;
+      crowded = more_crowded comparison_limit d.crowded d.comparisons;
     }
 
 unfoldable pub end_as : Draft → Option Ending → Draft
 end_as d None = out_of_range d
-end_as d (Some e) = record { line = record { heads = d.line.heads; comparisons = d.line.comparisons; ending = e }; in_range = d.in_range; crowded = d.crowded }
+end_as d (Some e) = record { heads = d.heads; comparisons = d.comparisons; ending = e; in_range = d.in_range; crowded = d.crowded }
 
 -- ---- the parts of a line, one behind another
 

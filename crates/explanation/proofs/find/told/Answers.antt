@@ -1,10 +1,10 @@
-use Rattle.std.proofs.Common.{List, ℕ, refl, ap, ◌∙◌, length, arith}
+use Rattle.std.proofs.Common.{List, ℕ, refl, sym, ap, ◌∙◌, length, arith}
 use Rattle.word.specs.Word.{between}
 use Rattle.word.proofs.ChunkLaws.{words_in_length}
 use Rattle.word.proofs.WordLaws.{words_length}
 use Rattle.word.proofs.WriteLaws.{put_length}
 use Rattle.explanation.proofs.TellLaws.{words_back, told_rule, told_constraint}
-use Rattle.explanation.specs.Steps.Sought.{tells}
+use Rattle.explanation.specs.Steps.Sought.{tells, sought_by}
 use Rattle.explanation.proofs.find.told.Goals as goal
 
 pub part-words-requires-clause-inside : goal.part-words-requires-clause-inside
@@ -21,23 +21,25 @@ part-words-requires-clause-inside c =
     )
 
 pub returns-in-Proposing-Causes : goal.returns-in-Proposing-Causes
+unfolding sought_by
 returns-in-Proposing-Causes c =
     let back =
     c.part-words.ensures.words ∙ ap (λ (ws : List ℕ). between 0 c.put_line-count.result ws) c.words.ensures
     ∙ words_back _ _ _ _ c.requires refl c.put_line-count.ensures.answer c.put_line-count.ensures.buffer in
-    told_rule _ c.args.epoch.now _ _ c.in-Proposing-Causes.action _ c.in-Proposing-Causes.is-0 c.in-Proposing-Causes.is-1 _ _ _ _ back c.all.ensures c.run_rules-run.ensures.actions c.has.ensures
+    told_rule _ c.args.epoch.now _ _ c.in-Proposing-Causes.action _ c.in-Proposing-Causes.is-0 (sym c.ending.ensures ∙ c.in-Proposing-Causes.is-1) _ _ _ _ back c.all.ensures c.run_rules-run.ensures.actions c.has.ensures
 
 pub returns-in-Violated-Never : goal.returns-in-Violated-Never
+unfolding sought_by
 returns-in-Violated-Never c =
     let back =
     c.part-words.ensures.words ∙ ap (λ (ws : List ℕ). between 0 c.put_line-count.result ws) c.words.ensures
     ∙ words_back _ _ _ _ c.requires refl c.put_line-count.ensures.answer c.put_line-count.ensures.buffer in
-    told_constraint _ c.args.epoch.now _ _ _ c.in-Violated-Never.is-0 c.in-Violated-Never.is-1 _ _ back c.run_constraints-run.ensures.conflict
+    told_constraint _ c.args.epoch.now _ _ _ c.in-Violated-Never.is-0 (sym c.ending.ensures ∙ c.in-Violated-Never.is-1) _ _ back c.run_constraints-run.ensures.conflict
 
 pub returns-in_default : goal.returns-in_default
-unfolding tells
-returns-in_default c = rw (c.in_default.is-0, c.in_default.is-1) refl
+unfolding sought_by tells
+returns-in_default c = rw (c.in_default.is-0, sym c.ending.ensures ∙ c.in_default.is-1) refl
 
 pub returns-in_default-2 : goal.returns-in_default-2
-unfolding tells
-returns-in_default-2 c = rw (c.in_default.is-0, c.in_default.is-1) refl
+unfolding sought_by tells
+returns-in_default-2 c = rw (c.in_default.is-0, sym c.ending.ensures ∙ c.in_default.is-1) refl

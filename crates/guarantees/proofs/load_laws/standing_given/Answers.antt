@@ -1,4 +1,4 @@
-use Rattle.image.proofs.ValueLaws as laws
+use Rattle.image.proofs.GivenLaws as laws
 use Rattle.guarantees.proofs.load_laws.standing_given.Goals as goal
 
 pub returns : goal.returns

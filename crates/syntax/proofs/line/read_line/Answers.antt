@@ -1,7 +1,7 @@
 use Rattle.std.proofs.Common.{◌∙◌, sym, ◌≡◌, arith, ne_eqb}
 use Rattle.std.specs.Prelude.{Some, None, Err}
 use Rattle.policy.specs.declared.fault.Fault.{Fault}
-use Rattle.syntax.proofs.JudgeLaws.{line_blank, line_comment, line_misshapen, line_faulty, line_good, token_inside}
+use Rattle.syntax.proofs.JudgeLaws.{line_blank, line_comment, line_misshapen, line_fitting, line_faulty, line_good, token_inside}
 use Rattle.syntax.proofs.line.read_line.Goals as goal
 
 pub returns-then-at_token_end : goal.returns-then-at_token_end
@@ -34,9 +34,16 @@ returns-in_err-judged c =
     let r : c.from_residual-in_err-judged.result ≡ Err c.in_err-judged.field-0.0 = grind arith in
     rw r (sym (line_faulty c.args.text.now h q _ _ (rw (n, c.new-draft.ensures, c.skip_spaces-first.ensures) at c.read_parts.ensures) _ c.in_err-judged.ensures))
 
+pub new-line-requires : goal.new-line-requires
+new-line-requires c =
+    let h = rw c.skip_spaces-first.ensures at (sym c.at_token_end.ensures ∙ c.if-at_token_end.false) in
+    let q = ne_eqb _ _ (rw c.skip_spaces-first.ensures at c.if-first-eq35.false) in
+    let n : c.read_parts.result ≡ Some c.in_ok-behind.behind = grind arith in
+    line_fitting c.args.text.now h q _ _ (rw (n, c.new-draft.ensures, c.skip_spaces-first.ensures) at c.read_parts.ensures) _ c.in_ok-judged.ensures
+
 pub returns : goal.returns
 returns c =
     let h = rw c.skip_spaces-first.ensures at (sym c.at_token_end.ensures ∙ c.if-at_token_end.false) in
     let q = ne_eqb _ _ (rw c.skip_spaces-first.ensures at c.if-first-eq35.false) in
     let n : c.read_parts.result ≡ Some c.in_ok-behind.behind = grind arith in
-    rw c.without_end-2.ensures (sym (line_good c.args.text.now h q _ _ (rw (n, c.new-draft.ensures, c.skip_spaces-first.ensures) at c.read_parts.ensures) _ c.in_ok-judged.ensures))
+    rw (c.new-line.ensures, c.without_end-2.ensures) (sym (line_good c.args.text.now h q _ _ (rw (n, c.new-draft.ensures, c.skip_spaces-first.ensures) at c.read_parts.ensures) _ c.in_ok-judged.ensures))
