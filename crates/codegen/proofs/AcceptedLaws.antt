@@ -1,6 +1,6 @@
 -- The lines of two accepted texts make up their policy, and how many words they take.
-use Rattle.std.specs.Prelude.{Ok}
-use Rattle.std.proofs.Common.{ℕ, suc, ◌+◌, ◌≤◌, true, List, [], ◌∷◌, ◌++◌, map, append_assoc, append-nil, ◌≡◌, refl, sym, ap, ◌∙◌, arith, length, length-append}
+use Rattle.std.specs.Prelude.{Result, Ok}
+use Rattle.std.proofs.Common.{ℕ, suc, ◌+◌, ◌≤◌, true, List, [], ◌∷◌, ◌++◌, map, append_assoc, append-nil, ◌≡◌, refl, sym, ap, ◌∙◌, add-one, arith, length, drop, length-append}
 use Rattle.policy.proofs.ResultLaws.{and_then_ok, in_text_ok}
 use Rattle.policy.specs.Fault.{in_text}
 use Rattle.policy.specs.Limits.{Acceptable}
@@ -8,6 +8,7 @@ use Rattle.policy.specs.Line.{PolicyLine, rule, constraint, heads_of, comparison
 use Rattle.policy.specs.Policy.{Policy, Rule, Constraint}
 use Rattle.policy.specs.declared.comparison.Comparison.{Comparison}
 use Rattle.policy.specs.declared.comparison.Operand.{Operand}
+use Rattle.policy.specs.declared.fault.Refusal.{Refusal}
 use Rattle.policy.specs.declared.fault.Source.{Source}
 use Rattle.policy.specs.declared.line.Ending.{Ending}
 use Rattle.policy.specs.declared.line.Test.{Test}
@@ -19,12 +20,13 @@ use Rattle.acceptance.proofs.Accepted.{texts_acceptable}
 use Rattle.rule_text.specs.Answer.{total, counts_in, counts_of, texts_read}
 use Rattle.lexer.specs.Lines.{lines_of}
 use Rattle.syntax.specs.Judge.{line_answer}
+use Rattle.syntax.specs.Lines.{TextLine, before_later, lines_from, lines_in}
 use Rattle.rule_text.proofs.ReadLaws.{LineRead, line_reads, lines_read, behind_read, counted_ok}
 use Rattle.rule_text.specs.Text.{with_line, read_line, read_lines, empty_policy, text_limit, read_text_behind, read_text, read_texts}
 use Rattle.rule_text.specs.declared.LineCounts.{LineCounts}
 use Rattle.policy.specs.declared.line.PerPart.{PerPart}
 use Rattle.codegen.specs.Compile.{newest_form}
-use Rattle.codegen.specs.Steps.Put.{word_count, accepted_line, accepted_lines, lines_of_both}
+use Rattle.codegen.specs.Steps.Put.{word_count, accepted_lines, lines_of_both}
 
 -- ---- the lines that were accepted are those of the policy
 
@@ -38,17 +40,21 @@ unfolding with_line rules_in constraints_in
 extends_more p (rule r) ls q x = record { rules = x.rules ∙ append_assoc p.rules (r ∷ []) (rules_in ls); constraints = x.constraints }
 extends_more p (constraint c) ls q x = record { rules = x.rules; constraints = x.constraints ∙ append_assoc p.constraints (c ∷ []) (constraints_in ls) }
 
-extends : (ls : List (List ℕ)) (n : ℕ) (p q : Policy) → read_lines n p ls ≡ Ok q → Extends p (accepted_lines ls) q
-unfolding read_lines accepted_lines accepted_line rules_in constraints_in
-extends [] n p q e = let s : p ≡ q = cc in record { rules = ap (λ (x : Policy). x.rules) (sym s) ∙ sym (append-nil p.rules); constraints = ap (λ (x : Policy). x.constraints) (sym s) ∙ sym (append-nil p.constraints) }
-extends (l ∷ ls) n p q e =
+extends : (ls : List (List ℕ)) (n : ℕ) (text : List ℕ) (p q : Policy) → read_lines n p ls ≡ Ok q → Extends p (accepted_lines (lines_from n text ls)) q
+unfolding read_lines accepted_lines lines_from before_later rules_in constraints_in
+extends [] n text p q e = let s : p ≡ q = cc in record { rules = ap (λ (x : Policy). x.rules) (sym s) ∙ sym (append-nil p.rules); constraints = ap (λ (x : Policy). x.constraints) (sym s) ∙ sym (append-nil p.constraints) }
+extends (l ∷ ls) n text p q e =
     let k = lines_read n p l ls q e in
-    go k.0 k.1 (line_reads p l) (extends ls (suc n) k.0 q k.2)
+    let one : n + 1 ≡ suc n = add-one n in
+    go k.0 k.1 (line_reads p l) (rw one (extends ls (suc n) (drop (suc (length l)) text) k.0 q k.2))
   where
-    go : (m : Policy) → read_line p l ≡ Ok m → LineRead p l → Extends m (accepted_lines ls) q → Extends p (accepted_line (line_answer l) (accepted_lines ls)) q
+    behind : List (Result TextLine Refusal)
+    behind = lines_from (n + 1) (drop (suc (length l)) text) ls
+
+    go : (m : Policy) → read_line p l ≡ Ok m → LineRead p l → Extends m (accepted_lines behind) q → Extends p (accepted_lines (before_later n text l (line_answer l) behind)) q
     go m r (LineRead.skips a s) x = let i : m ≡ p = cc in rw a (rw i at x)
     go m r (LineRead.fails f a s) x = let z : ⊥ = cc in absurd z
-    go m r (LineRead.adds d a h s) x = let i : m ≡ with_line p d = cc in rw a (extends_more p d (accepted_lines ls) q (rw i at x))
+    go m r (LineRead.adds d a h s) x = let i : m ≡ with_line p d = cc in rw a (extends_more p d (accepted_lines behind) q (rw i at x))
     go m r (LineRead.is_over d a h s) x = let z : ⊥ = cc in absurd z
 
 -- ---- how many words a line takes
@@ -100,12 +106,12 @@ constraints_append (constraint c ∷ ls) ms = ap (λ (x : List Constraint). c �
 -- the lines of a text that was read
 record Lined (p : Policy) (text : List ℕ) (q : Policy) : Type 0 where
   short : length text ≤ text_limit
-  lines : Extends p (accepted_lines (lines_of text)) q
+  lines : Extends p (accepted_lines (lines_in text)) q
 
 lined : (source : Source) (p : Policy) (text : List ℕ) (q : Policy) → in_text source (read_text_behind p text) ≡ Ok q → Lined p text q
 lined source p text q e =
     let t = behind_read p text q (in_text_ok source (read_text_behind p text) q e) in
-    record { short = t.0; lines = extends (lines_of text) 1 p q t.1 }
+    record { short = t.0; lines = extends (lines_of text) 1 text p q t.1 }
 
 pub record AcceptedTexts (form : ℕ) (maker site : List ℕ) (counts : PerPart LineCounts) : Type 0 where
   pub known : known_form form ≡ true
@@ -141,8 +147,8 @@ accepted_texts form maker site counts known e =
       constraint_count_is = ap (λ (x : PerPart LineCounts). word_count x.constraints) (sym r.2) ∙ lines_words_is (map constraint p.constraints);
       rule_limit_is = P_limit form known p ok;
       constraint_limit_is = N_limit form known p ok;
-      rules = rules_append (accepted_lines (lines_of maker)) (accepted_lines (lines_of site))
-          ∙ ap (λ (x : List Rule). x ++ rules_in (accepted_lines (lines_of site))) (sym f.lines.rules) ∙ sym g.lines.rules;
-      constraints = constraints_append (accepted_lines (lines_of maker)) (accepted_lines (lines_of site))
-          ∙ ap (λ (x : List Constraint). x ++ constraints_in (accepted_lines (lines_of site))) (sym f.lines.constraints) ∙ sym g.lines.constraints;
+      rules = rules_append (accepted_lines (lines_in maker)) (accepted_lines (lines_in site))
+          ∙ ap (λ (x : List Rule). x ++ rules_in (accepted_lines (lines_in site))) (sym f.lines.rules) ∙ sym g.lines.rules;
+      constraints = constraints_append (accepted_lines (lines_in maker)) (accepted_lines (lines_in site))
+          ∙ ap (λ (x : List Constraint). x ++ constraints_in (accepted_lines (lines_in site))) (sym f.lines.constraints) ∙ sym g.lines.constraints;
     }

@@ -1,10 +1,10 @@
 -- Putting the lines of a text one after another: what one turn of the loop does.
-use Rattle.std.specs.Prelude.{Option, Some, None, Result, Ok, Err}
-use Rattle.std.proofs.Common.{ℕ, ◌+◌, ◌*◌, ◌%◌, ◌≤◌, ◌<◌, List, [], ◌∷◌, ◌++◌, ◌≡◌, refl, sym, ap, ap₂, ◌∙◌, arith, length, take}
+use Rattle.std.specs.Prelude.{Some, Result, Ok, Err}
+use Rattle.std.proofs.Common.{ℕ, ◌+◌, ◌*◌, ◌%◌, ◌≤◌, List, [], ◌∷◌, ◌++◌, ◌≡◌, refl, sym, ap, ap₂, ◌∙◌, arith, length, take}
 use Rattle.policy.specs.Line.{PolicyLine, line_part, part_get}
 use Rattle.policy.specs.declared.line.Part.{Part}
 use Rattle.policy.specs.declared.line.PerPart.{PerPart}
-use Rattle.policy.specs.declared.fault.Fault.{Fault}
+use Rattle.policy.specs.declared.fault.Refusal.{Refusal}
 use Rattle.layout.proofs.CheckLaws.{limits_small}
 use Rattle.layout.specs.Layout.{line_words, check_words, rule_word_limit, constraint_word_limit}
 use Rattle.exactness.proofs.PartLines.{line_limit_is}
@@ -13,20 +13,13 @@ use Rattle.word.specs.Steps.Write.{put_words}
 use Rattle.word.specs.Word.{words_of}
 use Rattle.layout.specs.Header.{pack_header}
 use Rattle.acceptance.proofs.Accepted.{accepted_valid}
-use Rattle.syntax.proofs.AnswerLaws.{lines_here, next_shorter, read_refused, read_ok}
-use Rattle.syntax.specs.Answer.{next_line, line_read}
-use Rattle.lexer.specs.Lines.{pieces, lines_of, first_line}
-use Rattle.syntax.specs.Judge.{line_answer}
+use Rattle.syntax.proofs.LinesLaws.{lines_few}
+use Rattle.syntax.proofs.WalkLaws.{Advanced}
+use Rattle.syntax.specs.Lines.{TextLine, lines_in}
+use Rattle.syntax.specs.Walk.{lines_ahead, from_first}
+use Rattle.syntax.specs.declared.text.Lines.{Lines}
 use Rattle.rule_text.specs.Text.{text_limit}
-use Rattle.codegen.specs.Steps.Put.{cursors_after, cursors_behind, Near, Further, accepted_line, accepted_lines, put_lines, put_content, put_image}
-
-abbrev pub accepted_in : List ℕ → List PolicyLine
-accepted_in text = accepted_lines (lines_of text)
-
--- the accepted lines of a text, by what its first line is
-here : (text : List ℕ) (a : Result (Option PolicyLine) Fault) → 0 < length text → line_answer (first_line text) ≡ a → accepted_in text ≡ accepted_line a (accepted_in (next_line text))
-unfolding accepted_lines
-here text a h e = ap accepted_lines (lines_here text h) ∙ ap (λ (x : Result (Option PolicyLine) Fault). accepted_line x (accepted_in (next_line text))) e
+use Rattle.codegen.specs.Steps.Put.{cursors_after, cursors_behind, Near, Further, accepted_lines, put_lines, put_content, put_image}
 
 -- no cursor goes further than the line is long
 after_near : (part : Part) (p : PerPart ℕ) (n : ℕ) → n ≤ 17 → (k : Part) → part_get (cursors_after part p n) k ≤ part_get p k + 17
@@ -35,82 +28,73 @@ after_near Part.Rules p n h Part.Constraints = omega arith
 after_near Part.Constraints p n h Part.Rules = omega arith
 after_near Part.Constraints p n h Part.Constraints = omega arith
 
--- ---- what is left to put of the rest of a text
+-- ---- what is left to put, of lines ahead
 
-pub record Putting (text buffer₀ : List ℕ) (start : PerPart ℕ) (buffer : List ℕ) (cursors : PerPart ℕ) (rest : List ℕ) : Type 0 where
+pub record Putting (text buffer₀ : List ℕ) (start : PerPart ℕ) (buffer : List ℕ) (cursors : PerPart ℕ) (ahead : List (Result TextLine Refusal)) : Type 0 where
   pub long : length buffer ≡ length buffer₀
-  pub near : (part : Part) → part_get cursors part + 17 * length rest ≤ part_get start part + 17 * length text
-  pub ends : cursors_behind (accepted_in rest) cursors ≡ cursors_behind (accepted_in text) start
-  pub same : put_lines (accepted_in rest) cursors buffer ≡ put_lines (accepted_in text) start buffer₀
+  pub near : (part : Part) → part_get cursors part + 17 * length ahead ≤ part_get start part + 17 * length text
+  pub ends : cursors_behind (accepted_lines ahead) cursors ≡ cursors_behind (accepted_lines (lines_in text)) start
+  pub same : put_lines (accepted_lines ahead) cursors buffer ≡ put_lines (accepted_lines (lines_in text)) start buffer₀
 
 module _ (text buffer₀ : List ℕ) (start : PerPart ℕ) where
+  pub putting_none : (ahead : List (Result TextLine Refusal)) → ahead ≡ lines_in text → Putting text buffer₀ start buffer₀ start ahead
+  putting_none ahead e =
+      record {
+        long = refl;
+        near = λ part. omega (arith, ap length e, lines_few text);
+        ends = ap (λ (ls : List (Result TextLine Refusal)). cursors_behind (accepted_lines ls) start) e;
+        same = ap (λ (ls : List (Result TextLine Refusal)). put_lines (accepted_lines ls) start buffer₀) e;
+      }
+
   -- all is put: the cursors behind it, how far they went, and the buffer
   abbrev Put : PerPart ℕ → List ℕ → Type 0
-  Put cursors buffer = (cursors ≡ cursors_behind (accepted_in text) start) × (Further start cursors × (buffer ≡ put_lines (accepted_in text) start buffer₀))
+  Put cursors buffer = (cursors ≡ cursors_behind (accepted_lines (lines_in text)) start) × (Further start cursors × (buffer ≡ put_lines (accepted_lines (lines_in text)) start buffer₀))
 
-  module _ (buffer : List ℕ) (cursors : PerPart ℕ) (rest : List ℕ) (p : Putting text buffer₀ start buffer cursors rest) where
+  module _ (buffer : List ℕ) (cursors : PerPart ℕ) (ahead : List (Result TextLine Refusal)) (p : Putting text buffer₀ start buffer cursors ahead) where
     pub putting_near : Near 600000 start → length text ≤ text_limit → Near 2000000 cursors
     putting_near n h part = omega (arith, n part, p.near part)
 
     -- nothing is left to put
-    done : length text ≤ text_limit → accepted_in rest ≡ [] → Put cursors buffer
-    unfolding put_lines cursors_behind
-    done h e = (
-      sym (ap (λ (ls : List PolicyLine). cursors_behind ls cursors) e) ∙ p.ends,
-      (
-        λ part. omega (arith, p.near part),
-        sym (ap (λ (ls : List PolicyLine). put_lines ls cursors buffer) e) ∙ p.same,
-      ),
-    )
-
-    pub putting_all : length text ≤ text_limit → length rest ≡ 0 → Put cursors buffer
-    unfolding accepted_lines lines_of pieces
-    putting_all s h = done s (none rest h)
+    pub putting_all : length text ≤ text_limit → ((here : List ℕ) → ¬ (from_first ahead ≡ Ok (Some here))) → Put cursors buffer
+    unfolding put_lines cursors_behind accepted_lines
+    putting_all h m =
+        let e = none ahead m in (
+          sym (ap (λ (ls : List PolicyLine). cursors_behind ls cursors) e) ∙ p.ends,
+          (
+            λ part. omega (arith, p.near part),
+            sym (ap (λ (ls : List PolicyLine). put_lines ls cursors buffer) e) ∙ p.same,
+          ),
+        )
       where
-        none : (t : List ℕ) → length t ≡ 0 → accepted_in t ≡ []
-        none [] e = refl
-        none (b ∷ t) e = absurd (omega arith)
+        none : (ls : List (Result TextLine Refusal)) → ((here : List ℕ) → ¬ (from_first ls ≡ Ok (Some here))) → accepted_lines ls ≡ []
+        none [] m = refl
+        none (Err r ∷ ls) m = refl
+        none (Ok l ∷ ls) m = absurd (m l.text refl)
 
-    module _ (h : 0 < length rest) where
-      pub putting_stop : length text ≤ text_limit → (f : Fault) → Err f ≡ line_read rest → Put cursors buffer
-      unfolding accepted_line
-      putting_stop s f q = done s (here rest (Err f) h (read_refused rest f q))
+  -- an accepted line: how long it is, and what is left after it
+  pub record Taking (buffer : List ℕ) (cursors : PerPart ℕ) (later : List (Result TextLine Refusal)) (l : PolicyLine) : Type 0 where
+    pub small : length (line_words l) ≤ 17
+    pub next : (buffer' : List ℕ) (cursors' : PerPart ℕ) → cursors' ≡ cursors_after (line_part l) cursors (length (line_words l))
+        → buffer' ≡ put_words buffer (part_get cursors (line_part l)) (line_words l) → Putting text buffer₀ start buffer' cursors' later
 
-      module _ (behind : List ℕ) where
-        pub putting_skip : Ok (None, behind) ≡ line_read rest → (length behind < length rest) × Putting text buffer₀ start buffer cursors behind
-        unfolding accepted_line
-        putting_skip q =
-            let k = read_ok rest None behind q in
-            let e : accepted_in rest ≡ accepted_in behind = here rest (Ok None) h k.0 ∙ ap accepted_in (sym k.1) in
-            let l : length behind < length rest = rw k.1 (next_shorter rest h) in
-            (l, record { long = p.long; near = λ part. omega (arith, p.near part); ends = ap (λ (ls : List PolicyLine). cursors_behind ls cursors) (sym e) ∙ p.ends; same = ap (λ (ls : List PolicyLine). put_lines ls cursors buffer) (sym e) ∙ p.same })
-
-        -- an accepted line: how long it is, and what is left after it
-        pub record Taking (l : PolicyLine) : Type 0 where
-          pub small : length (line_words l) ≤ 17
-          pub shorter : length behind < length rest
-          pub next : (buffer' : List ℕ) (cursors' : PerPart ℕ) → cursors' ≡ cursors_after (line_part l) cursors (length (line_words l))
-              → buffer' ≡ put_words buffer (part_get cursors (line_part l)) (line_words l) → Putting text buffer₀ start buffer' cursors' behind
-
-        pub putting_take : (l : PolicyLine) → Ok (Some l, behind) ≡ line_read rest → Taking l
-        unfolding accepted_line put_lines cursors_behind
-        putting_take l q =
-            let r = read_ok rest (Some l) behind q in
-            let small : length (line_words l) ≤ 17 = line_limit_is l (accepted_valid (first_line rest) l r.0) in
-            let e : accepted_in rest ≡ l ∷ accepted_in behind = here rest (Ok (Some l)) h r.0 ∙ ap (λ (t : List ℕ). l ∷ accepted_in t) (sym r.1) in
-            let n : length behind < length rest = rw r.1 (next_shorter rest h) in
+  pub putting_take : (buffer : List ℕ) (cursors : PerPart ℕ) (before after : Lines) (here : List ℕ) → Putting text buffer₀ start buffer cursors (lines_ahead before) → Advanced before after here
+      → (l : PolicyLine) → l ≡ after.line → Taking buffer cursors (lines_ahead after) l
+  unfolding put_lines cursors_behind accepted_lines
+  putting_take buffer cursors before after here p w l same =
+      let value : l ≡ w.line.line = same ∙ w.at.value in
+      let small : length (line_words l) ≤ 17 = line_limit_is l (accepted_valid w.line.bytes l (w.accepted ∙ ap (λ (x : PolicyLine). Ok (Some x)) (sym value))) in
+      let e : accepted_lines (lines_ahead before) ≡ l ∷ accepted_lines (lines_ahead after) = ap accepted_lines w.first ∙ ap₂ (λ (x : PolicyLine) (ls : List (Result TextLine Refusal)). x ∷ accepted_lines ls) (sym value) (sym w.ahead) in
+      record {
+        small = small;
+        next = λ buffer' cursors' f g.
+            let a : (part : Part) → part_get cursors' part ≤ part_get cursors part + 17 = rw f (after_near (line_part l) cursors (length (line_words l)) small) in
             record {
-              small = small;
-              shorter = n;
-              next = λ buffer' cursors' f g.
-                  let a : (part : Part) → part_get cursors' part ≤ part_get cursors part + 17 = rw f (after_near (line_part l) cursors (length (line_words l)) small) in
-                  record {
-                    long = ap length g ∙ put_length buffer (part_get cursors (line_part l)) (line_words l) ∙ p.long;
-                    ends = ap (cursors_behind (accepted_in behind)) f ∙ ap (λ (ls : List PolicyLine). cursors_behind ls cursors) (sym e) ∙ p.ends;
-                    near = λ part. omega (arith, a part, p.near part);
-                    same = ap₂ (put_lines (accepted_in behind)) f g ∙ ap (λ (ls : List PolicyLine). put_lines ls cursors buffer) (sym e) ∙ p.same;
-                  };
-            }
+              long = ap length g ∙ put_length buffer (part_get cursors (line_part l)) (line_words l) ∙ p.long;
+              ends = ap (cursors_behind (accepted_lines (lines_ahead after))) f ∙ ap (λ (ls : List PolicyLine). cursors_behind ls cursors) (sym e) ∙ p.ends;
+              near = λ part. omega (arith, a part, p.near part, w.fewer);
+              same = ap₂ (put_lines (accepted_lines (lines_ahead after))) f g ∙ ap (λ (ls : List PolicyLine). put_lines ls cursors buffer) (sym e) ∙ p.same;
+            };
+      }
 
 -- ---- the whole image
 

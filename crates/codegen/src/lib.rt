@@ -4,7 +4,7 @@
 ghost use Rattle.std.specs.Prelude.{◌≡◌, ◌+◌, ◌*◌, ◌≤◌, length, IfOk};
 ghost use Rattle.word.specs.Steps.Write.{put_words};
 ghost use Rattle.layout.specs.Layout.{line_words, check_count, rule_word_limit, constraint_word_limit};
-ghost use Rattle.lexer.specs.Lines.{lines_of};
+ghost use Rattle.syntax.specs.Lines.{lines_in};
 ghost use Rattle.rule_text.specs.Text.{text_limit};
 ghost use Rattle.policy.specs.Line.{line_part, part_get};
 ghost use Rattle.codegen.specs.Compile.{newest_form, compiled, compiled_texts};
@@ -14,7 +14,7 @@ use layout::{check_count, header, is_known_form, put_check_words, put_line};
 use line_value::Line;
 use policy::{Fault, PerPart, Refusal};
 use rule_text::{LineCounts, read_texts};
-use syntax::read_line;
+use syntax::Lines;
 use word::put_word;
 
 /// The form that the programs write.
@@ -51,23 +51,18 @@ fn put_next(out: &mut [u8], cursors: PerPart<usize>, line: &Line) -> PerPart<usi
 }
 
 /// The lines of a text, up to the first that is refused, and the cursors behind them.
+#[inline(always)]
 fn put_lines(out: &mut [u8], text: &[u8], start: PerPart<usize>) -> PerPart<usize>
     requires near { Near 600000 start }
     requires short { length text.now ≤ text_limit }
-    ensures answer { result ≡ cursors_behind (accepted_lines (lines_of text.now)) start }
+    ensures answer { result ≡ cursors_behind (accepted_lines (lines_in text.now)) start }
     ensures near { Further start result }
-    ensures buffer { out.new ≡ put_lines (accepted_lines (lines_of text.now)) start out.old }
+    ensures buffer { out.new ≡ put_lines (accepted_lines (lines_in text.now)) start out.old }
 {
     let mut cursors = start;
-    let mut rest = text;
-    while !rest.is_empty() {
-        let Ok((line, behind)) = read_line(rest) else {
-            return cursors;
-        };
-        if let Some(line) = &line {
-            cursors = put_next(out, cursors, line);
-        }
-        rest = behind;
+    let mut lines = Lines::new(text);
+    while let Ok(Some(_)) = lines.advance() {
+        cursors = put_next(out, cursors, lines.line());
     }
     cursors
 }

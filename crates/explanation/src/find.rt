@@ -11,7 +11,7 @@ use lexer::skip_spaces;
 use line_value::Line;
 use policy::{Action, ActionSet, Ending, Epoch};
 use run::{run_constraints, run_rules};
-use syntax::read_line;
+use syntax::Lines;
 use word::{part, words};
 
 /// Which lines are sought: rules that propose an action, or constraints that hold on a set.
@@ -82,17 +82,11 @@ fn excerpt_at<'t>(at: usize, text: &'t [u8]) -> Excerpt<'t>
 pub(crate) fn find<'t>(text: &'t [u8], sought: Sought, epoch: &Epoch) -> Option<Excerpt<'t>>
     ensures { option_map stretch_of result ≡ first_from (sought_by sought epoch.now) 0 (lines_of text.now) }
 {
-    let mut rest = text;
-    while !rest.is_empty() {
-        let Ok((line, behind)) = read_line(rest) else {
-            return None;
-        };
-        if let Some(line) = &line {
-            if told(line, sought, epoch) {
-                return Some(excerpt_at(text.len() - rest.len(), rest));
-            }
+    let mut lines = Lines::new(text);
+    while let Ok(Some(here)) = lines.advance() {
+        if told(lines.line(), sought, epoch) {
+            return Some(excerpt_at(text.len() - here.len(), here));
         }
-        rest = behind;
     }
     None
 }

@@ -1,5 +1,5 @@
 -- The first line of both texts that passes a test: where some line of their policy does, one is shown, and it is the first.
-use Rattle.std.proofs.Common.{ℕ, zero, suc, ◌+◌, Bool, true, false, cond, List, [], ◌∷◌, ◌++◌, Contains, ◌↔◌, ◌⊎◌, inl, inr, ⊎_elim, ◌≡◌, refl, sym, ap, ap₂, ◌∙◌, subst, arith, length}
+use Rattle.std.proofs.Common.{ℕ, zero, suc, ◌+◌, Bool, true, false, cond, List, [], ◌∷◌, ◌++◌, ◌↔◌, ◌⊎◌, inl, inr, ⊎_elim, ◌≡◌, refl, sym, ap, ap₂, ◌∙◌, subst, Contains, add-one, arith, length, drop}
 use Rattle.std.specs.Prelude.{Option, Some, None, Result, Ok, Err}
 use Rattle.std.proofs.Math.Path.{subst⁻¹}
 use Rattle.std.proofs.lemmas.List.Elements.{Contains-append_left, Contains-append_right, Contains-append_cases}
@@ -9,16 +9,18 @@ use Rattle.policy.specs.Fault.{in_text}
 use Rattle.policy.specs.Line.{PolicyLine, rule, constraint}
 use Rattle.policy.specs.Policy.{Policy, Rule, Constraint}
 use Rattle.policy.specs.declared.fault.Fault.{Fault}
+use Rattle.policy.specs.declared.fault.Refusal.{Refusal}
 use Rattle.policy.specs.declared.fault.Source.{Source}
 use Rattle.image.specs.Held.{rules_in, constraints_in}
 use Rattle.lexer.specs.Lines.{lines_of}
 use Rattle.syntax.specs.Judge.{line_answer}
+use Rattle.syntax.specs.Lines.{TextLine, before_later, lines_from, lines_in}
 use Rattle.rule_text.specs.Answer.{counts_of, counted, texts_read}
 use Rattle.rule_text.proofs.ReadLaws.{LineRead, line_reads, lines_read, behind_read}
 use Rattle.rule_text.specs.Text.{read_line, read_lines, empty_policy, read_text_behind, read_text, read_texts}
 use Rattle.codegen.proofs.AcceptedLaws.{accepted_texts, newest_known}
 use Rattle.codegen.specs.Compile.{newest_form}
-use Rattle.codegen.specs.Steps.Put.{accepted_line, accepted_lines, lines_of_both}
+use Rattle.codegen.specs.Steps.Put.{accepted_lines, lines_of_both}
 use Rattle.explanation.specs.Part.{trim, Stretch, Quote, of_maker, of_site, shown_at, or_later, first_from, first_shown}
 use Rattle.guarantees.proofs.ShownLaws.{trimming, not_empty, line_at, part_straight}
 use Rattle.guarantees.specs.Explanations.{Listed, ended_length, Trimmed, FirstOf, FirstLine}
@@ -54,17 +56,21 @@ line_listed (constraint k ∷ ls) (constraint c) (suc n, i, q) = contains_later 
 -- ---- lines that were read
 
 -- none was refused: a line that is accepted is one of the policy's
-abbrev pub Held : List (List ℕ) → Type 0
-Held ls = (line : List ℕ) → Contains ls line → (l : PolicyLine) → line_answer line ≡ Ok (Some l) → Contains (accepted_lines ls) l
+abbrev pub Held : List (List ℕ) → List (Result TextLine Refusal) → Type 0
+Held ls read = (line : List ℕ) → Contains ls line → (l : PolicyLine) → line_answer line ≡ Ok (Some l) → Contains (accepted_lines read) l
 
-held : (ls : List (List ℕ)) (n : ℕ) (p q : Policy) → read_lines n p ls ≡ Ok q → Held ls
-unfolding accepted_lines accepted_line
-held [] n p q e line i l k = absurd (omega (arith, i.1))
-held (x ∷ ls) n p q e line i l k =
+held : (ls : List (List ℕ)) (n : ℕ) (text : List ℕ) (p q : Policy) → read_lines n p ls ≡ Ok q → Held ls (lines_from n text ls)
+unfolding accepted_lines lines_from before_later
+held [] n text p q e line i l k = absurd (omega (arith, i.1))
+held (x ∷ ls) n text p q e line i l k =
     let r = lines_read n p x ls q e in
-    go r.0 r.1 (line_reads p x) (contains_cases x ls line i) (held ls (suc n) r.0 q r.2)
+    let one : n + 1 ≡ suc n = add-one n in
+    go r.0 r.1 (line_reads p x) (contains_cases x ls line i) (rw one (held ls (suc n) (drop (suc (length x)) text) r.0 q r.2))
   where
-    go : (m : Policy) → read_line p x ≡ Ok m → LineRead p x → (x ≡ line) ⊎ Contains ls line → Held ls → Contains (accepted_line (line_answer x) (accepted_lines ls)) l
+    behind : List (Result TextLine Refusal)
+    behind = lines_from (n + 1) (drop (suc (length x)) text) ls
+
+    go : (m : Policy) → read_line p x ≡ Ok m → LineRead p x → (x ≡ line) ⊎ Contains ls line → Held ls behind → Contains (accepted_lines (before_later n text x (line_answer x) behind)) l
     go m r (LineRead.skips a s) (inl w) later = let v : line_answer x ≡ line_answer line = ap line_answer w in let z : ⊥ = cc in absurd z
     go m r (LineRead.skips a s) (inr j) later = rw a (later line j l k)
     go m r (LineRead.fails f a s) c later = let z : ⊥ = cc in absurd z
@@ -72,7 +78,7 @@ held (x ∷ ls) n p q e line i l k =
         let v : line_answer x ≡ line_answer line = ap line_answer w in
         let i : y ≡ l = cc in
         rw a (0, omega arith, i)
-    go m r (LineRead.adds y a h s) (inr j) later = rw a (contains_later y (accepted_lines ls) l (later line j l k))
+    go m r (LineRead.adds y a h s) (inr j) later = rw a (contains_later y (accepted_lines behind) l (later line j l k))
     go m r (LineRead.is_over y a h s) c later = let z : ⊥ = cc in absurd z
 
 -- ---- the first line of a text that passes
@@ -140,21 +146,24 @@ module _ (test : PolicyLine → Bool) where
           passing false t v = found_later at line lines shown (λ m j u. let w : l ≡ m = cc in true_false (ap test w ∙ u) t) (rec v)
 
   -- where none is found, no line of the policy passes
-  none_found : (lines : List (List ℕ)) (at : ℕ) → first_from test at lines ≡ None → (l : PolicyLine) → Contains (accepted_lines lines) l → test l ≡ true → ⊥
-  unfolding first_from or_later accepted_lines accepted_line
-  none_found [] at e l m t = omega (arith, m.1)
-  none_found (line ∷ lines) at e l m t = go (line_answer line) (none_found lines (at + length line + 1)) e m
+  none_found : (lines : List (List ℕ)) (n at : ℕ) (text : List ℕ) → first_from test at lines ≡ None → (l : PolicyLine) → Contains (accepted_lines (lines_from n text lines)) l → test l ≡ true → ⊥
+  unfolding first_from or_later accepted_lines lines_from before_later
+  none_found [] n at text e l m t = omega (arith, m.1)
+  none_found (line ∷ lines) n at text e l m t = go (line_answer line) (none_found lines (n + 1) (at + length line + 1) (drop (suc (length line)) text)) e m
     where
+      behind : List (Result TextLine Refusal)
+      behind = lines_from (n + 1) (drop (suc (length line)) text) lines
+
       next : Option Stretch
       next = first_from test (at + length line + 1) lines
 
-      go : (a : Result (Option PolicyLine) Fault) → (next ≡ None → (l : PolicyLine) → Contains (accepted_lines lines) l → test l ≡ true → ⊥)
-          → or_later test a at line next ≡ None → Contains (accepted_line a (accepted_lines lines)) l → ⊥
+      go : (a : Result (Option PolicyLine) Fault) → (next ≡ None → (l : PolicyLine) → Contains (accepted_lines behind) l → test l ≡ true → ⊥)
+          → or_later test a at line next ≡ None → Contains (accepted_lines (before_later n text line a behind)) l → ⊥
       go (Ok None) rec h i = rec h l i t
       go (Err f) rec h i = omega (arith, i.1)
-      go (Ok (Some k)) rec h i = passing (test k) refl h (contains_cases k (accepted_lines lines) l i)
+      go (Ok (Some k)) rec h i = passing (test k) refl h (contains_cases k (accepted_lines behind) l i)
         where
-          passing : (b : Bool) → test k ≡ b → cond b (Some (shown_at at line)) next ≡ None → (k ≡ l) ⊎ Contains (accepted_lines lines) l → ⊥
+          passing : (b : Bool) → test k ≡ b → cond b (Some (shown_at at line)) next ≡ None → (k ≡ l) ⊎ Contains (accepted_lines behind) l → ⊥
           passing true q v c = let w : ◌≡◌ {A = ℕ} 0 1 = cc in omega arith
           passing false q v (inl w) = true_false t (sym (ap test w) ∙ q)
           passing false q v (inr j) = rec v l j t
@@ -163,13 +172,13 @@ module _ (test : PolicyLine → Bool) where
 
 -- both texts were read, and their lines are the policy's
 pub record Both (maker site : List ℕ) (p : Policy) : Type 0 where
-  pub makers : Held (lines_of maker)
-  pub sites : Held (lines_of site)
+  pub makers : Held (lines_of maker) (lines_in maker)
+  pub sites : Held (lines_of site) (lines_in site)
   pub rules : rules_in (lines_of_both maker site) ≡ p.rules
   pub constraints : constraints_in (lines_of_both maker site) ≡ p.constraints
 
-text_held : (source : Source) (q : Policy) (text : List ℕ) (p : Policy) → in_text source (read_text_behind q text) ≡ Ok p → Held (lines_of text)
-text_held source q text p e = held (lines_of text) 1 q p (behind_read q text p (in_text_ok source (read_text_behind q text) p e)).1
+text_held : (source : Source) (q : Policy) (text : List ℕ) (p : Policy) → in_text source (read_text_behind q text) ≡ Ok p → Held (lines_of text) (lines_in text)
+text_held source q text p e = held (lines_of text) 1 text q p (behind_read q text p (in_text_ok source (read_text_behind q text) p e)).1
 
 pub both : (maker site : List ℕ) (p : Policy) → read_texts maker site ≡ Ok p → Both maker site p
 unfolding read_texts read_text texts_read
@@ -197,7 +206,7 @@ module _ (test : PolicyLine → Bool) (Says : PolicyLine → Type 0) (means : (l
       subst (λ (q : Policy). Listed q l) (ap₂ (λ (x : List Rule) (y : List Constraint). record { rules = x; constraints = y }) b.rules b.constraints)
       (line_listed (lines_of_both maker site) l m)
 
-  first_in : (text : List ℕ) → ((l : PolicyLine) → Contains (accepted_lines (lines_of text)) l → Listed p l) → Held (lines_of text) → (shown : Stretch) → Found test 0 (lines_of text) shown → FirstOf Says p text shown
+  first_in : (text : List ℕ) → ((l : PolicyLine) → Contains (accepted_lines (lines_in text)) l → Listed p l) → Held (lines_of text) (lines_in text) → (shown : Stretch) → Found test 0 (lines_of text) shown → FirstOf Says p text shown
   unfolding shown_at trimming
   first_in text listed holds shown f =
       let n : 0 + ended_length f.before ≡ ended_length f.before = omega arith in
@@ -236,17 +245,17 @@ module _ (test : PolicyLine → Bool) (Says : PolicyLine → Type 0) (means : (l
           record {
             shown = of_maker x;
             found = rw e;
-            line = first_in maker (λ l i. both_listed l (Contains-append_left (accepted_lines (lines_of maker)) (accepted_lines (lines_of site)) l i)) b.makers x (found test (lines_of maker) 0 x e);
+            line = first_in maker (λ l i. both_listed l (Contains-append_left (accepted_lines (lines_in maker)) (accepted_lines (lines_in site)) l i)) b.makers x (found test (lines_of maker) 0 x e);
           }
       go None (Some y) e k =
           record {
             shown = of_site y;
             found = rw (e, k);
             line = (
-              λ line i l j s. none_found test (lines_of maker) 0 e l (b.makers line i l j) ((means l).1 s),
-              first_in site (λ l i. both_listed l (Contains-append_right (accepted_lines (lines_of maker)) (accepted_lines (lines_of site)) l i)) b.sites y (found test (lines_of site) 0 y k),
+              λ line i l j s. none_found test (lines_of maker) 1 0 maker e l (b.makers line i l j) ((means l).1 s),
+              first_in site (λ l i. both_listed l (Contains-append_right (accepted_lines (lines_in maker)) (accepted_lines (lines_in site)) l i)) b.sites y (found test (lines_of site) 0 y k),
             );
           }
       go None None e k =
-          absurd (⊎_elim (λ i. none_found test (lines_of maker) 0 e l i t) (λ i. none_found test (lines_of site) 0 k l i t)
-          (Contains-append_cases (accepted_lines (lines_of maker)) (accepted_lines (lines_of site)) l m))
+          absurd (⊎_elim (λ i. none_found test (lines_of maker) 1 0 maker e l i t) (λ i. none_found test (lines_of site) 1 0 site k l i t)
+          (Contains-append_cases (accepted_lines (lines_in maker)) (accepted_lines (lines_in site)) l m))

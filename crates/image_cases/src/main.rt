@@ -12,7 +12,7 @@ fn count(lines: Walker<'_>) -> (usize, usize) {
     let mut rules = 0usize;
     let mut constraints = 0usize;
     for line in lines {
-        match line.ending {
+        match line.ending() {
             Ending::Causes(_) => rules = rules.wrapping_add(1),
             Ending::Never => constraints = constraints.wrapping_add(1),
         }

@@ -2,7 +2,7 @@
 use Rattle.std.specs.Prelude.{Option, Some, None, Result, Ok, Err}
 use Rattle.std.specs.Result.{result_map_both}
 use Rattle.std.proofs.lemmas.List.{map-append}
-use Rattle.std.proofs.Common.{ℕ, suc, ◌+◌, ◌<◌, ◌≤◌, Bool, true, false, cond, List, [], ◌∷◌, ◌++◌, map, ◌≡◌, refl, sym, ap, ◌∙◌, add-one, arith, lt-ltb, le-ltb, ltb-true, ltb-false, length, length-append}
+use Rattle.std.proofs.Common.{ℕ, suc, ◌+◌, ◌<◌, ◌≤◌, Bool, true, false, cond, List, [], ◌∷◌, ◌++◌, map, ◌≡◌, refl, sym, ap, ◌∙◌, add-one, arith, lt-ltb, le-ltb, ltb-true, ltb-false, length, drop, length-append}
 use Rattle.std.proofs.Math.Dec.{ltb}
 use Rattle.std.proofs.Math.ListN.{length-map}
 use Rattle.policy.proofs.ListLaws.{or_out}
@@ -18,14 +18,16 @@ use Rattle.policy.specs.declared.fault.Refusal.{Refusal}
 use Rattle.policy.specs.declared.fault.Source.{Source}
 use Rattle.policy.specs.declared.line.Part.{Part}
 use Rattle.policy.specs.declared.line.PerPart.{PerPart}
-use Rattle.syntax.proofs.AnswerLaws.{lines_here, next_shorter, read_refused, read_ok}
 use Rattle.syntax.proofs.JudgeLaws.{accepted_uncrowded}
+use Rattle.syntax.proofs.WalkLaws.{Advanced}
+use Rattle.syntax.specs.Walk.{lines_ahead}
+use Rattle.syntax.specs.declared.text.Lines.{Lines}
 use Rattle.rule_text.specs.Answer.{total, counts_in, counts_of, counted, text_read, texts_read}
-use Rattle.rule_text.specs.Steps.Counting.{no_lines, no_counts, count_more, count_line, counted_before, count_lines, count_behind}
-use Rattle.syntax.specs.Answer.{next_line, line_read}
+use Rattle.rule_text.specs.Steps.Counting.{no_lines, no_counts, count_lines, count_behind}
 use Rattle.rule_text.specs.Steps.Tally.{Within, Small, plus, tally_as, tallied_by}
-use Rattle.lexer.specs.Lines.{pieces, lines_of, first_line}
+use Rattle.lexer.specs.Lines.{lines_of}
 use Rattle.syntax.specs.Judge.{line_answer}
+use Rattle.syntax.specs.Lines.{TextLine, before_later, lines_from, lines_in}
 use Rattle.rule_text.specs.Text.{has_room, with_line as line_added, with_any_line, read_line, read_lines, empty_policy, text_limit, read_text_behind, read_text, read_texts}
 use Rattle.rule_text.specs.declared.LineCounts.{LineCounts}
 
@@ -55,31 +57,31 @@ unfolding counts_of ending_of line_added
 added_counts p (rule r) = rw (map-append rule p.rules (r ∷ []), counts_snoc (map rule p.rules) (rule r))
 added_counts p (constraint c) = rw (map-append constraint p.constraints (c ∷ []), counts_snoc (map constraint p.constraints) (constraint c))
 
-more_counts : (p : Policy) (o : Option PolicyLine) → count_more (counts_of p) o ≡ result_map_both counts_of (λ f. f) (with_any_line p o)
-unfolding count_more with_any_line tallied_by tally_as
-more_counts p None = refl
-more_counts p (Some l) = rw (room_counts p l, added_counts p l) (go (has_room p l))
+more_counts : (p : Policy) (l : PolicyLine) → tallied_by (counts_of p) l ≡ result_map_both counts_of (λ f. f) (with_any_line p (Some l))
+unfolding with_any_line tallied_by tally_as
+more_counts p l = rw (room_counts p l, added_counts p l) (go (has_room p l))
   where
     go : (b : Bool) → cond b (Ok (counts_of (line_added p l))) (Err Fault.TooManyLines) ≡ result_map_both counts_of (λ f. f) (cond b (Ok (line_added p l)) (Err Fault.TooManyLines))
     go true = refl
     go false = refl
 
-line_counts : (p : Policy) (line : List ℕ) → count_line (counts_of p) line ≡ result_map_both counts_of (λ f. f) (read_line p line)
-unfolding count_line read_line
-line_counts p line = go (line_answer line)
+lines_counts : (ls : List (List ℕ)) (n : ℕ) (text : List ℕ) (p : Policy) → count_lines (counts_of p) (lines_from n text ls) ≡ counted (read_lines n p ls)
+unfolding count_lines read_lines read_line with_any_line lines_from before_later
+lines_counts [] n text p = refl
+lines_counts (bytes ∷ ls) n text p = let e : n + 1 ≡ suc n = add-one n in go (line_answer bytes) (λ q. rw e (lines_counts ls (suc n) (drop (suc (length bytes)) text) q))
   where
-    go : (a : Result (Option PolicyLine) Fault) → result_and_then (count_more (counts_of p)) a ≡ result_map_both counts_of (λ f. f) (result_and_then (with_any_line p) a)
-    go (Ok o) = more_counts p o
-    go (Err f) = refl
+    behind : List (Result TextLine Refusal)
+    behind = lines_from (n + 1) (drop (suc (length bytes)) text) ls
 
-lines_counts : (ls : List (List ℕ)) (n : ℕ) (p : Policy) → count_lines n (counts_of p) ls ≡ counted (read_lines n p ls)
-unfolding count_lines read_lines
-lines_counts [] n p = refl
-lines_counts (l ∷ ls) n p = rw (line_counts p l) (go (read_line p l) (lines_counts ls))
-  where
-    go : (r : Result Policy Fault) → ((m : ℕ) (q : Policy) → count_lines m (counts_of q) ls ≡ counted (read_lines m q ls))
-        → result_and_then (λ (d : Counts). count_lines (n + 1) d ls) (located n (result_map_both counts_of (λ f. f) r)) ≡ counted (result_and_then (λ (q : Policy). read_lines (suc n) q ls) (located n r))
-    go (Ok q) later = rw add-one (later (suc n) q)
+    added : (r : Result Policy Fault) → ((q : Policy) → count_lines (counts_of q) behind ≡ counted (read_lines (suc n) q ls))
+        → result_and_then (λ (d : Counts). count_lines d behind) (located n (result_map_both counts_of (λ f. f) r)) ≡ counted (result_and_then (λ (q : Policy). read_lines (suc n) q ls) (located n r))
+    added (Ok q) later = later q
+    added (Err f) later = refl
+
+    go : (a : Result (Option PolicyLine) Fault) → ((q : Policy) → count_lines (counts_of q) behind ≡ counted (read_lines (suc n) q ls))
+        → count_lines (counts_of p) (before_later n text bytes a behind) ≡ counted (result_and_then (λ (q : Policy). read_lines (suc n) q ls) (located n (result_and_then (with_any_line p) a)))
+    go (Ok None) later = later p
+    go (Ok (Some l)) later = rw (more_counts p l) (added (with_any_line p (Some l)) later)
     go (Err f) later = refl
 
 -- ---- the counts of an accepted line
@@ -135,86 +137,21 @@ small_line c d l u s = go (line_part l)
             rw (← i) (with_it (within_more (part_get c part) l u (s part) (below e)) part)
         room false e q = let z : ⊥ = cc in absurd z
 
-small_more : (c d : Counts) (line : List ℕ) → Small c → count_line c line ≡ Ok d → Small d
-unfolding count_line count_more tallied_by
-small_more c d line s = go (line_answer line) (accepted_uncrowded line)
-  where
-    go : (a : Result (Option PolicyLine) Fault) → ((l : PolicyLine) → a ≡ Ok (Some l) → crowded l ≡ false) → result_and_then (count_more c) a ≡ Ok d → Small d
-    go (Ok None) h q = let e : c ≡ d = cc in rw (← e) s
-    go (Ok (Some l)) h q = small_line c d l (uncrowded l (h l refl)) s q
-    go (Err f) h q = let z : ⊥ = cc in absurd z
-
--- ---- one line of a text
-
-module _ (c : Counts) (text : List ℕ) where
-  -- what is answered of it, with the lines behind it
-  abbrev more : Result (Counts × List ℕ) Fault
-  more = counted_before (next_line text) (count_line c (first_line text))
-
-  pub step_refused : (f : Fault) → Err f ≡ line_read text → Err f ≡ more
-  unfolding count_line
-  step_refused f q = rw (read_refused text f q)
-
-  pub step_skipped : (rest : List ℕ) → Ok (None, rest) ≡ line_read text → Ok (c, rest) ≡ more
-  unfolding count_line count_more
-  step_skipped rest q = let k = read_ok text None rest q in rw (k.0, k.1)
-
-  module _ (l : PolicyLine) (rest : List ℕ) (q : Ok (Some l, rest) ≡ line_read text) where
-    step_taken : tallied_by c l ≡ count_line c (first_line text)
-    unfolding count_line count_more
-    step_taken = ap (result_and_then (count_more c)) (sym (read_ok text (Some l) rest q).0)
-
-    pub step_full : (f : Fault) → tallied_by c l ≡ Err f → Err f ≡ more
-    step_full f k = rw (sym step_taken ∙ k)
-
-    module _ (d : Counts) (k : tallied_by c l ≡ Ok d) where
-      pub step_more : Ok (d, rest) ≡ more
-      step_more = rw (sym step_taken ∙ k, (read_ok text (Some l) rest q).1)
-
-      pub step_small : Small c → Small d
-      step_small s = small_more c d (first_line text) s (sym step_taken ∙ k)
-
 -- ---- a turn of reading
 
-module _ (n : ℕ) (c : Counts) where
-  pub count_end : (text : List ℕ) → length text ≡ 0 → count_lines n c (lines_of text) ≡ Ok c
-  unfolding count_lines lines_of pieces
-  count_end [] h = refl
-  count_end (b ∷ s) h = absurd (omega arith)
+module _ (c : Counts) (before after : Lines) (text : List ℕ) (w : Advanced before after text) (v : PolicyLine) (same : v ≡ after.line) where
+  tallied_is : tallied_by c v ≡ tallied_by c w.line.line
+  tallied_is = ap (tallied_by c) (same ∙ w.at.value)
 
-  module _ (text : List ℕ) (h : 0 < length text) where
-    here : count_lines n c (lines_of text) ≡ result_and_then (λ (d : Counts). count_lines (n + 1) d (lines_of (next_line text))) (located n (count_line c (first_line text)))
-    unfolding count_lines
-    here = ap (count_lines n c) (lines_here text h)
+  pub count_over : (f : Fault) → Err f ≡ tallied_by c v → (n : ℕ) → n ≡ after.number → Err (refusal f n) ≡ count_lines c (lines_ahead before)
+  unfolding count_lines
+  count_over f e n m = rw (w.first, sym tallied_is ∙ sym e, m ∙ w.at.number) refl
 
-    pub count_stop : (f : Fault) → Err f ≡ more c text → count_lines n c (lines_of text) ≡ Err (refusal f n)
-    count_stop f q = here ∙ go (count_line c (first_line text)) q
-      where
-        go : (r : Result Counts Fault) → Err f ≡ counted_before (next_line text) r
-            → result_and_then (λ (d : Counts). count_lines (n + 1) d (lines_of (next_line text))) (located n r) ≡ Err (refusal f n)
-        go (Ok d) k = let z : ⊥ = cc in absurd z
-        go (Err g) k = let e : f ≡ g = cc in rw e
-
-    module _ (d : Counts) (rest : List ℕ) (q : Ok (d, rest) ≡ more c text) where
-      pub count_behind_line : rest ≡ next_line text
-      count_behind_line = go (count_line c (first_line text)) q
-        where
-          go : (r : Result Counts Fault) → Ok (d, rest) ≡ counted_before (next_line text) r → rest ≡ next_line text
-          go (Ok e) k = let p : (d, rest) ≡ (e, next_line text) = cc in ap (λ (r : Counts × List ℕ). r.1) p
-          go (Err g) k = let z : ⊥ = cc in absurd z
-
-      pub count_go : count_lines n c (lines_of text) ≡ count_lines (n + 1) d (lines_of rest)
-      count_go = here ∙ go (count_line c (first_line text)) q
-        where
-          go : (r : Result Counts Fault) → Ok (d, rest) ≡ counted_before (next_line text) r
-              → result_and_then (λ (d : Counts). count_lines (n + 1) d (lines_of (next_line text))) (located n r) ≡ count_lines (n + 1) d (lines_of rest)
-          go (Ok e) k =
-              let p : (d, rest) ≡ (e, next_line text) = cc in
-              ap (λ (r : Counts × List ℕ). count_lines (n + 1) r.0 (lines_of r.1)) (sym p)
-          go (Err g) k = let z : ⊥ = cc in absurd z
-
-      pub count_shorter : length rest < length text
-      count_shorter = rw count_behind_line (next_shorter text h)
+  pub count_turn : (d : Counts) → Ok d ≡ tallied_by c v → (count_lines c (lines_ahead before) ≡ count_lines d (lines_ahead after)) × (Small c → Small d)
+  unfolding count_lines tallied_by
+  count_turn d e =
+      let t = sym tallied_is ∙ sym e in
+      (rw (w.first, t, w.ahead) refl, λ s. small_line c d w.line.line (uncrowded w.line.line (accepted_uncrowded w.line.bytes w.line.line w.accepted)) s t)
 
 -- ---- the lines of a text behind others
 
@@ -230,14 +167,14 @@ module _ (c : Counts) (text : List ℕ) where
   unfolding count_behind
   behind_long h = rw (lt-ltb text_limit (length text) h)
 
-  pub behind_short : length text ≤ text_limit → count_lines 1 c (lines_of text) ≡ count_behind c text
+  pub behind_short : length text ≤ text_limit → count_lines c (lines_in text) ≡ count_behind c text
   unfolding count_behind
   behind_short h = rw (le-ltb text_limit (length text) h)
 
 -- the counts behind a policy are those of what is read behind it
 behind_counts : (p : Policy) (text : List ℕ) → count_behind (counts_of p) text ≡ counted (read_text_behind p text)
 unfolding count_behind read_text_behind
-behind_counts p text = rw (lines_counts (lines_of text) 1 p) (go (ltb text_limit (length text)))
+behind_counts p text = rw (lines_counts (lines_of text) 1 text p) (go (ltb text_limit (length text)))
   where
     go : (b : Bool) → cond b (Err (refusal Fault.TooLong 0)) (counted (read_lines 1 p (lines_of text))) ≡ counted (cond b (Err (refusal Fault.TooLong 0)) (read_lines 1 p (lines_of text)))
     go true = refl
@@ -279,24 +216,33 @@ module _ (maker site : List ℕ) where
 
 -- ---- the counts of a text that is read are no more than its lines may have
 
-lines_small : (ls : List (List ℕ)) (n : ℕ) (c d : Counts) → Small c → count_lines n c ls ≡ Ok d → Small d
-unfolding count_lines
-lines_small [] n c d s e = let q : c ≡ d = cc in rw (← q) s
-lines_small (l ∷ ls) n c d s e = go (count_line c l) refl (lines_small ls) e
+lines_small : (ls : List (List ℕ)) (n : ℕ) (text : List ℕ) (c d : Counts) → Small c → count_lines c (lines_from n text ls) ≡ Ok d → Small d
+unfolding count_lines tallied_by lines_from before_later
+lines_small [] n text c d s e = let q : c ≡ d = cc in rw (← q) s
+lines_small (bytes ∷ ls) n text c d s e = go (line_answer bytes) (accepted_uncrowded bytes) (lines_small ls (n + 1) (drop (suc (length bytes)) text)) e
   where
-    go : (r : Result Counts Fault) → count_line c l ≡ r → ((m : ℕ) (x y : Counts) → Small x → count_lines m x ls ≡ Ok y → Small y)
-        → result_and_then (λ (d : Counts). count_lines (n + 1) d ls) (located n r) ≡ Ok d → Small d
-    go (Ok x) q later k = later (n + 1) x d (small_more c x l s q) k
-    go (Err f) q later k = let z : ⊥ = cc in absurd z
+    behind : List (Result TextLine Refusal)
+    behind = lines_from (n + 1) (drop (suc (length bytes)) text) ls
+
+    added : (l : PolicyLine) (r : Result Counts Fault) → Uncrowded l → tally_as (line_part l) c (plus (part_get c (line_part l)) l) ≡ r
+        → ((x y : Counts) → Small x → count_lines x behind ≡ Ok y → Small y) → result_and_then (λ (x : Counts). count_lines x behind) (located n r) ≡ Ok d → Small d
+    added l (Ok x) u q later k = later x d (small_line c x l u s q) k
+    added l (Err f) u q later k = let z : ⊥ = cc in absurd z
+
+    go : (a : Result (Option PolicyLine) Fault) → ((l : PolicyLine) → a ≡ Ok (Some l) → crowded l ≡ false) → ((x y : Counts) → Small x → count_lines x behind ≡ Ok y → Small y)
+        → count_lines c (before_later n text bytes a behind) ≡ Ok d → Small d
+    go (Ok None) h later k = later c d s k
+    go (Ok (Some l)) h later k = added l _ (uncrowded l (h l refl)) refl later k
+    go (Err f) h later k = let z : ⊥ = cc in absurd z
 
 pub read_small : (text : List ℕ) (c : Counts) → text_read text ≡ Ok c → Small c
 unfolding count_behind
 read_small text c e = go (ltb text_limit (length text)) (text_counts text ∙ e)
   where
-    lines : (r : Result Counts Refusal) → count_lines 1 no_counts (lines_of text) ≡ r → in_text Source.Maker r ≡ Ok c → Small c
-    lines (Ok d) q k = let i : d ≡ c = cc in rw (← i) (lines_small (lines_of text) 1 no_counts d none_small q)
+    lines : (r : Result Counts Refusal) → count_lines no_counts (lines_in text) ≡ r → in_text Source.Maker r ≡ Ok c → Small c
+    lines (Ok d) q k = let i : d ≡ c = cc in rw (← i) (lines_small (lines_of text) 1 text no_counts d none_small q)
     lines (Err x) q k = let z : ⊥ = cc in absurd z
 
-    go : (b : Bool) → in_text Source.Maker (cond b (Err (refusal Fault.TooLong 0)) (count_lines 1 no_counts (lines_of text))) ≡ Ok c → Small c
+    go : (b : Bool) → in_text Source.Maker (cond b (Err (refusal Fault.TooLong 0)) (count_lines no_counts (lines_in text))) ≡ Ok c → Small c
     go true q = let z : ⊥ = cc in absurd z
-    go false q = lines (count_lines 1 no_counts (lines_of text)) refl q
+    go false q = lines (count_lines no_counts (lines_in text)) refl q

@@ -2,17 +2,14 @@
 #![tactic(auto)]
 
 ghost use Rattle.std.specs.Prelude.{◌≡◌};
-ghost use Rattle.std.specs.Result.{result_map_both, IfOk};
-ghost use Rattle.lexer.specs.Lines.{first_line};
 ghost use Rattle.policy.specs.Limits.{rule_limit};
 ghost use Rattle.rule_text.specs.Answer.{text_read, texts_read};
-ghost use Rattle.rule_text.specs.Steps.Counting.{count_line, counted_before, count_behind};
-ghost use Rattle.syntax.specs.Answer.{next_line};
+ghost use Rattle.rule_text.specs.Steps.Counting.{count_behind};
 ghost use Rattle.rule_text.specs.Steps.Tally.{Within, Small, plus, tallied_by};
 
 use line_value::Line;
 use policy::{Fault, PerPart, Refusal, Source};
-use syntax::read_line;
+use syntax::Lines;
 
 // Bytes of a text.
 const TEXT_LIMIT: usize = 32768;
@@ -53,21 +50,8 @@ fn tallied(counts: PerPart<LineCounts>, line: &Line) -> Result<PerPart<LineCount
     }
 }
 
-// The counts of a text with its first line, and the lines behind it.
-fn step(counts: PerPart<LineCounts>, text: &[u8]) -> Result<(PerPart<LineCounts>, &[u8]), Fault>
-    requires { Small counts }
-    ensures answer { result_map_both (λ r. (r.0, r.1.now)) (λ fault. fault) result
-        ≡ counted_before (next_line text.now) (count_line counts (first_line text.now)) }
-    ensures small { IfOk result (λ r. Small r.0) }
-{
-    let (line, rest) = read_line(text)?;
-    match &line {
-        None => Ok((counts, rest)),
-        Some(line) => Ok((tallied(counts, line)?, rest)),
-    }
-}
-
 // The lines of a text, counted behind those before it. A refusal names no text.
+#[inline(always)]
 fn read_behind(before: PerPart<LineCounts>, text: &[u8]) -> Result<PerPart<LineCounts>, Refusal>
     requires { Small before }
     ensures { result ≡ count_behind before text.now }
@@ -76,13 +60,10 @@ fn read_behind(before: PerPart<LineCounts>, text: &[u8]) -> Result<PerPart<LineC
         return Err(Fault::TooLong.at(0));
     }
     let mut counts = before;
-    let mut rest = text;
-    let mut number = 1;
-    while !rest.is_empty() {
-        let (more, behind) = step(counts, rest).map_err(|fault| fault.at(number))?;
-        counts = more;
-        rest = behind;
-        number += 1;
+    let mut lines = Lines::new(text);
+    while let Some(_) = lines.advance()? {
+        let number = lines.number();
+        counts = tallied(counts, lines.line()).map_err(|fault| fault.at(number))?;
     }
     Ok(counts)
 }

@@ -5,4 +5,6 @@ pub mod DraftLaws
 pub mod FrontLaws
 pub mod HeadLaws
 pub mod JudgeLaws
+pub mod LinesLaws
 pub mod ShapeLaws
+pub mod WalkLaws

@@ -1,8 +1,9 @@
-//! Reading a line of a rule text. Start with specs/Grammar.antt (the shapes of a line) and specs/Judge.antt (what a line is refused
-//! for).
+//! Reading the lines of a rule text. Start with specs/Grammar.antt (the shapes of a line), specs/Judge.antt (what a line is refused for)
+//! and specs/Lines.antt (the lines of a text).
 #![tactic(auto)]
 
 mod draft;
 mod line;
+mod text;
 
-pub use line::read_line;
+pub use text::Lines;

@@ -1,6 +1,7 @@
 //! The lines of a rule text. A line is scanned once. A reader puts what it reads into a draft, and answers what stands behind it; where
 //! the shape is wrong it answers nothing, and the draft is of no use.
 ghost use Rattle.std.specs.Prelude.{◌≡◌, false, option_map};
+ghost use Rattle.std.specs.Bool.{then_some};
 ghost use Rattle.std.specs.Result.{result_map_both};
 ghost use Rattle.policy.specs.Number.{check_action};
 ghost use Rattle.lexer.specs.Token.{literal_of, action_of};
@@ -121,20 +122,20 @@ fn without_end(text: &[u8]) -> &[u8]
     }
 }
 
-/// The first line of a text, none where it is skipped, and what stands behind the line and its end.
-pub fn read_line(text: &[u8]) -> Result<(Option<Line>, &[u8]), Fault>
-    ensures { result_map_both (λ r. (r.0, r.1.now)) (λ fault. fault) result ≡ line_read text.now }
+/// The first line of a text, put in the place lent for it: whether it is a line, or skipped, and what stands behind the line and its end.
+pub(crate) fn read_line<'a>(text: &'a [u8], line: &mut Line) -> Result<(bool, &'a [u8]), Fault>
+    ensures { result_map_both (λ r. (then_some r.0 line.new, r.1.now)) (λ fault. fault) result ≡ line_read text.now }
 {
     let first = skip_spaces(text);
     if at_token_end(first) {
-        return Ok((None, without_end(first)));
+        return Ok((false, without_end(first)));
     }
     if first[0] == b'#' {
-        return Ok((None, without_end(skip_line(first))));
+        return Ok((false, without_end(skip_line(first))));
     }
     let mut draft = Draft::new();
     let behind = read_parts(&mut draft, first).ok_or(Fault::Syntax)?;
     draft.judged()?;
-    let line = Line::new(draft.heads, draft.comparisons, draft.ending);
-    Ok((Some(line), without_end(behind)))
+    *line = Line::new(draft.heads, draft.comparisons, draft.ending);
+    Ok((true, without_end(behind)))
 }

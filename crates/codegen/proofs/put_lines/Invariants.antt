@@ -1,9 +1,10 @@
 use Rattle.std.proofs.Common.{length}
+use Rattle.syntax.specs.Walk.{lines_ahead}
 use Rattle.codegen.proofs.PutLaws.{Putting}
 use Rattle.codegen.proofs.put_lines.Given as goal
 
-abbrev pub invariant-loop-rest : goal.invariant-loop-rest
-invariant-loop-rest l = Putting l.text l.initial.out l.initial.cursors l.out l.cursors l.rest
+abbrev pub invariant-loop-out : goal.invariant-loop-out
+invariant-loop-out l = Putting l.text l.initial.out l.initial.cursors l.out l.cursors (lines_ahead l.lines)
 
-abbrev pub decreases-loop-rest : goal.decreases-loop-rest
-decreases-loop-rest l = length l.rest
+abbrev pub decreases-loop-out : goal.decreases-loop-out
+decreases-loop-out l = length (lines_ahead l.lines)

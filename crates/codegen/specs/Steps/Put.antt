@@ -1,15 +1,14 @@
 -- How the compiler puts the lines of its texts into the buffer, one after another.
-use Rattle.std.specs.Prelude.{ℕ, ◌+◌, ◌≤◌, List, [], ◌∷◌, ◌++◌, length, take, Option, Some, None, Result, Ok, Err}
+use Rattle.std.specs.Prelude.{ℕ, ◌+◌, ◌≤◌, List, [], ◌∷◌, ◌++◌, length, take, Result, Ok, Err}
 use Rattle.policy.specs.Line.{PolicyLine, line_part, part_get, part_set}
-use Rattle.policy.specs.declared.fault.Fault.{Fault}
+use Rattle.policy.specs.declared.fault.Refusal.{Refusal}
 use Rattle.policy.specs.declared.line.Part.{Part}
 use Rattle.policy.specs.declared.line.PerPart.{PerPart}
 use Rattle.word.specs.Steps.Write.{put_words}
 use Rattle.word.specs.Word.{words_of}
-use Rattle.lexer.specs.Lines.{lines_of}
 use Rattle.layout.specs.Header.{pack_header}
 use Rattle.layout.specs.Layout.{line_words, check_words}
-use Rattle.syntax.specs.Judge.{line_answer}
+use Rattle.syntax.specs.Lines.{TextLine, lines_in}
 use Rattle.rule_text.specs.declared.LineCounts.{LineCounts}
 
 -- a word for each line, literal or action, comparison and constant
@@ -28,19 +27,15 @@ Near limit cursors = (part : Part) → part_get cursors part ≤ limit
 abbrev pub Further : PerPart ℕ → PerPart ℕ → Type 0
 Further p q = (part : Part) → part_get q part ≤ part_get p part + 557056
 
--- one line more, unless it is skipped; none from a refused one on
-unfoldable pub accepted_line : Result (Option PolicyLine) Fault → List PolicyLine → List PolicyLine
-accepted_line (Ok None) ls = ls
-accepted_line (Ok (Some l)) ls = l ∷ ls
-accepted_line (Err f) ls = []
-
-unfoldable pub accepted_lines : List (List ℕ) → List PolicyLine
+-- the accepted ones of the lines of a text
+unfoldable pub accepted_lines : List (Result TextLine Refusal) → List PolicyLine
 accepted_lines [] = []
-accepted_lines (line ∷ lines) = accepted_line (line_answer line) (accepted_lines lines)
+accepted_lines (Ok l ∷ ls) = l.line ∷ accepted_lines ls
+accepted_lines (Err r ∷ ls) = []
 
 -- the lines of the maker's text and, behind them, of the site's
 abbrev pub lines_of_both : List ℕ → List ℕ → List PolicyLine
-lines_of_both maker site = accepted_lines (lines_of maker) ++ accepted_lines (lines_of site)
+lines_of_both maker site = accepted_lines (lines_in maker) ++ accepted_lines (lines_in site)
 
 -- the cursors behind lines
 unfoldable pub cursors_behind : List PolicyLine → PerPart ℕ → PerPart ℕ

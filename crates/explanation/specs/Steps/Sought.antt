@@ -1,12 +1,15 @@
 -- Which lines are sought, and judging one by running its words.
-use Rattle.std.specs.Prelude.{ℕ, ◌≤◌, Bool, false, List, length}
+use Rattle.std.specs.Prelude.{ℕ, ◌-◌, ◌≤◌, Bool, false, if◌then◌else◌, List, [], ◌∷◌, length, Option, Some, None, Result, Ok, Err}
 use Rattle.policy.specs.Line.{PolicyLine, ending_of}
 use Rattle.policy.specs.Set.{all_events, has_action}
 use Rattle.policy.specs.declared.epoch.Epoch.{Epoch}
+use Rattle.policy.specs.declared.fault.Refusal.{Refusal}
 use Rattle.policy.specs.declared.line.Ending.{Ending}
 use Rattle.word.specs.Word.{word_limit, Below}
 use Rattle.layout.specs.Layout.{line_words}
+use Rattle.syntax.specs.Lines.{TextLine}
 use Rattle.run.specs.Run.{run_rules, run_constraints}
+use Rattle.explanation.specs.Part.{Stretch, shown_at}
 use Rattle.explanation.specs.declared.find.Sought.{Sought}
 
 -- whether the words of a line say that it is sought: a rule that proposes the action, or a constraint that holds on the set
@@ -18,6 +21,12 @@ tells _ e _ ws = false
 -- the lines that are sought
 unfoldable pub sought_by : Sought → Epoch → PolicyLine → Bool
 sought_by q e l = tells q e (ending_of l) (line_words l)
+
+-- what is shown of the first line that passes, of a text of this size
+unfoldable pub first_ahead : (PolicyLine → Bool) → ℕ → List (Result TextLine Refusal) → Option Stretch
+first_ahead test size [] = None
+first_ahead test size (Ok l ∷ ls) = if test l.line then Some (shown_at (size - length l.text) l.bytes) else first_ahead test size ls
+first_ahead test size (Err r ∷ ls) = None
 
 -- words that fit a line's buffer, and read back as they are
 pub record Writable (ws : List ℕ) : Type 0 where

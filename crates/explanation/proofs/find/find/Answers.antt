@@ -1,43 +1,48 @@
-use Rattle.std.proofs.Common.{◌<◌, ◌≡◌, arith, length}
-use Rattle.explanation.proofs.FindLaws.{seeking_all, seeking_skip, seeking_stop, seeking_judge}
+use Rattle.std.specs.Prelude.{Ok, None}
+use Rattle.std.proofs.Common.{◌≡◌, arith}
+use Rattle.syntax.proofs.WalkLaws.{advanced}
+use Rattle.explanation.proofs.FindLaws.{seeking_none, seeking_all, seeking_judge}
 use Rattle.explanation.proofs.find.find.Goals as goal
+use Rattle.explanation.proofs.find.find.Goals.{in_default, in_default-2}
 
-pub returns-in_default : goal.returns-in_default
-returns-in_default c =
-    let h : 0 < length c.loop-rest.rest.now = grind arith in
-    seeking_stop _ _ _ _ c.loop-rest.invariant h _ c.in_default.ensures
+pub loop-here-init : goal.loop-here-init
+loop-here-init c = seeking_none _ _ _ _ c.new-lines.ensures
 
 pub told-requires : goal.told-requires
 told-requires c =
-    let h : 0 < length c.loop-rest.rest.now = grind arith in
-    (seeking_judge _ _ _ _ c.loop-rest.invariant h _ _ (rw c.in-Some.is at c.in-Ok.ensures)).writable
+    let w = advanced c.loop-here.lines c.advance.new.self c.in-Ok-Some.here.now (rw c.in-Ok-Some.field-0-is at c.in-Ok-Some.ensures.answer) c.advance.ensures.line c.advance.ensures.ahead in
+    (seeking_judge _ _ _ _ _ _ c.loop-here.invariant w _ c.line.ensures).writable
+
+pub overflow_sub-text : goal.overflow_sub-text
+overflow_sub-text c =
+    let w = advanced c.loop-here.lines c.advance.new.self c.in-Ok-Some.here.now (rw c.in-Ok-Some.field-0-is at c.in-Ok-Some.ensures.answer) c.advance.ensures.line c.advance.ensures.ahead in
+    (seeking_judge _ _ _ _ _ _ c.loop-here.invariant w _ c.line.ensures).short
+
+pub excerpt_at-requires : goal.excerpt_at-requires
+excerpt_at-requires c =
+    let w = advanced c.loop-here.lines c.advance.new.self c.in-Ok-Some.here.now (rw c.in-Ok-Some.field-0-is at c.in-Ok-Some.ensures.answer) c.advance.ensures.line c.advance.ensures.ahead in
+    let short = (seeking_judge _ _ _ _ _ _ c.loop-here.invariant w _ c.line.ensures).short in
+    let known = c.well_formed in
+    omega (arith, short, known)
 
 pub returns-then-told : goal.returns-then-told
 returns-then-told c =
-    let h : 0 < length c.loop-rest.rest.now = grind arith in
-    (seeking_judge _ _ _ _ c.loop-rest.invariant h _ _ (rw c.in-Some.is at c.in-Ok.ensures)).hit _ c.told.ensures c.if-told.true _ c.excerpt_at.ensures
+    let w = advanced c.loop-here.lines c.advance.new.self c.in-Ok-Some.here.now (rw c.in-Ok-Some.field-0-is at c.in-Ok-Some.ensures.answer) c.advance.ensures.line c.advance.ensures.ahead in
+    (seeking_judge _ _ _ _ _ _ c.loop-here.invariant w _ c.line.ensures).hit _ c.told.ensures c.if-told.true _ c.excerpt_at.ensures
 
-pub loop-rest-smaller-else-told : goal.loop-rest-smaller-else-told
-loop-rest-smaller-else-told c =
-    let h : 0 < length c.loop-rest.rest.now = grind arith in
-    (seeking_judge _ _ _ _ c.loop-rest.invariant h _ _ (rw c.in-Some.is at c.in-Ok.ensures)).later
-
-pub loop-rest-preserved-else-told : goal.loop-rest-preserved-else-told
-loop-rest-preserved-else-told c =
-    let h : 0 < length c.loop-rest.rest.now = grind arith in
-    (seeking_judge _ _ _ _ c.loop-rest.invariant h _ _ (rw c.in-Some.is at c.in-Ok.ensures)).miss _ c.told.ensures c.if-told.false
-
-pub loop-rest-smaller : goal.loop-rest-smaller
-loop-rest-smaller c =
-    let h : 0 < length c.loop-rest.rest.now = grind arith in
-    (seeking_skip _ _ _ _ c.loop-rest.invariant h _ (rw c.in_default-line.is at c.in-Ok.ensures)).0
-
-pub loop-rest-preserved : goal.loop-rest-preserved
-loop-rest-preserved c =
-    let h : 0 < length c.loop-rest.rest.now = grind arith in
-    (seeking_skip _ _ _ _ c.loop-rest.invariant h _ (rw c.in_default-line.is at c.in-Ok.ensures)).1
+pub loop-here-preserved : goal.loop-here-preserved
+loop-here-preserved c =
+    let w = advanced c.loop-here.lines c.advance.new.self c.in-Ok-Some.here.now (rw c.in-Ok-Some.field-0-is at c.in-Ok-Some.ensures.answer) c.advance.ensures.line c.advance.ensures.ahead in
+    (seeking_judge _ _ _ _ _ _ c.loop-here.invariant w _ c.line.ensures).miss _ c.told.ensures c.if-told.false
 
 pub returns : goal.returns
 returns c =
-    let h : length c.loop-rest.rest.now ≡ 0 = grind arith in
-    seeking_all _ _ _ _ c.loop-rest.invariant h
+    elim c.match-advance.branch [
+      | in_default w ↦
+          let n : c.advance.result ≡ Ok None = grind arith in
+          let e = rw n at c.advance.ensures.answer in
+          seeking_all _ _ _ _ c.loop-here.invariant (λ here q. let z : ⊥ = cc (e, q) in z)
+      | in_default-2 w ↦
+          let e = rw w.in_default.is at c.advance.ensures.answer in
+          seeking_all _ _ _ _ c.loop-here.invariant (λ here q. let z : ⊥ = cc (e, q) in z)
+    ]

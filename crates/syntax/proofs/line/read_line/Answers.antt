@@ -34,8 +34,8 @@ returns-in_err-judged c =
     let r : c.from_residual-in_err-judged.result ≡ Err c.in_err-judged.field-0.0 = grind arith in
     rw r (sym (line_faulty c.args.text.now h q _ _ (rw (n, c.new-draft.ensures, c.skip_spaces-first.ensures) at c.read_parts.ensures) _ c.in_err-judged.ensures))
 
-pub new-line-requires : goal.new-line-requires
-new-line-requires c =
+pub new-requires : goal.new-requires
+new-requires c =
     let h = rw c.skip_spaces-first.ensures at (sym c.at_token_end.ensures ∙ c.if-at_token_end.false) in
     let q = ne_eqb _ _ (rw c.skip_spaces-first.ensures at c.if-first-eq35.false) in
     let n : c.read_parts.result ≡ Some c.in_ok-behind.behind = grind arith in
@@ -46,4 +46,4 @@ returns c =
     let h = rw c.skip_spaces-first.ensures at (sym c.at_token_end.ensures ∙ c.if-at_token_end.false) in
     let q = ne_eqb _ _ (rw c.skip_spaces-first.ensures at c.if-first-eq35.false) in
     let n : c.read_parts.result ≡ Some c.in_ok-behind.behind = grind arith in
-    rw (c.new-line.ensures, c.without_end-2.ensures) (sym (line_good c.args.text.now h q _ _ (rw (n, c.new-draft.ensures, c.skip_spaces-first.ensures) at c.read_parts.ensures) _ c.in_ok-judged.ensures))
+    rw (c.new.ensures, c.without_end-2.ensures) (sym (line_good c.args.text.now h q _ _ (rw (n, c.new-draft.ensures, c.skip_spaces-first.ensures) at c.read_parts.ensures) _ c.in_ok-judged.ensures))
