@@ -16,12 +16,13 @@
 #include "../tests/reference/inputs.h"
 #include "plain.h"
 
-/* Inputs: a rule text with its image, and epoch lines of one kind. */
+/* Inputs: a rule text with its image in a form, and epoch lines of one kind. */
 
 enum { LINES = 16 };
 
 struct sample {
     struct buffer text;
+    unsigned form;
     uint8_t image[IMAGE_BYTES];
     size_t image_length;
 };
@@ -43,7 +44,7 @@ static int pick(int limit)
 
 static void make_image(struct sample *s)
 {
-    struct kinohazel_compilation c = kinohazel_compile(s->text.bytes, s->text.length, s->image, sizeof s->image);
+    struct kinohazel_compilation c = kinohazel_compile(s->form, s->text.bytes, s->text.length, s->image, sizeof s->image);
     if (c.fault != KINOHAZEL_OK) {
         fprintf(stderr, "bench: text refused: %d line %d\n", (int)c.fault, (int)c.line);
         exit(1);
@@ -195,17 +196,18 @@ struct side {
     decide_function *decide[MODES];
 };
 
-static struct filled reference_compile(const uint8_t *text, size_t length, uint8_t *out, size_t room)
+static struct filled reference_compile(uint64_t form, const uint8_t *text, size_t length, uint8_t *out, size_t room)
 {
     size_t size;
-    struct verdict verdict = compile(text, length, out, room, &size);
+    struct verdict verdict = compile(form, text, length, out, room, &size);
     return (struct filled){verdict.fault, verdict.location, size};
 }
 
-static struct filled reference_text(const uint8_t *image, size_t length, uint8_t *out, size_t room)
+static struct filled reference_text(uint64_t form, const uint8_t *image, size_t length, uint8_t *out, size_t room)
 {
     size_t size;
     struct verdict verdict = decompile(image, length, out, room, &size);
+    (void)form;
     return (struct filled){verdict.fault, verdict.location, size};
 }
 
@@ -228,7 +230,7 @@ struct row {
     struct epochs *epochs;
 };
 
-static struct row rows[64];
+static struct row rows[96];
 static int row_count;
 
 static void add_row(const char *table, enum task task, struct sample *s, struct epochs *e, const char *call,
@@ -254,7 +256,18 @@ static struct sample *new_sample(void)
 {
     struct sample *s = new_zeros(sizeof *s);
     s->text = new_buffer();
+    s->form = FIRST_FORM;
     return s;
+}
+
+/* The same text, with its image in form 2. */
+static struct sample *in_form_2(const struct sample *s)
+{
+    struct sample *other = new_zeros(sizeof *other);
+    other->text = s->text;
+    other->form = NEWEST_FORM;
+    make_image(other);
+    return other;
 }
 
 /* Lines on the image of the empty text: what reading them takes. */
@@ -286,18 +299,23 @@ static void add_decide_events(struct sample *s, struct epochs *e, const char *na
 static const struct row *add_sample(const char *name, void (*make)(struct buffer *, struct epochs *, struct epochs *))
 {
     const struct row *busy_row;
-    struct sample *s = new_sample();
+    struct sample *s = new_sample(), *newest;
     struct epochs *quiet = new_zeros(sizeof *quiet);
     struct epochs *busy = new_zeros(sizeof *busy);
     make(&s->text, quiet, busy);
     make_image(s);
+    newest = in_form_2(s);
     add_decide(s, quiet, name, ", quiet");
+    add_row("main", DECIDE, newest, quiet, "decide, ", name, ", quiet, form 2"); /* the lines are read alike */
     busy_row = &rows[row_count];
     add_decide(s, busy, name, ", busy");
+    add_row("main", DECIDE, newest, busy, "decide, ", name, ", busy, form 2");
     add_decide_events(s, quiet, name, ", quiet");
     add_decide_events(s, busy, name, ", busy");
     add_row("main", CHECK, s, NULL, "load, ", name, "");
+    add_row("main", CHECK, newest, NULL, "load, ", name, ", form 2");
     add_row("reference", COMPILE, s, NULL, "compile, ", name, "");
+    add_row("reference", COMPILE, newest, NULL, "compile, ", name, ", form 2");
     add_row("reference", TEXT, s, NULL, "text, ", name, "");
     return busy_row;
 }
@@ -313,12 +331,15 @@ static void add_hexadecimal(const struct row *r, const char *name)
 
 static void add_heaviest(void)
 {
-    struct sample *s = new_sample();
+    struct sample *s = new_sample(), *newest;
     struct epochs *busy = new_zeros(sizeof *busy);
     heaviest(&s->text, busy);
     make_image(s);
+    newest = in_form_2(s);
     add_decide(s, busy, "heaviest", "");
+    add_row("main", DECIDE, newest, busy, "decide, ", "heaviest", ", form 2");
     add_row("main", CHECK, s, NULL, "load, ", "heaviest", "");
+    add_row("main", CHECK, newest, NULL, "load, ", "heaviest", ", form 2");
 }
 
 /* All events, and nearly every word is run in nearly every trial. */
@@ -378,9 +399,9 @@ static void turn(const struct row *r, const struct side *side)
     static uint8_t out[WRITTEN_BYTES];
     const struct sample *s = r->sample;
     if (r->task == COMPILE) {
-        sink += side->compile(s->text.bytes, s->text.length, out, sizeof out).size;
+        sink += side->compile(s->form, s->text.bytes, s->text.length, out, sizeof out).size;
     } else if (r->task == TEXT) {
-        sink += side->text(s->image, s->image_length, out, sizeof out).size;
+        sink += side->text(s->form, s->image, s->image_length, out, sizeof out).size;
     } else if (r->task == CHECK) {
         sink += side->check(s->image, s->image_length).rules;
     } else {
@@ -431,30 +452,30 @@ static struct kinohazel_image_check same_check(const uint8_t *image, size_t size
 }
 
 /* Both fill a buffer alike. */
-static struct filled same_filling(
-    fill_function *mine, fill_function *plain, const uint8_t *input, size_t length, size_t room, const char *what)
+static struct filled same_filling(fill_function *mine, fill_function *plain, uint64_t form, const uint8_t *input, size_t length,
+    size_t room, const char *what)
 {
     static uint8_t one[WRITTEN_BYTES], other[WRITTEN_BYTES];
     memset(one, 0xa5, sizeof one);
     memset(other, 0xa5, sizeof other);
-    struct filled a = mine(input, length, one, room);
-    struct filled b = plain(input, length, other, room);
+    struct filled a = mine(form, input, length, one, room);
+    struct filled b = plain(form, input, length, other, room);
     same(memcmp(&a, &b, sizeof a) == 0, what);
     same(memcmp(one, other, sizeof one) == 0, "the bytes of an image or a text");
     return a;
 }
 
-static struct filled same_compilation(const uint8_t *text, size_t length, size_t room)
+static struct filled same_compilation(uint64_t form, const uint8_t *text, size_t length, size_t room)
 {
-    return same_filling(sides[0].compile, sides[1].compile, text, length, room, "a text");
+    return same_filling(sides[0].compile, sides[1].compile, form, text, length, room, "a text");
 }
 
 static struct filled same_text(const uint8_t *image, size_t size, size_t room)
 {
-    return same_filling(sides[0].text, sides[1].text, image, size, room, "the text of an image");
+    return same_filling(sides[0].text, sides[1].text, 0, image, size, room, "the text of an image"); /* no form counts */
 }
 
-/* An image with some words changed and its sum mended, so that the lines are looked at. */
+/* An image with some words changed or exchanged and its check words mended, so that the lines are looked at, or its sum alone. */
 static void check_damaged_images(const struct sample *s, struct dice *dice)
 {
     static uint8_t image[IMAGE_BYTES];
@@ -462,13 +483,15 @@ static void check_damaged_images(const struct sample *s, struct dice *dice)
     for (int i = 0; i < 4000; i++) {
         memcpy(image, s->image, s->image_length);
         for (unsigned k = below(dice, 3) + 1; k > 0; k--) {
-            size_t at = below(dice, words);
-            if (chance(dice, 500))
-                put_word(image, at, word_at(image, at) ^ (uint32_t)1 << below(dice, 32));
-            else
-                put_word(image, at, word_at(image, below(dice, words)));
+            size_t at = below(dice, words), other = chance(dice, 500) ? below(dice, words) : (at + 1) % words;
+            uint32_t word = word_at(image, at);
+            put_word(image, at, chance(dice, 500) ? word ^ (uint32_t)1 << below(dice, 32) : word_at(image, other));
+            if (chance(dice, 200))
+                put_word(image, other, word);
         }
-        if (chance(dice, 875))
+        if (chance(dice, 800))
+            put_check_words(image, words, s->form);
+        else if (chance(dice, 500))
             put_sum(image, words);
         size_t length = s->image_length - (chance(dice, 60) ? below(dice, 9) : 0);
         met |= 1ul << same_check(image, length).fault;
@@ -498,7 +521,7 @@ static void check_damaged_texts(const struct sample *s, struct buffer *work, str
         add_bytes(work, s->text.bytes, s->text.length);
         damage(work, 0, dice);
         size_t room = chance(dice, 875) ? IMAGE_BYTES : s->image_length - WORD_BYTES;
-        met |= 1ul << same_compilation(work->bytes, work->length, room).fault;
+        met |= 1ul << same_compilation(s->form, work->bytes, work->length, room).fault;
     }
 }
 
@@ -513,8 +536,9 @@ static void check_made(struct buffer *work, struct dice *dice)
         work->length = 0;
         add_engine_input(work, dice, i % 16);
         find_run(work->bytes, work->length, &text_length, &at, &mode);
-        met |= 1ul << same_compilation(work->bytes, text_length, IMAGE_BYTES).fault;
-        compile(work->bytes, text_length, image, sizeof image, &size);
+        uint64_t form = below(dice, NEWEST_FORM + 2); /* two of them known */
+        met |= 1ul << same_compilation(form, work->bytes, text_length, IMAGE_BYTES).fault;
+        compile(FIRST_FORM + form % NEWEST_FORM, work->bytes, text_length, image, sizeof image, &size);
         same_check(image, size);
         same_text(image, size, WRITTEN_BYTES);
         while (next_line(work->bytes, work->length, &at, &line, &length))
@@ -527,11 +551,14 @@ static void check_limits(const struct sample *s, struct buffer *work)
 {
     work->length = 0;
     add_times(work, " ", TEXT_BYTES + 1);
-    met |= 1ul << same_compilation(work->bytes, work->length, IMAGE_BYTES).fault;
+    met |= 1ul << same_compilation(s->form, work->bytes, work->length, IMAGE_BYTES).fault;
     met |= 1ul << same_decision(s->image, s->image_length, work->bytes, EPOCH_BYTES + 1).fault;
     work->length = 0;
     add_times(work, "E1 causes A2\n", RULES + 1);
-    met |= 1ul << same_compilation(work->bytes, work->length, IMAGE_BYTES).fault;
+    met |= 1ul << same_compilation(s->form, work->bytes, work->length, IMAGE_BYTES).fault;
+    for (unsigned bit = 2; bit < 64; bit++)
+        same(same_compilation(((uint64_t)1 << bit) + 1, work->bytes, work->length, IMAGE_BYTES).fault == KINOHAZEL_IMAGE_FORM,
+            "an unknown form");
 }
 
 static void check_all(void)
@@ -540,7 +567,7 @@ static void check_all(void)
     struct dice dice = {UINT64_C(0xBE) << 32};
     for (int i = 0; i < row_count; i++) {
         const struct sample *s = rows[i].sample;
-        same(same_compilation(s->text.bytes, s->text.length, IMAGE_BYTES).fault == KINOHAZEL_OK, "a good text");
+        same(same_compilation(s->form, s->text.bytes, s->text.length, IMAGE_BYTES).fault == KINOHAZEL_OK, "a good text");
         same(same_check(s->image, s->image_length).fault == KINOHAZEL_OK, "a good image");
         same(same_text(s->image, s->image_length, WRITTEN_BYTES).fault == KINOHAZEL_OK, "the text of a good image");
         if (rows[i].task != DECIDE)
@@ -551,7 +578,7 @@ static void check_all(void)
     }
     check_made(&work, &dice);
     check_limits(rows[0].sample, &work);
-    same(met == (1ul << FAULTS) - 1 - (1ul << FAULT_UNUSED), "the faults: one was never met");
+    same(met == (1ul << FAULTS) - 1, "the faults: one was never met");
     printf("same answers in %ld comparisons, in which every fault is met\n", compared);
     free(work.bytes);
 }
@@ -666,7 +693,7 @@ int main(int argc, char **argv)
                 print_proposed(&rows[i]);
     } else if (strcmp(mode, "words") == 0) {
         for (int i = 0; i < row_count; i++)
-            if (rows[i].task == DECIDE && is_call(&rows[i]))
+            if (rows[i].task == DECIDE && is_call(&rows[i]) && rows[i].sample->form == FIRST_FORM) /* those of form 2 are the same */
                 print_words(&rows[i]);
     } else {
         fprintf(stderr, "usage: bench check | count | time | proposed | words\n");

@@ -1,6 +1,6 @@
-/* The parts of a scan in plain C, by the algorithms of the library: an image is checked word by word, an epoch line is read, and words
- * are run by their skips and counted. They are for plain.c and events.c, which stand alone as the two libraries do, so that each is
- * optimised by itself. */
+/* The parts of a scan in plain C, by the algorithms of the library: an image of either form is checked word by word, an epoch line is
+ * read, and words are run by their skips and counted. They are for plain.c and events.c, which stand alone as the two libraries do, so
+ * that each is optimised by itself. */
 #ifndef SCAN_H
 #define SCAN_H
 
@@ -103,24 +103,41 @@ static struct kinohazel_image_check refuse(enum kinohazel_fault fault, uint64_t 
     return (struct kinohazel_image_check){.fault = fault, .word = word};
 }
 
+/* What is wrong with the check words, which stand from the index `end` on. Form 2 takes one pass for both sums, form 1 sums alone. */
+static enum kinohazel_fault check_sums(const uint8_t *image, unsigned form, size_t end)
+{
+    uint32_t sum = 0, weighted = 0;
+    if (form == FIRST_FORM)
+        return sum_words(image, end + 1) == 0 ? KINOHAZEL_OK : KINOHAZEL_IMAGE_SUM;
+    for (size_t i = 0; i < end; i++) {
+        uint32_t word = word_at(image, i);
+        sum += word;
+        weighted += word * (uint32_t)(i + 1);
+    }
+    if (sum + word_at(image, end) + word_at(image, end + 1) != 0)
+        return KINOHAZEL_IMAGE_SUM;
+    return weighted == word_at(image, end) ? KINOHAZEL_OK : KINOHAZEL_IMAGE_WEIGHTED_SUM;
+}
+
 static struct kinohazel_image_check load(const uint8_t *image, size_t image_length)
 {
     if (image_length < 2 * WORD_BYTES || image_length > IMAGE_BYTES || image_length % WORD_BYTES != 0)
         return refuse(KINOHAZEL_IMAGE_SIZE, 0);
     size_t words = image_length / WORD_BYTES;
     struct header header = unpack_header(word_at(image, 0));
-    if (header.form != FORM)
+    if (!is_known_form(header.form))
         return refuse(KINOHAZEL_IMAGE_FORM, 0);
-    if (header.rule_words > RULE_WORDS || header.constraint_words > CONSTRAINT_WORDS
-        || words != header.rule_words + header.constraint_words + 2)
-        return refuse(KINOHAZEL_IMAGE_COUNT, 0);
-    if (sum_words(image, words) != 0)
-        return refuse(KINOHAZEL_IMAGE_SUM, 0);
-    uint64_t rules, constraints;
     size_t middle = 1 + header.rule_words;
+    size_t end = middle + header.constraint_words;
+    if (header.rule_words > RULE_WORDS || header.constraint_words > CONSTRAINT_WORDS || words != end + check_words(header.form))
+        return refuse(KINOHAZEL_IMAGE_COUNT, 0);
+    enum kinohazel_fault fault = check_sums(image, header.form, end);
+    if (fault != KINOHAZEL_OK)
+        return refuse(fault, 0);
+    uint64_t rules, constraints;
     if (!check_part(image, RULE_PART, 1, middle, RULES, &rules))
         return refuse(KINOHAZEL_IMAGE_BODY, rules);
-    if (!check_part(image, CONSTRAINT_PART, middle, words - 1, CONSTRAINTS, &constraints))
+    if (!check_part(image, CONSTRAINT_PART, middle, end, CONSTRAINTS, &constraints))
         return refuse(KINOHAZEL_IMAGE_BODY, constraints);
     return (struct kinohazel_image_check){.rules = rules, .constraints = constraints};
 }

@@ -31,16 +31,25 @@
 extern "C" {
 #endif
 
-#define KINOHAZEL_VERSION_MAJOR 3
-#define KINOHAZEL_VERSION_MINOR 3
+#define KINOHAZEL_VERSION_MAJOR 4
+#define KINOHAZEL_VERSION_MINOR 0
 #define KINOHAZEL_VERSION_PATCH 0
-#define KINOHAZEL_VERSION "3.3.0"
+#define KINOHAZEL_VERSION "4.0.0"
 
-/* Limits. A buffer of KINOHAZEL_IMAGE_LIMIT bytes has room for every image, one of KINOHAZEL_WRITTEN_TEXT_LIMIT bytes for the text
- * of every image. */
+/* The forms of an image are 1 and 2; its first byte says which it has. In both the last word brings the sum of all words to 0, which
+ * misses words that a writer exchanged. Form 2 has a weighted word before the last: each word before it, times its index plus 1, summed
+ * modulo 2 to the power of 32. Two words before it that differ, stand next to each other and were exchanged are noticed: refused under
+ * 16, or under 8 if the first of them was word 0.
+ *
+ * All functions that take an image read both forms. Engines before version 4 know form 1 alone: they refuse an image in form 2 under 8,
+ * or under 7 if it has over 13,064 bytes. For them compile in form 1, which gives the same image as those versions, byte for byte. */
+#define KINOHAZEL_NEWEST_FORM 2
+
+/* Limits. A buffer of KINOHAZEL_IMAGE_LIMIT bytes has room for every image of either form, one of KINOHAZEL_WRITTEN_TEXT_LIMIT bytes
+ * for the text of every image. */
 #define KINOHAZEL_TEXT_LIMIT 32768   /* bytes of a rule text */
 #define KINOHAZEL_EPOCH_LIMIT 1024   /* bytes of an epoch line, without its line end */
-#define KINOHAZEL_IMAGE_LIMIT 13064  /* bytes of an image */
+#define KINOHAZEL_IMAGE_LIMIT 13068  /* bytes of an image; in form 1 at most 13,064 */
 #define KINOHAZEL_WRITTEN_TEXT_LIMIT 27968 /* bytes of the text of an image: 128 rules of 150, 64 never lines of 137 */
 #define KINOHAZEL_RULE_LIMIT 128
 #define KINOHAZEL_CONSTRAINT_LIMIT 64 /* never lines */
@@ -48,9 +57,9 @@ extern "C" {
 /* Bytes of stack that a call takes at most, rounded up. They are measured, not proved: tests/library/stack.c makes some thousand
  * calls through this header, compiled without optimisation, on painted stacks, with the largest inputs and with others. They belong
  * to the libraries as the kit builds them. */
-#define KINOHAZEL_COMPILE_STACK 1792
-#define KINOHAZEL_COMPILE_TEXTS_STACK 1792
-#define KINOHAZEL_CHECK_STACK 640
+#define KINOHAZEL_COMPILE_STACK 1024
+#define KINOHAZEL_COMPILE_TEXTS_STACK 1024
+#define KINOHAZEL_CHECK_STACK 384
 #define KINOHAZEL_TEXT_STACK 1024
 #define KINOHAZEL_DECIDE_STACK 896
 #define KINOHAZEL_DECIDE_EVENTS_STACK 768
@@ -74,7 +83,8 @@ enum kinohazel_fault {
     KINOHAZEL_EPOCH_RANGE = 13,
     KINOHAZEL_DUPLICATE_READING = 14,
     KINOHAZEL_BUFFER_TOO_SMALL = 15,
-    KINOHAZEL_UNAVOIDABLE = 17 /* 16 is no fault */
+    KINOHAZEL_IMAGE_WEIGHTED_SUM = 16, /* looked for behind 10 and before 11; in form 2 alone */
+    KINOHAZEL_UNAVOIDABLE = 17
 };
 
 /* The words for a fault, or "unknown fault" for a number that no fault has. */
@@ -89,7 +99,7 @@ static inline const char *kinohazel_fault_words(uint64_t fault)
     case KINOHAZEL_TOO_MANY_LINES: return "the 129th rule or the 65th never line";
     case KINOHAZEL_DUPLICATE: return "an event twice in a rule, or an action twice in a never line";
     case KINOHAZEL_IMAGE_SIZE: return "image too short, too long, or not whole words";
-    case KINOHAZEL_IMAGE_FORM: return "form of the image not known";
+    case KINOHAZEL_IMAGE_FORM: return "form of an image, or asked for it, not known";
     case KINOHAZEL_IMAGE_COUNT: return "counts of the image do not fit it";
     case KINOHAZEL_IMAGE_SUM: return "words of the image do not add up to 0";
     case KINOHAZEL_IMAGE_BODY: return "no accepted text compiles to the image";
@@ -97,6 +107,7 @@ static inline const char *kinohazel_fault_words(uint64_t fault)
     case KINOHAZEL_EPOCH_RANGE: return "number in an epoch line, or of the action asked about, out of range";
     case KINOHAZEL_DUPLICATE_READING: return "a reading given twice";
     case KINOHAZEL_BUFFER_TOO_SMALL: return "buffer lent for an image or a text has too few bytes";
+    case KINOHAZEL_IMAGE_WEIGHTED_SUM: return "weighted word of the image does not fit the words before it";
     case KINOHAZEL_UNAVOIDABLE: return "a never line holds even with every event dropped";
     default: return "unknown fault";
     }
@@ -158,9 +169,9 @@ struct kinohazel_explanation {
 /* The functions as the libraries export them, for callers from other languages. Here no pointer is null, even where its length
  * is 0. The last but one is in libkinohazel_events.a, the last in libkinohazel_tools.a. */
 struct kinohazel_compilation kinohazel_compile_nonnull(
-    const uint8_t *text, size_t text_length, uint8_t *out, size_t out_length);
-struct kinohazel_texts_compilation kinohazel_compile_texts_nonnull(
-    const uint8_t *maker, size_t maker_length, const uint8_t *site, size_t site_length, uint8_t *out, size_t out_length);
+    uint64_t form, const uint8_t *text, size_t text_length, uint8_t *out, size_t out_length);
+struct kinohazel_texts_compilation kinohazel_compile_texts_nonnull(uint64_t form, const uint8_t *maker, size_t maker_length,
+    const uint8_t *site, size_t site_length, uint8_t *out, size_t out_length);
 struct kinohazel_image_check kinohazel_check_nonnull(const uint8_t *image, size_t image_length);
 struct kinohazel_text_written kinohazel_text_nonnull(
     const uint8_t *image, size_t image_length, uint8_t *out, size_t out_length);
@@ -182,17 +193,18 @@ static inline uint8_t *kinohazel_lent_out(uint8_t *area, size_t length, uint8_t 
     return area == NULL && length == 0 ? none : area;
 }
 
-/* Compiles a rule text. On success the image stands at the start of `out` and what lies behind it is unchanged. On a refusal
- * `out` is unchanged.
+/* Compiles a rule text to an image in a form: KINOHAZEL_NEWEST_FORM, or 1 for an engine of a version before 4. On success the image
+ * stands at the start of `out` and what lies behind it is unchanged. On a refusal `out` is unchanged. A form that is not known, as 0, 3
+ * and every number over 255, is refused under 8 before the text is looked at, with no line.
  *
  * A constant is a decimal number, as 40 or -1, or a word of 32 bits in two's complement: `0x` and one to eight hexadecimal digits of
  * either case, leading zeros among them. 0x8040 is 32832, 0xFFFFFFFF is -1 and 0x80000000 is -2147483648. More than eight digits are
  * out of range (3), and `0x` without a digit is no constant (2). */
 static inline struct kinohazel_compilation kinohazel_compile(
-    const uint8_t *text, size_t text_length, uint8_t *out, size_t out_length)
+    uint64_t form, const uint8_t *text, size_t text_length, uint8_t *out, size_t out_length)
 {
     uint8_t none = 0;
-    return kinohazel_compile_nonnull(kinohazel_lent(text, text_length, &none), text_length,
+    return kinohazel_compile_nonnull(form, kinohazel_lent(text, text_length, &none), text_length,
         kinohazel_lent_out(out, out_length, &none), out_length);
 }
 
@@ -203,15 +215,15 @@ static inline struct kinohazel_compilation kinohazel_compile(
  * Each text has its own limit of KINOHAZEL_TEXT_LIMIT bytes. The limits of 128 rules and 64 never lines are for both together, so the
  * 129th rule (5) may stand in either. A text begins a line of its own, even where the last line of the maker's text lacks its line
  * end. The faults of the maker's text come before those of the site's, and the lines of each are counted from 1. */
-static inline struct kinohazel_texts_compilation kinohazel_compile_texts(
-    const uint8_t *maker, size_t maker_length, const uint8_t *site, size_t site_length, uint8_t *out, size_t out_length)
+static inline struct kinohazel_texts_compilation kinohazel_compile_texts(uint64_t form, const uint8_t *maker, size_t maker_length,
+    const uint8_t *site, size_t site_length, uint8_t *out, size_t out_length)
 {
     uint8_t none = 0;
-    return kinohazel_compile_texts_nonnull(kinohazel_lent(maker, maker_length, &none), maker_length,
+    return kinohazel_compile_texts_nonnull(form, kinohazel_lent(maker, maker_length, &none), maker_length,
         kinohazel_lent(site, site_length, &none), site_length, kinohazel_lent_out(out, out_length, &none), out_length);
 }
 
-/* Checks an image: every word of it. */
+/* Checks an image of either form: every word of it. */
 static inline struct kinohazel_image_check kinohazel_check(const uint8_t *image, size_t image_length)
 {
     uint8_t none = 0;
@@ -219,8 +231,9 @@ static inline struct kinohazel_image_check kinohazel_check(const uint8_t *image,
 }
 
 /* Writes the rule text of an image: its rules, then its never lines, each on a line that ends with byte 10, with one space between
- * tokens and decimal constants. It compiles to the image again. On success the text stands at the start of `out` and what lies behind
- * it is unchanged; no byte 0 is put behind it. On a refusal `out` is unchanged. The whole image is checked first. */
+ * tokens and decimal constants. It compiles to the image again in the form of the image, which is `image[0]`: the text of an image of
+ * form 1 by kinohazel_compile in form 1. On success the text stands at the start of `out` and what lies behind it is unchanged; no byte
+ * 0 is put behind it. On a refusal `out` is unchanged. The whole image is checked first. */
 static inline struct kinohazel_text_written kinohazel_text(
     const uint8_t *image, size_t image_length, uint8_t *out, size_t out_length)
 {
@@ -238,9 +251,9 @@ static inline struct kinohazel_text_written kinohazel_text(
  *
  * `visited` is how many words of the image the decision fetched: rule words, and never words anew in each trial of a proposed action,
  * constants with their operation. Words that are passed over do not count, nor does the check of the image. It is at most P + 64 * N,
- * where P and N are the rule words and never words of the image (`image[1] << 4 | image[2] >> 4` and `(image[2] & 15) << 8 | image[3]`),
- * so at most 71,808. A planner of scan times can measure by it what a word takes; P + 64 * N words are then the most that an epoch
- * takes on that image, beside its check and the reading of the line. */
+ * where P and N are the rule words and never words of the image, which in either form are `image[1] << 4 | image[2] >> 4` and
+ * `(image[2] & 15) << 8 | image[3]`, so at most 71,808. A planner of scan times can measure by it what a word takes; P + 64 * N words
+ * are then the most that an epoch takes on that image, beside its check and the reading of the line. */
 static inline struct kinohazel_decision kinohazel_decide(
     const uint8_t *image, size_t image_length, const uint8_t *line, size_t line_length)
 {

@@ -57,7 +57,7 @@ int main(void)
 {
     static uint8_t image[KINOHAZEL_IMAGE_LIMIT];
     struct kinohazel_compilation compiled =
-        kinohazel_compile((const uint8_t *)text, strlen(text), image, sizeof image);
+        kinohazel_compile(KINOHAZEL_NEWEST_FORM, (const uint8_t *)text, strlen(text), image, sizeof image);
     if (compiled.fault != KINOHAZEL_OK) {
         printf("line %" PRIu64 ": %s\n", compiled.line, kinohazel_fault_words(compiled.fault));
         return 1;

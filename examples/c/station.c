@@ -41,7 +41,7 @@ int main(void)
     static uint8_t image[KINOHAZEL_IMAGE_LIMIT];
     printf("Kinohazel %s\n", KINOHAZEL_VERSION);
     struct kinohazel_compilation compiled =
-        kinohazel_compile((const uint8_t *)text, strlen(text), image, sizeof image);
+        kinohazel_compile(KINOHAZEL_NEWEST_FORM, (const uint8_t *)text, strlen(text), image, sizeof image);
     if (compiled.fault != KINOHAZEL_OK) {
         printf("line %" PRIu64, compiled.line);
         print_refusal(compiled.fault);
@@ -67,6 +67,17 @@ int main(void)
     /* One changed constant, 40 to 41, and the image is refused. */
     image[19] = 41;
     printf("changed:");
+    print_refusal(kinohazel_check(image, compiled.size).fault);
+    printf("\n");
+
+    /* Words 5 and 6 exchanged, as a faulty writer does: their sum stays, their weights do not. */
+    image[19] = 40;
+    for (size_t i = 20; i < 24; i++) {
+        uint8_t byte = image[i];
+        image[i] = image[i + 4];
+        image[i + 4] = byte;
+    }
+    printf("exchanged:");
     print_refusal(kinohazel_check(image, compiled.size).fault);
     printf("\n");
     return 0;

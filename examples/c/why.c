@@ -49,7 +49,7 @@ static void print_explanation(struct kinohazel_explanation why)
 int main(void)
 {
     static uint8_t image[KINOHAZEL_IMAGE_LIMIT];
-    struct kinohazel_texts_compilation compiled = kinohazel_compile_texts(
+    struct kinohazel_texts_compilation compiled = kinohazel_compile_texts(KINOHAZEL_NEWEST_FORM,
         (const uint8_t *)maker, strlen(maker), (const uint8_t *)site, strlen(site), image, sizeof image);
     if (compiled.fault != KINOHAZEL_OK) {
         printf("text %" PRIu64 ", line %" PRIu64 ": %s\n", compiled.text, compiled.line, kinohazel_fault_words(compiled.fault));

@@ -51,18 +51,23 @@ int main()
 
     std::cout << "version " << KINOHAZEL_VERSION << ", " << KINOHAZEL_VERSION_MAJOR << ' ' << KINOHAZEL_VERSION_MINOR << ' '
               << KINOHAZEL_VERSION_PATCH << '\n';
+    std::cout << "newest form " << KINOHAZEL_NEWEST_FORM << '\n';
     std::cout << "limits " << KINOHAZEL_TEXT_LIMIT << ' ' << KINOHAZEL_EPOCH_LIMIT << ' ' << KINOHAZEL_IMAGE_LIMIT << ' '
               << KINOHAZEL_WRITTEN_TEXT_LIMIT << ' ' << KINOHAZEL_RULE_LIMIT << ' ' << KINOHAZEL_CONSTRAINT_LIMIT << '\n';
     std::cout << "stack " << KINOHAZEL_COMPILE_STACK << ' ' << KINOHAZEL_COMPILE_TEXTS_STACK << ' ' << KINOHAZEL_CHECK_STACK
               << ' ' << KINOHAZEL_TEXT_STACK << ' ' << KINOHAZEL_DECIDE_STACK << ' ' << KINOHAZEL_DECIDE_EVENTS_STACK << ' '
               << KINOHAZEL_EXPLAIN_STACK << '\n';
 
-    const kinohazel_compilation compilation = kinohazel_compile(bytes_of(text), text_length, &image[0], image.size());
+    const uint64_t form = KINOHAZEL_NEWEST_FORM;
+    print(kinohazel_compile(1, bytes_of(text), text_length, &image[0], image.size()));
+    print(kinohazel_compile(0, bytes_of(text), text_length, &image[0], image.size()));
+    print(kinohazel_compile_nonnull(form + 1, bytes_of(text), text_length, &image[0], image.size()));
+    const kinohazel_compilation compilation = kinohazel_compile(form, bytes_of(text), text_length, &image[0], image.size());
     const size_t size = static_cast<size_t>(compilation.size);
     print(compilation);
-    print(kinohazel_compile_nonnull(bytes_of(text), text_length, &image[0], size - 1));
-    print(kinohazel_compile(bytes_of("x\n"), 2, no_room.data(), no_room.size()));
-    print(kinohazel_compile(nothing.data(), nothing.size(), no_room.data(), no_room.size()));
+    print(kinohazel_compile_nonnull(form, bytes_of(text), text_length, &image[0], size - 1));
+    print(kinohazel_compile(form, bytes_of("x\n"), 2, no_room.data(), no_room.size()));
+    print(kinohazel_compile(form, nothing.data(), nothing.size(), no_room.data(), no_room.size()));
     const kinohazel_image_check check = kinohazel_check(&image[0], size);
     print(check);
     print(kinohazel_check_nonnull(&image[0], size - 1));
@@ -85,19 +90,21 @@ int main()
     print("decide events", kinohazel_decide_events(nothing.data(), nothing.size(), nothing.data(), nothing.size()));
     static const char absence[] = "!E1 causes A3\nnever A3\n";
     const kinohazel_compilation unavoidable =
-        kinohazel_compile(bytes_of(absence), std::strlen(absence), &image[0], image.size());
+        kinohazel_compile(form, bytes_of(absence), std::strlen(absence), &image[0], image.size());
     print("decide events",
         kinohazel_decide_events(&image[0], static_cast<size_t>(unavoidable.size), nothing.data(), nothing.size()));
 
     static const char site[] = "  E1 causes A5  \nnever A3 & A5";
     const size_t site_length = std::strlen(site);
     const kinohazel_texts_compilation joint =
-        kinohazel_compile_texts(bytes_of(text), text_length, bytes_of(site), site_length, &image[0], image.size());
+        kinohazel_compile_texts(form, bytes_of(text), text_length, bytes_of(site), site_length, &image[0], image.size());
     print(joint);
-    print(kinohazel_compile_texts_nonnull(bytes_of(text), text_length, bytes_of(site), site_length, &image[0], size));
-    print(kinohazel_compile_texts(bytes_of(text), text_length, bytes_of("\nx"), 2, no_room.data(), no_room.size()));
-    print(kinohazel_compile_texts(bytes_of("x"), 1, bytes_of("\nx"), 2, no_room.data(), no_room.size()));
-    print(kinohazel_compile_texts(nothing.data(), nothing.size(), nothing.data(), nothing.size(), no_room.data(), no_room.size()));
+    print(kinohazel_compile_texts(form + 1, bytes_of(text), text_length, bytes_of(site), site_length, &image[0], image.size()));
+    print(kinohazel_compile_texts_nonnull(form, bytes_of(text), text_length, bytes_of(site), site_length, &image[0], size));
+    print(kinohazel_compile_texts(form, bytes_of(text), text_length, bytes_of("\nx"), 2, no_room.data(), no_room.size()));
+    print(kinohazel_compile_texts(form, bytes_of("x"), 1, bytes_of("\nx"), 2, no_room.data(), no_room.size()));
+    print(kinohazel_compile_texts(
+        form, nothing.data(), nothing.size(), nothing.data(), nothing.size(), no_room.data(), no_room.size()));
     for (uint64_t action = 2; action < 6; action++) {
         const kinohazel_explanation why = kinohazel_explain(
             bytes_of(text), text_length, bytes_of(site), site_length, bytes_of(line), line_length, action);

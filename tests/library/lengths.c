@@ -58,7 +58,8 @@ static bool painted(const uint8_t *out, size_t from)
     return from == START;
 }
 
-/* Inputs too long by any power of 2 are refused under this fault, into a short buffer and into a long one. */
+/* Inputs too long by any power of 2 are refused under this fault, into a short buffer and into a long one. Texts are compiled to either
+   form, and images are of any. */
 static void try_long(uint8_t *area, uint8_t *out, fill_function *fill, const void *input, size_t size, unsigned first_bit,
     enum kinohazel_fault fault)
 {
@@ -66,11 +67,11 @@ static void try_long(uint8_t *area, uint8_t *out, fill_function *fill, const voi
     unsigned bit, k;
     put(area, input, size);
     for (bit = first_bit; bit <= LAST_BIT; bit++)
-        for (k = 0; k < 2; k++) {
+        for (k = 0; k < 4; k++) {
             struct filled answer;
             length = ((size_t)1 << bit) + size;
             paint(out);
-            answer = fill(area, length, out, k == 0 ? KINOHAZEL_IMAGE_LIMIT : length);
+            answer = fill(FIRST_FORM + (bit + k / 2) % NEWEST_FORM, area, length, out, k % 2 == 0 ? KINOHAZEL_IMAGE_LIMIT : length);
             if (answer.fault != (uint64_t)fault || answer.location != 0 || answer.size != 0)
                 fail("a text or an image too long is not refused under 1 or 7", length);
             if (!painted(out, 0))
@@ -80,7 +81,7 @@ static void try_long(uint8_t *area, uint8_t *out, fill_function *fill, const voi
 }
 
 /* Rooms of any power of 2 and somewhat less than the output are enough for it. */
-static void try_rooms(uint8_t *area, uint8_t *out, fill_function *fill, const void *input, size_t length,
+static void try_rooms(uint8_t *area, uint8_t *out, fill_function *fill, uint64_t form, const void *input, size_t length,
     const void *output, size_t size)
 {
     size_t room;
@@ -92,7 +93,7 @@ static void try_rooms(uint8_t *area, uint8_t *out, fill_function *fill, const vo
             struct filled answer;
             room = ((size_t)1 << bit) + more[k];
             paint(out);
-            answer = fill(area, length, out, room);
+            answer = fill(form, area, length, out, room);
             if (answer.fault != KINOHAZEL_OK || answer.location != 0 || answer.size != size)
                 fail("a large room is not enough", room);
             if (memcmp(out, output, size) != 0 || !painted(out, size))
@@ -109,6 +110,26 @@ static struct kinohazel_decision (*const deciders[2])(
 static bool is_refused(struct kinohazel_decision answer, enum kinohazel_fault fault)
 {
     return answer.fault == (uint64_t)fault && (answer.word | answer.accepted | answer.cancelled | answer.visited) == 0;
+}
+
+/* Forms that are known but for any higher bits are refused under 8. */
+static void try_forms(uint8_t *area, uint8_t *out)
+{
+    unsigned bit, k;
+    put(area, EXAMPLE, strlen(EXAMPLE));
+    for (bit = 2; bit < 64; bit++)
+        for (k = 0; k < 4; k++) { /* 0 to 3 */
+            uint64_t form = ((uint64_t)1 << bit) + k;
+            struct kinohazel_compilation answer;
+            struct kinohazel_texts_compilation joint;
+            paint(out);
+            answer = kinohazel_compile(form, area, strlen(EXAMPLE), out, START);
+            joint = kinohazel_compile_texts(form, area, strlen(EXAMPLE), area, strlen(EXAMPLE), out, START);
+            if (answer.fault != KINOHAZEL_IMAGE_FORM || (answer.line | answer.size) != 0 || joint.fault != KINOHAZEL_IMAGE_FORM
+                || (joint.text | joint.line | joint.size) != 0 || !painted(out, 0))
+                fail("a form that is not known is not refused under 8", (size_t)form);
+            calls += 2;
+        }
 }
 
 /* Images too long by any power of 2 are refused under 7, whatever the line. */
@@ -178,7 +199,7 @@ static void try_long_texts(uint8_t *area, uint8_t *out)
             lengths[0] = k == 0 ? length : k == 1 ? size : sizeof faulty - 1;
             lengths[1] = k == 0 ? size : length;
             paint(out);
-            answer = kinohazel_compile_texts(maker, lengths[0], site, lengths[1], out, length);
+            answer = kinohazel_compile_texts(FIRST_FORM + bit % NEWEST_FORM, maker, lengths[0], site, lengths[1], out, length);
             why = kinohazel_explain(maker, lengths[0], site, lengths[1], (const uint8_t *)"E1", 2, 2);
             if (answer.fault != fault || answer.text != number || answer.line != (k == 2) || answer.size != 0 || !painted(out, 0))
                 fail("of two texts one too long is not refused under 1", length);
@@ -191,7 +212,7 @@ static void try_long_texts(uint8_t *area, uint8_t *out)
 
 /* Rooms of any power of 2 and somewhat more are enough for the image of two texts; lines too long by any power of 2 are refused
    under 1, and actions over 63 under 13. */
-static void try_two_texts(uint8_t *area, uint8_t *out)
+static void try_two_texts(uint8_t *area, uint8_t *out, uint64_t form)
 {
     static const uint8_t maker[] = "E1 causes A2", site[] = "never A2 if R0 > 5\n";
     const size_t lengths[2] = {sizeof maker - 1, sizeof site - 1};
@@ -199,7 +220,7 @@ static void try_two_texts(uint8_t *area, uint8_t *out)
     static uint8_t image[IMAGE_BYTES];
     size_t size, room;
     unsigned bit;
-    compile_texts(texts, image, sizeof image, &size);
+    compile_texts(form, texts, image, sizeof image, &size);
     put(area, "E1 R0=6", 7);
     for (bit = 6; bit <= LAST_BIT; bit++) {
         struct kinohazel_texts_compilation answer;
@@ -207,7 +228,7 @@ static void try_two_texts(uint8_t *area, uint8_t *out)
         uint64_t action = ((uint64_t)1 << bit) + 2;
         room = ((size_t)1 << bit) + 7;
         paint(out);
-        answer = kinohazel_compile_texts(maker, lengths[0], site, lengths[1], out, room);
+        answer = kinohazel_compile_texts(form, maker, lengths[0], site, lengths[1], out, room);
         if (answer.fault != KINOHAZEL_OK || (answer.text | answer.line) != 0 || answer.size != size || memcmp(out, image, size) != 0
             || !painted(out, size))
             fail("a large room is not enough for two texts", room);
@@ -224,14 +245,14 @@ static void try_two_texts(uint8_t *area, uint8_t *out)
     }
 }
 
-/* A text that is written so, and its image. */
-static void try_text(uint8_t *area, uint8_t *out, const char *text)
+/* A text that is written so, and its image in a form. */
+static void try_text(uint8_t *area, uint8_t *out, uint64_t form, const char *text)
 {
     static uint8_t image[IMAGE_BYTES];
     size_t size;
-    compile((const uint8_t *)text, strlen(text), image, sizeof image, &size);
-    try_rooms(area, out, fill_with_image, text, strlen(text), image, size);
-    try_rooms(area, out, fill_with_text, image, size, text, strlen(text));
+    compile(form, (const uint8_t *)text, strlen(text), image, sizeof image, &size);
+    try_rooms(area, out, fill_with_image, form, text, strlen(text), image, size);
+    try_rooms(area, out, fill_with_text, form, image, size, text, strlen(text));
     try_long(area, out, fill_with_text, image, size, 14, KINOHAZEL_IMAGE_SIZE);
     try_images(area, image, size);
     try_lines(area, image, size);
@@ -241,15 +262,19 @@ int main(void)
 {
     static const char *const texts[] = {"", "E1 causes A2\n", "E64 causes A2\n", "x"};
     uint8_t *area = new_area(), *out = new_area();
+    uint64_t form;
     size_t i;
     signal(SIGSEGV, stop);
     signal(SIGBUS, stop);
     for (i = 0; i < sizeof texts / sizeof *texts; i++)
         try_long(area, out, fill_with_image, texts[i], strlen(texts[i]), 16, KINOHAZEL_TOO_LONG);
     try_long_texts(area, out);
-    try_two_texts(area, out);
-    try_text(area, out, EXAMPLE);
-    try_text(area, out, "");
+    try_forms(area, out);
+    for (form = FIRST_FORM; form <= NEWEST_FORM; form++) {
+        try_two_texts(area, out, form);
+        try_text(area, out, form, EXAMPLE);
+        try_text(area, out, form, "");
+    }
     printf("library: %lu calls with lengths up to 2 to the power of %d and more agree\n", calls, LAST_BIT);
     return 0;
 }

@@ -1,6 +1,6 @@
 /* Compares the stack that the functions of include/kinohazel.h take with the figures of the header. Each call runs on a stack
    of its own that was painted before. What it took reaches from the lowest changed byte to the frame of the function that
-   calls, and has that frame in it. The figure must hold the most that was taken, and be less than three times as much. */
+   calls, and has that frame in it. The figure must hold the most that was taken, and be less than twice as much. */
 #include "../reference/inputs.h"
 #include "kinohazel.h"
 
@@ -16,7 +16,7 @@ static struct {
     uint8_t *out, *frame;
     size_t text_length, image_length, line_length, out_length;
     struct texts texts;
-    uint64_t action;
+    uint64_t form, action;
 } call;
 
 static struct {
@@ -31,14 +31,14 @@ static struct {
 static void call_compile(void)
 {
     call.frame = __builtin_frame_address(0);
-    answer.compilation = kinohazel_compile(call.text, call.text_length, call.out, call.out_length);
+    answer.compilation = kinohazel_compile(call.form, call.text, call.text_length, call.out, call.out_length);
 }
 
 static void call_compile_texts(void)
 {
     call.frame = __builtin_frame_address(0);
-    answer.texts_compilation = kinohazel_compile_texts(call.texts.maker.bytes, call.texts.maker.length, call.texts.site.bytes,
-        call.texts.site.length, call.out, call.out_length);
+    answer.texts_compilation = kinohazel_compile_texts(call.form, call.texts.maker.bytes, call.texts.maker.length,
+        call.texts.site.bytes, call.texts.site.length, call.out, call.out_length);
 }
 
 static void call_check(void)
@@ -141,14 +141,15 @@ static void measure_texts(const struct buffer *input, size_t at, struct dice *di
     free(site.bytes);
 }
 
-/* The text and the epoch lines of an input of the engine. The image is tried with a changed byte too. */
-static void measure_input(const struct buffer *input, struct dice *dice)
+/* The text and the epoch lines of an input of the engine, with an image of one form. It is tried with a changed byte too. */
+static void measure_form(uint64_t form, const struct buffer *input, struct dice *dice)
 {
     static uint8_t image[KINOHAZEL_IMAGE_LIMIT];
     const uint8_t *line;
     size_t at, length, size, byte;
     unsigned lines = 0;
     enum mode mode;
+    call.form = form;
     call.text = input->bytes;
     find_run(input->bytes, input->length, &call.text_length, &at, &mode);
     measure_texts(input, at, dice);
@@ -168,6 +169,13 @@ static void measure_input(const struct buffer *input, struct dice *dice)
         measure_image(image, size, line, length);
         measure(&compiling);
     }
+}
+
+static void measure_input(const struct buffer *input, struct dice *dice)
+{
+    uint64_t form;
+    for (form = FIRST_FORM; form <= NEWEST_FORM; form++)
+        measure_form(form, input, dice);
 }
 
 /* The largest text and image, and on them epoch lines of the largest length; then the image with the longest text, and the one whose
@@ -199,7 +207,7 @@ static bool report(const struct function *function)
 {
     printf("%s takes %lu of %lu bytes in %lu calls", function->name, (unsigned long)function->most,
         (unsigned long)function->figure, function->calls);
-    return function->most <= function->figure && function->figure < 3 * function->most;
+    return function->most <= function->figure && function->figure < 2 * function->most;
 }
 
 int main(void)

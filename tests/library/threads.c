@@ -20,9 +20,10 @@ struct answers {
     uint8_t out[IMAGE_BYTES], joint[IMAGE_BYTES], text[WRITTEN_BYTES];
 };
 
-/* An input of the engine, the image of its text, the text split over two, and what one thread answers. */
+/* An input of the engine, the image of its text in a form, the text split over two, and what one thread answers. */
 struct sample {
     struct buffer input, maker, site;
+    uint64_t form;
     const uint8_t *lines[LINES];
     size_t text_length, lengths[LINES], count, size;
     uint8_t image[IMAGE_BYTES];
@@ -37,8 +38,8 @@ static void answer(const struct sample *sample, struct answers *to)
     const struct buffer *maker = &sample->maker, *site = &sample->site;
     size_t i;
     memset(to, 0, sizeof *to);
-    to->compilation = kinohazel_compile(sample->input.bytes, sample->text_length, to->out, sizeof to->out);
-    to->texts_compilation = kinohazel_compile_texts(
+    to->compilation = kinohazel_compile(sample->form, sample->input.bytes, sample->text_length, to->out, sizeof to->out);
+    to->texts_compilation = kinohazel_compile_texts(sample->form,
         maker->bytes, maker->length, site->bytes, site->length, to->joint, sizeof to->joint);
     to->check = kinohazel_check(sample->image, sample->size);
     to->written = kinohazel_text(sample->image, sample->size, to->text, sizeof to->text);
@@ -50,7 +51,7 @@ static void answer(const struct sample *sample, struct answers *to)
     }
 }
 
-/* The first is the largest. */
+/* The first two are the largest. */
 static void make(struct sample *sample, struct dice *dice)
 {
     struct buffer *input = &sample->input;
@@ -59,16 +60,17 @@ static void make(struct sample *sample, struct dice *dice)
     *input = new_buffer();
     sample->maker = new_buffer();
     sample->site = new_buffer();
-    if (sample == samples)
+    sample->form = FIRST_FORM + (uint64_t)(sample - samples) % NEWEST_FORM;
+    if (sample < samples + NEWEST_FORM)
         add_largest_input(input);
     else
-        add_engine_input(input, dice, (unsigned)(sample - samples) % 16);
+        add_engine_input(input, dice, (unsigned)(sample - samples) / NEWEST_FORM % 16);
     find_run(input->bytes, input->length, &sample->text_length, &at, &mode);
     while (sample->count < LINES
         && next_line(input->bytes, input->length, &at, &sample->lines[sample->count], &sample->lengths[sample->count]))
         sample->count++;
     split_text(input->bytes, sample->text_length, dice, &sample->maker, &sample->site);
-    compile(input->bytes, sample->text_length, sample->image, sizeof sample->image, &sample->size);
+    compile(sample->form, input->bytes, sample->text_length, sample->image, sizeof sample->image, &sample->size);
     answer(sample, &sample->answers);
 }
 

@@ -505,18 +505,25 @@ static void add_decompiler_samples(void)
     size_t size;
     add_sample(decompiler, "nothing", "");
     add_sample(decompiler, "the empty text", "01000000\nFF000000\n");
+    add_sample(decompiler, "the empty text in form 2", "02000000\n02000000\nFC000000\n");
     add(&text, EXAMPLE);
-    compile(text.bytes, text.length, image, sizeof image, &size);
+    compile(FIRST_FORM, text.bytes, text.length, image, sizeof image, &size);
     add_dump(add_sample(decompiler, "the example", ""), image, size);
+    compile(NEWEST_FORM, text.bytes, text.length, image, sizeof image, &size);
+    add_dump(add_sample(decompiler, "the example in form 2", ""), image, size);
+    image[size - WORD_BYTES - 1] ^= 1;
+    put_sum(image, size / WORD_BYTES);
+    add_dump(add_sample(decompiler, "a changed weighted word", ""), image, size);
     add_sample(decompiler, "a last line without its end", "01002000\n10400001\n50400000\n9e7fdfff");
     add_sample(decompiler, "a line that is no word", "01000000\nFF00000\nFF000000\nx\n");
     text.length = 0;
     add_widest(&text);
-    compile(text.bytes, text.length, image, sizeof image, &size);
+    compile(NEWEST_FORM, text.bytes, text.length, image, sizeof image, &size);
     add_dump(add_sample(decompiler, "the longest text", ""), image, size);
     image[size - 1] ^= 1;
     add_dump(add_sample(decompiler, "a changed word", ""), image, size);
-    add_times(add_sample(decompiler, "3,267 words", ""), "01000000\n", IMAGE_WORDS + 1);
+    add_times(add_sample(decompiler, "3,267 words", ""), "01000000\n", IMAGE_WORDS);
+    add_times(add_sample(decompiler, "3,268 words", ""), "01000000\n", IMAGE_WORDS + 1);
     input = add_sample(decompiler, "22,222 words, then none", "");
     add_times(input, "01000000\n", 22222);
     add(input, "0");
@@ -930,7 +937,7 @@ static void test_blocking_input(void)
     static const char *const texts[] = {
         "", "E1", "E1 causes A1\n", "E1 causes A1\nnever A", "E64 causes A1\n", "E1\nE1\n"};
     static const char *const dumps[] = {"", "01000000", "01000000\n", "01000000\nFF000000\n", "01000000\nFF000000\n0",
-        "x\n", "01000000\n\n"};
+        "02000000\n02000000\nFC000000\n", "02000000\n02000000\n", "x\n", "01000000\n\n"};
     static const char *const inputs[] = {"", "E1 causes A1\n", "E1 causes A1\nrun", "E1 causes A1\nrun\n",
         "E1 causes A1\nrun\nE1", "E1 causes A1\nrun\nE1\n", "E1 causes A1\nrun\nE1\n\nE64\nE1 E2", "E64 causes A1\n",
         "E64 causes A1\nru", "E64 causes A1\nrun\nE1\nE", "run\n\n\n "};
@@ -1365,6 +1372,7 @@ static void test_terminal(void)
     type(&decompiler, "\4", "");
     type(&decompiler, "01000000\nff000000\n\4", "01000000\nff000000\n");
     type(&decompiler, "01000000\nff000000\4\4", "01000000\nff000000");
+    type(&decompiler, "02000000\n02000000\nfc000000\n\4", "02000000\n02000000\nfc000000\n");
     type(&decompiler, "01000000\n\nff000000\n\4", "01000000\n\nff000000\n");
     type(&engine, "\4", "");
     type(&engine, EXAMPLE "\4", EXAMPLE);

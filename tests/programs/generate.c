@@ -27,7 +27,7 @@ static void fail(const char *message, const char *name)
 /* Writing cases, and counting what they meet */
 
 struct tally {
-    unsigned long text[FAULTS], epoch[MODES][FAULTS], dump[FAULTS], no_words;
+    unsigned long text[FAULTS], epoch[MODES][FAULTS], dump[FAULTS], no_words, forms[NEWEST_FORM + 1]; /* of accepted dumps */
     unsigned long decisions[MODES], cancelling[MODES], dropping, loaded, bodies;
     unsigned long most_accepted[MODES], most_cancelled[MODES], most_visited[MODES], most_epochs; /* in one decision, in one input */
     unsigned long texts[FAULTS][OWNERS], refused_texts[FAULTS][OWNERS]; /* of the compiler, of explain */
@@ -52,19 +52,20 @@ static void close_file(FILE *file, const char *name)
         fail("cannot be written", name);
 }
 
-/* Changes one word of an image's body and mends the sum: what still loads is written again as it was. */
+/* Changes one word of an image's body and mends the check words: what still loads is written again as it was. */
 static void check_loader(const uint8_t *image, size_t length, struct dice *dice, const char *name, struct tally *tally)
 {
     static uint8_t changed[IMAGE_BYTES], again[IMAGE_BYTES];
     static struct policy loaded;
     struct verdict verdict;
+    unsigned form = image[0];
     size_t count = length / WORD_BYTES, at = 1 + below(dice, (unsigned)(count - 1));
     memcpy(changed, image, length);
     if (chance(dice, 500)) /* a word of another place, or one bit */
         put_word(changed, at, word_at(image, 1 + below(dice, (unsigned)(count - 1))));
     else
         changed[WORD_BYTES * at + below(dice, WORD_BYTES)] ^= (uint8_t)(1u << below(dice, 8));
-    put_sum(changed, count);
+    put_check_words(changed, count, form);
     verdict = load_image(changed, length, &loaded);
     tally->loaded += verdict.fault == FAULT_NONE;
     tally->bodies += verdict.fault == FAULT_BODY;
@@ -72,8 +73,28 @@ static void check_loader(const uint8_t *image, size_t length, struct dice *dice,
                                     : verdict.fault != FAULT_NONE || verdict.location != 0)
         fail("a changed body is refused for another fault or at another location", name);
     if (verdict.fault == FAULT_NONE
-        && (write_image(&loaded, again) != length || memcmp(again, changed, length) != 0))
+        && (write_image(form, &loaded, again) != length || memcmp(again, changed, length) != 0))
         fail("a changed image is not written again as it was", name);
+}
+
+/* In form 2 two words before the weighted one that stand next to each other and differ are refused if they are exchanged: words 0 and 1
+   under 8, others under 16. */
+static void check_swap(const uint8_t *image, size_t length, struct dice *dice, const char *name)
+{
+    static uint8_t changed[IMAGE_BYTES];
+    static struct policy loaded;
+    struct verdict verdict;
+    size_t weighted = length / WORD_BYTES - CHECK_WORDS, at;
+    if (weighted < 2)
+        return;
+    at = below(dice, (unsigned)weighted - 1);
+    memcpy(changed, image, length);
+    put_word(changed, at, word_at(image, at + 1));
+    put_word(changed, at + 1, word_at(image, at));
+    verdict = load_image(changed, length, &loaded);
+    if (word_at(image, at) != word_at(image, at + 1)
+        && (verdict.fault != (at == 0 ? FAULT_FORM : FAULT_WEIGHTED_SUM) || verdict.location != 0))
+        fail("exchanged words are not refused under 8 or 16", name);
 }
 
 static void raise_to(unsigned long *most, unsigned long number)
@@ -82,13 +103,13 @@ static void raise_to(unsigned long *most, unsigned long number)
         *most = number;
 }
 
-/* The text of an image compiles to it. */
+/* The text of an image compiles to it in its form. */
 static void check_writer(const uint8_t *image, size_t length, const char *name)
 {
     static uint8_t text[WRITTEN_BYTES], again[IMAGE_BYTES];
     size_t size, written;
     if (decompile(image, length, text, sizeof text, &size).fault != FAULT_NONE
-        || compile(text, size, again, sizeof again, &written).fault != FAULT_NONE || written != length
+        || compile(image[0], text, size, again, sizeof again, &written).fault != FAULT_NONE || written != length
         || memcmp(again, image, length) != 0)
         fail("the text of the image does not compile to it", name);
 }
@@ -129,40 +150,56 @@ static bool drops(const struct policy *policy, const uint8_t *line, size_t lengt
     return read_epoch(line, length, &epoch).fault == FAULT_NONE && kept_events(policy, &epoch, &kept) && kept != epoch.present;
 }
 
-/* The image of a text loads as the policy of the text; running it and the plain machine agree on each epoch line. A
-   changed word is refused under 7 to 10. */
-static void check_reference(const struct buffer *input, const char *name, bool engine, struct tally *tally)
+/* The image of an accepted text in a form loads as it was written, and its text compiles to it. A changed word is refused under 7
+   to 10. */
+static void check_image(
+    unsigned form, const uint8_t *text, size_t length, struct dice *dice, const char *name, struct tally *tally)
 {
     static uint8_t image[IMAGE_BYTES], changed[IMAGE_BYTES];
-    static struct policy policy, loaded;
-    struct dice dice = {input->length};
-    unsigned long epochs = 0;
-    const uint8_t *line;
-    size_t text_length = input->length, at = input->length, written, line_length, byte;
+    static struct policy loaded;
+    size_t written, byte;
     struct verdict verdict;
-    enum mode mode = CANCEL_ACTIONS;
-    if (engine)
-        find_run(input->bytes, input->length, &text_length, &at, &mode);
-    verdict = compile(input->bytes, text_length, image, sizeof image, &written);
-    tally->text[verdict.fault]++;
-    if (verdict.fault != FAULT_NONE)
-        return;
-    read_text(input->bytes, text_length, &policy);
-    if (load_image(image, written, &loaded).fault != FAULT_NONE || write_image(&loaded, changed) != written
+    compile(form, text, length, image, sizeof image, &written);
+    if (load_image(image, written, &loaded).fault != FAULT_NONE || write_image(form, &loaded, changed) != written
         || memcmp(changed, image, written) != 0)
         fail("the image does not load as it was written", name);
     check_writer(image, written, name);
-    verdict = compile(input->bytes, text_length, changed, written - 1, &byte);
+    verdict = compile(form, text, length, changed, written - 1, &byte);
     if (verdict.fault != FAULT_ROOM || byte != 0)
         fail("a buffer with too little room was taken", name);
     memcpy(changed, image, written);
-    byte = below(&dice, (unsigned)written);
-    changed[byte] = (uint8_t)(changed[byte] + 1 + below(&dice, 255));
+    byte = below(dice, (unsigned)written);
+    changed[byte] = (uint8_t)(changed[byte] + 1 + below(dice, 255));
     verdict = load_image(changed, written, &loaded);
     if (verdict.fault < FAULT_SIZE || verdict.fault > FAULT_SUM)
         fail("a changed word was not refused under 7 to 10", name);
     for (byte = 0; byte < 4; byte++)
-        check_loader(image, written, &dice, name, tally);
+        check_loader(image, written, dice, name, tally);
+    if (form != FIRST_FORM)
+        check_swap(image, written, dice, name);
+}
+
+/* A text in both forms; running one of its images and the plain machine agree on each epoch line. */
+static void check_reference(const struct buffer *input, const char *name, bool engine, struct tally *tally)
+{
+    static uint8_t image[IMAGE_BYTES];
+    static struct policy policy;
+    struct dice dice = {input->length};
+    unsigned long epochs = 0;
+    unsigned form;
+    const uint8_t *line;
+    size_t text_length = input->length, at = input->length, written, line_length;
+    struct verdict verdict;
+    enum mode mode = CANCEL_ACTIONS;
+    if (engine)
+        find_run(input->bytes, input->length, &text_length, &at, &mode);
+    verdict = read_text(input->bytes, text_length, &policy);
+    tally->text[verdict.fault]++;
+    if (verdict.fault != FAULT_NONE)
+        return;
+    for (form = FIRST_FORM; form <= NEWEST_FORM; form++)
+        check_image(form, input->bytes, text_length, &dice, name, tally);
+    compile(FIRST_FORM + below(&dice, NEWEST_FORM), input->bytes, text_length, image, sizeof image, &written);
     while (next_line(input->bytes, input->length, &at, &line, &line_length)) {
         count_decision(check_decision(&policy, image, written, line, line_length, mode, name), mode, tally);
         tally->dropping += mode == CANCEL_EVENTS && drops(&policy, line, line_length);
@@ -192,20 +229,26 @@ static void write_dump(const char *folder, const char *name, const struct buffer
 {
     static uint8_t image[DUMP_BYTES], text[WRITTEN_BYTES];
     size_t size, written;
+    struct verdict verdict;
     write_files(folder, "decompiler", name, dump);
-    if (read_dump(dump->bytes, dump->length, image, &size) > 0)
+    if (read_dump(dump->bytes, dump->length, image, &size) > 0) {
         tally->no_words++;
-    else
-        tally->dump[decompile(image, size, text, sizeof text, &written).fault]++;
+        return;
+    }
+    verdict = decompile(image, size, text, sizeof text, &written);
+    tally->dump[verdict.fault]++;
+    if (verdict.fault == FAULT_NONE)
+        tally->forms[image[0]]++;
 }
 
-/* The image of a text, as the compiler prints it, if the text is accepted. */
+/* The image of a text in form 1, if the text is accepted. That in the newest form is what the compiler prints, and goes through the
+   decompiler in `run`. */
 static void write_dump_of(const char *folder, const char *name, const struct buffer *text, struct tally *tally)
 {
     static uint8_t image[IMAGE_BYTES];
     struct buffer dump;
     size_t size;
-    if (compile(text->bytes, text->length, image, sizeof image, &size).fault != FAULT_NONE)
+    if (compile(FIRST_FORM, text->bytes, text->length, image, sizeof image, &size).fault != FAULT_NONE)
         return;
     dump = new_buffer();
     add_dump(&dump, image, size);
@@ -249,7 +292,7 @@ static void check_joined(const struct asked *asked, const uint8_t *image, size_t
     add(&joined, "\n");
     add_bytes(&joined, asked->site.bytes, asked->site.length);
     if (joined.length <= TEXT_BYTES
-        && (compile(joined.bytes, joined.length, other, sizeof other, &written).fault != FAULT_NONE || written != size
+        && (compile(NEWEST_FORM, joined.bytes, joined.length, other, sizeof other, &written).fault != FAULT_NONE || written != size
             || memcmp(image, other, size) != 0))
         fail("two texts have not the image of their lines in one text", name);
     free(joined.bytes);
@@ -262,12 +305,12 @@ static bool check_texts(const struct asked *asked, const char *name, unsigned lo
     static uint8_t image[IMAGE_BYTES], less[IMAGE_BYTES];
     size_t size, written, i;
     bool lines[OWNERS] = {false, false, false};
-    struct verdict verdict = compile_texts(texts_in(asked), image, sizeof image, &size);
+    struct verdict verdict = compile_texts(NEWEST_FORM, texts_in(asked), image, sizeof image, &size);
     counts[verdict.fault][verdict.text]++;
     if (verdict.fault != FAULT_NONE)
         return false;
     check_joined(asked, image, size, name);
-    verdict = compile_texts(texts_in(asked), less, size - 1, &written);
+    verdict = compile_texts(NEWEST_FORM, texts_in(asked), less, size - 1, &written);
     if (verdict.fault != FAULT_ROOM || verdict.text != NEITHER || verdict.location != 0 || written != 0)
         fail("a buffer with too little room was taken, or a text is named for it", name);
     read_texts(texts_in(asked), policy);
@@ -371,6 +414,32 @@ static void write_explain(const char *folder, const char *name, const struct ask
 
 /* Cases at the limits, by name */
 
+/* The largest image in each form, and with it a word more, and a line that is none. */
+static void write_widest_dumps(const char *folder, struct tally *tally)
+{
+    static uint8_t image[IMAGE_BYTES];
+    struct buffer text = new_buffer(), dump = new_buffer();
+    size_t size;
+    unsigned form;
+    char name[40];
+    add_widest(&text);
+    for (form = FIRST_FORM; form <= NEWEST_FORM; form++) {
+        compile(form, text.bytes, text.length, image, sizeof image, &size);
+        dump.length = 0;
+        add_dump(&dump, image, size);
+        sprintf(name, "widest_%u", form);
+        write_dump(folder, name, &dump, tally);
+        add(&dump, "00000000\n");
+        sprintf(name, "widest_%u_and_word", form);
+        write_dump(folder, name, &dump, tally);
+        add(&dump, "\n");
+        sprintf(name, "widest_%u_and_blank", form);
+        write_dump(folder, name, &dump, tally);
+    }
+    free(text.bytes);
+    free(dump.bytes);
+}
+
 static void write_limits(const char *folder, struct buffer *input, struct tally *tally)
 {
     static struct policy policy;
@@ -381,8 +450,8 @@ static void write_limits(const char *folder, struct buffer *input, struct tally 
     input->length = 0;
     add_largest(input);
     if (read_text(input->bytes, input->length, &policy).fault != FAULT_NONE
-        || write_image(&policy, image) != IMAGE_BYTES || IMAGE_WORDS != 3266)
-        fail("the largest image has not 3,266 words", "largest");
+        || write_image(NEWEST_FORM, &policy, image) != IMAGE_BYTES || IMAGE_WORDS != 3267)
+        fail("the largest image has not 3,267 words", "largest");
     write_case(folder, false, "largest", input, tally);
     add(input, "run\n");
     k = input->length;
@@ -419,13 +488,7 @@ static void write_limits(const char *folder, struct buffer *input, struct tally 
         || write_text(&policy, text) != WRITTEN_BYTES || WRITTEN_BYTES != 27968)
         fail("the longest text has not 27,968 bytes", "widest");
     write_case(folder, false, "widest", input, tally);
-    compile(input->bytes, input->length, image, sizeof image, &k);
-    input->length = 0; /* the largest image and a word more, and a line that is none */
-    add_dump(input, image, k);
-    add(input, "00000000\n");
-    write_dump(folder, "widest_and_word", input, tally);
-    add(input, "\n");
-    write_dump(folder, "widest_and_blank", input, tally);
+    write_widest_dumps(folder, tally);
 
     for (i = 0; i < 4; i++) {
         static const char *const names[] = {"rules_128", "rules_129", "nevers_64", "nevers_65"};
@@ -901,6 +964,12 @@ static void write_bytes(const char *folder, struct buffer *input, struct tally *
         add(input, "0\n");
         sprintf(name, "byte_%03u", byte);
         write_dump(folder, name, input, tally);
+        input->length = 0; /* in form 2 */
+        add(input, "02000000\n02000000\nFC0000");
+        add_byte(input, byte);
+        add(input, "0\n");
+        sprintf(name, "byte_of_form_2_%03u", byte);
+        write_dump(folder, name, input, tally);
     }
 }
 
@@ -908,19 +977,21 @@ static void write_bytes(const char *folder, struct buffer *input, struct tally *
 static void write_long_dumps(const char *folder, struct buffer *input, struct tally *tally)
 {
     static const unsigned counts[] = {
-        3264, 3265, 3266, 3267, 3268, 3640, 3641, 3642, 4096, 7280, 7281, 7282, 7283, 14563, 32768, 65536, 65538, 110000};
+        3264, 3265, 3266, 3267, 3268, 3269, 3640, 3641, 3642, 4096, 7280, 7281, 7282, 7283, 14563, 32768, 65536, 65538, 110000};
     static const char *const ends[] = {"", "00000000", "0000000", "000000000", "\n", "x\n00000000\n", "\n00000000\n\n"};
     unsigned i, k;
     char name[40];
     for (i = 0; i < sizeof counts / sizeof *counts; i++) {
-        struct header header = {FORM, RULE_WORDS, CONSTRAINT_WORDS};
-        for (k = 0; k < sizeof ends / sizeof *ends; k++) {
+        for (k = 0; k < NEWEST_FORM * (sizeof ends / sizeof *ends); k++) {
+            struct header header = {FIRST_FORM + k % NEWEST_FORM, RULE_WORDS, CONSTRAINT_WORDS};
+            uint32_t word = pack_header(header), weighted = header.form == FIRST_FORM ? 0 : word;
             input->length = 0;
-            add_format(input, "%08lX\n", (unsigned long)pack_header(header));
-            add_times(input, "00000000\n", counts[i] - 2);
-            add_format(input, "%08lX\n", (unsigned long)(UINT32_MAX - pack_header(header) + 1));
-            add(input, ends[k]);
-            sprintf(name, "large_words_%u_%u", counts[i], k);
+            add_format(input, "%08lX\n", (unsigned long)word);
+            add_times(input, "00000000\n", counts[i] - 3);
+            add_format(input, "%08lX\n", (unsigned long)weighted);
+            add_format(input, "%08lX\n", (unsigned long)(uint32_t)(0 - word - weighted));
+            add(input, ends[k / NEWEST_FORM]);
+            sprintf(name, "large_words_%u_%u_%u", counts[i], header.form, k / NEWEST_FORM);
             write_dump(folder, name, input, tally);
         }
         input->length = 0;
@@ -934,7 +1005,7 @@ static void write_long_dumps(const char *folder, struct buffer *input, struct ta
     }
 }
 
-/* An image with words changed, put in or taken out, its sum mended or not. */
+/* An image with words changed, exchanged, put in or taken out, its check words mended, its sum alone, or none. */
 static void damage_words(struct buffer *image, struct dice *dice)
 {
     unsigned times = 1 + below(dice, 3);
@@ -943,15 +1014,24 @@ static void damage_words(struct buffer *image, struct dice *dice)
         size_t at = WORD_BYTES * below(dice, count);
         uint8_t word[WORD_BYTES], bit = (uint8_t)(1 << below(dice, 8));
         put_word(word, 0, chance(dice, 300) ? (uint32_t)roll(dice) : word_at(image->bytes, below(dice, count)));
-        switch (below(dice, 5)) {
+        switch (below(dice, 6)) {
         case 0: image->bytes[below(dice, (unsigned)image->length)] ^= bit; break;
+        case 5: /* with the word behind it */
+            if (at + WORD_BYTES == image->length)
+                break;
+            put_word(word, 0, word_at(image->bytes + at, 1));
+            put_word(image->bytes + at, 1, word_at(image->bytes + at, 0));
+            memcpy(image->bytes + at, word, WORD_BYTES);
+            break;
         case 1: image->bytes[1 + below(dice, WORD_BYTES - 1)] ^= bit; break; /* in the counts */
         case 2: splice(image, at, at, word, WORD_BYTES); break;
         case 3: splice(image, at, at + WORD_BYTES, word, count > 1 ? 0 : WORD_BYTES); break;
         default: splice(image, at, at + WORD_BYTES, word, WORD_BYTES); break;
         }
     }
-    if (chance(dice, 800))
+    if (chance(dice, 600))
+        put_check_words(image->bytes, image->length / WORD_BYTES, image->bytes[0]);
+    else if (chance(dice, 500))
         put_sum(image->bytes, image->length / WORD_BYTES);
 }
 
@@ -983,7 +1063,7 @@ static void damage_dump(struct buffer *dump, struct dice *dice)
     }
 }
 
-/* A dump of a kind from 0 to 7: of the image of a text, of a damaged image, damaged itself, or by chance. */
+/* A dump of a kind from 0 to 7: of the image of a text in either form, of a damaged image, damaged itself, or by chance. */
 static void add_any_dump(struct buffer *to, struct dice *dice, unsigned kind)
 {
     struct buffer text = new_buffer(), image = new_buffer();
@@ -994,7 +1074,7 @@ static void add_any_dump(struct buffer *to, struct dice *dice, unsigned kind)
             add_lines(&text, dice, &taste, 0, RULES, 0, CONSTRAINTS, true);
         else
             add_lines(&text, dice, &taste, 0, 6, 0, 4, true);
-        compile(text.bytes, text.length, image.bytes, IMAGE_BYTES, &image.length);
+        compile(FIRST_FORM + below(dice, NEWEST_FORM), text.bytes, text.length, image.bytes, IMAGE_BYTES, &image.length);
     } else {
         for (i = below(dice, 12) * WORD_BYTES; i > 0; i--)
             add_byte(&image, below(dice, 256));
@@ -1316,15 +1396,15 @@ static bool print_epochs(const struct tally *tally, enum mode mode, const enum f
 static bool report(const struct tally *tally)
 {
     static const enum fault text[] = {FAULT_LONG, FAULT_SHAPE, FAULT_RANGE, FAULT_CROWD, FAULT_FULL, FAULT_REPEAT};
-    static const enum fault dump[] = {FAULT_SIZE, FAULT_FORM, FAULT_COUNT, FAULT_SUM, FAULT_BODY};
+    static const enum fault dump[] = {FAULT_SIZE, FAULT_FORM, FAULT_COUNT, FAULT_SUM, FAULT_WEIGHTED_SUM, FAULT_BODY};
     static const enum fault epoch[] = {
         FAULT_LONG, FAULT_EPOCH_SHAPE, FAULT_EPOCH_RANGE, FAULT_TWICE, FAULT_UNAVOIDABLE}; /* the last in the second mode alone */
     const size_t faults = sizeof epoch / sizeof *epoch;
     bool all = true;
     printf("texts accepted %lu, refused under", tally->text[FAULT_NONE]);
     all = print_counts(tally->text, text, sizeof text / sizeof *text) && all;
-    printf("; dumps written as texts %lu, with a line that is no word %lu, refused under", tally->dump[FAULT_NONE],
-        tally->no_words);
+    printf("; dumps written as texts of form 1 %lu, of form 2 %lu, with a line that is no word %lu, refused under",
+        tally->forms[FIRST_FORM], tally->forms[NEWEST_FORM], tally->no_words);
     all = print_counts(tally->dump, dump, sizeof dump / sizeof *dump) && all;
     all = print_epochs(tally, CANCEL_ACTIONS, epoch, faults - 1) && all;
     all = print_epochs(tally, CANCEL_EVENTS, epoch, faults) && all;
@@ -1335,7 +1415,8 @@ static bool report(const struct tally *tally)
     printf("; %lu accepted with lines of both; questions", tally->both);
     all = print_questions(tally, epoch, faults - 1) && all;
     printf("\n");
-    return all && tally->text[FAULT_NONE] > 0 && tally->dump[FAULT_NONE] > 0 && tally->no_words > 0 && tally->loaded > 0
+    return all && tally->text[FAULT_NONE] > 0 && tally->forms[FIRST_FORM] > 0 && tally->forms[NEWEST_FORM] > 0
+        && tally->no_words > 0 && tally->loaded > 0
         && tally->bodies > 0 && tally->dropping > 0 && tally->most_epochs > 100000 && tally->most_questions > 100000
         && tally->both >= TEXTS_LEAST;
 }

@@ -443,9 +443,9 @@ static size_t write_constraint(const struct constraint *constraint, uint8_t *lin
     return size;
 }
 
-size_t write_image(const struct policy *policy, uint8_t image[IMAGE_BYTES])
+size_t write_image(unsigned form, const struct policy *policy, uint8_t image[IMAGE_BYTES])
 {
-    struct header header = {.form = FORM};
+    struct header header = {.form = form};
     size_t i, at = 1;
     for (i = 0; i < policy->rule_count; i++)
         at += write_rule(&policy->rules[i], image + WORD_BYTES * at);
@@ -454,8 +454,9 @@ size_t write_image(const struct policy *policy, uint8_t image[IMAGE_BYTES])
         at += write_constraint(&policy->constraints[i], image + WORD_BYTES * at);
     header.constraint_words = (unsigned)(at - 1) - header.rule_words;
     put_word(image, 0, pack_header(header));
-    put_sum(image, at + 1);
-    return WORD_BYTES * (at + 1);
+    at += check_words(form);
+    put_check_words(image, at, form);
+    return WORD_BYTES * at;
 }
 
 /* Copies what was made into a lent buffer. */
@@ -469,20 +470,20 @@ static struct verdict hand_over(const uint8_t *bytes, size_t size, uint8_t *buff
     return ACCEPTED;
 }
 
-struct verdict compile_texts(struct texts texts, uint8_t *buffer, size_t room, size_t *written)
+struct verdict compile_texts(uint64_t form, struct texts texts, uint8_t *buffer, size_t room, size_t *written)
 {
     struct policy policy;
     uint8_t image[IMAGE_BYTES];
-    struct verdict verdict = read_texts(texts, &policy);
+    struct verdict verdict = is_known_form(form) ? read_texts(texts, &policy) : refuse(FAULT_FORM, 0);
     *written = 0;
     if (verdict.fault != FAULT_NONE)
         return verdict;
-    return hand_over(image, write_image(&policy, image), buffer, room, written);
+    return hand_over(image, write_image((unsigned)form, &policy, image), buffer, room, written);
 }
 
-struct verdict compile(const uint8_t *text, size_t length, uint8_t *buffer, size_t room, size_t *written)
+struct verdict compile(uint64_t form, const uint8_t *text, size_t length, uint8_t *buffer, size_t room, size_t *written)
 {
-    return compile_texts(one_text(text, length), buffer, room, written);
+    return compile_texts(form, one_text(text, length), buffer, room, written);
 }
 
 /* Loading. A line is read from its operations and numbers, then written again: the words have to be the same. */
@@ -577,21 +578,36 @@ static size_t load_constraint(const uint8_t *image, size_t at, size_t end, struc
     return same_words(line, write_constraint(constraint, line), image + WORD_BYTES * start, size) ? size : 0;
 }
 
+/* What is wrong with the size, the header and the check words, in this order; P + N is the number of the words between them. */
+static enum fault frame_fault(const uint8_t *image, size_t length)
+{
+    struct header header;
+    size_t words = length / WORD_BYTES, body;
+    if (length < 2 * WORD_BYTES || length > IMAGE_BYTES || length % WORD_BYTES != 0)
+        return FAULT_SIZE;
+    header = unpack_header(word_at(image, 0));
+    if (!is_known_form(header.form))
+        return FAULT_FORM;
+    body = header.rule_words + header.constraint_words;
+    if (header.rule_words > RULE_WORDS || header.constraint_words > CONSTRAINT_WORDS
+        || words != body + (header.form == FIRST_FORM ? 2 : 3))
+        return FAULT_COUNT;
+    if (sum_words(image, words) != 0)
+        return FAULT_SUM;
+    if (header.form != FIRST_FORM && word_at(image, 1 + body) != weigh_words(image, 1 + body))
+        return FAULT_WEIGHTED_SUM;
+    return FAULT_NONE;
+}
+
 struct verdict load_image(const uint8_t *image, size_t length, struct policy *policy)
 {
     struct policy result;
     struct header header;
     size_t at = 1, end, size;
-    if (length < 2 * WORD_BYTES || length > IMAGE_BYTES || length % WORD_BYTES != 0)
-        return refuse(FAULT_SIZE, 0);
+    enum fault fault = frame_fault(image, length);
+    if (fault != FAULT_NONE)
+        return refuse(fault, 0);
     header = unpack_header(word_at(image, 0));
-    if (header.form != FORM)
-        return refuse(FAULT_FORM, 0);
-    if (header.rule_words > RULE_WORDS || header.constraint_words > CONSTRAINT_WORDS
-        || length / WORD_BYTES != header.rule_words + header.constraint_words + 2)
-        return refuse(FAULT_COUNT, 0);
-    if (sum_words(image, length / WORD_BYTES) != 0)
-        return refuse(FAULT_SUM, 0);
     memset(&result, 0, sizeof result);
     for (end = at + header.rule_words; at < end; at += size) {
         struct rule rule;
@@ -1278,7 +1294,7 @@ static void print_compiler(const uint8_t *input, size_t length, FILE *out)
 {
     uint8_t image[IMAGE_BYTES];
     size_t written;
-    struct verdict verdict = compile(input, length, image, sizeof image, &written);
+    struct verdict verdict = compile(NEWEST_FORM, input, length, image, sizeof image, &written);
     if (verdict.fault != FAULT_NONE)
         print_refusal(verdict, "line", out);
     else
@@ -1328,7 +1344,7 @@ static void print_engine(const uint8_t *input, size_t length, FILE *out)
     struct verdict verdict;
     enum mode mode;
     find_run(input, length, &text_length, &at, &mode);
-    verdict = compile(input, text_length, image, sizeof image, &written);
+    verdict = compile(NEWEST_FORM, input, text_length, image, sizeof image, &written);
     if (verdict.fault != FAULT_NONE) {
         print_refusal(verdict, "line", out);
         return;
@@ -1363,7 +1379,7 @@ static void print_compiler_on_texts(struct texts texts, FILE *out)
 {
     uint8_t image[IMAGE_BYTES];
     size_t written;
-    struct verdict verdict = compile_texts(texts, image, sizeof image, &written);
+    struct verdict verdict = compile_texts(NEWEST_FORM, texts, image, sizeof image, &written);
     if (verdict.fault != FAULT_NONE)
         print_refusal_of_text(verdict, out);
     else

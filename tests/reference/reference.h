@@ -1,6 +1,7 @@
-/* Rule texts, images and epochs as docs/REFERENCE.md defines them, with the text of an image, readings that are not given, the words
-   that a decision visits, constants in hexadecimal, two texts as one with the reason for an action, and event cancellation, in plain C,
-   written from what is asked for and not from the Rattle code. The programs and the library are compared with it. */
+/* Rule texts, images of both forms and epochs as docs/REFERENCE.md defines them, with the text of an image, readings that are not
+   given, the words that a decision visits, constants in hexadecimal, two texts as one with the reason for an action, and event
+   cancellation, in plain C, written from what is asked for and not from the Rattle code. The programs and the library are compared
+   with it. */
 #ifndef REFERENCE_H
 #define REFERENCE_H
 
@@ -35,7 +36,7 @@ enum fault {
     FAULT_EPOCH_RANGE = 13,
     FAULT_TWICE = 14,
     FAULT_ROOM = 15,
-    FAULT_UNUSED = 16, /* no fault has this number */
+    FAULT_WEIGHTED_SUM = 16,
     FAULT_UNAVOIDABLE = 17,
     FAULTS = 18
 };
@@ -148,15 +149,15 @@ struct explanation {
 struct verdict read_text(const uint8_t *text, size_t length, struct policy *policy);
 struct verdict read_texts(struct texts texts, struct policy *policy);
 
-/* Writes the image of a policy; the number of its bytes is returned. */
-size_t write_image(const struct policy *policy, uint8_t image[IMAGE_BYTES]);
+/* Writes the image of a policy in a known form; the number of its bytes is returned. */
+size_t write_image(unsigned form, const struct policy *policy, uint8_t image[IMAGE_BYTES]);
 
-/* Compiles a rule text, or two as one, into a lent buffer; `written` is the number of image bytes. Refused texts leave the
-   buffer as it was and write 0 bytes. */
-struct verdict compile(const uint8_t *text, size_t length, uint8_t *buffer, size_t room, size_t *written);
-struct verdict compile_texts(struct texts texts, uint8_t *buffer, size_t room, size_t *written);
+/* Compiles a rule text, or two as one, in a form into a lent buffer; `written` is the number of image bytes. An unknown form and
+   refused texts leave the buffer as it was and write 0 bytes. */
+struct verdict compile(uint64_t form, const uint8_t *text, size_t length, uint8_t *buffer, size_t room, size_t *written);
+struct verdict compile_texts(uint64_t form, struct texts texts, uint8_t *buffer, size_t room, size_t *written);
 
-/* Loads an image as the policy that compiles to it. A refused one leaves the policy as it was. */
+/* Loads an image as the policy that compiles to it in its form, which is its first byte. A refused one leaves the policy as it was. */
 struct verdict load_image(const uint8_t *bytes, size_t length, struct policy *policy);
 
 /* Writes the text of a policy; the number of its bytes is returned. */

@@ -20,9 +20,11 @@ enum {
     RULE_WORDS = RULES * LINE_WORDS,
     CONSTRAINT_WORDS = CONSTRAINTS * LINE_WORDS,
     WORD_BYTES = 4,
-    IMAGE_WORDS = RULE_WORDS + CONSTRAINT_WORDS + 2,
-    IMAGE_BYTES = IMAGE_WORDS * WORD_BYTES,
-    FORM = 1
+    FIRST_FORM = 1,
+    NEWEST_FORM = 2,
+    CHECK_WORDS = 2, /* of the newest form */
+    IMAGE_WORDS = 1 + RULE_WORDS + CONSTRAINT_WORDS + CHECK_WORDS,
+    IMAGE_BYTES = IMAGE_WORDS * WORD_BYTES
 };
 
 enum operation {
@@ -49,7 +51,12 @@ static inline bool relation_holds(unsigned relation, int32_t left, int32_t right
     }
 }
 
-/* The fields of a word that is neither the header, a constant nor the last one. */
+static inline bool is_known_form(uint64_t form) { return form >= FIRST_FORM && form <= NEWEST_FORM; }
+
+/* The weighted word and the last one; in form 1 the last one alone. */
+static inline unsigned check_words(unsigned form) { return form == FIRST_FORM ? 1 : CHECK_WORDS; }
+
+/* The fields of a word that is neither the header, a constant nor a check word. */
 struct fields {
     unsigned operation, first, second, relation, zero, skip;
 };
@@ -125,10 +132,28 @@ static inline uint32_t sum_words(const uint8_t *bytes, size_t count)
     return sum;
 }
 
+/* The first words, each times its index plus 1. */
+static inline uint32_t weigh_words(const uint8_t *bytes, size_t count)
+{
+    uint32_t sum = 0;
+    size_t i;
+    for (i = 0; i < count; i++)
+        sum += word_at(bytes, i) * (uint32_t)(i + 1);
+    return sum;
+}
+
 /* Makes the last of so many words bring the sum to 0. */
 static inline void put_sum(uint8_t *bytes, size_t count)
 {
     put_word(bytes, count - 1, 0 - sum_words(bytes, count - 1));
+}
+
+/* Makes the check words of a form right, where there are so many words. */
+static inline void put_check_words(uint8_t *bytes, size_t count, unsigned form)
+{
+    if (check_words(form) == CHECK_WORDS && count >= CHECK_WORDS)
+        put_word(bytes, count - CHECK_WORDS, weigh_words(bytes, count - CHECK_WORDS));
+    put_sum(bytes, count);
 }
 
 /* Bit n of a set is number n. */

@@ -4,7 +4,8 @@ use Rattle.std.specs.Result.{result_ok}
 use Rattle.std.proofs.Common.{ℕ, ◌≤◌, ◌<◌, Bool, true, false, cond, List, ◌↔◌, ◌≡◌, refl, sym, ap, ◌∙◌, arith, le-leb, leb-true, length}
 use Rattle.std.proofs.lemmas.Bool.{lt-leb}
 use Rattle.std.proofs.Math.Dec.{leb}
-use Rattle.policy.proofs.ListLaws.{and_out}
+use Rattle.policy.proofs.ListLaws.{and_out, not_true_is}
+use Rattle.layout.proofs.CheckLaws.{form_below}
 use Rattle.policy.proofs.FillLaws.{Delivered, fill_delivered, fill_unchanged}
 use Rattle.policy.specs.Fill.{Filled, refuse, deliver}
 use Rattle.policy.specs.Fault.{refusal}
@@ -179,3 +180,20 @@ pub pairs_same_images : (form : ℕ) (maker site maker' site' out out' : List �
 pairs_same_images form maker site maker' site' out out' m n d e =
     same_written form (policy_of_texts maker site) (policy_of_texts maker' site') (compiled_texts form maker site out) (compiled_texts form maker' site' out') out out' m n
     (texts_written form maker site out m d) (texts_written form maker' site' out' n e)
+
+-- ---- forms that no byte holds
+
+-- an unknown form is as good as another
+over_byte : (form : ℕ) → (form < 256 → ⊥) → known_form form ≡ false
+over_byte form h = not_true_is (known_form form) (λ e. h (form_below form e))
+
+zero_unknown : known_form 0 ≡ false
+unfolding known_form
+zero_unknown = refl
+
+module _ (form : ℕ) (over : 256 ≤ form) where
+  pub over_compiled : (text buffer : List ℕ) → compiled 0 text buffer ≡ compiled form text buffer
+  over_compiled text buffer = form_refused 0 text buffer zero_unknown ∙ sym (form_refused form text buffer (over_byte form (λ h. omega arith)))
+
+  pub over_texts_compiled : (maker site buffer : List ℕ) → compiled_texts 0 maker site buffer ≡ compiled_texts form maker site buffer
+  over_texts_compiled maker site buffer = texts_form_refused 0 maker site buffer zero_unknown ∙ sym (texts_form_refused form maker site buffer (over_byte form (λ h. omega arith)))

@@ -11,7 +11,7 @@ use Rattle.rule_text.specs.Text.{read_text, read_texts}
 
 -- the form that the programs write
 abbrev pub newest_form : ℕ
-newest_form = 1
+newest_form = 2
 
 -- a form that is unknown is refused whatever was read
 abbrev pub in_form : ℕ → Result Policy Refusal → Result Policy Refusal

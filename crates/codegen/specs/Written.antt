@@ -27,7 +27,7 @@ pub record WrittenBy (form : ℕ) (known : Option Policy) (made : Filled) (buffe
   pub behind : drop size made.buffer ≡ drop size buffer
   pub largest : size ≤ size_limit
   -- the loader takes the bytes and holds the policy, whose image they are
-  pub taken : load (written_by size made) ≡ Ok (contents_of policy)
+  pub taken : load (written_by size made) ≡ Ok (contents_of form policy)
   pub holds : policy_in (written_by size made) ≡ policy
   pub again : image_of form (policy_in (written_by size made)) ≡ written_by size made
 

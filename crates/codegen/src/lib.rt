@@ -18,7 +18,7 @@ use syntax::Lines;
 use word::put_word;
 
 /// The form that the programs write.
-pub const NEWEST_FORM: u8 = 1;
+pub const NEWEST_FORM: u8 = 2;
 
 /// How many words lines take.
 fn words(counts: LineCounts) -> usize

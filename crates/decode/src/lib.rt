@@ -273,6 +273,7 @@ fn push_part(parts: &mut Parts, part: Part, said: LinePart)
 }
 
 /// The line whose words these are. Nothing is checked but that its heads fit its ending, so it is for images that the loader takes.
+#[inline(always)]
 pub fn read_line(words: &[[u8; 4]]) -> Line
     ensures { result ≡ line_from (words_in words.now) }
 {

@@ -8,14 +8,12 @@ use Rattle.policy.specs.declared.fault.Fault.{Fault}
 use Rattle.policy.specs.declared.fault.Refusal.{Refusal}
 use Rattle.image.specs.Held.{policy_in}
 use Rattle.image.specs.Load.{Contents, load}
-use Rattle.image.specs.Walk.{lines_ahead}
-use Rattle.image.specs.declared.walker.Walker.{Walker}
 use Rattle.output.specs.Buffer.{appended}
 use Rattle.output.proofs.AppendLaws.{append_start}
 use Rattle.printer.specs.Printed.{text_of}
 use Rattle.decompile.proofs.TextLaws.{TakenText}
 use Rattle.decompile.specs.Decompile.{output_of, decompiled}
-use Rattle.decompile.specs.Steps.Walk.{text_of_values}
+use Rattle.decompile.specs.Steps.Walk.{text_in}
 
 -- what the function answers and leaves in the buffer
 abbrev Answers : List ℕ → List ℕ → Result ℕ Refusal → List ℕ → Type 0
@@ -29,7 +27,7 @@ module _ (image buffer : List ℕ) where
   unfolding decompiled output_of
   refused r e = answers image buffer (Err r) buffer (ap (λ (l : Result Contents Refusal). output_of l (text_of (policy_in image)) buffer) e)
 
-  module _ (contents : Contents) (lines : Walker) (t : TakenText image contents lines) where
+  module _ (contents : Contents) (t : TakenText image contents) where
     text : List ℕ
     text = text_of (policy_in image)
 
@@ -38,17 +36,17 @@ module _ (image buffer : List ℕ) where
     on_text = ap (λ (l : Result Contents Refusal). output_of l (text_of (policy_in image)) buffer) t.taken
 
     -- the texts of the lines are that of the policy
-    same : text_of_values (lines_ahead lines) ≡ text_of (policy_in image)
+    same : text_in contents ≡ text_of (policy_in image)
     same = t.text
 
-    pub short : length buffer < length (text_of_values (lines_ahead lines)) → Answers image buffer (Err (refusal Fault.BufferTooSmall 0)) buffer
+    pub short : length buffer < length (text_in contents) → Answers image buffer (Err (refusal Fault.BufferTooSmall 0)) buffer
     unfolding output_of text
     short h =
         answers image buffer (Err (refusal Fault.BufferTooSmall 0)) buffer
         (on_text ∙ rw (lt-leb (length (text_of (policy_in image))) (length buffer) (rw same at h)))
 
-    pub written : length (text_of_values (lines_ahead lines)) ≤ length buffer → (size : ℕ) → size ≡ min (length (text_of_values (lines_ahead lines))) (length buffer)
-        → (after : List ℕ) → after ≡ appended buffer 0 (text_of_values (lines_ahead lines)) → Answers image buffer (Ok size) after
+    pub written : length (text_in contents) ≤ length buffer → (size : ℕ) → size ≡ min (length (text_in contents)) (length buffer)
+        → (after : List ℕ) → after ≡ appended buffer 0 (text_in contents) → Answers image buffer (Ok size) after
     unfolding output_of text
     written h size e after q =
         let n : length (text_of (policy_in image)) ≡ size = omega (arith, ap length same) in

@@ -1,19 +1,20 @@
 -- The lines of a taken image have the texts of its policy's lines.
-use Rattle.std.proofs.Common.{ℕ, ◌≤◌, true, List, [], ◌∷◌, ◌++◌, map, append_assoc, ◌≡◌, refl, sym, ap, ap₂, ◌∙◌, arith, length, drop, Ok}
+use Rattle.std.proofs.Common.{ℕ, ◌≤◌, true, List, [], ◌∷◌, ◌++◌, map, append_assoc, ◌≡◌, refl, sym, ap, ap₂, ◌∙◌, arith, length, drop, append-nil, Ok}
 use Rattle.std.proofs.Math.ListN.{length-map}
-use Rattle.policy.proofs.ListLaws.{and_out, all_append}
+use Rattle.policy.proofs.ListLaws.{and_out}
 use Rattle.policy.specs.Limits.{Acceptable, valid}
 use Rattle.policy.specs.Line.{PolicyLine, rule, constraint}
 use Rattle.policy.specs.List.{all}
 use Rattle.image.proofs.HeldLaws.{held_parts, held_given}
 use Rattle.image.specs.Held.{policy_in}
-use Rattle.image.specs.Load.{Contents, both_parts, load}
+use Rattle.image.specs.Load.{Contents, load}
 use Rattle.image.specs.Walk.{lines_ahead, lines_behind, IsAtFirstLine}
 use Rattle.image.specs.declared.walker.Walker.{Walker}
-use Rattle.printer.proofs.Printing.{text_length}
+use Rattle.policy.specs.declared.line.Part.{Part}
+use Rattle.printer.proofs.Printing.{lines_append, text_length}
 use Rattle.printer.proofs.ValueLaws.{value_text_is}
 use Rattle.printer.specs.Printed.{longest_text, line_bytes, lines_text, text_of}
-use Rattle.decompile.specs.Steps.Walk.{text_of_values}
+use Rattle.decompile.specs.Steps.Walk.{text_of_values, parts_text, text_in}
 
 -- ---- lines
 
@@ -24,24 +25,27 @@ values_text (l ∷ ls) h =
     let r = and_out (valid l) (all valid ls) h in
     ap₂ (λ (x y : List ℕ). x ++ y) (value_text_is l r.0) (values_text ls r.1) ∙ append_assoc (line_bytes l) (10 ∷ []) (lines_text ls)
 
+pub first_lines : (ws : List ℕ) (walker : Walker) → IsAtFirstLine ws walker → lines_ahead walker ≡ lines_behind 0 ws
+first_lines ws walker first = ap₂ (λ (xs : List ℕ) (at : ℕ). lines_behind 0 (drop at xs)) first.words first.start
+
 -- ---- an image that is taken
 
--- the lines before a walker at its first one have the text of the policy
-pub record TakenText (bytes : List ℕ) (contents : Contents) (lines : Walker) : Type 0 where
+-- its lines have the text of the policy
+pub record TakenText (bytes : List ℕ) (contents : Contents) : Type 0 where
   pub taken : load bytes ≡ Ok contents
-  pub text : text_of_values (lines_ahead lines) ≡ text_of (policy_in bytes)
-  pub short : length (text_of_values (lines_ahead lines)) ≤ longest_text
+  pub text : text_in contents ≡ text_of (policy_in bytes)
+  pub short : length (text_in contents) ≤ longest_text
 
-pub taken_text : (bytes : List ℕ) (contents : Contents) (lines : Walker) → Ok contents ≡ load bytes → IsAtFirstLine (both_parts contents) lines → TakenText bytes contents lines
-unfolding text_of
-taken_text bytes contents lines e first =
+pub taken_text : (bytes : List ℕ) (contents : Contents) → Ok contents ≡ load bytes → TakenText bytes contents
+unfolding text_of parts_text
+taken_text bytes contents e =
     let h = held_parts bytes contents (sym e) in
     let rs : List PolicyLine = map rule (policy_in bytes).rules in
     let cs : List PolicyLine = map constraint (policy_in bytes).constraints in
-    let v : all valid (rs ++ cs) ≡ true = all_append valid rs cs h.rule_part_is.sound h.constraint_part_is.sound in
-    let ahead : lines_ahead lines ≡ rs ++ cs =
-    ap₂ (λ (ws : List ℕ) (at : ℕ). lines_behind 0 (drop at ws)) first.words first.start ∙ held_given bytes contents (sym e) in
-    let text : text_of_values (lines_ahead lines) ≡ lines_text (rs ++ cs) = ap text_of_values ahead ∙ values_text (rs ++ cs) v in
+    let given = held_given bytes contents (sym e) in
+    let text : text_in contents ≡ lines_text (rs ++ cs) =
+    ap₂ (λ (x y : List ℕ). x ++ y) (ap text_of_values (given Part.Rules) ∙ values_text rs h.rule_part_is.sound) (append-nil _ ∙ ap text_of_values (given Part.Constraints) ∙ values_text cs h.constraint_part_is.sound)
+    ∙ sym (lines_append rs cs) in
     let acceptable : Acceptable (policy_in bytes) = record {
       rules_valid = h.rule_part_is.sound;
       constraints_valid = h.constraint_part_is.sound;

@@ -17,7 +17,7 @@ use Rattle.image.specs.Check.{well_sized}
 use Rattle.image.specs.Held.{policy_in}
 use Rattle.image.specs.Load.{load, Contents}
 use Rattle.image.proofs.LoadLaws.{size_large, load_size}
-use Rattle.exactness.specs.Exact.{RefusalOf, of_checks, of_body}
+use Rattle.exactness.specs.Exact.{RefusalOf, of_checks, of_weights, of_body}
 use Rattle.exactness.proofs.Exact.{held_acceptable, refusals}
 use Rattle.printer.specs.Printed.{text_of, longest_text}
 use Rattle.printer.proofs.Printing.{text_length}
@@ -98,6 +98,7 @@ sized_few n e = leb-true n size_limit (and_out (leb 8 n) (leb n size_limit) (and
 location_small : (image : List ℕ) (r : Refusal) → length image ≤ size_limit → RefusalOf (length (words_of image)) r
     → (fault_number r.fault < 2 ^ 64) × (r.location < 2 ^ 64)
 location_small image r h (of_checks s a b c) = (omega arith, omega arith)
+location_small image r h (of_weights s a b) = (omega arith, omega arith)
 location_small image r h (of_body s a b c) = (omega arith, omega (arith, words_length image))
 
 refusal_small : (image : List ℕ) (r : Refusal) → load image ≡ Err r → (fault_number r.fault < 2 ^ 64) × (r.location < 2 ^ 64)

@@ -15,19 +15,19 @@ use Rattle.exactness.proofs.ImageLaws.{below_append, below_cons, lines_below, ru
 use Rattle.image.proofs.HeldLaws.{counted, HeldParts, held_parts, taken_parts}
 use Rattle.exactness.proofs.PartLines.{lines_limit, lines_found, part_whole_exactly, part_fault_exactly, rules_kind, constraints_kind, rules_back, constraints_back}
 use Rattle.decode.specs.Stands.{AreLines}
-use Rattle.layout.proofs.CheckLaws.{form_below, limits_small, checks_few, size_fits, checks_length, checks_below, checks_sum, checks_found}
+use Rattle.layout.proofs.CheckLaws.{form_below, limits_small, checks_few, size_fits, checks_length, checks_below, checks_sum, checks_found, weighted_made}
 use Rattle.layout.proofs.SumLaws.{sum_set}
 use Rattle.word.proofs.WordLaws.{words_length, words_below, words_of_bytes, bytes_of_words, bytes_length}
 use Rattle.layout.proofs.HeaderLaws.{header_below, form_header, rules_header, constraints_header, header_fields}
 use Rattle.word.specs.Word.{word_limit, Bytes, words_of, word_at, bytes_of, between, Below}
 use Rattle.layout.specs.Header.{pack_header, form_of, rule_count_of, constraint_count_of}
-use Rattle.image.specs.Check.{rule_words, constraint_words, form_byte, well_sized, counts_fit, sums_to_zero}
+use Rattle.image.specs.Check.{rule_words, constraint_words, form_byte, well_sized, counts_fit, sums_to_zero, weights_right}
 use Rattle.image.specs.Held.{lines_in, policy_in}
-use Rattle.layout.specs.Layout.{known_form, check_count, rule_word_limit, constraint_word_limit, size_limit, sum, check_words, header_word, rule_part_words, constraint_part_words, content_words, image_words, image_of}
+use Rattle.layout.specs.Layout.{known_form, check_count, rule_word_limit, constraint_word_limit, size_limit, sum, weighted_right, check_words, header_word, rule_part_words, constraint_part_words, content_words, image_words, image_of}
 use Rattle.image.specs.Lines.{lines_from, part_lines, rule_part, constraint_part, rule_lines, constraint_lines}
 use Rattle.image.specs.Load.{Contents, body_answer, load_words, load}
-use Rattle.exactness.specs.Exact.{IsImage, contents_of, changed, Checked, RefusedEarly, RefusalOf, of_checks, of_body}
-use Rattle.exactness.specs.ImageFault.{NoLineAt, ImageFault, wrong_size, unknown_form, wrong_count, wrong_sum, no_rule, no_constraint}
+use Rattle.exactness.specs.Exact.{IsImage, contents_of, changed, Checked, Weighed, RefusedEarly, RefusalOf, of_checks, of_weights, of_body}
+use Rattle.exactness.specs.ImageFault.{NoLineAt, ImageFault, wrong_size, unknown_form, wrong_count, wrong_sum, wrong_weights, no_rule, no_constraint}
 use Rattle.policy.specs.declared.line.Part.{Part}
 
 -- ---- the image of an acceptable policy
@@ -66,7 +66,7 @@ module _ (form : ℕ) (known : known_form form ≡ true) (p : Policy) (ok : Acce
   unfolding image_words
   image_below = below_append word_limit (content_words form p) (check_words form (content_words form p)) content_below (checks_below form (content_words form p))
 
-  image_words_is : words_of (image_of form p) ≡ image_words form p
+  pub image_words_is : words_of (image_of form p) ≡ image_words form p
   unfolding image_of
   image_words_is = words_of_bytes (image_words form p) image_below
 
@@ -88,13 +88,13 @@ module _ (form : ℕ) (known : known_form form ≡ true) (p : Policy) (ok : Acce
   unfolding image_words content_words header_word
   first_word = refl
 
-  form_is : form_byte (image_words form p) ≡ form
+  pub form_is : form_byte (image_words form p) ≡ form
   form_is = ap form_of first_word ∙ form_header form P N form_small P_small N_small
 
-  rules_are : rule_words (image_words form p) ≡ P
+  pub rules_are : rule_words (image_words form p) ≡ P
   rules_are = ap rule_count_of first_word ∙ rules_header form P N form_small P_small N_small
 
-  constraints_are : constraint_words (image_words form p) ≡ N
+  pub constraints_are : constraint_words (image_words form p) ≡ N
   constraints_are = ap constraint_count_of first_word ∙ constraints_header form P N form_small P_small N_small
 
   counts : counts_fit (image_words form p) ≡ true
@@ -106,6 +106,12 @@ module _ (form : ℕ) (known : known_form form ≡ true) (p : Policy) (ok : Acce
   sums : sums_to_zero (image_words form p) ≡ true
   unfolding sums_to_zero image_words
   sums = eq-eqb (sum (content_words form p ++ check_words form (content_words form p)) % word_limit) 0 (checks_sum form (content_words form p))
+
+  weights : weights_right (image_words form p) ≡ true
+  unfolding weights_right image_words
+  weights =
+      rw (form_is, rules_are, constraints_are)
+      (weighted_made form (1 + P + N) (content_words form p) (omega (arith, image_length, length-append (content_words form p) (check_words form (content_words form p)), checks_length form (content_words form p))))
 
   image_rules : between 1 (1 + P) (image_words form p) ≡ rule_part_words p
   unfolding image_words content_words
@@ -135,10 +141,10 @@ module _ (form : ℕ) (known : known_form form ≡ true) (p : Policy) (ok : Acce
       ∙ ap (lines_from Part.Constraints 64 (1 + P)) image_constraints ∙ constraints_found (1 + P)
 
   -- the loader takes the image of every acceptable policy, and says how many words and lines it has
-  pub image_taken : load (image_of form p) ≡ Ok (contents_of p)
+  pub image_taken : load (image_of form p) ≡ Ok (contents_of form p)
   unfolding load load_words body_answer
   image_taken =
-      rw (image_size, image_words_is, rule_lines_is, constraint_lines_is, form_is, known, counts, sums, rules_are, constraints_are, image_rules, image_constraints, length-map p.rules rule, length-map p.constraints constraint)
+      rw (image_size, image_words_is, rule_lines_is, constraint_lines_is, form_is, known, counts, sums, weights, rules_are, constraints_are, image_rules, image_constraints, length-map p.rules rule, length-map p.constraints constraint)
 
   -- the policy that it then holds is that policy
   pub image_holds : policy_in (image_of form p) ≡ p
@@ -155,7 +161,8 @@ refused_with r = Err r
 -- which check it stopped at
 pub data Answered (bytes : List ℕ) : Type 0 where
   early : RefusedEarly (load bytes) → Answered bytes
-  late : Checked bytes → load bytes ≡ body_answer (rule_part (words_of bytes)) (constraint_part (words_of bytes)) (rule_lines (words_of bytes)) (constraint_lines (words_of bytes)) → Answered bytes
+  weighted : Checked bytes → weights_right (words_of bytes) ≡ false → load bytes ≡ Err (refusal Fault.ImageWeightedSum 0) → Answered bytes
+  late : Weighed bytes → load bytes ≡ body_answer (form_byte (words_of bytes)) (rule_part (words_of bytes)) (constraint_part (words_of bytes)) (rule_lines (words_of bytes)) (constraint_lines (words_of bytes)) → Answered bytes
 
 pub answered : (bytes : List ℕ) → Answered bytes
 unfolding load load_words
@@ -164,8 +171,12 @@ answered bytes = size (well_sized (length bytes)) refl
     ws : List ℕ
     ws = words_of bytes
 
+    weigh : Checked bytes → (b : Bool) → weights_right ws ≡ b → Answered bytes
+    weigh c true q = late (record { checked = c; weights = q }) (rw (c.size, c.form, c.count, c.check, q))
+    weigh c false q = weighted c q (rw (c.size, c.form, c.count, c.check, q))
+
     check : well_sized (length bytes) ≡ true → known_form (form_byte ws) ≡ true → counts_fit ws ≡ true → (b : Bool) → sums_to_zero ws ≡ b → Answered bytes
-    check s f c true q = late (record { size = s; form = f; count = c; check = q }) (rw (s, f, c, q))
+    check s f c true q = weigh (record { size = s; form = f; count = c; check = q }) (weights_right ws) refl
     check s f c false q = early (record { fault = Fault.ImageSum; refused = rw (s, f, c, q); from = omega arith; upto = omega arith })
 
     count : well_sized (length bytes) ≡ true → known_form (form_byte ws) ≡ true → (b : Bool) → counts_fit ws ≡ b → Answered bytes
@@ -182,11 +193,12 @@ answered bytes = size (well_sized (length bytes)) refl
 
 -- an image that is taken passed all checks, and both parts are lines
 pub record Took (bytes : List ℕ) (contents : Contents) : Type 0 where
-  pub checked : Checked bytes
+  pub checked : Weighed bytes
   pub rules : List PolicyLine
   pub constraints : List PolicyLine
   pub rules_whole : rule_lines (words_of bytes) ≡ Ok rules
   pub constraints_whole : constraint_lines (words_of bytes) ≡ Ok constraints
+  pub form_is : contents.form ≡ form_byte (words_of bytes)
   pub rules_are : contents.parts.rules ≡ rule_part (words_of bytes)
   pub constraints_are : contents.parts.constraints ≡ constraint_part (words_of bytes)
 
@@ -194,11 +206,12 @@ pub took : (bytes : List ℕ) (contents : Contents) → load bytes ≡ Ok conten
 took bytes contents e =
     let t = taken_parts bytes contents e in
     record {
-      checked = record { size = t.sized; form = t.known; count = t.counted; check = t.summed };
+      checked = record { checked = record { size = t.sized; form = t.known; count = t.counted; check = t.summed }; weights = t.weighed };
       rules = t.rules;
       constraints = t.constraints;
       rules_whole = t.rules_whole;
       constraints_whole = t.constraints_whole;
+      form_is = ap (λ (k : Contents). k.form) t.same;
       rules_are = ap (λ (k : Contents). k.parts.rules) t.same;
       constraints_are = ap (λ (k : Contents). k.parts.constraints) t.same;
     }
@@ -273,24 +286,28 @@ module _ (bytes : List ℕ) (bounded : Bytes bytes) (contents : Contents) (taken
 
   zero_sum : sum ws % word_limit ≡ 0
   unfolding sums_to_zero ws
-  zero_sum = eqb-true (sum (words_of bytes) % word_limit) 0 t.checked.check
+  zero_sum = eqb-true (sum (words_of bytes) % word_limit) 0 t.checked.checked.check
+
+  right : weighted_right form (1 + rule_size + constraint_size) ws ≡ true
+  unfolding weights_right ws form rule_size constraint_size
+  right = t.checked.weights
 
   whole_same : image_words form (policy_in bytes) ≡ ws
   unfolding image_words
   whole_same =
       let n : ℕ = 1 + rule_size + constraint_size in
-      rw content_same (ap (λ (x : List ℕ). take n ws ++ x) (sym (checks_found form n ws words_small counted_all zero_sum)) ∙ take-append-drop n ws)
+      rw content_same (ap (λ (x : List ℕ). take n ws ++ x) (sym (checks_found form n ws words_small counted_all zero_sum right)) ∙ take-append-drop n ws)
 
   -- it is the image of the policy that it holds, byte for byte
   pub held_image : image_of (form_byte (words_of bytes)) (policy_in bytes) ≡ bytes
   unfolding image_of well_sized ws form
   held_image =
       ap bytes_of whole_same
-      ∙ bytes_of_words bytes bounded (eqb-true (length bytes % 4) 0 (and_out (leb 8 (length bytes) && leb (length bytes) size_limit) (eqb (length bytes % 4) 0) t.checked.size).1)
+      ∙ bytes_of_words bytes bounded (eqb-true (length bytes % 4) 0 (and_out (leb 8 (length bytes) && leb (length bytes) size_limit) (eqb (length bytes % 4) 0) t.checked.checked.size).1)
 
   -- and of a form that is known
   pub held_form : known_form (form_byte (words_of bytes)) ≡ true
-  held_form = t.checked.form
+  held_form = t.checked.checked.form
 
   -- the parts of a taken image are the words of its policy
   pub taken_rules : contents.parts.rules ≡ rule_part_words (policy_in bytes)
@@ -305,7 +322,7 @@ module _ (bytes : List ℕ) (bounded : Bytes bytes) (contents : Contents) (taken
 pub exactly_images : (bytes : List ℕ) → Bytes bytes → ((contents : Contents) × (load bytes ≡ Ok contents)) ↔ IsImage bytes
 exactly_images bytes bounded = (
   λ x. record { form = form_byte (words_of bytes); policy = policy_in bytes; known = held_form bytes bounded x.0 x.1; acceptable = held_acceptable bytes bounded x.0 x.1; same = held_image bytes bounded x.0 x.1 },
-  λ x. (contents_of x.policy, ap load (sym x.same) ∙ image_taken x.form x.known x.policy x.acceptable),
+  λ x. (contents_of x.form x.policy, ap load (sym x.same) ∙ image_taken x.form x.known x.policy x.acceptable),
 )
 
 -- ---- why and where bytes are refused
@@ -331,8 +348,9 @@ module _ (bytes : List ℕ) where
   fault_given r (unknown_form s f) = rw (s, f)
   fault_given r (wrong_count s f c) = rw (s, f, c)
   fault_given r (wrong_sum s f c q) = rw (s, f, c, q)
-  fault_given r (no_rule c n h) = rw (c.size, c.form, c.count, c.check, (rules_refused (words_of bytes) n).1 h)
-  fault_given r (no_constraint c rs w n h) = rw (c.size, c.form, c.count, c.check, (rules_whole (words_of bytes) rs).1 w, (constraints_refused (words_of bytes) n).1 h)
+  fault_given r (wrong_weights c w) = rw (c.size, c.form, c.count, c.check, w)
+  fault_given r (no_rule c n h) = rw (c.checked.size, c.checked.form, c.checked.count, c.checked.check, c.weights, (rules_refused (words_of bytes) n).1 h)
+  fault_given r (no_constraint c rs w n h) = rw (c.checked.size, c.checked.form, c.checked.count, c.checked.check, c.weights, (rules_whole (words_of bytes) rs).1 w, (constraints_refused (words_of bytes) n).1 h)
 
   -- and there is one wherever the loader refuses
   module _ (r : Refusal) (refused : load bytes ≡ Err r) where
@@ -345,18 +363,22 @@ module _ (bytes : List ℕ) where
         let same : s ≡ r = cc in
         subst (ImageFault bytes) same f
 
-    in_lines : Checked bytes → (x y : Result (List PolicyLine) ℕ) → rule_lines held ≡ x → constraint_lines held ≡ y → ImageFault bytes r
+    in_lines : Weighed bytes → (x y : Result (List PolicyLine) ℕ) → rule_lines held ≡ x → constraint_lines held ≡ y → ImageFault bytes r
     unfolding load load_words body_answer
     in_lines c (Err n) y p q = told _ (no_rule c n ((rules_refused held n).0 p))
     in_lines c (Ok rs) (Err n) p q = told _ (no_constraint c rs ((rules_whole held rs).0 p) n ((constraints_refused held n).0 q))
     in_lines c (Ok rs) (Ok cs) p q =
-        let taken : load bytes ≡ body_answer (rule_part held) (constraint_part held) (Ok rs) (Ok cs) = rw (c.size, c.form, c.count, c.check, p, q) in
-        let e : body_answer (rule_part held) (constraint_part held) (Ok rs) (Ok cs) ≡ Err r = sym taken ∙ refused in
+        let taken : load bytes ≡ body_answer (form_byte held) (rule_part held) (constraint_part held) (Ok rs) (Ok cs) = rw (c.checked.size, c.checked.form, c.checked.count, c.checked.check, c.weights, p, q) in
+        let e : body_answer (form_byte held) (rule_part held) (constraint_part held) (Ok rs) (Ok cs) ≡ Err r = sym taken ∙ refused in
         let z : ◌≡◌ {A = ℕ} 0 1 = cc in
         absurd (omega arith)
 
+    in_weights : Checked bytes → (b : Bool) → weights_right held ≡ b → ImageFault bytes r
+    in_weights c true q = in_lines (record { checked = c; weights = q }) (rule_lines held) (constraint_lines held) refl refl
+    in_weights c false q = told _ (wrong_weights c q)
+
     in_sum : well_sized (length bytes) ≡ true → known_form (form_byte held) ≡ true → counts_fit held ≡ true → (b : Bool) → sums_to_zero held ≡ b → ImageFault bytes r
-    in_sum s f c true q = in_lines (record { size = s; form = f; count = c; check = q }) (rule_lines held) (constraint_lines held) refl refl
+    in_sum s f c true q = in_weights (record { size = s; form = f; count = c; check = q }) (weights_right held) refl
     in_sum s f c false q = told _ (wrong_sum s f c q)
 
     in_count : well_sized (length bytes) ≡ true → known_form (form_byte held) ≡ true → (b : Bool) → counts_fit held ≡ b → ImageFault bytes r
@@ -377,6 +399,27 @@ module _ (bytes : List ℕ) where
   -- and no other fault
   pub one_image_fault : (r s : Refusal) → ImageFault bytes r → ImageFault bytes s → r ≡ s
   one_image_fault r s a b = let e : refused_with r ≡ refused_with s = sym (fault_given r a) ∙ fault_given s b in cc
+
+-- fault 16 is given exactly where the checks 7 to 10 pass and the weighted sum is wrong
+pub weights_exactly : (bytes : List ℕ) → (load bytes ≡ Err (refusal Fault.ImageWeightedSum 0)) ↔ (Checked bytes × (weights_right (words_of bytes) ≡ false))
+unfolding body_answer
+weights_exactly bytes = (λ e. go e (answered bytes), λ x. fault_given bytes _ (wrong_weights x.0 x.1))
+  where
+    number : Refusal → ℕ
+    number x = fault_number x.fault
+
+    body : (x y : Result (List PolicyLine) ℕ) → body_answer (form_byte (words_of bytes)) (rule_part (words_of bytes)) (constraint_part (words_of bytes)) x y ≡ Err (refusal Fault.ImageWeightedSum 0) → ⊥
+    body (Err n) y q = let k : refusal Fault.ImageBody n ≡ refusal Fault.ImageWeightedSum 0 = cc in omega (arith, ap number k)
+    body (Ok rs) (Err n) q = let k : refusal Fault.ImageBody n ≡ refusal Fault.ImageWeightedSum 0 = cc in omega (arith, ap number k)
+    body (Ok rs) (Ok cs) q = let z : ◌≡◌ {A = ℕ} 0 1 = cc in omega arith
+
+    go : load bytes ≡ Err (refusal Fault.ImageWeightedSum 0) → Answered bytes → Checked bytes × (weights_right (words_of bytes) ≡ false)
+    go e (weighted c w q) = (c, w)
+    go e (early x) =
+        let a : refused_with (refusal Fault.ImageWeightedSum 0) ≡ refused_with (refusal x.fault 0) = sym e ∙ x.refused in
+        let k : refusal Fault.ImageWeightedSum 0 ≡ refusal x.fault 0 = cc in
+        absurd (omega (arith, ap number k, x.upto))
+    go e (late c q) = absurd (body (rule_lines (words_of bytes)) (constraint_lines (words_of bytes)) (sym q ∙ e))
 
 -- ---- which refusals there are
 
@@ -402,13 +445,13 @@ refusals bytes r e = go (answered bytes)
         let k : refusal Fault.ImageBody n ≡ r = cc in
         of_body (source_of n q) (sym (ap number k)) (omega (arith, ap (λ (x : Refusal). x.location) k)) (omega (arith, ap (λ (x : Refusal). x.location) k))
 
-    body : Checked bytes → (x y : Result (List PolicyLine) ℕ) → rule_lines ws' ≡ x → constraint_lines ws' ≡ y → body_answer (rule_part ws') (constraint_part ws') x y ≡ Err r → RefusalOf (length ws') r
+    body : Weighed bytes → (x y : Result (List PolicyLine) ℕ) → rule_lines ws' ≡ x → constraint_lines ws' ≡ y → body_answer (form_byte ws') (rule_part ws') (constraint_part ws') x y ≡ Err r → RefusalOf (length ws') r
     body c (Err n) y p q s =
-        let k = counted ws' c.count in
+        let k = counted ws' c.checked.count in
         let a = among Part.Rules 128 1 n (rule_part ws') ((rules_refused ws' n).0 p) in
         given n s a.0 (omega (arith, a.1, rules_size ws' (rule_words ws') (constraint_words ws') (omega (arith, k.all)), k.all, checks_few (form_byte ws')))
     body c (Ok rs) (Err n) p q s =
-        let k = counted ws' c.count in
+        let k = counted ws' c.checked.count in
         let a = among Part.Constraints 64 (1 + rule_words ws') n (constraint_part ws') ((constraints_refused ws' n).0 q) in
         given n s (omega (arith, a.0)) (omega (arith, a.1, constraints_size ws' (rule_words ws') (constraint_words ws') (omega (arith, k.all)), k.all, checks_few (form_byte ws')))
     body c (Ok rs) (Ok cs) p q s = let z : ◌≡◌ {A = ℕ} 0 1 = cc in absurd (omega arith)
@@ -418,11 +461,15 @@ refusals bytes r e = go (answered bytes)
         let a : refused_with r ≡ refused_with (refusal x.fault 0) = sym e ∙ x.refused in
         let k : r ≡ refusal x.fault 0 = cc in
         of_checks (ap (λ (y : Refusal). y.source) k) (omega (arith, ap number k, x.from)) (omega (arith, ap number k, x.upto)) (ap (λ (y : Refusal). y.location) k)
+    go (weighted c w x) =
+        let a : refused_with r ≡ refused_with (refusal Fault.ImageWeightedSum 0) = sym e ∙ x in
+        let k : r ≡ refusal Fault.ImageWeightedSum 0 = cc in
+        of_weights (ap (λ (y : Refusal). y.source) k) (ap number k) (ap (λ (y : Refusal). y.location) k)
     go (late c q) = body c (rule_lines ws') (constraint_lines ws') refl refl (sym q ∙ e)
 
 -- ---- one word changed
 
-set_below : (ws : List ℕ) (i v : ℕ) → v < word_limit → Below word_limit ws → Below word_limit (set ws i v)
+pub set_below : (ws : List ℕ) (i v : ℕ) → v < word_limit → Below word_limit ws → Below word_limit (set ws i v)
 set_below [] i v h b j = b j
 set_below (w ∷ ws) zero v h b zero = h
 set_below (w ∷ ws) zero v h b (suc j) = b (suc j)
@@ -447,10 +494,14 @@ one_word_changed bytes bounded ok i v l small other = go (answered (changed byte
     words : List ℕ
     words = set (words_of bytes) i v
 
-    go : Answered (changed bytes i v) → RefusedEarly (load (changed bytes i v))
-    go (early r) = r
-    go (late c q) =
+    differs : Checked (changed bytes i v) → ⊥
+    differs c =
         let e = changed_words bytes bounded i v small in
         let a : sum words % word_limit ≡ 0 = ap (λ (ws : List ℕ). sum ws % word_limit) (sym e) ∙ eqb-true (sum (words_of (changed bytes i v)) % word_limit) 0 c.check in
         let b : sum (words_of bytes) % word_limit ≡ 0 = eqb-true (sum (words_of bytes) % word_limit) 0 ok.check in
-        absurd (other (same_word (sum (words_of bytes)) (sum words) (word_at bytes i) v a b (sum_set (words_of bytes) i v l) small (words_below bytes bounded i)))
+        other (same_word (sum (words_of bytes)) (sum words) (word_at bytes i) v a b (sum_set (words_of bytes) i v l) small (words_below bytes bounded i))
+
+    go : Answered (changed bytes i v) → RefusedEarly (load (changed bytes i v))
+    go (early r) = r
+    go (weighted c w e) = absurd (differs c)
+    go (late c q) = absurd (differs c.checked)

@@ -9,9 +9,9 @@ use Rattle.policy.specs.declared.line.Part.{Part}
 use Rattle.word.specs.Word.{words_of}
 use Rattle.layout.specs.Layout.{known_form}
 use Rattle.decode.specs.Stands.{Stands, AreLines}
-use Rattle.image.specs.Check.{form_byte, rule_words, well_sized, counts_fit, sums_to_zero}
+use Rattle.image.specs.Check.{form_byte, rule_words, well_sized, counts_fit, sums_to_zero, weights_right}
 use Rattle.image.specs.Lines.{rule_part, constraint_part}
-use Rattle.exactness.specs.Exact.{Checked}
+use Rattle.exactness.specs.Exact.{Checked, Weighed}
 
 -- a location in a part up to which there are whole lines, and at which none fits: `ws` are the words of the part, of which the first has
 -- the index `from`, and there is room for so many lines
@@ -35,8 +35,9 @@ pub data ImageFault (bytes : List ℕ) : Refusal → Type 0 where
       → ImageFault bytes (refusal Fault.ImageCount 0)
   wrong_sum : well_sized (length bytes) ≡ true → known_form (form_byte (words_of bytes)) ≡ true → counts_fit (words_of bytes) ≡ true → sums_to_zero (words_of bytes) ≡ false
       → ImageFault bytes (refusal Fault.ImageSum 0)
-  no_rule : Checked bytes → (location : ℕ) → NoLineAt Part.Rules rule_limit 1 (rule_part (words_of bytes)) location
+  wrong_weights : Checked bytes → weights_right (words_of bytes) ≡ false → ImageFault bytes (refusal Fault.ImageWeightedSum 0)
+  no_rule : Weighed bytes → (location : ℕ) → NoLineAt Part.Rules rule_limit 1 (rule_part (words_of bytes)) location
       → ImageFault bytes (refusal Fault.ImageBody location)
-  no_constraint : Checked bytes → (rules : List PolicyLine) → AreLines Part.Rules rule_limit (rule_part (words_of bytes)) rules
+  no_constraint : Weighed bytes → (rules : List PolicyLine) → AreLines Part.Rules rule_limit (rule_part (words_of bytes)) rules
       → (location : ℕ) → NoLineAt Part.Constraints constraint_limit (1 + rule_words (words_of bytes)) (constraint_part (words_of bytes)) location
       → ImageFault bytes (refusal Fault.ImageBody location)

@@ -2,11 +2,11 @@
 -- one word changed is refused.
 use Rattle.std.specs.Prelude.{Option, Some, option_map}
 use Rattle.policy.specs.declared.fault.Refusal.{Refusal}
-use Rattle.std.proofs.Common.{ℕ, ◌%◌, ◌<◌, true, List, [], ◌∷◌, ◌↔◌, ◌≡◌, refl, sym, ap, ap₂, ◌∙◌, arith, length, take, Result, Ok, Err}
+use Rattle.std.proofs.Common.{ℕ, ◌+◌, ◌%◌, ◌<◌, ◌≤◌, subst, true, List, [], ◌∷◌, ◌↔◌, ◌≡◌, refl, sym, ap, ap₂, ◌∙◌, arith, length, take, Result, Ok, Err}
 use Rattle.std.proofs.Math.Path.{subst⁻¹}
 use Rattle.std.proofs.Math.ListN.{set}
 use Rattle.policy.specs.declared.epoch.Epoch.{Epoch}
-use Rattle.policy.specs.Fault.{refusal}
+use Rattle.policy.specs.Fault.{fault_number, refusal}
 use Rattle.policy.specs.Limits.{Acceptable}
 use Rattle.policy.specs.Policy.{Policy}
 use Rattle.policy.specs.declared.fault.Fault.{Fault}
@@ -14,7 +14,10 @@ use Rattle.policy.specs.declared.mode.Mode.{Mode}
 use Rattle.epoch_line.specs.Epoch.{read_epoch}
 use Rattle.rule_text.specs.Text.{policy_of, policy_of_texts}
 use Rattle.exactness.proofs.Exact.{changed_words, changed_length}
-use Rattle.exactness.specs.Exact.{changed}
+use Rattle.exactness.proofs.Swaps.{exchanged_length, exchanged_words}
+use Rattle.exactness.specs.Exact.{changed, exchanged, exchange_fault, exchange_fault}
+use Rattle.image.specs.Check.{rule_words, constraint_words}
+use Rattle.std.specs.List.{swap}
 use Rattle.word.proofs.WordLaws.{bytes_length, bytes_below}
 use Rattle.word.specs.Word.{word_limit, bytes_of, words_of, word_at}
 use Rattle.layout.specs.Layout.{known_form, image_words, image_of}
@@ -24,10 +27,10 @@ use Rattle.policy.specs.Fill.{Filled}
 use Rattle.pdl.specs.Answer.{Answer}
 use Rattle.pdl.specs.Pdl.{Reducible}
 use Rattle.pdl.specs.Reduction.{proposed_with, kept_events}
-use Rattle.guarantees.proofs.Decisions.{written_refuses, written_yields, written_obeys, written_best, written_changed}
+use Rattle.guarantees.proofs.Decisions.{written_refuses, written_yields, written_obeys, written_best, written_changed, written_exchanged}
 use Rattle.guarantees.proofs.Reductions.{written_reduces, written_conflict, written_obeys_events}
 use Rattle.monitor.specs.Decision.{decision_in, decision, answer_of}
-use Rattle.guarantees.specs.Decisions.{CheckFailed, Obeys, IsBest, ObeysEvents}
+use Rattle.guarantees.specs.Decisions.{CheckFailed, RefusedUnder, Obeys, IsBest, ObeysEvents}
 use Rattle.guarantees.specs.Claims.{CompilesTo, TextsCompileTo, answers}
 use Rattle.guarantees.specs.Machine.{yield_in, answer, step, steps, ToldLine, machine_of, machine, machine_of_texts}
 
@@ -97,6 +100,20 @@ module _ (form : ℕ) (known : Option Policy) (image : List ℕ) (t : ImageOf fo
       let whole : length (bytes_of words) % 4 ≡ 0 = omega (arith, bytes_length words) in
       rw t.same (changed_length (bytes_of words) i v whole, changed_words (bytes_of words) (bytes_below words) i v h)
 
+  refuses_swap : (form ≡ 1 → ⊥) → (i : ℕ) → i + 1 ≤ rule_words (words_of image) + constraint_words (words_of image) → (word_at image i ≡ word_at image (i + 1) → ⊥)
+      → (mode : Mode) (line : List ℕ) → RefusedUnder (fault_number (exchange_fault i)) (answer_of (decision_in mode (exchanged image i) line))
+  refuses_swap newer =
+      subst⁻¹ (λ (x : List ℕ). (i : ℕ) → i + 1 ≤ rule_words (words_of x) + constraint_words (words_of x) → (word_at x i ≡ word_at x (i + 1) → ⊥)
+      → (mode : Mode) (line : List ℕ) → RefusedUnder (fault_number (exchange_fault i)) (answer_of (decision_in mode (exchanged x i) line)))
+      t.same (written_exchanged form t.form_known t.policy t.acceptable newer)
+
+  exchanges_two : (i : ℕ) → i + 1 < length (words_of image) → (length (exchanged image i) ≡ length image) × (words_of (exchanged image i) ≡ swap (words_of image) i (i + 1))
+  unfolding image_of
+  exchanges_two i h =
+      let words : List ℕ = image_words form t.policy in
+      let whole : length (bytes_of words) % 4 ≡ 0 = omega (arith, bytes_length words) in
+      rw t.same (exchanged_length (bytes_of words) i whole, exchanged_words (bytes_of words) (bytes_below words) i (subst (λ (x : List ℕ). i + 1 < length (words_of x)) t.same h))
+
   obeys : (p : Policy) → known ≡ Some p → (line : List ℕ) (e : Epoch) → read_epoch line ≡ Ok e → Obeys p e (answer_of (decision image line))
   obeys p q line e r =
       let k : Some p ≡ Some t.policy = sym q ∙ t.read in
@@ -149,6 +166,19 @@ change_only form text image c = changes_one form (policy_of text) image (image_o
 
 pub texts_change_only : (form : ℕ) (maker site image : List ℕ) → TextsCompileTo form maker site image → (i v : ℕ) → v < word_limit → (length (changed image i v) ≡ length image) × (words_of (changed image i v) ≡ set (words_of image) i v)
 texts_change_only form maker site image c = changes_one form (policy_of_texts maker site) image (image_of_texts form maker site image c)
+
+-- two neighbours in each other's place
+pub swap_refused : (form : ℕ) → ¬ (form ≡ 1) → (text image : List ℕ) → CompilesTo form text image → (i : ℕ) → i + 1 ≤ rule_words (words_of image) + constraint_words (words_of image)
+    → ¬ (word_at image i ≡ word_at image (i + 1)) → (mode : Mode) (line : List ℕ) → RefusedUnder (fault_number (exchange_fault i)) (answer_of (decision_in mode (exchanged image i) line))
+swap_refused form newer text image c = refuses_swap form (policy_of text) image (image_of_text form text image c) newer
+
+pub texts_swap_refused : (form : ℕ) → ¬ (form ≡ 1) → (maker site image : List ℕ) → TextsCompileTo form maker site image → (i : ℕ) → i + 1 ≤ rule_words (words_of image) + constraint_words (words_of image)
+    → ¬ (word_at image i ≡ word_at image (i + 1)) → (mode : Mode) (line : List ℕ) → RefusedUnder (fault_number (exchange_fault i)) (answer_of (decision_in mode (exchanged image i) line))
+texts_swap_refused form newer maker site image c = refuses_swap form (policy_of_texts maker site) image (image_of_texts form maker site image c) newer
+
+pub swap_only : (form : ℕ) (maker site image : List ℕ) → TextsCompileTo form maker site image → (i : ℕ) → i + 1 < length (words_of image)
+    → (length (exchanged image i) ≡ length image) × (words_of (exchanged image i) ≡ swap (words_of image) i (i + 1))
+swap_only form maker site image c = exchanges_two form (policy_of_texts maker site) image (image_of_texts form maker site image c)
 
 -- ---- what the policy asks of a decision, on the image of two texts
 

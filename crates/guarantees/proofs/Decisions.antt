@@ -1,11 +1,12 @@
 -- What holds of every decision: when it is refused and what it then carries, that it is what the image's policy yields in the first
 -- mode, and that an image in which one word was changed is refused. Of the second mode speaks Reductions.
-use Rattle.std.proofs.Common.{ℕ, ◌<◌, true, List, [], map, ◌⊎◌, inl, inr, ◌≡◌, refl, sym, ap, ◌∙◌, subst, arith, length, Result, Ok, Err}
+use Rattle.std.proofs.Common.{ℕ, zero, suc, ◌+◌, ◌<◌, ◌≤◌, true, List, [], map, ◌⊎◌, inl, inr, ◌≡◌, refl, sym, ap, ◌∙◌, subst, arith, length, Result, Ok, Err}
 use Rattle.std.proofs.lemmas.List.Folds.{list_all-map}
 use Rattle.policy.proofs.ListLaws.{all_out}
 use Rattle.policy.proofs.ValidLaws.{valid_out}
 use Rattle.policy.specs.declared.epoch.Epoch.{Epoch}
-use Rattle.policy.specs.Fault.{refusal}
+use Rattle.policy.specs.Fault.{fault_number, refusal}
+use Rattle.policy.specs.declared.fault.Fault.{Fault}
 use Rattle.policy.specs.Limits.{valid, Acceptable}
 use Rattle.policy.specs.Line.{constraint, heads_of}
 use Rattle.policy.specs.List.{all}
@@ -28,13 +29,15 @@ use Rattle.image.specs.Held.{policy_in}
 use Rattle.layout.specs.Layout.{known_form, image_of}
 use Rattle.image.specs.Load.{load, Contents}
 use Rattle.exactness.proofs.Exact.{refusals, took, image_taken, one_word_changed}
-use Rattle.exactness.specs.Exact.{contents_of, changed, Checked, RefusedEarly}
+use Rattle.exactness.proofs.Swaps.{written_swapped}
+use Rattle.image.specs.Check.{rule_words, constraint_words}
+use Rattle.exactness.specs.Exact.{contents_of, changed, exchanged, exchange_fault, Checked, RefusedEarly}
 use Rattle.meaning.proofs.Decided.{decided_is, image_bounded, image_refuses_in, image_decides}
 use Rattle.meaning.proofs.Taken.{Implements, written_implements, taken_implements}
 use Rattle.monitor.proofs.DecideLaws.{image_refused, line_refused}
 use Rattle.monitor.specs.Decision.{decided_by, on_image, decision_in, decision, answer_of}
 use Rattle.monitor.specs.declared.decision.Actions.{Actions}
-use Rattle.guarantees.specs.Decisions.{RefusedFor, the_image, the_line, OfDecision, of_image, of_line, CheckFailed, NotRefused, yield_of, Obeys, IsBest}
+use Rattle.guarantees.specs.Decisions.{RefusedFor, the_image, the_line, OfDecision, of_image, of_line, CheckFailed, RefusedUnder, NotRefused, yield_of, Obeys, IsBest}
 
 -- ---- refusals
 
@@ -136,6 +139,12 @@ image_changed image bounded ok i v l small other mode line = go (one_word_change
         (image_refused mode (changed image i v) line (refusal r.fault 0) r.refused)
         (record { is_refused = refl; from = r.from; upto = r.upto; text = refl; location = refl; accepts = refl; cancels = refl })
 
+-- an image that is refused under a fault at location 0 is refused so whatever the line and its mode
+pub refused_under : (image : List ℕ) (f : Fault) → load image ≡ Err (refusal f 0) → (mode : Mode) (line : List ℕ) → RefusedUnder (fault_number f) (answer_of (decision_in mode image line))
+refused_under image f e mode line =
+    subst (λ (d : Result Actions Refusal). RefusedUnder (fault_number f) (answer_of d)) (image_refused mode image line (refusal f 0) e)
+    (record { is_refused = refl; under = refl; text = refl; location = refl; accepts = refl; cancels = refl })
+
 -- ---- the image of a policy that an accepted text may have
 
 module _ (form : ℕ) (known : known_form form ≡ true) (p : Policy) (ok : Acceptable p) where
@@ -149,12 +158,19 @@ module _ (form : ℕ) (known : known_form form ≡ true) (p : Policy) (ok : Acce
   written_yields line e q = ap answer_of (image_decides form known p ok line e q)
 
   pub written_obeys : (line : List ℕ) (e : Epoch) → read_epoch line ≡ Ok e → Obeys p e (answer_of (decision (image_of form p) line))
-  written_obeys = obeys_policy (image_of form p) (contents_of p) p (written_implements form known p ok)
+  written_obeys = obeys_policy (image_of form p) (contents_of form p) p (written_implements form known p ok)
 
   pub written_best : (line : List ℕ) (e : Epoch) → read_epoch line ≡ Ok e → IsBest p e (answer_of (decision (image_of form p) line)).accepted
-  written_best = best_policy (image_of form p) (contents_of p) p (written_implements form known p ok)
+  written_best = best_policy (image_of form p) (contents_of form p) p (written_implements form known p ok)
 
   -- with any other value in the place of one word it is refused whatever the line and its mode
   pub written_changed : (i v : ℕ) → i < length (words_of (image_of form p)) → v < word_limit → ¬ (v ≡ word_at (image_of form p) i)
       → (mode : Mode) (line : List ℕ) → CheckFailed (answer_of (decision_in mode (changed (image_of form p) i v) line))
-  written_changed = image_changed (image_of form p) (image_bounded form known p ok) (took (image_of form p) (contents_of p) (image_taken form known p ok)).checked
+  written_changed = image_changed (image_of form p) (image_bounded form known p ok) (took (image_of form p) (contents_of form p) (image_taken form known p ok)).checked.checked
+
+  -- with two neighbours in each other's place, in a form that has a weighted word
+  pub written_exchanged : (form ≡ 1 → ⊥) → (i : ℕ) → i + 1 ≤ rule_words (words_of (image_of form p)) + constraint_words (words_of (image_of form p))
+      → (word_at (image_of form p) i ≡ word_at (image_of form p) (i + 1) → ⊥)
+      → (mode : Mode) (line : List ℕ) → RefusedUnder (fault_number (exchange_fault i)) (answer_of (decision_in mode (exchanged (image_of form p) i) line))
+  written_exchanged newer zero inside differ = refused_under _ Fault.ImageForm (written_swapped form known newer p ok 0 inside differ)
+  written_exchanged newer (suc i) inside differ = refused_under _ Fault.ImageWeightedSum (written_swapped form known newer p ok (suc i) inside differ)

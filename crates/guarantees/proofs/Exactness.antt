@@ -9,8 +9,8 @@ use Rattle.policy.specs.List.{all}
 use Rattle.policy.specs.Policy.{Policy}
 use Rattle.policy.specs.declared.fault.Fault.{Fault}
 use Rattle.policy.specs.declared.fault.Refusal.{Refusal}
-use Rattle.exactness.proofs.Exact.{exactly_images, image_refused_exactly, image_taken, held_acceptable, held_image, held_form, refused_with, Answered, early, late, answered}
-use Rattle.exactness.specs.Exact.{contents_of, Checked}
+use Rattle.exactness.proofs.Exact.{exactly_images, image_refused_exactly, image_taken, took, held_acceptable, held_image, held_form, refused_with, Answered, early, weighted, late, answered}
+use Rattle.exactness.specs.Exact.{contents_of, Weighed}
 use Rattle.exactness.specs.ImageFault.{ImageFault}
 use Rattle.layout.specs.Layout.{known_form, image_of}
 use Rattle.image.specs.Check.{form_byte}
@@ -57,42 +57,47 @@ taken_exactly bytes bounded = (there, back)
     back : SomeText bytes → (contents : Contents) × (load bytes ≡ Ok contents)
     back x =
         let t = image_of_text x.form x.text bytes x.compiles in
-        (contents_of t.policy, ap load t.same ∙ image_taken x.form t.form_known t.policy t.acceptable)
+        (contents_of x.form t.policy, ap load t.same ∙ image_taken x.form t.form_known t.policy t.acceptable)
 
 -- compiling what was loaded: the text printed from the policy that a taken image holds compiles to that image, in its form
-pub loaded_compiles : (bytes : List ℕ) → Bytes bytes → (contents : Contents) → load bytes ≡ Ok contents → CompilesTo (form_byte (words_of bytes)) (text_of (policy_in bytes)) bytes
+pub loaded_compiles : (bytes : List ℕ) → Bytes bytes → (contents : Contents) → load bytes ≡ Ok contents → CompilesTo contents.form (text_of (policy_in bytes)) bytes
 loaded_compiles bytes bounded contents taken =
     let form = form_byte (words_of bytes) in
-    subst (CompilesTo form (text_of (policy_in bytes))) (held_image bytes bounded contents taken)
-    (printed_compiles form (held_form bytes bounded contents taken) (policy_in bytes) (held_acceptable bytes bounded contents taken))
+    rw (took bytes contents taken).form_is
+    (subst (CompilesTo form (text_of (policy_in bytes))) (held_image bytes bounded contents taken)
+    (printed_compiles form (held_form bytes bounded contents taken) (policy_in bytes) (held_acceptable bytes bounded contents taken)))
 
--- fault 11 is given exactly if the checks 7 to 10 pass and no accepted text compiles to the bytes
-pub body_exactly : (bytes : List ℕ) → Bytes bytes → ((location : ℕ) × (load bytes ≡ Err (refusal Fault.ImageBody location))) ↔ (Checked bytes × ¬ SomeText bytes)
+-- fault 11 is given exactly if the checks 7 to 10 and 16 pass and no accepted text compiles to the bytes
+pub body_exactly : (bytes : List ℕ) → Bytes bytes → ((location : ℕ) × (load bytes ≡ Err (refusal Fault.ImageBody location))) ↔ (Weighed bytes × ¬ SomeText bytes)
 unfolding body_answer load load_words
 body_exactly bytes bounded = (there, back)
   where
     image_not : (location : ℕ) (contents : Contents) → load bytes ≡ Err (refusal Fault.ImageBody location) → load bytes ≡ Ok contents → ⊥
     image_not location contents p q = let e : Ok contents ≡ Err (refusal Fault.ImageBody location) = sym q ∙ p in let z : ◌≡◌ {A = ℕ} 0 1 = cc in omega arith
 
-    checked : (location : ℕ) → load bytes ≡ Err (refusal Fault.ImageBody location) → Answered bytes → Checked bytes
+    checked : (location : ℕ) → load bytes ≡ Err (refusal Fault.ImageBody location) → Answered bytes → Weighed bytes
     checked location e (late c q) = c
     checked location e (early r) =
         let a : refused_with (refusal Fault.ImageBody location) ≡ refused_with (refusal r.fault 0) = sym e ∙ r.refused in
         let same : refusal Fault.ImageBody location ≡ refusal r.fault 0 = cc in
         let b : Fault.ImageBody ≡ r.fault = ap (λ (x : Refusal). x.fault) same in
         absurd (omega (arith, ap fault_number b, r.upto))
+    checked location e (weighted c w q) =
+        let a : refused_with (refusal Fault.ImageBody location) ≡ refused_with (refusal Fault.ImageWeightedSum 0) = sym e ∙ q in
+        let same : refusal Fault.ImageBody location ≡ refusal Fault.ImageWeightedSum 0 = cc in
+        absurd (omega (arith, ap (λ (x : Refusal). fault_number x.fault) same))
 
-    body : (rs cs : Result (List PolicyLine) ℕ) → load bytes ≡ body_answer (rule_part (words_of bytes)) (constraint_part (words_of bytes)) rs cs → ¬ SomeText bytes
+    body : (rs cs : Result (List PolicyLine) ℕ) → load bytes ≡ body_answer (form_byte (words_of bytes)) (rule_part (words_of bytes)) (constraint_part (words_of bytes)) rs cs → ¬ SomeText bytes
         → (location : ℕ) × (load bytes ≡ Err (refusal Fault.ImageBody location))
     body (Ok rs) (Ok cs) e n = absurd (n ((taken_exactly bytes bounded).0 (_, e)))
     body (Ok rs) (Err at) e n = (at, e)
     body (Err at) cs e n = (at, e)
 
-    there : (location : ℕ) × (load bytes ≡ Err (refusal Fault.ImageBody location)) → Checked bytes × ¬ SomeText bytes
+    there : (location : ℕ) × (load bytes ≡ Err (refusal Fault.ImageBody location)) → Weighed bytes × ¬ SomeText bytes
     there x = (checked x.0 x.1 (answered bytes), λ s. let t = (taken_exactly bytes bounded).1 s in image_not x.0 t.0 x.1 t.1)
 
-    back : Checked bytes × ¬ SomeText bytes → (location : ℕ) × (load bytes ≡ Err (refusal Fault.ImageBody location))
-    back x = body (rule_lines (words_of bytes)) (constraint_lines (words_of bytes)) (rw (x.0.size, x.0.form, x.0.count, x.0.check)) x.1
+    back : Weighed bytes × ¬ SomeText bytes → (location : ℕ) × (load bytes ≡ Err (refusal Fault.ImageBody location))
+    back x = body (rule_lines (words_of bytes)) (constraint_lines (words_of bytes)) (rw (x.0.checked.size, x.0.checked.form, x.0.checked.count, x.0.checked.check, x.0.weights)) x.1
 
 -- what has no fault is taken, and so some text compiles to it
 pub faulty_exactly : (bytes : List ℕ) → Bytes bytes → ((r : Refusal) × ImageFault bytes r) ↔ (¬ SomeText bytes)

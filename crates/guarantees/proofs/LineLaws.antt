@@ -1,12 +1,10 @@
 -- Deciding a list of lines one after another.
 use Rattle.policy.specs.declared.fault.Refusal.{Refusal}
-use Rattle.std.proofs.Common.{ℕ, ◌≡◌, ◌<◌, ◌+◌, List, [], ◌∷◌, take, map, length, min, refl, ap, ap₂, arith, suc, zero, slice_index_or, slice_set, Result}
+use Rattle.std.proofs.Common.{ℕ, ◌≡◌, ◌<◌, ◌+◌, List, [], ◌∷◌, take, map, length, min, refl, ap, ap₂, arith, true, suc, zero, slice_index_or, slice_set, Result}
 use Rattle.std.proofs.Math.Numerals.{unary_clauses}
 use Rattle.policy.specs.Policy.{Policy}
 use Rattle.policy.specs.Limits.{Acceptable}
-use Rattle.layout.specs.Layout.{image_of}
-use Rattle.codegen.proofs.AcceptedLaws.{newest_known}
-use Rattle.codegen.specs.Compile.{newest_form}
+use Rattle.layout.specs.Layout.{known_form, image_of}
 use Rattle.monitor.specs.Decision.{decision_in, answer_of}
 use Rattle.monitor.specs.declared.decision.Actions.{Actions}
 use Rattle.pdl.specs.Answer.{Answer}
@@ -34,9 +32,9 @@ all_done image (x ∷ lines) [] (suc n) h = refl
 all_done image (x ∷ lines) (d ∷ ds) zero h = absurd (omega (arith, h))
 all_done image (x ∷ lines) (d ∷ ds) (suc n) h = ap (λ r. decision_in x.mode image x.line.now ∷ r) (all_done image lines ds n (omega (arith, h)))
 
-module _ (p : Policy) (ok : Acceptable p) where
+module _ (form : ℕ) (known : known_form form ≡ true) (p : Policy) (ok : Acceptable p) where
   lines_agree : (lines : List Told) (ds : List (Result Actions Refusal)) (n : ℕ) → n ≡ min (length lines) (length ds)
-      → map answer_of (take n (decided_lines (image_of newest_form p) lines ds)) ≡ steps p (take (length ds) (told lines))
+      → map answer_of (take n (decided_lines (image_of form p) lines ds)) ≡ steps p (take (length ds) (told lines))
   unfolding decided_lines told steps
   lines_agree [] [] zero h = refl
   lines_agree [] (d ∷ ds) zero h = refl
@@ -45,8 +43,8 @@ module _ (p : Policy) (ok : Acceptable p) where
   lines_agree (x ∷ lines) [] (suc n) h = refl
   lines_agree (x ∷ lines) (d ∷ ds) zero h = absurd (omega (arith, h))
   lines_agree (x ∷ lines) (d ∷ ds) (suc n) h =
-      ap₂ (λ (a : Answer) (rest : List Answer). a ∷ rest) (same_answer newest_form newest_known p ok x.mode x.line.now) (lines_agree lines ds n (omega (arith, h)))
+      ap₂ (λ (a : Answer) (rest : List Answer). a ∷ rest) (same_answer form known p ok x.mode x.line.now) (lines_agree lines ds n (omega (arith, h)))
 
   pub decided_agree : (lines : List Told) (ds : List (Result Actions Refusal))
-      → map answer_of (take (min (length lines) (length ds)) (decided_lines (image_of newest_form p) lines ds)) ≡ steps p (take (length ds) (told lines))
+      → map answer_of (take (min (length lines) (length ds)) (decided_lines (image_of form p) lines ds)) ≡ steps p (take (length ds) (told lines))
   decided_agree lines ds = lines_agree lines ds _ refl

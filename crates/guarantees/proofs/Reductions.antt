@@ -132,14 +132,14 @@ module _ (form : ℕ) (known : known_form form ≡ true) (p : Policy) (ok : Acce
   abbrev image : List ℕ
   image = image_of form p
 
-  written : Implements image (contents_of p) p
+  written : Implements image (contents_of form p) p
   written = written_implements form known p ok
 
   pub written_reduces : answer_of (decision_in Mode.Events image line) ≡ yield_in Mode.Events p e
-  written_reduces = reduces_policy image (contents_of p) p written line e read
+  written_reduces = reduces_policy image (contents_of form p) p written line e read
 
   pub written_conflict : (decision_in Mode.Events image line ≡ Err (refusal Fault.Unavoidable 0)) ↔ ¬ Reducible p.constraints (proposed_with p.rules) e
-  written_conflict = conflict_exactly image (contents_of p) p written line e read
+  written_conflict = conflict_exactly image (contents_of form p) p written line e read
 
   pub written_obeys_events : Reducible p.constraints (proposed_with p.rules) e → ObeysEvents p e (kept_events p e) (answer_of (decision_in Mode.Events image line))
-  written_obeys_events = obeys_events image (contents_of p) p written line e read
+  written_obeys_events = obeys_events image (contents_of form p) p written line e read

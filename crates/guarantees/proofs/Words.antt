@@ -107,7 +107,7 @@ counts : (image : List ℕ) (contents : Contents) → load image ≡ Ok contents
 counts image contents q =
     let t = took image contents q in
     let ws = words_of image in
-    let c = counted ws t.checked.count in
+    let c = counted ws t.checked.checked.count in
     let room : 1 + rule_words ws + constraint_words ws ≤ length ws = omega (arith, c.all) in (
       omega (arith, ap length t.rules_are, rules_size ws (rule_words ws) (constraint_words ws) room, c.rules),
       omega (arith, ap length t.constraints_are, constraints_size ws (rule_words ws) (constraint_words ws) room, c.constraints),

@@ -55,6 +55,15 @@ pub record CheckFailed (a : Answer) : Type 0 where
   pub accepts : a.accepted ≡ no_actions
   pub cancels : a.cancelled ≡ no_actions
 
+-- refused under a number alone, in no text, at location 0 and with empty sets
+pub record RefusedUnder (number : ℕ) (a : Answer) : Type 0 where
+  pub is_refused : a.is_refused ≡ true
+  pub under : a.number ≡ number
+  pub text : a.text ≡ 0
+  pub location : a.location ≡ 0
+  pub accepts : a.accepted ≡ no_actions
+  pub cancels : a.cancelled ≡ no_actions
+
 -- not refused, with the number and the place of no fault
 pub record NotRefused (a : Answer) : Type 0 where
   pub is_refused : a.is_refused ≡ false

@@ -8,7 +8,6 @@ use Rattle.pdl.specs.Answer.{Answer, issues}
 use Rattle.lexer.specs.Byte.{bytes}
 use Rattle.rule_text.specs.Text.{policy_of}
 use Rattle.layout.specs.Layout.{image_words}
-use Rattle.codegen.specs.Compile.{newest_form}
 use Rattle.guarantees.specs.Machine.{ToldLine, machine}
 
 pub record ModeLine : Type 0 where
@@ -23,7 +22,7 @@ by_events line = record { mode = Mode.Events; line = line }
 
 pub data Example : Type 0 where
   answers : String → List String → Option (List Answer) → Example
-  words : String → Option (List ℕ) → Example
+  words : ℕ → String → Option (List ℕ) → Example
   -- each line in its own mode
   told : String → List ModeLine → Option (List Answer) → Example
 
@@ -47,7 +46,7 @@ examples =
     answers worked ("E1 E3 R0=41" ∷ "E1 E3 R0=40" ∷ "E1 E2 E3 R0=41" ∷ "" ∷ "E64" ∷ [])
     (Some (decided (3 ∷ []) (4 ∷ []) ∷ decided (4 ∷ []) [] ∷ decided (4 ∷ []) [] ∷ decided [] [] ∷ refused_under 13 ∷ []))
     -- the empty text: 01000000, FF000000
-    ∷ words "" (Some (16777216 ∷ 4278190080 ∷ []))
+    ∷ words 1 "" (Some (16777216 ∷ 4278190080 ∷ []))
     -- never A1 & A2, never A2 & A3, all three proposed
     ∷ answers "E1 causes A1\nE1 causes A2\nE1 causes A3\nnever A1 & A2\nnever A2 & A3\n" ("E1" ∷ []) (Some (decided (1 ∷ 3 ∷ []) (2 ∷ []) ∷ []))
     -- never A1 & A2 & A3, all proposed
@@ -60,8 +59,12 @@ examples =
     -- a reading given twice; an event named twice
     ∷ answers worked ("R0=1 R0=1" ∷ "E1 E1 R0=41" ∷ []) (Some (refused_under 14 ∷ decided (3 ∷ []) [] ∷ []))
     -- the worked image, 01007003 to B9FF0FC9
-    ∷ words worked
+    ∷ words 1 worked
     (Some (16805891 ∷ 272629764 ∷ 545259523 ∷ 805339137 ∷ 40 ∷ 1354760192 ∷ 281018369 ∷ 1358954496 ∷ 1623195650 ∷ 1627389953 ∷ 1879048192 ∷ 3120500681 ∷ []))
+    -- the same in form 2, 02007003 to 927C9EC6, and the empty text's
+    ∷ words 2 worked
+    (Some (33583107 ∷ 272629764 ∷ 545259523 ∷ 805339137 ∷ 40 ∷ 1354760192 ∷ 281018369 ∷ 1358954496 ∷ 1623195650 ∷ 1627389953 ∷ 1879048192 ∷ 646082819 ∷ 2457640646 ∷ []))
+    ∷ words 2 "" (Some (33554432 ∷ 33554432 ∷ 4227858432 ∷ []))
     -- a never line with R4 under, at and over its limit, and missing
     ∷ answers "E1 causes A7\nnever A7 if R4 > 90\n" ("E1 R4=89" ∷ "E1 R4=90" ∷ "E1 R4=91" ∷ "E1" ∷ "" ∷ [])
     (Some (decided (7 ∷ []) [] ∷ decided (7 ∷ []) [] ∷ decided [] (7 ∷ []) ∷ decided [] (7 ∷ []) ∷ decided [] [] ∷ []))
@@ -73,8 +76,8 @@ examples =
     ("E1 R0=5" ∷ "E1 R0=6" ∷ "E1 R0=5 R4=5" ∷ [])
     (Some (decided (4 ∷ []) (1 ∷ 2 ∷ 3 ∷ []) ∷ decided [] (1 ∷ 2 ∷ 3 ∷ 4 ∷ []) ∷ decided (1 ∷ 3 ∷ 4 ∷ []) (2 ∷ []) ∷ []))
     -- patterns in hexadecimal stand in the image as they are, and so do the numbers that the writer prints for them
-    ∷ words "E1 causes A1 if R0 = 0x8040 , R1 = 0xFFFFFFFF , R2 = 0x80000000 , R3 = 0x7fffffff\n" (Some patterns)
-    ∷ words "E1 causes A1 if R0 = 32832 , R1 = -1 , R2 = -2147483648 , R3 = 2147483647\n" (Some patterns)
+    ∷ words 1 "E1 causes A1 if R0 = 0x8040 , R1 = 0xFFFFFFFF , R2 = 0x80000000 , R3 = 0x7fffffff\n" (Some patterns)
+    ∷ words 1 "E1 causes A1 if R0 = 32832 , R1 = -1 , R2 = -2147483648 , R3 = 2147483647\n" (Some patterns)
     -- a status word, in either form in the text and in the epoch; `0X`, nine digits, and both
     ∷ answers "E1 causes A1 if R0 = 0x8040\nE1 causes A2 if R0 = 32832\nE1 causes A3 if R0 < 0xFFFFFFFF\nnever A1 & A2 if R1 != 0x0\n"
     ("E1 R0=0x8040 R1=0" ∷ "E1 R0=32832 R1=0x00000001" ∷ "E1 R0=0x80000000" ∷ "E1 R0=0X8040" ∷ "E1 R0=0x000008040" ∷ "R0=0x000008040 R1=0x" ∷ [])
@@ -102,5 +105,5 @@ line_of x = record { mode = x.mode; line = bytes x.line }
 -- what the definitions say of a row
 unfoldable pub computed : Example → Example
 computed (answers text lines expected) = answers text lines (machine (bytes text) (map (λ (line : String). line_of (by_actions line)) lines))
-computed (words text expected) = words text (option_map (image_words newest_form) (policy_of (bytes text)))
+computed (words form text expected) = words form text (option_map (image_words form) (policy_of (bytes text)))
 computed (told text lines expected) = told text lines (machine (bytes text) (map line_of lines))

@@ -1,10 +1,9 @@
 -- What the function that compiles and decides leaves, against the reference machine.
 use Rattle.policy.specs.declared.fault.Refusal.{Refusal}
-use Rattle.std.specs.Prelude.{ℕ, List, [], ◌∷◌, ◌≡◌, map, take, length, min, Result, Ok}
+use Rattle.std.specs.Prelude.{ℕ, true, List, [], ◌∷◌, ◌≡◌, map, take, length, min, Result, Ok}
 use Rattle.policy.specs.Policy.{Policy}
 use Rattle.rule_text.specs.Text.{read_texts}
-use Rattle.layout.specs.Layout.{image_of}
-use Rattle.codegen.specs.Compile.{newest_form}
+use Rattle.layout.specs.Layout.{known_form, image_of}
 use Rattle.monitor.specs.Decision.{decision_in, answer_of}
 use Rattle.monitor.specs.declared.decision.Actions.{Actions}
 use Rattle.guarantees.specs.Machine.{ToldLine, steps}
@@ -20,10 +19,11 @@ decided_lines image [] ds = ds
 decided_lines image (x ∷ lines) [] = []
 decided_lines image (x ∷ lines) (d ∷ ds) = decision_in x.mode image x.line.now ∷ decided_lines image lines ds
 
--- two texts were accepted, and each line for which there was room was decided on the image of their policy: as the reference
--- machine answers it, which sees the policy and no image
-pub record DecidedBy (maker site : List ℕ) (lines : List Told) (old new : List (Result Actions Refusal)) : Type 0 where
+-- two texts were accepted, and each line for which there was room was decided on the image of their policy in a form that is known: as
+-- the reference machine answers it, which sees the policy and no image
+pub record DecidedBy (form : ℕ) (maker site : List ℕ) (lines : List Told) (old new : List (Result Actions Refusal)) : Type 0 where
+  pub known : known_form form ≡ true
   pub policy : Policy
   pub read : read_texts maker site ≡ Ok policy
-  pub decided : new ≡ decided_lines (image_of newest_form policy) lines old
+  pub decided : new ≡ decided_lines (image_of form policy) lines old
   pub agreed : map answer_of (take (min (length lines) (length old)) new) ≡ steps policy (take (length old) (told lines))

@@ -3,11 +3,13 @@
 ghost use Rattle.std.specs.Prelude.{List, Contains, ℕ, ◌≡◌, ◌<◌, length, set, ◌↔◌, true, ◌*◌, ◌+◌, ◌≤◌, Ok, Err, Some};
 ghost use Rattle.guarantees.specs.Claims.{CompilesTo, answers, TextsCompileTo};
 ghost use Rattle.guarantees.specs.Machine.{ToldLine, machine, machine_of_texts};
-ghost use Rattle.guarantees.specs.Decisions.{CheckFailed, RefusedIn, OfDecisionIn, KeptOut, Obeys, IsBest, ObeysEvents};
+ghost use Rattle.guarantees.specs.Decisions.{CheckFailed, RefusedUnder, RefusedIn, OfDecisionIn, KeptOut, Obeys, IsBest, ObeysEvents};
 ghost use Rattle.policy.specs.declared.mode.Mode.{Mode};
 ghost use Rattle.policy.specs.declared.number.Action.{Action};
 ghost use Rattle.monitor.specs.Decision.{answer_of, decision_in, decision, visited_in};
-ghost use Rattle.exactness.specs.Exact.{changed};
+ghost use Rattle.exactness.specs.Exact.{changed, exchanged, exchange_fault, exchange_fault};
+ghost use Rattle.image.specs.Check.{rule_words, constraint_words};
+ghost use Rattle.std.specs.List.{swap};
 ghost use Rattle.word.specs.Word.{word_at, word_limit, words_of, Bytes};
 ghost use Rattle.monitor.specs.declared.decision.Actions.{Actions};
 ghost use Rattle.policy.specs.declared.fault.Refusal.{Refusal};
@@ -20,7 +22,7 @@ ghost use Rattle.pdl.specs.Answer.{Answer};
 ghost use Rattle.pdl.specs.Pdl.{Reducible, lone};
 ghost use Rattle.pdl.specs.Reduction.{kept_events, proposed_with};
 ghost use Rattle.policy.specs.declared.fault.Fault.{Fault};
-ghost use Rattle.policy.specs.Fault.{refusal};
+ghost use Rattle.policy.specs.Fault.{fault_number, refusal};
 ghost use Rattle.image.specs.Held.{policy_in};
 ghost use Rattle.image.specs.Load.{load, Contents};
 
@@ -53,6 +55,22 @@ pub fn change_only()
 /// The same of the image of two texts.
 pub fn texts_change_only()
     ensures { (form : ℕ) (maker site image : List ℕ) → TextsCompileTo form maker site image → (i v : ℕ) → v < word_limit → (length (changed image i v) ≡ length image) × (words_of (changed image i v) ≡ set (words_of image) i v) }
+{}
+
+/// In an image that was compiled to another form than the first, two neighbours that differ, among the words before the check words, are
+/// exchanged: the decision on every line is refused under 8, where one of them is word 0, and else under 16.
+pub fn swap_refused()
+    ensures { (form : ℕ) → ¬ (form ≡ 1) → (text image : List ℕ) → CompilesTo form text image → (i : ℕ) → i + 1 ≤ rule_words (words_of image) + constraint_words (words_of image) → ¬ (word_at image i ≡ word_at image (i + 1)) → (mode : Mode) (line : List ℕ) → RefusedUnder (fault_number (exchange_fault i)) (answer_of (decision_in mode (exchanged image i) line)) }
+{}
+
+/// The same for the image of two texts.
+pub fn texts_swap_refused()
+    ensures { (form : ℕ) → ¬ (form ≡ 1) → (maker site image : List ℕ) → TextsCompileTo form maker site image → (i : ℕ) → i + 1 ≤ rule_words (words_of image) + constraint_words (words_of image) → ¬ (word_at image i ≡ word_at image (i + 1)) → (mode : Mode) (line : List ℕ) → RefusedUnder (fault_number (exchange_fault i)) (answer_of (decision_in mode (exchanged image i) line)) }
+{}
+
+/// What is exchanged there are those two words: the bytes are as many, and their words are those of the image with the two in each other's place.
+pub fn swap_only()
+    ensures { (form : ℕ) (maker site image : List ℕ) → TextsCompileTo form maker site image → (i : ℕ) → i + 1 < length (words_of image) → (length (exchanged image i) ≡ length image) × (words_of (exchanged image i) ≡ swap (words_of image) i (i + 1)) }
 {}
 
 /// A decision is refused exactly for a fault of the image, then of the line, and then, by events, where no reduction of the epoch is free of conflict.

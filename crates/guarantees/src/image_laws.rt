@@ -3,11 +3,11 @@
 ghost use Rattle.std.specs.Prelude.{List, ℕ, ◌↔◌, ◌≡◌, ◌++◌, drop, length, ◌≤◌, false, Ok, Err};
 ghost use Rattle.word.specs.Word.{Bytes, words_of};
 ghost use Rattle.layout.specs.Layout.{known_form};
-ghost use Rattle.image.specs.Check.{form_byte};
+ghost use Rattle.image.specs.Check.{form_byte, weights_right};
 ghost use Rattle.policy.specs.Fill.{refuse};
 ghost use Rattle.guarantees.specs.Claims.{SomeText, CompilesTo, TextsCompileTo, DecompilesTo};
 ghost use Rattle.image.specs.Load.{load, Contents};
-ghost use Rattle.exactness.specs.Exact.{Checked};
+ghost use Rattle.exactness.specs.Exact.{Checked, Weighed};
 ghost use Rattle.policy.specs.declared.fault.Fault.{Fault};
 ghost use Rattle.policy.specs.Fault.{refusal};
 ghost use Rattle.codegen.specs.Written.{ImageWritten, TextsImageWritten, written_in, written_by};
@@ -21,9 +21,14 @@ pub fn taken_exactly()
     ensures { (bytes : List ℕ) → Bytes bytes → ((contents : Contents) × (load bytes ≡ Ok contents)) ↔ SomeText bytes }
 {}
 
-/// Fault 11 is given exactly where the checks before it pass and no accepted text compiles to the bytes.
+/// Fault 16 is given exactly where the checks 7 to 10 pass and the weighted sum is wrong.
+pub fn weights_exactly()
+    ensures { (bytes : List ℕ) → (load bytes ≡ Err (refusal Fault.ImageWeightedSum 0)) ↔ (Checked bytes × (weights_right (words_of bytes) ≡ false)) }
+{}
+
+/// Fault 11 is given exactly where the checks before it pass, 16 among them, and no accepted text compiles to the bytes.
 pub fn body_exactly()
-    ensures { (bytes : List ℕ) → Bytes bytes → ((location : ℕ) × (load bytes ≡ Err (refusal Fault.ImageBody location))) ↔ (Checked bytes × ¬ SomeText bytes) }
+    ensures { (bytes : List ℕ) → Bytes bytes → ((location : ℕ) × (load bytes ≡ Err (refusal Fault.ImageBody location))) ↔ (Weighed bytes × ¬ SomeText bytes) }
 {}
 
 /// A compilation to an unknown form is refused for that, whatever the texts and the buffer are, and writes no byte.
@@ -51,9 +56,9 @@ pub fn pairs_same_images()
     ensures { (form : ℕ) (maker site maker' site' out out' : List ℕ) (m n : ℕ) → (compiled_texts form maker site out).answer ≡ Ok m → (compiled_texts form maker' site' out').answer ≡ Ok n → (written_by m (compiled_texts form maker site out) ≡ written_by n (compiled_texts form maker' site' out')) ↔ (policy_of_texts maker site ≡ policy_of_texts maker' site') }
 {}
 
-/// Compiling the text of what was loaded to the form of that yields the bytes that were loaded.
+/// Compiling the text of what was loaded to the form that the loader answers yields the bytes that were loaded.
 pub fn loaded_compiles()
-    ensures { (bytes : List ℕ) → Bytes bytes → (contents : Contents) → load bytes ≡ Ok contents → CompilesTo (form_byte (words_of bytes)) (text_of (policy_in bytes)) bytes }
+    ensures { (bytes : List ℕ) → Bytes bytes → (contents : Contents) → load bytes ≡ Ok contents → CompilesTo contents.form (text_of (policy_in bytes)) bytes }
 {}
 
 /// Compiling the text that was written from an image to the image's form yields the image, byte for byte, in any buffer that has room.

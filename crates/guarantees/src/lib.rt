@@ -14,10 +14,10 @@ pub mod reading_laws;
 pub mod writing_laws;
 
 ghost use Rattle.std.specs.Prelude.{◌≡◌, IfOk, IfErr};
+ghost use Rattle.codegen.specs.Compile.{in_form};
 ghost use Rattle.rule_text.specs.Text.{read_texts};
 ghost use Rattle.guarantees.specs.Together.{decided_lines, DecidedBy};
 
-use codegen::NEWEST_FORM;
 use image::IMAGE_SIZE;
 use monitor::{Actions, decide};
 use policy::{Mode, Refusal};
@@ -39,19 +39,20 @@ pub fn decide_lines(image: &[u8], lines: &[Told], decisions: &mut [Result<Action
     }
 }
 
-/// Compiles two texts and decides the lines on the bytes that were written: as the reference machine does, which sees the texts, the lines
+/// Compiles two texts to a form and decides the lines on the bytes that were written: as the reference machine does, which sees the texts, the lines
 /// and their modes alone. A single text has an empty site's text beside it. Refused texts decide nothing.
 pub fn compile_and_decide(
+    form: u8,
     maker: &[u8],
     site: &[u8],
     lines: &[Told],
     decisions: &mut [Result<Actions, Refusal>],
 ) -> Result<(), Refusal>
-    ensures ok { IfOk result (λ u. DecidedBy maker.now site.now lines.now decisions.old decisions.new) }
-    ensures err { IfErr result (λ refusal. (read_texts maker.now site.now ≡ Err refusal) × (decisions.new ≡ decisions.old)) }
+    ensures ok { IfOk result (λ u. DecidedBy form maker.now site.now lines.now decisions.old decisions.new) }
+    ensures err { IfErr result (λ refusal. (in_form form (read_texts maker.now site.now) ≡ Err refusal) × (decisions.new ≡ decisions.old)) }
 {
     let mut image = [0u8; IMAGE_SIZE];
-    let size = codegen::compile_texts(NEWEST_FORM, maker, site, &mut image)?;
+    let size = codegen::compile_texts(form, maker, site, &mut image)?;
     decide_lines(&image[..size], lines, decisions);
     Ok(())
 }

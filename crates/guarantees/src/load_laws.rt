@@ -3,7 +3,7 @@
 ghost use Rattle.policy.specs.Fault.{refusal};
 ghost use Rattle.std.specs.Prelude.{List, ℕ, ◌+◌, ◌∷◌, ◌↔◌, ◌≡◌, length, drop, Err, Ok, Some};
 ghost use Rattle.word.specs.Word.{Bytes};
-ghost use Rattle.policy.specs.Line.{PolicyLine};
+ghost use Rattle.policy.specs.Line.{PolicyLine, part_get};
 ghost use Rattle.policy.specs.declared.fault.Refusal.{Refusal};
 ghost use Rattle.policy.specs.declared.line.Part.{Part};
 ghost use Rattle.layout.specs.Layout.{line_words};
@@ -11,7 +11,7 @@ ghost use Rattle.decode.specs.Stands.{Stands, AreLines};
 ghost use Rattle.decode.specs.Decode.{line_at};
 ghost use Rattle.image.specs.Lines.{lines_from};
 ghost use Rattle.image.specs.Held.{lines_held};
-ghost use Rattle.image.specs.Load.{Contents, both_parts, load};
+ghost use Rattle.image.specs.Load.{Contents, load};
 ghost use Rattle.image.specs.Walk.{lines_left, lines_behind};
 ghost use Rattle.exactness.specs.ImageFault.{ImageFault, NoLineAt};
 ghost use Rattle.guarantees.specs.Claims.{SomeText};
@@ -56,7 +56,7 @@ pub fn standing_given()
     ensures { (part : Part) (words : List ℕ) (at : ℕ) (line : PolicyLine) → Stands part (drop at words) line → lines_left words at ≡ line ∷ lines_left words (at + length (line_words line)) }
 {}
 
-/// Going over the words of an image that the loader takes, exactly the lines of the policy that it holds come, in order: its rules, and then its constraints.
+/// Going over the words of a part of an image that the loader takes, exactly the lines of that part of the policy that it holds come, in order.
 pub fn held_given()
-    ensures { (bytes : List ℕ) (contents : Contents) → load bytes ≡ Ok contents → lines_behind 0 (both_parts contents) ≡ lines_held bytes }
+    ensures { (bytes : List ℕ) (contents : Contents) → load bytes ≡ Ok contents → (part : Part) → lines_behind 0 (part_get contents.parts part) ≡ lines_held bytes part }
 {}

@@ -3,7 +3,7 @@ use Rattle.std.proofs.Common.{ℕ, zero, suc, ◌+◌, ◌<◌, ◌≤◌, Bool,
 use Rattle.std.specs.Prelude.{Option, Some, None}
 use Rattle.policy.proofs.ListLaws.{true_false, and_in, and_out, all_append}
 use Rattle.policy.specs.Limits.{valid}
-use Rattle.policy.specs.Line.{PolicyLine, rule, constraint}
+use Rattle.policy.specs.Line.{PolicyLine, rule, constraint, part_get}
 use Rattle.policy.specs.List.{all}
 use Rattle.policy.specs.declared.fault.Fault.{Fault}
 use Rattle.policy.specs.declared.line.Part.{Part}
@@ -13,12 +13,12 @@ use Rattle.decode.proofs.DecodeLaws.{line_out}
 use Rattle.decode.specs.Decode.{line_at}
 use Rattle.decode.specs.Stands.{in_part, Stands, AreLines}
 use Rattle.image.proofs.GivenLaws.{lines_given}
-use Rattle.image.specs.Check.{form_byte, rule_words, constraint_words, well_sized, counts_fit, sums_to_zero}
+use Rattle.image.specs.Check.{form_byte, rule_words, constraint_words, well_sized, counts_fit, sums_to_zero, weights_right}
 use Rattle.image.specs.Held.{rules_in, constraints_in, lines_in, policy_in, lines_held}
 use Rattle.image.specs.Lines.{add_line, after_line, lines_from, part_lines, rule_part, constraint_part, rule_lines, constraint_lines}
 use Rattle.image.proofs.LoadLaws.{ok_err}
 use Rattle.policy.specs.declared.fault.Refusal.{Refusal}
-use Rattle.image.specs.Load.{Contents, both_parts, body_answer, require, load_words, load}
+use Rattle.image.specs.Load.{Contents, body_answer, require, load_words, load}
 use Rattle.image.specs.Walk.{lines_behind}
 
 -- ---- what is found was written
@@ -83,11 +83,12 @@ pub record TakenParts (bytes : List ℕ) (contents : Contents) : Type 0 where
   pub known : known_form (form_byte (words_of bytes)) ≡ true
   pub counted : counts_fit (words_of bytes) ≡ true
   pub summed : sums_to_zero (words_of bytes) ≡ true
+  pub weighed : weights_right (words_of bytes) ≡ true
   pub rules : List PolicyLine
   pub constraints : List PolicyLine
   pub rules_whole : rule_lines (words_of bytes) ≡ Ok rules
   pub constraints_whole : constraint_lines (words_of bytes) ≡ Ok constraints
-  pub same : contents ≡ record { parts = record { rules = rule_part (words_of bytes); constraints = constraint_part (words_of bytes) }; counts = record { rules = length rules; constraints = length constraints } }
+  pub same : contents ≡ record { form = form_byte (words_of bytes); parts = record { rules = rule_part (words_of bytes); constraints = constraint_part (words_of bytes) }; counts = record { rules = length rules; constraints = length constraints } }
 
 -- what one check lets pass
 passed : (b : Bool) (f : Fault) (next : Result Contents Refusal) (contents : Contents) → require b f next ≡ Ok contents → (b ≡ true) × (next ≡ Ok contents)
@@ -96,7 +97,7 @@ passed false f next contents e = absurd (ok_err (sym e))
 
 pub taken_parts : (bytes : List ℕ) (contents : Contents) → load bytes ≡ Ok contents → TakenParts bytes contents
 unfolding load load_words body_answer
-taken_parts bytes contents e = body (rule_lines ws) (constraint_lines ws) refl refl s.1
+taken_parts bytes contents e = body (rule_lines ws) (constraint_lines ws) refl refl v.1
   where
     ws : List ℕ
     ws = words_of bytes
@@ -104,25 +105,29 @@ taken_parts bytes contents e = body (rule_lines ws) (constraint_lines ws) refl r
     a : (well_sized (length bytes) ≡ true) × (load_words ws ≡ Ok contents)
     a = passed (well_sized (length bytes)) Fault.ImageSize (load_words ws) contents e
 
-    f : (known_form (form_byte ws) ≡ true) × (require (counts_fit ws) Fault.ImageCount (require (sums_to_zero ws) Fault.ImageSum (body_answer (rule_part ws) (constraint_part ws) (rule_lines ws) (constraint_lines ws))) ≡ Ok contents)
+    f : (known_form (form_byte ws) ≡ true) × (require (counts_fit ws) Fault.ImageCount (require (sums_to_zero ws) Fault.ImageSum (require (weights_right ws) Fault.ImageWeightedSum (body_answer (form_byte ws) (rule_part ws) (constraint_part ws) (rule_lines ws) (constraint_lines ws)))) ≡ Ok contents)
     f = passed (known_form (form_byte ws)) Fault.ImageForm _ contents a.1
 
-    c : (counts_fit ws ≡ true) × (require (sums_to_zero ws) Fault.ImageSum (body_answer (rule_part ws) (constraint_part ws) (rule_lines ws) (constraint_lines ws)) ≡ Ok contents)
+    c : (counts_fit ws ≡ true) × (require (sums_to_zero ws) Fault.ImageSum (require (weights_right ws) Fault.ImageWeightedSum (body_answer (form_byte ws) (rule_part ws) (constraint_part ws) (rule_lines ws) (constraint_lines ws))) ≡ Ok contents)
     c = passed (counts_fit ws) Fault.ImageCount _ contents f.1
 
-    s : (sums_to_zero ws ≡ true) × (body_answer (rule_part ws) (constraint_part ws) (rule_lines ws) (constraint_lines ws) ≡ Ok contents)
+    s : (sums_to_zero ws ≡ true) × (require (weights_right ws) Fault.ImageWeightedSum (body_answer (form_byte ws) (rule_part ws) (constraint_part ws) (rule_lines ws) (constraint_lines ws)) ≡ Ok contents)
     s = passed (sums_to_zero ws) Fault.ImageSum _ contents c.1
 
-    body : (x y : Result (List PolicyLine) ℕ) → rule_lines ws ≡ x → constraint_lines ws ≡ y → body_answer (rule_part ws) (constraint_part ws) x y ≡ Ok contents → TakenParts bytes contents
+    v : (weights_right ws ≡ true) × (body_answer (form_byte ws) (rule_part ws) (constraint_part ws) (rule_lines ws) (constraint_lines ws) ≡ Ok contents)
+    v = passed (weights_right ws) Fault.ImageWeightedSum _ contents s.1
+
+    body : (x y : Result (List PolicyLine) ℕ) → rule_lines ws ≡ x → constraint_lines ws ≡ y → body_answer (form_byte ws) (rule_part ws) (constraint_part ws) x y ≡ Ok contents → TakenParts bytes contents
     body (Err n) y p q r = absurd (ok_err (sym r))
     body (Ok rs) (Err n) p q r = absurd (ok_err (sym r))
     body (Ok rs) (Ok cs) p q r =
-        let same : record { parts = record { rules = rule_part ws; constraints = constraint_part ws }; counts = record { rules = length rs; constraints = length cs } } ≡ contents = cc in
+        let same : record { form = form_byte ws; parts = record { rules = rule_part ws; constraints = constraint_part ws }; counts = record { rules = length rs; constraints = length cs } } ≡ contents = cc in
         record {
           sized = a.0;
           known = f.0;
           counted = c.0;
           summed = s.0;
+          weighed = v.0;
           rules = rs;
           constraints = cs;
           rules_whole = p;
@@ -183,16 +188,9 @@ taken_small bytes contents e =
 
 -- ---- its lines, one after the other
 
-lines_append : (ls ms : List PolicyLine) → lines_words (ls ++ ms) ≡ lines_words ls ++ lines_words ms
-unfolding lines_words
-lines_append [] ms = refl
-lines_append (l ∷ ls) ms = ap (λ (ws : List ℕ). line_words l ++ ws) (lines_append ls ms) ∙ sym (append_assoc (line_words l) (lines_words ls) (lines_words ms))
-
--- the lines of both parts are those of its policy
-pub held_given : (bytes : List ℕ) (contents : Contents) → load bytes ≡ Ok contents → lines_behind 0 (both_parts contents) ≡ lines_held bytes
-held_given bytes contents taken =
-    let h = held_parts bytes contents taken in
-    let rs : List PolicyLine = map rule (policy_in bytes).rules in
-    let cs : List PolicyLine = map constraint (policy_in bytes).constraints in
-    ap (lines_behind 0) (ap₂ (λ (x y : List ℕ). x ++ y) h.rule_part_is.words h.constraint_part_is.words ∙ sym (lines_append rs cs))
-    ∙ lines_given (rs ++ cs) (all_append valid rs cs h.rule_part_is.sound h.constraint_part_is.sound)
+-- those of a part are those of its policy
+pub held_given : (bytes : List ℕ) (contents : Contents) → load bytes ≡ Ok contents → (part : Part) → lines_behind 0 (part_get contents.parts part) ≡ lines_held bytes part
+held_given bytes contents taken Part.Rules =
+    let h = held_parts bytes contents taken in ap (lines_behind 0) h.rule_part_is.words ∙ lines_given (map rule (policy_in bytes).rules) h.rule_part_is.sound
+held_given bytes contents taken Part.Constraints =
+    let h = held_parts bytes contents taken in ap (lines_behind 0) h.constraint_part_is.words ∙ lines_given (map constraint (policy_in bytes).constraints) h.constraint_part_is.sound

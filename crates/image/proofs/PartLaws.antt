@@ -1,8 +1,8 @@
 -- The lines of a part, one after the other, as the code counts them.
-use Rattle.std.proofs.Common.{ℕ, zero, suc, ◌+◌, ◌-◌, ◌≤◌, ◌<◌, List, [], ◌∷◌, ◌++◌, ◌≡◌, refl, sym, ap, ap₂, ◌∙◌, add-zero, add_assoc, arith, length, take, drop, length-take, take-append-drop, length-drop, drop-drop, Ok, Err, Result}
+use Rattle.std.proofs.Common.{ℕ, zero, suc, ◌+◌, ◌-◌, ◌≤◌, ◌<◌, List, [], ◌∷◌, ◌++◌, ◌≡◌, refl, sym, ap, ap₂, ◌∙◌, add-zero, add_assoc, arith, length, take, drop, length-drop, drop-drop, Ok, Err, Result}
+use Rattle.std.proofs.Math.Seq.{take-length}
 use Rattle.std.specs.Prelude.{Option}
 use Rattle.std.proofs.Math.Nat.{sub-zero}
-use Rattle.std.proofs.Math.Seq.{drop-append-le}
 use Rattle.word.specs.Word.{between}
 use Rattle.policy.specs.Line.{PolicyLine}
 use Rattle.layout.specs.Layout.{line_words}
@@ -117,16 +117,7 @@ module _ (part : Part) (ws : List ℕ) (first limit : ℕ) where
     counted_all l =
         ap Ok (sym (add-zero count)) ∙ ap (part_answer count) (sym (lines_none part (limit - count) (first + at) (drop at ws) (omega (arith, left at)))) ∙ h.same
 
--- ---- two parts, one behind the other
-
-pub between_join : (a b c : ℕ) (ws : List ℕ) → a ≤ b → b ≤ c → c ≤ length ws → between a c ws ≡ between a b ws ++ between b c ws
+-- the words behind some
+pub between_rest : (n size : ℕ) (ws : List ℕ) → length ws ≡ size → between n size ws ≡ drop n ws
 unfolding between
-between_join a b c ws h k l =
-    ap (drop a) (sym (take-append-drop b (take c ws))) ∙ drop-append-le a (take b (take c ws)) (drop b (take c ws)) (omega (arith, length-take b (take c ws), length-take c ws))
-    ∙ ap (λ (xs : List ℕ). drop a xs ++ drop b (take c ws)) (take_less b c ws k)
-  where
-    take_less : (i j : ℕ) (xs : List ℕ) → i ≤ j → take i (take j xs) ≡ take i xs
-    take_less zero j xs h = refl
-    take_less (suc i) zero xs h = absurd (omega arith)
-    take_less (suc i) (suc j) [] h = refl
-    take_less (suc i) (suc j) (x ∷ xs) h = ap (λ (ys : List ℕ). x ∷ ys) (take_less i j xs (omega arith))
+between_rest n size ws e = ap (λ (k : ℕ). drop n (take k ws)) (sym e) ∙ ap (drop n) (take-length ws)

@@ -1,8 +1,8 @@
--- The faults 7 to 10: the size of an image, its form, its counts and its sum.
+-- The faults 7 to 10 and 16: the size of an image, its form, its counts and its sums.
 use Rattle.std.specs.Prelude.{ℕ, ◌+◌, ◌%◌, Bool, ◌&&◌, List, length, ◌==◌, nat_le, slice_index_or}
 use Rattle.word.specs.Word.{word_limit}
 use Rattle.layout.specs.Header.{form_of, rule_count_of, constraint_count_of}
-use Rattle.layout.specs.Layout.{check_count, rule_word_limit, constraint_word_limit, size_limit, sum}
+use Rattle.layout.specs.Layout.{check_count, rule_word_limit, constraint_word_limit, size_limit, sum, weighted_right}
 
 -- the fields of word 0
 abbrev pub form_byte : List ℕ → ℕ
@@ -24,3 +24,7 @@ counts_fit ws =
 
 unfoldable pub sums_to_zero : List ℕ → Bool
 sums_to_zero ws = sum ws % word_limit == 0
+
+-- whether the word behind both parts is the weighted one of those before it, in a form that has one
+unfoldable pub weights_right : List ℕ → Bool
+weights_right ws = weighted_right (form_byte ws) (1 + rule_words ws + constraint_words ws) ws

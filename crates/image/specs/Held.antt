@@ -1,7 +1,8 @@
 -- The policy that a taken image holds.
-use Rattle.std.specs.Prelude.{ℕ, List, [], ◌∷◌, ◌++◌, map, Result, Ok, Err}
+use Rattle.std.specs.Prelude.{ℕ, List, [], ◌∷◌, map, Result, Ok, Err}
 use Rattle.policy.specs.Line.{PolicyLine, rule, constraint}
 use Rattle.policy.specs.Policy.{Policy, Rule, Constraint}
+use Rattle.policy.specs.declared.line.Part.{Part}
 use Rattle.word.specs.Word.{words_of}
 use Rattle.image.specs.Lines.{rule_lines, constraint_lines}
 
@@ -23,6 +24,7 @@ unfoldable pub policy_in : List ℕ → Policy
 policy_in bytes =
     record { rules = rules_in (lines_in (rule_lines (words_of bytes))); constraints = constraints_in (lines_in (constraint_lines (words_of bytes))) }
 
--- its lines: the rules, and then the constraints
-abbrev pub lines_held : List ℕ → List PolicyLine
-lines_held bytes = map rule (policy_in bytes).rules ++ map constraint (policy_in bytes).constraints
+-- its lines of a part
+abbrev pub lines_held : List ℕ → Part → List PolicyLine
+lines_held bytes Part.Rules = map rule (policy_in bytes).rules
+lines_held bytes Part.Constraints = map constraint (policy_in bytes).constraints

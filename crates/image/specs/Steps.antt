@@ -1,3 +1,3 @@
 -- Mechanism of the code: a reader need not believe it.
+pub mod Checks
 pub mod Part
-pub mod Past

@@ -5,4 +5,4 @@ use Rattle.image.specs.declared.taken.Image.{Image}
 
 abbrev pub image_contents : Image → Contents
 image_contents i =
-    record { parts = record { rules = words_in i.parts.rules.now; constraints = words_in i.parts.constraints.now }; counts = i.counts }
+    record { form = i.form; parts = record { rules = words_in i.parts.rules.now; constraints = words_in i.parts.constraints.now }; counts = i.counts }

@@ -6,12 +6,13 @@ ghost use Rattle.word.specs.Chunk.{words_in};
 ghost use Rattle.image.specs.Check.{well_sized};
 ghost use Rattle.image.specs.Lines.{lines_from, part_lines};
 ghost use Rattle.image.specs.Load.{body_answer, load};
+ghost use Rattle.image.specs.Steps.Checks.{checks_answer, whole_answer};
 ghost use Rattle.image.specs.Steps.Part.{part_answer};
 ghost use Rattle.image.specs.Taken.{image_contents};
 
 use crate::taken::Image;
-use crate::walker::Walker;
-use layout::{check_count, constraint_words_of, form_of, is_known_form, rule_words_of, sum_words};
+use decode::line_length;
+use layout::{check_count, check_sums, constraint_words_of, form_of, is_known_form, rule_words_of};
 use policy::{CONSTRAINT_LIMIT, Fault, Part, PerPart, RULE_LIMIT, Refusal};
 use word::{nth_word_or_zero, part, words};
 
@@ -21,8 +22,8 @@ const RULE_WORD_LIMIT: usize = 2176;
 // Words of the constraints: 64 such lines.
 const CONSTRAINT_WORD_LIMIT: usize = 1088;
 
-/// Bytes of the largest image: both parts, word 0 and the check word, of four bytes each.
-pub const IMAGE_SIZE: usize = 13064;
+/// Bytes of the largest image: both parts, word 0 and two check words, of four bytes each.
+pub const IMAGE_SIZE: usize = 13068;
 
 fn well_sized(size: usize) -> bool
     ensures { result ≡ well_sized size }
@@ -37,39 +38,84 @@ fn well_sized(size: usize) -> bool
 }
 
 // How many lines of a part the words are, at most `limit` of them; or the refusal where none fits, at an index in the image, in which
-// the first word has the index `first`. A walker goes from line to line.
+// the first word has the index `first`.
 #[inline(always)]
-fn part_lines(words: &[[u8; 4]], part: Part, limit: usize, first: usize) -> Result<usize, Refusal>
+fn part_lines(words: &[[u8; 4]], kind: Part, limit: usize, first: usize) -> Result<usize, Refusal>
     requires { first + length words.now < 2 ^ 32 }
-    ensures { result ≡ part_answer 0 (lines_from part limit first (words_in words.now)) }
+    ensures { result ≡ part_answer 0 (lines_from kind limit first (words_in words.now)) }
 {
-    let mut walker = Walker::new(words, 0);
+    let mut rest = words;
     for count in 0..limit {
-        if walker.is_at_end() {
+        if rest.is_empty() {
             return Ok(count);
         }
-        let Some(behind) = walker.past_line(part) else {
-            return Err(Fault::ImageBody.at(first + walker.at));
-        };
-        walker = behind;
+        let size = line_length(rest, kind);
+        if size == 0 {
+            return Err(Fault::ImageBody.at(first + (words.len() - rest.len())));
+        }
+        rest = part(rest, size, rest.len());
     }
-    if walker.is_at_end() {
+    if rest.is_empty() {
         Ok(limit)
     } else {
-        Err(Fault::ImageBody.at(first + walker.at))
+        Err(Fault::ImageBody.at(first + (words.len() - rest.len())))
     }
 }
 
-// The parts of an image of which both parts fit the words; or the refusal at the first word at which no line fits.
+// What is wrong with the counts of word 0, 9, or else with the check words, of a known form.
+#[inline(always)]
+fn check_counts(
+    words: &[[u8; 4]],
+    form: u8,
+    rule_words: usize,
+    constraint_words: usize,
+) -> Result<(), Refusal>
+    ensures { result ≡ whole_answer form rule_words constraint_words (words_in words.now) }
+{
+    if RULE_WORD_LIMIT < rule_words {
+        return Err(Fault::ImageCount.at(0));
+    }
+    if CONSTRAINT_WORD_LIMIT < constraint_words {
+        return Err(Fault::ImageCount.at(0));
+    }
+    let index = 1 + rule_words + constraint_words;
+    if words.len() != index + check_count(form) {
+        return Err(Fault::ImageCount.at(0));
+    }
+    check_sums(words, form, index)
+}
+
+// What is wrong with word 0 and the check words: the form, 8, or else what the form asks of them. Form 1 comes first, with a copy of its
+// own, so that it is asked for once.
+#[inline(always)]
+fn check_form(
+    words: &[[u8; 4]],
+    form: u8,
+    rule_words: usize,
+    constraint_words: usize,
+) -> Result<(), Refusal>
+    ensures { result ≡ checks_answer form rule_words constraint_words (words_in words.now) }
+{
+    if form == 1 {
+        return check_counts(words, 1, rule_words, constraint_words);
+    }
+    if !is_known_form(form) {
+        return Err(Fault::ImageForm.at(0));
+    }
+    check_counts(words, form, rule_words, constraint_words)
+}
+
+// The image of a form of which both parts fit the words; or the refusal at the first word at which no line fits.
 #[inline(always)]
 fn load_body(
     words: &[[u8; 4]],
+    form: u8,
     rule_words: usize,
     constraint_words: usize,
 ) -> Result<Image<'_>, Refusal>
     requires inside { 1 + rule_words + constraint_words ≤ length words.now }
     requires few { length words.now < 4096 }
-    ensures { result_map_both image_contents (λ refusal. refusal) result ≡ body_answer (between 1 (1 + rule_words) (words_in words.now)) (between (1 + rule_words) (1 + rule_words + constraint_words) (words_in words.now)) (part_lines Part.Rules 1 (1 + rule_words) (words_in words.now)) (part_lines Part.Constraints (1 + rule_words) (1 + rule_words + constraint_words) (words_in words.now)) }
+    ensures { result_map_both image_contents (λ refusal. refusal) result ≡ body_answer form (between 1 (1 + rule_words) (words_in words.now)) (between (1 + rule_words) (1 + rule_words + constraint_words) (words_in words.now)) (part_lines Part.Rules 1 (1 + rule_words) (words_in words.now)) (part_lines Part.Constraints (1 + rule_words) (1 + rule_words + constraint_words) (words_in words.now)) }
 {
     let middle = 1 + rule_words;
     let end = middle + constraint_words;
@@ -78,12 +124,12 @@ fn load_body(
     let rule_count = part_lines(rules, Part::Rules, RULE_LIMIT, 1)?;
     let constraint_count = part_lines(constraints, Part::Constraints, CONSTRAINT_LIMIT, middle)?;
     Ok(Image {
+        form,
         parts: PerPart { rules, constraints },
         counts: PerPart {
             rules: rule_count,
             constraints: constraint_count,
         },
-        words: part(words, 1, end),
     })
 }
 
@@ -98,22 +144,8 @@ pub fn load_image(image: &[u8]) -> Result<Image<'_>, Refusal>
     let words = words(image);
     let header = nth_word_or_zero(words, 0);
     let form = form_of(header);
-    if !is_known_form(form) {
-        return Err(Fault::ImageForm.at(0));
-    }
     let rule_words = rule_words_of(header) as usize;
     let constraint_words = constraint_words_of(header) as usize;
-    if RULE_WORD_LIMIT < rule_words {
-        return Err(Fault::ImageCount.at(0));
-    }
-    if CONSTRAINT_WORD_LIMIT < constraint_words {
-        return Err(Fault::ImageCount.at(0));
-    }
-    if words.len() != 1 + rule_words + constraint_words + check_count(form) {
-        return Err(Fault::ImageCount.at(0));
-    }
-    if sum_words(words) != 0 {
-        return Err(Fault::ImageSum.at(0));
-    }
-    load_body(words, rule_words, constraint_words)
+    check_form(words, form, rule_words, constraint_words)?;
+    load_body(words, form, rule_words, constraint_words)
 }

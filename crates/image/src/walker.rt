@@ -2,14 +2,11 @@
 ghost use Rattle.std.specs.Prelude.{◌≡◌, ◌+◌, ◌<◌, ◌≤◌, ◌↔◌, IsTrue, MatchOption, drop, length};
 ghost use Rattle.std.specs.Iterator.{item_count};
 ghost use Rattle.word.specs.Chunk.{words_in};
-ghost use Rattle.decode.specs.Decode.{line_at, line_length};
 ghost use Rattle.image.specs.Walk.{GivesLine, lines_ahead, told_length};
-ghost use Rattle.image.specs.Steps.Past.{IsPast};
 
-use decode::{line_length, read_line};
+use decode::read_line;
 use line_value::Line;
 use operation::skip;
-use policy::Part;
 use word::nth_word;
 
 #[derive(Clone, Copy)]
@@ -25,12 +22,6 @@ impl<'a> Walker<'a> {
         Walker { words, at }
     }
 
-    pub(crate) fn is_at_end(self) -> bool
-        ensures { IsTrue result ↔ (length self.entry.words.now ≤ self.entry.at) }
-    {
-        self.words.len() <= self.at
-    }
-
     // The words from here on.
     fn rest(self) -> &'a [[u8; 4]]
         ensures { words_in result.now ≡ drop self.entry.at (words_in self.entry.words.now) }
@@ -40,21 +31,6 @@ impl<'a> Walker<'a> {
         } else {
             &[]
         }
-    }
-
-    /// The walker behind the line of the part that starts here; none where no line that an accepted text may have does.
-    #[inline(always)]
-    pub(crate) fn past_line(self, part: Part) -> Option<Walker<'a>>
-        ensures { MatchOption result (line_length (line_at part (drop self.entry.at (words_in self.entry.words.now))) ≡ 0) (λ behind. IsPast (line_length (line_at part (drop self.entry.at (words_in self.entry.words.now)))) self.entry behind) }
-    {
-        let size = line_length(self.rest(), part);
-        if size == 0 {
-            return None;
-        }
-        Some(Walker {
-            words: self.words,
-            at: self.at + size,
-        })
     }
 }
 
@@ -74,6 +50,7 @@ impl<'a> Iterator for Walker<'a> {
 
     ghost remaining = { item_count lines_ahead };
 
+    #[inline(always)]
     fn next(&mut self) -> Option<Line> {
         let rest = self.rest();
         if rest.is_empty() {

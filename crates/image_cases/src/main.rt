@@ -3,31 +3,31 @@
 #![tactic(auto)]
 
 use image::{Image, Walker};
-use policy::{Ending, PerPart};
+use policy::{Part, PerPart};
 use std::io;
 use std::io::{BufWriter, Read, Write};
 
-/// How many rules are met, and how many constraints.
-fn count(lines: Walker<'_>) -> (usize, usize) {
-    let mut rules = 0usize;
-    let mut constraints = 0usize;
+/// How many lines of the part are met.
+fn count(part: Part, lines: Walker<'_>) -> usize {
+    let mut count = 0usize;
     for line in lines {
-        match line.ending() {
-            Ending::Causes(_) => rules = rules.wrapping_add(1),
-            Ending::Never => constraints = constraints.wrapping_add(1),
+        if line.ending().part() == part {
+            count = count.wrapping_add(1);
         }
     }
-    (rules, constraints)
+    count
 }
 
 fn show_image<W: Write>(out: &mut W, image: Image<'_>) -> io::Result<()> {
-    let (first, second) = count(image.lines());
+    let first = count(Part::Rules, image.lines(Part::Rules));
+    let second = count(Part::Constraints, image.lines(Part::Constraints));
+    let form = image.form();
     let PerPart { rules, constraints } = image.counts;
     let rule_words = image.parts.rules.len();
     let constraint_words = image.parts.constraints.len();
     writeln!(
         out,
-        "image rules {rules} constraints {constraints} words {rule_words} {constraint_words} lines {first} {second}"
+        "image form {form} rules {rules} constraints {constraints} words {rule_words} {constraint_words} lines {first} {second}"
     )
 }
 

@@ -3,16 +3,15 @@
 //! the header take null pointers and call these. What a controller has no use for stands in kinohazel_tools.
 #![tactic(auto)]
 
-ghost use Rattle.std.specs.Prelude.{◌≡◌};
+ghost use Rattle.std.specs.Prelude.{◌≡◌, ℕ, List};
 ghost use Rattle.policy.specs.Fault.{fault_number, source_number};
-ghost use Rattle.codegen.specs.Compile.{newest_form, compiled, compiled_texts};
+ghost use Rattle.codegen.specs.Compile.{compiled, compiled_texts};
 ghost use Rattle.decompile.specs.Decompile.{decompiled};
 ghost use Rattle.image.specs.Load.{load};
 ghost use Rattle.monitor.specs.Decision.{decision};
 ghost use Rattle.export.specs.Export.{decision_of};
 ghost use Rattle.kinohazel.specs.Export.{compilation_of, texts_compilation_of, text_written_of, check_of};
 
-use codegen::NEWEST_FORM;
 use export::{EpochDecision, epoch_decision, fault_number};
 use policy::{Mode, Source};
 
@@ -56,14 +55,22 @@ pub struct TextWritten {
     pub size: u64,
 }
 
-/// Writes the image of a text from the start of `out` on. A refusal leaves `out` as it is.
+// A form in a byte: one over 255 is unknown, as 0 is.
+fn form_byte(form: u64) -> u8
+    ensures text { (text buffer : List ℕ) → compiled result text buffer ≡ compiled form text buffer }
+    ensures texts { (maker site buffer : List ℕ) → compiled_texts result maker site buffer ≡ compiled_texts form maker site buffer }
+{
+    if form < 256 { form as u8 } else { 0 }
+}
+
+/// Writes the image of a text, in a form, from the start of `out` on. A refusal leaves `out` as it is.
 #[tactic(auto, unfolding(crate::specs::Export::compilation_of))]
 #[unsafe(no_mangle)]
-pub extern "C" fn kinohazel_compile_nonnull(text: &[u8], out: &mut [u8]) -> Compilation
-    ensures answer { result ≡ compilation_of (compiled newest_form text.now out.old).answer }
-    ensures buffer { out.new ≡ (compiled newest_form text.now out.old).buffer }
+pub extern "C" fn kinohazel_compile_nonnull(form: u64, text: &[u8], out: &mut [u8]) -> Compilation
+    ensures answer { result ≡ compilation_of (compiled form text.now out.old).answer }
+    ensures buffer { out.new ≡ (compiled form text.now out.old).buffer }
 {
-    match codegen::compile(NEWEST_FORM, text, out) {
+    match codegen::compile(form_byte(form), text, out) {
         Err(refusal) => Compilation {
             fault: fault_number(refusal),
             line: refusal.location as u64,
@@ -87,14 +94,15 @@ fn source_number(source: Source) -> u64
 #[tactic(auto, unfolding(crate::specs::Export::texts_compilation_of))]
 #[unsafe(no_mangle)]
 pub extern "C" fn kinohazel_compile_texts_nonnull(
+    form: u64,
     maker: &[u8],
     site: &[u8],
     out: &mut [u8],
 ) -> TextsCompilation
-    ensures answer { result ≡ texts_compilation_of (compiled_texts newest_form maker.now site.now out.old).answer }
-    ensures buffer { out.new ≡ (compiled_texts newest_form maker.now site.now out.old).buffer }
+    ensures answer { result ≡ texts_compilation_of (compiled_texts form maker.now site.now out.old).answer }
+    ensures buffer { out.new ≡ (compiled_texts form maker.now site.now out.old).buffer }
 {
-    match codegen::compile_texts(NEWEST_FORM, maker, site, out) {
+    match codegen::compile_texts(form_byte(form), maker, site, out) {
         Err(refusal) => {
             let source = refusal.source;
             TextsCompilation {

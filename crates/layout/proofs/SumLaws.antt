@@ -24,6 +24,10 @@ pub sum_append : (a b : List ℕ) → sum (a ++ b) ≡ sum a + sum b
 unfolding sum
 sum_append a b = sum_by-append (λ (w : ℕ). w) a b
 
+pub sum_alone : (w : ℕ) → sum (w ∷ []) ≡ w
+unfolding sum
+sum_alone w = omega arith
+
 pub check_sum : (words : List ℕ) → sum (words ++ check_word words ∷ []) % word_limit ≡ 0
 unfolding sum check_word
 check_sum words = let h = sum_append words (check_word words ∷ []) in omega arith

@@ -1,6 +1,5 @@
--- The words of a line, and the image of a policy. The form is an argument, and word 0 holds it; nothing else
--- of layout, limits and check words depends on it today, for form 1 is the only one that is known.
-use Rattle.std.specs.Prelude.{ℕ, ◌-◌, ◌%◌, Bool, List, [], ◌∷◌, ◌++◌, map, length, ◌==◌}
+-- The words of a line, and the image of a policy. The form is an argument, and word 0 holds it; of all else it tells the check words.
+use Rattle.std.specs.Prelude.{ℕ, ◌+◌, ◌*◌, ◌-◌, ◌%◌, Bool, ◌||◌, if◌then◌else◌, List, [], ◌∷◌, ◌++◌, map, length, take, slice_index_or, ◌==◌}
 use Rattle.std.specs.List.{sum as sum_of}
 use Rattle.policy.specs.Line.{PolicyLine, rule, constraint, heads_of, comparisons_of, ending_of}
 use Rattle.policy.specs.Policy.{Policy}
@@ -31,12 +30,12 @@ lines_words (l ∷ ls) = line_words l ++ lines_words ls
 
 -- ---- forms
 
--- form 1 alone
 unfoldable pub known_form : ℕ → Bool
-known_form form = form == 1
+known_form form = form == 1 || form == 2
 
+-- form 1 has the last word alone, form 2 a weighted one before it
 unfoldable pub check_count : ℕ → ℕ
-check_count form = 1
+check_count form = if form == 1 then 1 else 2
 
 abbrev pub rule_word_limit : ℕ → ℕ
 rule_word_limit form = 2176
@@ -46,7 +45,7 @@ constraint_word_limit form = 1088
 
 -- the largest image of any form, in bytes
 abbrev pub size_limit : ℕ
-size_limit = 13064
+size_limit = 13068
 
 -- ---- the image
 
@@ -57,9 +56,22 @@ sum ws = sum_of ws
 unfoldable pub check_word : List ℕ → ℕ
 check_word ws = (word_limit - sum ws % word_limit) % word_limit
 
--- the check words of a form, from the words before them
+-- each word times its index plus 1, the first of them having the index n
+unfoldable pub weighted_from : ℕ → List ℕ → ℕ
+weighted_from n [] = 0
+weighted_from n (w ∷ ws) = w * (n + 1) + weighted_from (n + 1) ws
+
+-- the word by which two neighbours that were exchanged are noticed
+unfoldable pub weighted_word : List ℕ → ℕ
+weighted_word ws = weighted_from 0 ws % word_limit
+
+-- whether the word at an index is the weighted one of those before it; form 1 has none
+unfoldable pub weighted_right : ℕ → ℕ → List ℕ → Bool
+weighted_right form index ws = form == 1 || slice_index_or ws index 0 == weighted_word (take index ws)
+
+-- the check words of a form, from the words before them: the last brings the sum of all to 0, the weighted one included
 unfoldable pub check_words : ℕ → List ℕ → List ℕ
-check_words form ws = check_word ws ∷ []
+check_words form ws = if form == 1 then check_word ws ∷ [] else weighted_word ws ∷ check_word (ws ++ weighted_word ws ∷ []) ∷ []
 
 unfoldable pub header_word : ℕ → List ℕ → List ℕ → ℕ
 header_word form rules constraints = pack_header form (length rules) (length constraints)

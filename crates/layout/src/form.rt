@@ -7,14 +7,14 @@ ghost use Rattle.layout.specs.Layout.{known_form, check_count};
 pub fn is_known_form(form: u8) -> bool
     ensures { result ≡ known_form form }
 {
-    form == 1
+    form == 1 || form == 2
 }
 
 /// How many check words an image of this form has.
 #[tactic(auto, unfolding(crate::specs::Layout::check_count))]
-pub fn check_count(_form: u8) -> usize
-    ensures count { result ≡ check_count _form }
+pub fn check_count(form: u8) -> usize
+    ensures count { result ≡ check_count form }
     ensures few { result ≤ 2 }
 {
-    1
+    if form == 1 { 1 } else { 2 }
 }

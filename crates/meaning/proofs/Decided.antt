@@ -73,7 +73,7 @@ module _ (image : List ℕ) (contents : Contents) (p : Policy) (does : Implement
 -- ---- the image of a policy that an accepted text may have
 
 module _ (form : ℕ) (known : known_form form ≡ true) (p : Policy) (ok : Acceptable p) where
-  does : Implements (image_of form p) (contents_of p) p
+  does : Implements (image_of form p) (contents_of form p) p
   does = written_implements form known p ok
 
   pub image_bounded : Bytes (image_of form p)
@@ -82,7 +82,7 @@ module _ (form : ℕ) (known : known_form form ≡ true) (p : Policy) (ok : Acce
 
   -- on a line that is refused, in either mode
   pub image_refuses_in : (mode : Mode) (line : List ℕ) (r : Refusal) → read_epoch line ≡ Err r → decision_in mode (image_of form p) line ≡ Err r
-  image_refuses_in mode line r q = sym (line_refused mode (image_of form p) line (contents_of p) does.taken r q)
+  image_refuses_in mode line r q = sym (line_refused mode (image_of form p) line (contents_of form p) does.taken r q)
 
   pub image_refuses : (line : List ℕ) (r : Refusal) → read_epoch line ≡ Err r → decision (image_of form p) line ≡ Err r
   image_refuses = image_refuses_in Mode.Actions
@@ -90,9 +90,9 @@ module _ (form : ℕ) (known : known_form form ≡ true) (p : Policy) (ok : Acce
   -- on a line that is an epoch it decides what the policy yields
   pub image_decides : (line : List ℕ) (e : Epoch) → read_epoch line ≡ Ok e
       → decision (image_of form p) line ≡ Ok (actions_of (proposed p.rules e) (Yield.accepted p e) (visited_by (rule_part_words p) (constraint_part_words p) e))
-  image_decides line e q = decided_is (image_of form p) (contents_of p) p does line e q
+  image_decides line e q = decided_is (image_of form p) (contents_of form p) p does line e q
 
   pub image_reduces : (line : List ℕ) (e : Epoch) → read_epoch line ≡ Ok e
       → decision_in Mode.Events (image_of form p) line
       ≡ reduction_of p e (tried_event_words (rule_part_words p) (constraint_part_words p) e)
-  image_reduces line e q = events_decided_are (image_of form p) (contents_of p) p does line e q
+  image_reduces line e q = events_decided_are (image_of form p) (contents_of form p) p does line e q

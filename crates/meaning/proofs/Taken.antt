@@ -23,7 +23,7 @@ pub record Implements (image : List ℕ) (contents : Contents) (p : Policy) : Ty
   pub constraints : (rs : Readings) (s : ActionSet) → run_constraints rs s contents.parts.constraints ≡ conflict p.constraints rs s
 
 -- what was written for a policy
-pub written_implements : (form : ℕ) → known_form form ≡ true → (p : Policy) → Acceptable p → Implements (image_of form p) (contents_of p) p
+pub written_implements : (form : ℕ) → known_form form ≡ true → (p : Policy) → Acceptable p → Implements (image_of form p) (contents_of form p) p
 written_implements form known p ok =
     record { taken = image_taken form known p ok; acceptable = ok; rules = rules_run p ok.rules_valid; constraints = constraints_run p ok.constraints_valid }
 

@@ -106,7 +106,8 @@ decisions =
     ∷ refuses_with worked_image "R0=1 R0=1" 14 0
     ∷ yields worked_image "E1 E1 R0=41" (3 ∷ []) [] 8
     ∷ refuses_with [] "E64" 7 0
-    ∷ refuses_with (damaged 0 2) "E64" 8 0
+    ∷ refuses_with (damaged 0 3) "E64" 8 0
+    ∷ refuses_with (damaged 0 2) "E64" 9 0
     ∷ refuses_with (damaged 3 4) "E64" 9 0
     ∷ refuses_with (damaged 47 0) "E64" 10 0
     ∷ refuses_with bodiless "E64" 11 1

@@ -5,13 +5,13 @@ use Rattle.std.proofs.lemmas.List.{get_or_past}
 use Rattle.std.proofs.Math.ListN.{get_or}
 use Rattle.policy.specs.Fault.{fault_number}
 use Rattle.policy.specs.declared.fault.Fault.{Fault}
-use Rattle.policy.specs.declared.fault.Fault.TheVariants.{TooLong, Syntax, OutOfRange, TooManyParts, TooManyLines, Duplicate, ImageSize, ImageForm, ImageCount, ImageSum, ImageBody, EpochSyntax, EpochRange, DuplicateReading, BufferTooSmall, Unavoidable}
+use Rattle.policy.specs.declared.fault.Fault.TheVariants.{TooLong, Syntax, OutOfRange, TooManyParts, TooManyLines, Duplicate, ImageSize, ImageForm, ImageCount, ImageSum, ImageBody, EpochSyntax, EpochRange, DuplicateReading, BufferTooSmall, ImageWeightedSum, Unavoidable}
 
--- the faults by their numbers; no fault has number 0 or 16
+-- the faults by their numbers; no fault has number 0
 abbrev pub by_number : List Fault
 by_number =
     TooLong ∷ TooLong ∷ Syntax ∷ OutOfRange ∷ TooManyParts ∷ TooManyLines ∷ Duplicate ∷ ImageSize ∷ ImageForm ∷ ImageCount ∷ ImageSum ∷ ImageBody
-    ∷ EpochSyntax ∷ EpochRange ∷ DuplicateReading ∷ BufferTooSmall ∷ TooLong ∷ Unavoidable ∷ []
+    ∷ EpochSyntax ∷ EpochRange ∷ DuplicateReading ∷ BufferTooSmall ∷ ImageWeightedSum ∷ Unavoidable ∷ []
 
 found : (f : Fault) → get_or by_number (fault_number f) TooLong ≡ f
 found TooLong = refl
@@ -29,6 +29,7 @@ found EpochSyntax = refl
 found EpochRange = refl
 found DuplicateReading = refl
 found BufferTooSmall = refl
+found ImageWeightedSum = refl
 found Unavoidable = refl
 
 pub fault_number_distinct : (f g : Fault) → fault_number f ≡ fault_number g → f ≡ g

@@ -3,7 +3,7 @@
 ghost use Rattle.std.specs.Prelude.{◌≡◌};
 ghost use Rattle.policy.specs.Fault.{fault_number, source_number, refusal, within};
 
-/// What is wrong. The numbers are those that users are told; 16 is none.
+/// What is wrong. The numbers are those that users are told.
 #[derive(Clone, Copy)]
 pub enum Fault {
     /// A rule text or an epoch line is over its length.
@@ -36,6 +36,8 @@ pub enum Fault {
     DuplicateReading = 14,
     /// The buffer lent for an image, or for the text of one, has too few bytes.
     BufferTooSmall = 15,
+    /// The words of an image, each as often as its place says, do not add up to the word that holds that sum.
+    ImageWeightedSum = 16,
     /// No reduction of the epoch is free of conflict, where events are cancelled.
     Unavoidable = 17,
 }

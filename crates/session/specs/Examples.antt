@@ -66,10 +66,10 @@ dues =
 unfoldable pub listings : List Example
 listings =
     row "E1 & !E2 causes A3 if R0 > 40\nE3 causes A4\nnever A3 & A4\n"
-    "01007003\n10400004\n20800003\n30008001\n00000028\n50C00000\n10C00001\n51000000\n60C00002\n61000001\n70000000\nB9FF0FC9\n"
+    "02007003\n10400004\n20800003\n30008001\n00000028\n50C00000\n10C00001\n51000000\n60C00002\n61000001\n70000000\n26827103\n927C9EC6\n"
     ∷ row "E1 causes A1 if R0 = 0x8040 , R1 = 0xFFFFFFFF , R2 = 0x80000000 , R3 = 0x7fffffff"
-    "0100A000\n10400009\n30000007\n00008040\n30400005\nFFFFFFFF\n30800003\n80000000\n30C00001\n7FFFFFFF\n50400000\nDCFEDFA9\n"
-    ∷ row "" "01000000\nFF000000\n"
+    "0200A000\n10400009\n30000007\n00008040\n30400005\nFFFFFFFF\n30800003\n80000000\n30C00001\n7FFFFFFF\n50400000\n20C2A14E\nBB3C3E5B\n"
+    ∷ row "" "02000000\n02000000\nFC000000\n"
     ∷ row "# none\nE64 causes A1" "refused 3 line 2\n"
     ∷ []
 
@@ -85,8 +85,8 @@ unfoldable pub texts_listings : List TextsExample
 texts_listings =
     -- the worked text, a rule of it from the site; the maker's last line lacks its end
     texts "E1 & !E2 causes A3 if R0 > 40\nnever A3 & A4" "E3 causes A4\n"
-    "01007003\n10400004\n20800003\n30008001\n00000028\n50C00000\n10C00001\n51000000\n60C00002\n61000001\n70000000\nB9FF0FC9\n"
-    ∷ texts "" "" "01000000\nFF000000\n"
+    "02007003\n10400004\n20800003\n30008001\n00000028\n50C00000\n10C00001\n51000000\n60C00002\n61000001\n70000000\n26827103\n927C9EC6\n"
+    ∷ texts "" "" "02000000\n02000000\nFC000000\n"
     -- the maker's faults come first; lines are counted from 1 in each text
     ∷ texts "# none\nE64 causes A1" "E1" "refused 3 text 1 line 2\n"
     ∷ texts "E1 causes A1\n" "\n\nE1" "refused 2 text 2 line 3\n"

@@ -15,9 +15,17 @@ static unsigned nulls(const uint8_t *first, const uint8_t *second)
     return (first == NULL ? 1 : 0) + (second == NULL ? 2 : 0);
 }
 
+static struct verdict write_text_of(
+    uint64_t form, const uint8_t *image, size_t length, uint8_t *buffer, size_t room, size_t *written)
+{
+    (void)form;
+    return decompile(image, length, buffer, room, written);
+}
+
 const struct filler compiling = {
     "kinohazel_compile", compile, fill_with_image, IMAGE_BYTES, tally.compile, tally.compile_nulls};
-const struct filler writing = {"kinohazel_text", decompile, fill_with_text, WRITTEN_BYTES, tally.text, tally.text_nulls};
+const struct filler writing = {
+    "kinohazel_text", write_text_of, fill_with_text, WRITTEN_BYTES, tally.text, tally.text_nulls};
 
 static void count_location(unsigned long locations[4], struct verdict verdict, const uint8_t *image)
 {
@@ -55,18 +63,19 @@ static uint8_t *lend_out(size_t room, const uint8_t *output, size_t size)
 struct verdict compare_filler(const struct filler *filler, const uint8_t *input, size_t length, size_t room)
 {
     static uint8_t output[OUT_BYTES];
-    char what[200];
+    char what[300];
     size_t size;
-    struct verdict verdict = filler->reference(input, length, output, room, &size);
+    struct verdict verdict = filler->reference(current_form, input, length, output, room, &size);
     struct filled answer;
     const uint8_t *lent = lend(text_pen, input, length);
     uint8_t *lent_out = lend_out(room, output, size);
     start_call(true);
-    answer = filler->library(lent, length, lent_out, room);
+    answer = filler->library(current_form, lent, length, lent_out, room);
     end_call();
     if (answer.fault != (uint64_t)verdict.fault || answer.location != verdict.location || answer.size != size) {
-        sprintf(what, "room %lu, fault %" PRIu64 " location %" PRIu64 " size %" PRIu64 ", expected %d, %lu, %lu",
-            (unsigned long)room, answer.fault, answer.location, answer.size, (int)verdict.fault,
+        sprintf(what,
+            "form %" PRIu64 ", room %lu, fault %" PRIu64 " location %" PRIu64 " size %" PRIu64 ", expected %d, %lu, %lu",
+            current_form, (unsigned long)room, answer.fault, answer.location, answer.size, (int)verdict.fault,
             (unsigned long)verdict.location, (unsigned long)size);
         fail_on(filler->name, what, input, length);
     }
@@ -115,20 +124,21 @@ struct verdict compare_texts(struct texts texts, size_t room)
     static uint8_t output[OUT_BYTES];
     char what[300];
     size_t size;
-    struct verdict verdict = compile_texts(texts, output, room, &size);
+    struct verdict verdict = compile_texts(current_form, texts, output, room, &size);
     const uint8_t *maker = lend(text_pen, texts.maker.bytes, texts.maker.length),
                   *site = lend(site_pen, texts.site.bytes, texts.site.length);
     uint8_t *out = lend_out(room, output, size);
     struct kinohazel_texts_compilation answer;
     start_call(true);
-    answer = kinohazel_compile_texts(maker, texts.maker.length, site, texts.site.length, out, room);
+    answer = kinohazel_compile_texts(current_form, maker, texts.maker.length, site, texts.site.length, out, room);
     end_call();
     if (answer.fault != (uint64_t)verdict.fault || answer.text != (uint64_t)verdict.text
         || answer.line != verdict.location || answer.size != size) {
         sprintf(what,
-            "room %lu, fault %" PRIu64 " text %" PRIu64 " line %" PRIu64 " size %" PRIu64 ", expected %d, %d, %lu, %lu",
-            (unsigned long)room, answer.fault, answer.text, answer.line, answer.size, (int)verdict.fault, (int)verdict.text,
-            (unsigned long)verdict.location, (unsigned long)size);
+            "form %" PRIu64 ", room %lu, fault %" PRIu64 " text %" PRIu64 " line %" PRIu64 " size %" PRIu64
+            ", expected %d, %d, %lu, %lu",
+            current_form, (unsigned long)room, answer.fault, answer.text, answer.line, answer.size, (int)verdict.fault,
+            (int)verdict.text, (unsigned long)verdict.location, (unsigned long)size);
         fail_on_texts(name, what, texts);
     }
     if (!same(out_pen.from, wanted_out, OUT_BYTES))
@@ -153,6 +163,7 @@ struct verdict compare_check(const uint8_t *image, size_t length)
     if (verdict.fault == FAULT_NONE) {
         rules = policy.rule_count;
         constraints = policy.constraint_count;
+        tally.taken[image[0]]++;
     }
     start_call(false);
     answer = kinohazel_check(lent, length);

@@ -75,6 +75,16 @@ enum dropping {
     DROPPINGS
 };
 
+/* Damages of images in form 2, each refused as it has to be. */
+enum damage_of_form_2 {
+    SWAP_AT_START, /* words 0 and 1 exchanged: refused under 8 */
+    SWAP_BEHIND,   /* two later words before the weighted one: 16 */
+    SWAP_OF_CHECK_WORDS, /* 16 */
+    WEIGHT_BEFORE_BODY,  /* a wrong weighted word and a faulty line: 16 */
+    SUM_BEFORE_WEIGHT,   /* a wrong sum and a wrong weighted word: 10 */
+    DAMAGES_OF_FORM_2
+};
+
 /* Decisions whose number of words shows how they are counted. */
 enum counted {
     REMAINDER,             /* a trial ends before the last never line: the words behind do not count */
@@ -98,12 +108,14 @@ struct tally {
     unsigned long patterns[2]; /* accepted texts, and epoch lines, that have 0x behind a space or an equals sign */
     unsigned long texts[FAULTS][OWNERS], explain[FAULTS][OWNERS]; /* refusals by the text at fault */
     unsigned long outcomes[OUTCOMES][OWNERS], over; /* by the text of the part; actions over 63 as the only fault */
+    unsigned long taken[NEWEST_FORM + 1], form_2[DAMAGES_OF_FORM_2]; /* images accepted by their form */
     unsigned long texts_nulls[8], explain_nulls[8], overlapping;
     unsigned long written, empty, longest; /* texts that compile to their image again; those of 0 and of 27,968 bytes */
 };
 
 extern struct tally tally;
 extern unsigned long current_round;
+extern uint64_t current_form; /* that texts are compiled to */
 extern const char *step;
 
 /* Prints the counts. False if something was never met. */
@@ -155,7 +167,7 @@ void end_call(void);
 /* A function that fills a buffer. */
 struct filler {
     const char *name;
-    struct verdict (*reference)(const uint8_t *, size_t, uint8_t *, size_t, size_t *);
+    struct verdict (*reference)(uint64_t, const uint8_t *, size_t, uint8_t *, size_t, size_t *);
     fill_function *library;
     size_t limit; /* bytes that it writes at most */
     unsigned long *faults, *nulls;
@@ -197,6 +209,9 @@ bool agree_why(struct kinohazel_explanation answer, struct explanation wanted);
 struct verdict compare_filler_rooms(const struct filler *filler, const uint8_t *input, size_t length, struct dice *dice);
 struct verdict compare_rooms(const uint8_t *text, size_t length, struct dice *dice);
 void compare_limit_texts(struct buffer *input, struct dice *dice);
+
+/* Forms that are not known, for texts of all kinds. */
+void compare_unknown_forms(struct buffer *input, struct dice *dice);
 
 /* joint.c: two texts as one, and why an action is issued or not. */
 

@@ -42,6 +42,14 @@ static struct verdict compare_check_damaged(const uint8_t *image, size_t length,
 
 /* Each damage is taken back, so that the image is the original again. */
 
+/* One word was changed. */
+static void expect_frame_fault(const uint8_t *image, size_t length, struct dice *dice, unsigned per_mille)
+{
+    struct verdict verdict = compare_check_damaged(image, length, dice, per_mille);
+    if (verdict.fault < FAULT_SIZE || verdict.fault > FAULT_SUM)
+        fail_on("kinohazel_check", "one changed word was not refused under 7 to 10", image, length);
+}
+
 static void change_words(uint8_t *image, size_t length, struct dice *dice, unsigned share)
 {
     size_t i;
@@ -49,13 +57,23 @@ static void change_words(uint8_t *image, size_t length, struct dice *dice, unsig
     for (i = 0; i < length / WORD_BYTES; i++)
         if (chance(dice, share)) {
             uint32_t old = word_at(image, i);
-            struct verdict verdict;
             put_word(image, i, other_word(dice, old));
-            verdict = compare_check_damaged(image, length, dice, 250);
-            if (verdict.fault < FAULT_SIZE || verdict.fault > FAULT_SUM)
-                fail_on("kinohazel_check", "one changed word was not refused under 7 to 10", image, length);
+            expect_frame_fault(image, length, dice, 250);
             put_word(image, i, old);
         }
+}
+
+static void change_form(uint8_t *image, size_t length, struct dice *dice)
+{
+    uint8_t old = image[0];
+    unsigned form;
+    step = "the form changed";
+    for (form = 0; form < 256; form++)
+        if (form != old) {
+            image[0] = (uint8_t)form;
+            expect_frame_fault(image, length, dice, 50);
+        }
+    image[0] = old;
 }
 
 static void flip_bits(uint8_t *image, size_t length, struct dice *dice, unsigned share)
@@ -70,6 +88,18 @@ static void flip_bits(uint8_t *image, size_t length, struct dice *dice, unsigned
         }
 }
 
+/* Words `i` and `i + 1` were exchanged in form 2. Nothing is said of the last word before the check words and the weighted one. */
+static void expect_swap_fault(const uint8_t *image, size_t length, size_t i, struct verdict verdict)
+{
+    size_t weighted = length / WORD_BYTES - CHECK_WORDS;
+    enum damage_of_form_2 damage = i == weighted ? SWAP_OF_CHECK_WORDS : i == 0 ? SWAP_AT_START : SWAP_BEHIND;
+    if (i + 1 == weighted || word_at(image, i) == word_at(image, i + 1))
+        return;
+    if (verdict.fault != (damage == SWAP_AT_START ? FAULT_FORM : FAULT_WEIGHTED_SUM) || verdict.location != 0)
+        fail_on("kinohazel_check", "exchanged words are not refused under 8 or 16", image, length);
+    tally.form_2[damage]++;
+}
+
 static void exchange_words(uint8_t *image, size_t length, struct dice *dice, unsigned share)
 {
     size_t i;
@@ -77,26 +107,40 @@ static void exchange_words(uint8_t *image, size_t length, struct dice *dice, uns
     for (i = 0; i + 1 < length / WORD_BYTES; i++)
         if (chance(dice, share)) {
             uint32_t first = word_at(image, i), second = word_at(image, i + 1);
+            struct verdict verdict;
             put_word(image, i, second);
             put_word(image, i + 1, first);
-            compare_check_damaged(image, length, dice, 100);
+            verdict = compare_check_damaged(image, length, dice, 100);
+            if (current_form != FIRST_FORM)
+                expect_swap_fault(image, length, i, verdict);
             put_word(image, i, first);
             put_word(image, i + 1, second);
         }
 }
 
+/* The sum alone, by which the weighted word is mostly wrong, or all check words. */
+static void mend(uint8_t *image, size_t length, struct dice *dice)
+{
+    if (chance(dice, 300))
+        put_sum(image, length / WORD_BYTES);
+    else
+        put_check_words(image, length / WORD_BYTES, (unsigned)current_form);
+}
+
 static void change_and_mend(uint8_t *image, size_t length, struct dice *dice, unsigned share)
 {
-    size_t i, last = length / WORD_BYTES - 1;
-    step = "one word changed and the sum mended";
-    for (i = 0; i < last; i++)
+    uint8_t last[CHECK_WORDS * WORD_BYTES], *at = image + length - sizeof last;
+    size_t i;
+    step = "one word changed and the check words mended";
+    memcpy(last, at, sizeof last);
+    for (i = 0; i + 1 < length / WORD_BYTES; i++)
         if (chance(dice, share)) {
-            uint32_t old = word_at(image, i), sum = word_at(image, last);
+            uint32_t old = word_at(image, i);
             put_word(image, i, other_word(dice, old));
-            put_sum(image, last + 1);
+            mend(image, length, dice);
             compare_check_damaged(image, length, dice, 100);
             put_word(image, i, old);
-            put_word(image, last, sum);
+            memcpy(at, last, sizeof last);
         }
 }
 
@@ -121,14 +165,15 @@ static void change_length(uint8_t *image, size_t length, struct dice *dice, unsi
 /* Up to three words are taken out of the body. */
 static void take_out(uint8_t *image, size_t length, struct dice *dice)
 {
-    size_t count = length / WORD_BYTES, from = 1 + below(dice, (unsigned)count - 2), gone = 1 + below(dice, 3);
+    size_t count = length / WORD_BYTES, behind = count - check_words((unsigned)current_form);
+    size_t from = 1 + below(dice, (unsigned)behind - 1), gone = 1 + below(dice, 3);
     struct header header = unpack_header(word_at(image, 0));
     unsigned *part = from <= header.rule_words ? &header.rule_words : &header.constraint_words;
-    gone = from + gone < count ? gone : count - 1 - from;
+    gone = from + gone <= behind ? gone : behind - from;
     memmove(image + WORD_BYTES * from, image + WORD_BYTES * (from + gone), length - WORD_BYTES * (from + gone));
     *part -= (unsigned)(gone < *part ? gone : *part);
     put_word(image, 0, pack_header(header));
-    put_sum(image, count - gone);
+    put_check_words(image, count - gone, (unsigned)current_form);
     compare_check(image, length - WORD_BYTES * gone);
 }
 
@@ -141,7 +186,7 @@ static void move_border(uint8_t *image, size_t length, struct dice *dice)
     header.rule_words = rules > both ? both : rules;
     header.constraint_words = both - header.rule_words;
     put_word(image, 0, pack_header(header));
-    put_sum(image, length / WORD_BYTES);
+    put_check_words(image, length / WORD_BYTES, (unsigned)current_form);
     compare_check(image, length);
     compare_damaged(image, length, dice);
 }
@@ -161,7 +206,7 @@ static void damage_several(uint8_t *image, size_t length, struct dice *dice)
     if (chance(dice, 300))
         size = length + below(dice, 12) - 4;
     if (chance(dice, 700))
-        put_sum(image, size / WORD_BYTES);
+        mend(image, size, dice);
     compare_check(image, size);
     compare_damaged(image, size, dice);
 }
@@ -172,14 +217,15 @@ void damage_image(const uint8_t *original, size_t length, struct dice *dice, uns
     unsigned i;
     memcpy(image, original, length);
     change_words(image, length, dice, share);
+    change_form(image, length, dice);
     flip_bits(image, length, dice, share);
     exchange_words(image, length, dice, share);
     change_and_mend(image, length, dice, share);
     change_length(image, length, dice, share);
-    step = "words taken out or put in, the header and the sum mended";
+    step = "words taken out or put in, the header and the check words mended";
     for (i = 0; i < 12; i++) {
         memcpy(image, original, length);
-        if (length > 2 * WORD_BYTES && chance(dice, 600))
+        if (length > (1 + check_words((unsigned)current_form)) * WORD_BYTES && chance(dice, 600))
             take_out(image, length, dice);
         else
             move_border(image, length, dice);

@@ -37,6 +37,8 @@ void compare_each_byte(struct buffer *input)
             compare_check(changed, size);
             put_sum(changed, size / WORD_BYTES);
             compare_check(changed, size);
+            put_check_words(changed, size / WORD_BYTES, changed[0]);
+            compare_check(changed, size);
             compare_decide(changed, size, (const uint8_t *)line, line_length, NULL);
             compare_text(changed, size, text_length + 8);
         }

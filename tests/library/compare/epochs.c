@@ -5,7 +5,7 @@
 
 void make_subject(struct subject *subject, const void *text, size_t length)
 {
-    if (compile(text, length, subject->image, IMAGE_BYTES, &subject->size).fault != FAULT_NONE)
+    if (compile(current_form, text, length, subject->image, IMAGE_BYTES, &subject->size).fault != FAULT_NONE)
         fail_on("reference", "a text is refused", text, length);
     read_text(text, length, &subject->policy);
 }
@@ -129,7 +129,7 @@ void compare_lines_in_image(void)
     size_t size, at, length;
     int mode;
     step = "lines in the image";
-    compile((const uint8_t *)text, strlen(text), image, sizeof image, &size);
+    compile(current_form, (const uint8_t *)text, strlen(text), image, sizeof image, &size);
     lent = lend(text_pen, image, size);
     for (at = 0; at <= size; at++)
         for (length = 0; length <= size - at; length++)

@@ -6,7 +6,7 @@
 static void compare_limits(void)
 {
     static const int pairs[][2] = {{KINOHAZEL_TEXT_LIMIT, TEXT_BYTES}, {KINOHAZEL_EPOCH_LIMIT, EPOCH_BYTES},
-        {KINOHAZEL_IMAGE_LIMIT, IMAGE_BYTES}, {KINOHAZEL_WRITTEN_TEXT_LIMIT, WRITTEN_BYTES},
+        {KINOHAZEL_NEWEST_FORM, NEWEST_FORM}, {KINOHAZEL_IMAGE_LIMIT, IMAGE_BYTES}, {KINOHAZEL_WRITTEN_TEXT_LIMIT, WRITTEN_BYTES},
         {KINOHAZEL_RULE_LIMIT, RULES}, {KINOHAZEL_CONSTRAINT_LIMIT, CONSTRAINTS},
         {KINOHAZEL_OK, FAULT_NONE}, {KINOHAZEL_TOO_LONG, FAULT_LONG}, {KINOHAZEL_SYNTAX, FAULT_SHAPE},
         {KINOHAZEL_OUT_OF_RANGE, FAULT_RANGE}, {KINOHAZEL_TOO_MANY_PARTS, FAULT_CROWD},
@@ -14,7 +14,8 @@ static void compare_limits(void)
         {KINOHAZEL_IMAGE_FORM, FAULT_FORM}, {KINOHAZEL_IMAGE_COUNT, FAULT_COUNT}, {KINOHAZEL_IMAGE_SUM, FAULT_SUM},
         {KINOHAZEL_IMAGE_BODY, FAULT_BODY}, {KINOHAZEL_EPOCH_SYNTAX, FAULT_EPOCH_SHAPE},
         {KINOHAZEL_EPOCH_RANGE, FAULT_EPOCH_RANGE}, {KINOHAZEL_DUPLICATE_READING, FAULT_TWICE},
-        {KINOHAZEL_BUFFER_TOO_SMALL, FAULT_ROOM}, {KINOHAZEL_UNAVOIDABLE, FAULT_UNAVOIDABLE},
+        {KINOHAZEL_BUFFER_TOO_SMALL, FAULT_ROOM}, {KINOHAZEL_IMAGE_WEIGHTED_SUM, FAULT_WEIGHTED_SUM},
+        {KINOHAZEL_UNAVOIDABLE, FAULT_UNAVOIDABLE},
         {KINOHAZEL_NONE, OUTCOME_NONE}, {KINOHAZEL_NOT_PROPOSED, NOT_PROPOSED},
         {KINOHAZEL_ACCEPTED, IS_ACCEPTED}, {KINOHAZEL_CANCELLED, IS_CANCELLED}};
     size_t i;
@@ -26,7 +27,7 @@ static void compare_limits(void)
 /* Each fault has words of its own; header.out has them all. */
 static void compare_words(void)
 {
-    static const uint64_t unknown[] = {FAULT_UNUSED, FAULTS, 255, 256, UINT64_C(1) << 32, UINT64_C(1) << 32 | 1, UINT64_MAX};
+    static const uint64_t unknown[] = {FAULTS, 255, 256, UINT64_C(1) << 32, UINT64_C(1) << 32 | 1, UINT64_MAX};
     static char words[FAULTS][100];
     size_t i, k;
     for (i = 0; i < FAULTS; i++) {
@@ -34,7 +35,7 @@ static void compare_words(void)
         for (k = 0; k < i; k++)
             if (strcmp(words[i], words[k]) == 0)
                 fail("kinohazel_fault_words", "two faults have the same words");
-        if (words[i][0] == 0 || (strcmp(words[i], "unknown fault") == 0 && i != FAULT_UNUSED))
+        if (words[i][0] == 0 || strcmp(words[i], "unknown fault") == 0)
             fail("kinohazel_fault_words", "a fault has no words");
     }
     for (i = 0; i < COUNT(unknown); i++)
@@ -78,7 +79,7 @@ void compare_nulls(void)
             compare_compile(text, strlen(texts[i]), 0);
             compare_compile(text, strlen(texts[i]), 7);
             compare_compile(text, strlen(texts[i]), IMAGE_BYTES);
-            compile(text, strlen(texts[i]), image, sizeof image, &size);
+            compile(current_form, text, strlen(texts[i]), image, sizeof image, &size);
             compare_check(image, size);
             compare_text(image, size, 0);
             compare_text(image, size, 7);

@@ -23,6 +23,21 @@ static struct verdict compare_image(const uint8_t *image, size_t length, struct 
     return verdict;
 }
 
+/* An image of form 2 with a faulty line: a wrong weighted word comes before that, and a wrong sum before both. */
+static void compare_order(uint8_t *bytes, size_t length, struct dice *dice)
+{
+    size_t last = length / WORD_BYTES - 1;
+    put_word(bytes, last - 1, other_word(dice, word_at(bytes, last - 1)));
+    if (compare_check(bytes, length).fault != FAULT_SUM)
+        fail_on("reference", "a wrong sum does not come first", bytes, length);
+    tally.form_2[SUM_BEFORE_WEIGHT]++;
+    put_sum(bytes, last + 1);
+    if (compare_check(bytes, length).fault != FAULT_WEIGHTED_SUM)
+        fail_on("reference", "a wrong weighted word does not come before a faulty line", bytes, length);
+    compare_damaged(bytes, length, dice);
+    tally.form_2[WEIGHT_BEFORE_BODY]++;
+}
+
 static void compare_flaw(struct dice *dice, bool rule, enum flaw flaw, struct buffer *work)
 {
     static uint8_t bytes[DRAFT_BYTES];
@@ -55,6 +70,8 @@ static void compare_flaw(struct dice *dice, bool rule, enum flaw flaw, struct bu
     if (verdict.fault != FAULT_BODY || verdict.location != location)
         fail_on("reference", "a flaw was not found at its location", bytes, length);
     tally.flaws[rule][flaw]++;
+    if (current_form != FIRST_FORM)
+        compare_order(bytes, length, dice);
 }
 
 void compare_flaws(struct dice *dice, struct buffer *work)
@@ -108,65 +125,119 @@ void compare_draft(struct dice *dice, struct buffer *work)
 void compare_random(struct dice *dice, struct buffer *work)
 {
     static uint8_t bytes[IMAGE_BYTES];
-    size_t count = chance(dice, 50) ? 2 + below(dice, IMAGE_WORDS - 1) : 2 + below(dice, 12), i;
-    struct header header = {.rule_words = below(dice, (unsigned)count - 1)};
-    header.constraint_words = (unsigned)count - 2 - header.rule_words;
+    size_t least = 1 + check_words((unsigned)current_form), i;
+    size_t count = least + below(dice, chance(dice, 50) ? IMAGE_WORDS - (unsigned)least + 1 : 12);
+    struct header header = {.rule_words = below(dice, (unsigned)(count - least) + 1)};
+    header.constraint_words = (unsigned)(count - least) - header.rule_words;
     for (i = 0; i < count; i++)
         put_word(bytes, i, (uint32_t)roll(dice));
     if (chance(dice, 950))
-        bytes[0] = FORM;
+        bytes[0] = (uint8_t)current_form;
     header.form = bytes[0];
     if (chance(dice, 900))
         put_word(bytes, 0, pack_header(header));
     if (chance(dice, 950))
+        put_check_words(bytes, count, header.form);
+    else if (chance(dice, 500))
         put_sum(bytes, count);
     compare_image(bytes, WORD_BYTES * count, work, dice);
 }
 
-/* Images of at most 12 bytes. */
+/* Images of at most 16 bytes. */
 static void compare_least(uint8_t *bytes, struct dice *dice)
 {
     size_t length, i, k;
-    for (length = 0; length <= 3 * WORD_BYTES; length++)
+    for (length = 0; length <= 4 * WORD_BYTES; length++)
         for (i = 0; i < 40; i++) {
-            struct header header = {FORM, i % 2, i / 2 % 2};
+            struct header header = {(unsigned)current_form, i % 2, i / 2 % 2};
             for (k = 0; k < length; k++)
                 bytes[k] = i == 0 ? 0 : i == 1 ? 255 : (uint8_t)roll(dice);
             if (length >= WORD_BYTES && i > 4)
                 put_word(bytes, 0, pack_header(header));
-            if (length >= WORD_BYTES && i > 10)
+            if (length >= WORD_BYTES && i > 20)
+                put_check_words(bytes, length / WORD_BYTES, header.form);
+            else if (length >= WORD_BYTES && i > 10)
                 put_sum(bytes, length / WORD_BYTES);
             compare_check(bytes, length);
             compare_damaged(bytes, length, dice);
         }
 }
 
-/* Every form: alone, and with wrong counts, a wrong sum, a wrong size. */
+/* Every form, of two words and of three: alone, and with wrong counts, a wrong sum, a wrong size; and with the weighted word
+   wrong. */
 static void compare_forms(uint8_t *bytes, struct dice *dice)
 {
-    unsigned form, i;
+    unsigned form, i, words;
     for (form = 0; form < 256; form++)
-        for (i = 0; i < 4; i++) {
-            struct header header = {form, 0, i == 1};
-            put_word(bytes, 0, pack_header(header));
-            put_word(bytes, 1, i == 2 ? 0 : 0 - pack_header(header));
-            compare_check(bytes, i == 3 ? 10 : 8);
-            compare_damaged(bytes, i == 3 ? 10 : 8, dice);
-        }
+        for (words = 2; words <= 3; words++)
+            for (i = 0; i < 5; i++) {
+                struct header header = {form, 0, i == 1};
+                size_t length = WORD_BYTES * words + (i == 3 ? 2 : 0);
+                put_word(bytes, 0, pack_header(header));
+                put_check_words(bytes, words, form);
+                if (i == 2)
+                    put_word(bytes, words - 1, 0);
+                if (i == 4) {
+                    put_word(bytes, words - 2, word_at(bytes, words - 2) + 1);
+                    put_sum(bytes, words);
+                }
+                compare_check(bytes, length);
+                compare_damaged(bytes, length, dice);
+            }
 }
 
-/* Counts about the limits, with a word less, as many words and a word more. */
+/* The image of the README's example, and that of the empty text, in both forms. */
+static void compare_worked(void)
+{
+    static const uint32_t words[] = {0x01007003, 0x10400004, 0x20800003, 0x30008001, 0x00000028, 0x50C00000, 0x10C00001, 0x51000000,
+        0x60C00002, 0x61000001, 0x70000000, 0xB9FF0FC9};
+    static const uint32_t of_form_2[] = {0x02007003, 0x10400004, 0x20800003, 0x30008001, 0x00000028, 0x50C00000, 0x10C00001,
+        0x51000000, 0x60C00002, 0x61000001, 0x70000000, 0x26827103, 0x927C9EC6};
+    static const uint32_t empty[] = {0x01000000, 0xFF000000}, empty_of_form_2[] = {0x02000000, 0x02000000, 0xFC000000};
+    const struct {
+        uint64_t form;
+        const char *text;
+        const uint32_t *words;
+        size_t count;
+    } cases[] = {{1, EXAMPLE, words, COUNT(words)}, {2, EXAMPLE, of_form_2, COUNT(of_form_2)}, {1, "", empty, COUNT(empty)},
+        {2, "", empty_of_form_2, COUNT(empty_of_form_2)}};
+    static uint8_t image[IMAGE_BYTES];
+    size_t i, k;
+    for (i = 0; i < COUNT(cases); i++) {
+        const uint8_t *text = (const uint8_t *)cases[i].text;
+        size_t length = strlen(cases[i].text);
+        if (kinohazel_compile(cases[i].form, text, length, image, sizeof image).size != WORD_BYTES * cases[i].count)
+            fail("kinohazel_compile", "a worked image has another size");
+        for (k = 0; k < cases[i].count; k++)
+            if (word_at(image, k) != cases[i].words[k])
+                fail("kinohazel_compile", "a worked image has another word");
+        compare_check(image, WORD_BYTES * cases[i].count);
+    }
+    for (i = 0; i < 2; i++) { /* of the example in form 2 words 0 and 1 exchanged, and words 5 and 6 */
+        size_t one = i == 0 ? 0 : 5, count = COUNT(of_form_2);
+        for (k = 0; k < count; k++)
+            put_word(image, k, of_form_2[k == one ? one + 1 : k == one + 1 ? one : k]);
+        if (compare_check(image, WORD_BYTES * count).fault != (i == 0 ? FAULT_FORM : FAULT_WEIGHTED_SUM))
+            fail("reference", "exchanged words of the worked image are not refused under 8 and 16");
+    }
+    put_word(image, 0, 0x02000000);
+    put_word(image, 1, 0xFE000000);
+    if (compare_check(image, 2 * WORD_BYTES).fault != FAULT_COUNT)
+        fail("reference", "form 2 without its weighted word is not refused under 9");
+}
+
+/* Counts about the limits, with words too few, as many as there have to be in the form, and too many. */
 static void compare_counts(uint8_t *bytes)
 {
     static const unsigned counts[] = {0, 1, 2, 1086, 1087, 1088, 1089, 1090, 2174, 2175, 2176, 2177, 2178, 3264, 4095};
     size_t i, k, words;
     for (i = 0; i < COUNT(counts); i++)
         for (k = 0; k < COUNT(counts); k++)
-            for (words = counts[i] + counts[k] + 1; words <= counts[i] + counts[k] + 3; words++) {
-                struct header header = {FORM, counts[i], counts[k]};
+            for (words = counts[i] + counts[k] + 1; words <= counts[i] + counts[k] + 4; words++) {
+                struct header header = {(unsigned)current_form, counts[i], counts[k]};
                 memset(bytes, 0, WORD_BYTES * words);
                 put_word(bytes, 0, pack_header(header));
-                put_sum(bytes, words);
+                put_check_words(bytes, words, header.form);
                 compare_check(bytes, WORD_BYTES * words);
             }
 }
@@ -191,27 +262,32 @@ static void compare_line_counts(uint8_t *bytes, struct dice *dice)
 /* The largest image, and as many bytes as it has, or some more. */
 static void compare_largest(uint8_t *bytes, struct buffer *input, struct dice *dice)
 {
-    struct header header = {FORM, RULE_WORDS + 1, CONSTRAINT_WORDS};
+    struct header header = {(unsigned)current_form, RULE_WORDS, CONSTRAINT_WORDS};
     size_t i, length;
     input->length = 0;
     add_largest(input);
-    compile(input->bytes, input->length, bytes, IMAGE_BYTES, &length);
-    if (length != IMAGE_BYTES || IMAGE_BYTES != 13064)
-        fail("reference", "the largest image has not 13,064 bytes");
+    compile(current_form, input->bytes, input->length, bytes, IMAGE_BYTES, &length);
+    if (length != (current_form == FIRST_FORM ? 13064 : 13068) || IMAGE_BYTES != 13068)
+        fail("reference", "the largest images have not 13,064 and 13,068 bytes");
     memset(bytes + length, 0, 100);
     for (i = length - 9; i < length + 100; i++) {
         compare_check(bytes, i);
         compare_damaged(bytes, i, dice);
     }
-    put_word(bytes, 0, pack_header(header));
-    put_sum(bytes, IMAGE_WORDS + 1);
-    compare_check(bytes, IMAGE_BYTES + WORD_BYTES);
+    for (i = IMAGE_WORDS - 1; i <= IMAGE_WORDS + 1; i++) { /* with as many rule words as these have */
+        header.rule_words = (unsigned)i - 1 - CONSTRAINT_WORDS - check_words(header.form);
+        put_word(bytes, 0, pack_header(header));
+        put_check_words(bytes, i, header.form);
+        if ((compare_check(bytes, WORD_BYTES * i).fault == FAULT_SIZE) != (WORD_BYTES * i > 13068))
+            fail("reference", "the limit of an image is not 13,068 bytes");
+    }
     compare_check(bytes, ROOM);
 }
 
 void compare_limit_images(struct buffer *input, struct buffer *work, struct dice *dice)
 {
     step = "images at the limits";
+    compare_worked();
     compare_check(NULL, 0);
     compare_least(work->bytes, dice);
     compare_forms(work->bytes, dice);
@@ -229,7 +305,7 @@ static void set_first(struct line *line, size_t at, unsigned number)
 
 void compare_repeated(unsigned number, struct dice *dice)
 {
-    static uint8_t bytes[WORD_BYTES * (LINE_WORDS + 2)];
+    static uint8_t bytes[WORD_BYTES * (1 + LINE_WORDS + CHECK_WORDS)];
     static struct draft draft;
     unsigned i;
     for (i = 0; i < 8; i++) {

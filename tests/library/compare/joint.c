@@ -8,7 +8,7 @@ struct verdict compare_texts_rooms(struct texts texts, struct dice *dice)
 {
     static uint8_t output[IMAGE_BYTES];
     size_t size;
-    struct verdict verdict = compile_texts(texts, output, sizeof output, &size);
+    struct verdict verdict = compile_texts(current_form, texts, output, sizeof output, &size);
     compare_texts(texts, IMAGE_BYTES);
     compare_texts(texts, 0);
     compare_texts(texts, below(dice, MOST_ROOM + 1));
@@ -23,13 +23,13 @@ struct verdict compare_texts_rooms(struct texts texts, struct dice *dice)
 void compare_beside_empty(const uint8_t *text, size_t length)
 {
     static uint8_t alone[IMAGE_BYTES], beside[IMAGE_BYTES];
-    struct kinohazel_compilation one = kinohazel_compile(text, length, alone, sizeof alone);
-    bool refused = one.fault != KINOHAZEL_OK;
+    struct kinohazel_compilation one = kinohazel_compile(current_form, text, length, alone, sizeof alone);
+    bool refused = one.fault != KINOHAZEL_OK && one.fault != KINOHAZEL_IMAGE_FORM;
     uint64_t owner;
     for (owner = MAKER; owner <= SITE; owner++) {
         struct kinohazel_texts_compilation two = owner == MAKER
-            ? kinohazel_compile_texts(text, length, NULL, 0, beside, sizeof beside)
-            : kinohazel_compile_texts(NULL, 0, text, length, beside, sizeof beside);
+            ? kinohazel_compile_texts(current_form, text, length, NULL, 0, beside, sizeof beside)
+            : kinohazel_compile_texts(current_form, NULL, 0, text, length, beside, sizeof beside);
         if (two.fault != one.fault || two.line != one.line || two.size != one.size || two.text != (refused ? owner : NEITHER)
             || !same(alone, beside, (size_t)one.size))
             fail_on("kinohazel_compile_texts", "a text beside an empty one is not compiled as alone", text, length);
@@ -62,7 +62,7 @@ struct pair {
 
 static void make_pair(struct pair *pair, struct texts texts)
 {
-    struct kinohazel_texts_compilation answer = kinohazel_compile_texts(
+    struct kinohazel_texts_compilation answer = kinohazel_compile_texts(current_form,
         texts.maker.bytes, texts.maker.length, texts.site.bytes, texts.site.length, pair->image, sizeof pair->image);
     if (answer.fault != KINOHAZEL_OK || read_texts(texts, &pair->policy).fault != FAULT_NONE)
         fail("kinohazel_compile_texts", "two texts are refused");

@@ -97,18 +97,18 @@ void end_call(void)
 
 /* What the header hands on to the library has no null pointer. */
 
-struct kinohazel_compilation __real_kinohazel_compile_nonnull(const uint8_t *, size_t, uint8_t *, size_t);
+struct kinohazel_compilation __real_kinohazel_compile_nonnull(uint64_t, const uint8_t *, size_t, uint8_t *, size_t);
 struct kinohazel_texts_compilation __real_kinohazel_compile_texts_nonnull(
-    const uint8_t *, size_t, const uint8_t *, size_t, uint8_t *, size_t);
+    uint64_t, const uint8_t *, size_t, const uint8_t *, size_t, uint8_t *, size_t);
 struct kinohazel_image_check __real_kinohazel_check_nonnull(const uint8_t *, size_t);
 struct kinohazel_text_written __real_kinohazel_text_nonnull(const uint8_t *, size_t, uint8_t *, size_t);
 struct kinohazel_decision __real_kinohazel_decide_nonnull(const uint8_t *, size_t, const uint8_t *, size_t);
 struct kinohazel_decision __real_kinohazel_decide_events_nonnull(const uint8_t *, size_t, const uint8_t *, size_t);
 struct kinohazel_explanation __real_kinohazel_explain_nonnull(
     const uint8_t *, size_t, const uint8_t *, size_t, const uint8_t *, size_t, uint64_t);
-struct kinohazel_compilation __wrap_kinohazel_compile_nonnull(const uint8_t *, size_t, uint8_t *, size_t);
+struct kinohazel_compilation __wrap_kinohazel_compile_nonnull(uint64_t, const uint8_t *, size_t, uint8_t *, size_t);
 struct kinohazel_texts_compilation __wrap_kinohazel_compile_texts_nonnull(
-    const uint8_t *, size_t, const uint8_t *, size_t, uint8_t *, size_t);
+    uint64_t, const uint8_t *, size_t, const uint8_t *, size_t, uint8_t *, size_t);
 struct kinohazel_image_check __wrap_kinohazel_check_nonnull(const uint8_t *, size_t);
 struct kinohazel_text_written __wrap_kinohazel_text_nonnull(const uint8_t *, size_t, uint8_t *, size_t);
 struct kinohazel_decision __wrap_kinohazel_decide_nonnull(const uint8_t *, size_t, const uint8_t *, size_t);
@@ -123,20 +123,20 @@ static void refuse_null(const uint8_t *pointer)
 }
 
 struct kinohazel_compilation __wrap_kinohazel_compile_nonnull(
-    const uint8_t *text, size_t text_length, uint8_t *out, size_t out_length)
+    uint64_t form, const uint8_t *text, size_t text_length, uint8_t *out, size_t out_length)
 {
     refuse_null(text);
     refuse_null(out);
-    return __real_kinohazel_compile_nonnull(text, text_length, out, out_length);
+    return __real_kinohazel_compile_nonnull(form, text, text_length, out, out_length);
 }
 
-struct kinohazel_texts_compilation __wrap_kinohazel_compile_texts_nonnull(
-    const uint8_t *maker, size_t maker_length, const uint8_t *site, size_t site_length, uint8_t *out, size_t out_length)
+struct kinohazel_texts_compilation __wrap_kinohazel_compile_texts_nonnull(uint64_t form, const uint8_t *maker,
+    size_t maker_length, const uint8_t *site, size_t site_length, uint8_t *out, size_t out_length)
 {
     refuse_null(maker);
     refuse_null(site);
     refuse_null(out);
-    return __real_kinohazel_compile_texts_nonnull(maker, maker_length, site, site_length, out, out_length);
+    return __real_kinohazel_compile_texts_nonnull(form, maker, maker_length, site, site_length, out, out_length);
 }
 
 struct kinohazel_image_check __wrap_kinohazel_check_nonnull(const uint8_t *image, size_t image_length)

@@ -202,12 +202,12 @@ void append(struct draft *draft, struct line line)
 
 size_t finish(const struct draft *draft, uint8_t *bytes)
 {
-    struct header header = {.form = FORM, .rule_words = (unsigned)draft->rule_words};
-    size_t i;
+    struct header header = {.form = (unsigned)current_form, .rule_words = (unsigned)draft->rule_words};
+    size_t i, count = draft->count + check_words(header.form);
     header.constraint_words = (unsigned)(draft->count - 1 - draft->rule_words);
     put_word(bytes, 0, pack_header(header));
     for (i = 1; i < draft->count; i++)
         put_word(bytes, i, draft->words[i]);
-    put_sum(bytes, draft->count + 1);
-    return WORD_BYTES * (draft->count + 1);
+    put_check_words(bytes, count, header.form);
+    return WORD_BYTES * count;
 }

@@ -38,7 +38,7 @@ enum { DRAFT_BYTES = IMAGE_BYTES + 512 };
 
 void append(struct draft *draft, struct line line);
 
-/* The bytes of a draft with header and sum; their number is returned. */
+/* The bytes of a draft with header and check words; their number is returned. */
 size_t finish(const struct draft *draft, uint8_t *bytes);
 
 #endif

@@ -32,6 +32,7 @@ static void run_round(struct buffer *input, struct buffer *work, struct buffer *
 {
     struct dice dice = {UINT64_C(0xF0) << 32 | current_round};
     unsigned i;
+    current_form = FIRST_FORM + current_round / 16 % NEWEST_FORM; /* each form with all kinds of inputs and of nulls */
     make_pattern(&dice);
     set_nulls((unsigned)(current_round % 16));
     step = "texts";
@@ -56,13 +57,14 @@ static void run_round(struct buffer *input, struct buffer *work, struct buffer *
         compare_random(&dice, work);
 }
 
-/* Round 0. */
+/* Round 0, in one form. */
 static void run_limits(struct buffer *input, struct buffer *work, struct buffer *other)
 {
     struct dice dice = {UINT64_C(0xF0) << 32};
     unsigned i;
     make_pattern(&dice);
     compare_header();
+    compare_unknown_forms(input, &dice);
     compare_limit_texts(input, &dice);
     compare_limit_images(input, work, &dice);
     compare_limit_written(input, work, &dice);
@@ -93,10 +95,12 @@ int main(int argc, char **argv)
         fail("usage", "compare ROUNDS [FIRST]");
     make_pens();
     for (current_round = first; current_round < first + rounds; current_round++) {
-        if (current_round == 0)
-            run_limits(&input, &work, &other);
-        else
+        if (current_round > 0) {
             run_round(&input, &work, &other);
+            continue;
+        }
+        for (current_form = FIRST_FORM; current_form <= NEWEST_FORM; current_form++)
+            run_limits(&input, &work, &other);
     }
     free(input.bytes);
     free(work.bytes);

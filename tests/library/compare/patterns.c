@@ -22,7 +22,7 @@ static void join(struct buffer *to, const char *start, const struct buffer *cons
 /* The image of a text by the library; its length is returned. */
 static size_t image_of(const struct buffer *text, uint8_t image[IMAGE_BYTES])
 {
-    struct kinohazel_compilation answer = kinohazel_compile(text->bytes, text->length, image, IMAGE_BYTES);
+    struct kinohazel_compilation answer = kinohazel_compile(current_form, text->bytes, text->length, image, IMAGE_BYTES);
     if (answer.fault != KINOHAZEL_OK)
         fail_on("kinohazel_compile", "a text is refused", text->bytes, text->length);
     return (size_t)answer.size;

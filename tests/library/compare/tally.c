@@ -5,6 +5,7 @@
 
 struct tally tally;
 unsigned long current_round;
+uint64_t current_form = FIRST_FORM;
 const char *step = "start";
 
 void print_bytes(const char *name, const uint8_t *bytes, size_t length)
@@ -18,7 +19,7 @@ void print_bytes(const char *name, const uint8_t *bytes, size_t length)
 
 void describe(const char *function, const char *what)
 {
-    printf("library: round %lu, %s: %s: %s", current_round, step, function, what);
+    printf("library: round %lu, form %lu, %s: %s: %s", current_round, (unsigned long)current_form, step, function, what);
 }
 
 void fail(const char *function, const char *what)
@@ -80,6 +81,27 @@ static bool print_outcomes(void)
     return all;
 }
 
+/* Both forms, and how damages of images in form 2 are refused. */
+static bool print_forms(void)
+{
+    static const char *const damages[DAMAGES_OF_FORM_2] = {[SWAP_AT_START] = "words 0 and 1 exchanged",
+        [SWAP_BEHIND] = "later ones",
+        [SWAP_OF_CHECK_WORDS] = "the check words",
+        [WEIGHT_BEFORE_BODY] = "16 before 11",
+        [SUM_BEFORE_WEIGHT] = "10 before 16"};
+    bool all = true;
+    int i;
+    for (i = FIRST_FORM; i <= NEWEST_FORM; i++) {
+        printf("; images of form %d accepted %lu", i, tally.taken[i]);
+        all = all && tally.taken[i] > 0;
+    }
+    for (i = 0; i < DAMAGES_OF_FORM_2; i++) {
+        printf(", %s %lu", damages[i], tally.form_2[i]);
+        all = all && tally.form_2[i] > 0;
+    }
+    return all;
+}
+
 /* Both modes, and how the second one keeps and drops events. */
 static bool print_modes(void)
 {
@@ -118,14 +140,16 @@ static bool print_modes(void)
 bool report(void)
 {
     static const enum fault compile_faults[] = {FAULT_NONE, FAULT_LONG, FAULT_SHAPE, FAULT_RANGE, FAULT_CROWD,
-        FAULT_FULL, FAULT_REPEAT, FAULT_ROOM};
+        FAULT_FULL, FAULT_REPEAT, FAULT_FORM, FAULT_ROOM};
     static const enum fault text_faults[] = {
-        FAULT_NONE, FAULT_SIZE, FAULT_FORM, FAULT_COUNT, FAULT_SUM, FAULT_BODY, FAULT_ROOM};
-    static const enum fault check_faults[] = {FAULT_NONE, FAULT_SIZE, FAULT_FORM, FAULT_COUNT, FAULT_SUM, FAULT_BODY};
-    static const enum fault texts_others[] = {FAULT_ROOM};
+        FAULT_NONE, FAULT_SIZE, FAULT_FORM, FAULT_COUNT, FAULT_SUM, FAULT_WEIGHTED_SUM, FAULT_BODY, FAULT_ROOM};
+    static const enum fault check_faults[] = {
+        FAULT_NONE, FAULT_SIZE, FAULT_FORM, FAULT_COUNT, FAULT_SUM, FAULT_WEIGHTED_SUM, FAULT_BODY};
+    static const enum fault texts_others[] = {FAULT_FORM, FAULT_ROOM};
     static const enum fault explain_others[] = {FAULT_LONG, FAULT_EPOCH_SHAPE, FAULT_EPOCH_RANGE, FAULT_TWICE};
     static const enum fault decide_faults[] = {FAULT_NONE, FAULT_LONG, FAULT_SIZE, FAULT_FORM, FAULT_COUNT, FAULT_SUM,
-        FAULT_BODY, FAULT_EPOCH_SHAPE, FAULT_EPOCH_RANGE, FAULT_TWICE, FAULT_UNAVOIDABLE}; /* the last in the second mode alone */
+        FAULT_WEIGHTED_SUM, FAULT_BODY, FAULT_EPOCH_SHAPE, FAULT_EPOCH_RANGE, FAULT_TWICE,
+        FAULT_UNAVOIDABLE}; /* the last in the second mode alone */
     static const struct {
         const char *name;
         const unsigned long *counts;
@@ -172,6 +196,7 @@ bool report(void)
     print_locations("text", tally.text_locations);
     printf("; %lu written texts compile again, %lu of them of 0 bytes, %lu of %d", tally.written, tally.empty, tally.longest,
         (int)WRITTEN_BYTES);
+    all = print_forms() && all;
     all = print_modes() && all;
     printf("; decided with");
     for (i = 0; i < EXTREMES; i++) {

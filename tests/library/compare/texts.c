@@ -7,7 +7,7 @@ struct verdict compare_filler_rooms(const struct filler *filler, const uint8_t *
 {
     static uint8_t output[OUT_BYTES];
     size_t size;
-    struct verdict verdict = filler->reference(input, length, output, sizeof output, &size);
+    struct verdict verdict = filler->reference(current_form, input, length, output, sizeof output, &size);
     compare_filler(filler, input, length, filler->limit);
     compare_filler(filler, input, length, 0);
     compare_filler(filler, input, length, below(dice, MOST_ROOM + 1));
@@ -67,4 +67,31 @@ void compare_limit_texts(struct buffer *input, struct dice *dice)
     input->length = 0;
     add_most_lines(input);
     compare_rooms(input->bytes, input->length, dice);
+}
+
+void compare_unknown_forms(struct buffer *input, struct dice *dice)
+{
+    static const uint64_t unknown[] = {0, 3, 4, 255, 256, 257, 258, 65537, UINT64_C(1) << 32, (UINT64_C(1) << 32) + 1,
+        (UINT64_C(1) << 32) + 2, UINT64_C(1) << 63 | 1, UINT64_MAX};
+    static const char *const texts[] = {"", EXAMPLE, "x", "E64 causes A0\n"};
+    const struct texts none = {{NULL, 0}, {NULL, 0}};
+    uint64_t known = current_form;
+    size_t i, k;
+    step = "unknown forms";
+    for (i = 0; i < COUNT(unknown); i++) {
+        current_form = unknown[i];
+        if (compare_compile(NULL, 0, 0).fault != FAULT_FORM || compare_texts(none, 0).fault != FAULT_FORM)
+            fail("reference", "an unknown form is not refused");
+        for (k = 0; k < COUNT(texts) + 2; k++) {
+            input->length = 0;
+            if (k < COUNT(texts))
+                add(input, texts[k]);
+            else
+                add_length(input, TEXT_BYTES + (k == COUNT(texts)), true); /* too long, and as long as a text may be */
+            if (compare_rooms(input->bytes, input->length, dice).fault != FAULT_FORM
+                || compare_texts(texts_of(input, input), IMAGE_BYTES).fault != FAULT_FORM)
+                fail("reference", "an unknown form is not refused before the text");
+        }
+    }
+    current_form = known;
 }

@@ -15,14 +15,15 @@ static size_t text_of(const uint8_t *image, size_t length, uint8_t text[WRITTEN_
 static void compile_again(const uint8_t *text, size_t text_length, const uint8_t *image, size_t length)
 {
     static uint8_t again[IMAGE_BYTES];
-    if (kinohazel_compile(text, text_length, again, sizeof again).size != length || !same(again, image, length))
-        fail_on("kinohazel_compile", "the text of an image does not compile to it", text, text_length);
+    if (kinohazel_compile(image[0], text, text_length, again, sizeof again).size != length || !same(again, image, length))
+        fail_on("kinohazel_compile", "the text of an image does not compile to it in its form", text, text_length);
 }
 
 void compare_written(const uint8_t *image, size_t length, struct buffer *work, struct dice *dice)
 {
     static uint8_t text[WRITTEN_BYTES], other[WRITTEN_BYTES], again[IMAGE_BYTES];
     size_t size;
+    uint64_t form;
     compare_filler_rooms(&writing, image, length, dice);
     size = text_of(image, length, text);
     compile_again(text, size, image, length);
@@ -30,9 +31,11 @@ void compare_written(const uint8_t *image, size_t length, struct buffer *work, s
     add_variant(work, text, size, dice);
     compare_compile(work->bytes, work->length, length);
     compile_again(work->bytes, work->length, image, length);
-    kinohazel_compile(work->bytes, work->length, again, sizeof again);
-    if (text_of(again, length, other) != size || !same(other, text, size))
-        fail_on("kinohazel_text", "texts with the same lines give two texts", work->bytes, work->length);
+    for (form = FIRST_FORM; form <= NEWEST_FORM; form++) {
+        size_t again_size = (size_t)kinohazel_compile(form, work->bytes, work->length, again, sizeof again).size;
+        if (text_of(again, again_size, other) != size || !same(other, text, size))
+            fail_on("kinohazel_text", "texts with the same lines give two texts", work->bytes, work->length);
+    }
     tally.written++;
     tally.empty += size == 0;
     tally.longest += size == WRITTEN_BYTES;
@@ -57,6 +60,6 @@ void compare_limit_written(struct buffer *input, struct buffer *work, struct dic
         make_subject(&subject, input->bytes, input->length);
         compare_written(subject.image, subject.size, work, dice);
     }
-    if (subject.size != IMAGE_BYTES || WRITTEN_BYTES != 27968)
+    if (subject.size != (current_form == FIRST_FORM ? 13064 : 13068) || IMAGE_BYTES != 13068 || WRITTEN_BYTES != 27968)
         fail("reference", "the widest text has not the largest image, or the longest text not 27,968 bytes");
 }

@@ -1,7 +1,6 @@
 use Rattle.std.proofs.Common.{ℕ, List, length, ◌<◌, ◌+◌, ◌++◌, sym, ap, ap₂, ◌∙◌, Ok, arith}
 use Rattle.word.proofs.ChunkLaws.{words_in_length}
 use Rattle.word.specs.Chunk.{words_in}
-use Rattle.image.proofs.PartLaws.{between_join}
 use Rattle.policy.specs.Line.{part_get}
 use Rattle.policy.specs.declared.line.Part.{Part}
 use Rattle.image.specs.Lines.{lines_from, part_lines}
@@ -10,14 +9,7 @@ use Rattle.image.proofs.LoadLaws.{passed_on, rules_fault, constraints_fault, bot
 use Rattle.image.proofs.load.load_body.Goals as goal
 
 pub invariant_of-result : goal.invariant_of-result
-invariant_of-result c =
-    let r = c.requires.inside in
-    let n = words_in_length c.args.words.now in
-    let both = between_join 1 (1 + c.args.rule_words) (1 + c.args.rule_words + c.args.constraint_words) (words_in c.args.words.now) (omega arith) (omega arith) (omega arith) in
-    record {
-      joined = c.part.ensures.words ∙ both ∙ sym (ap₂ (λ (x y : List ℕ). x ++ y) c.part-rules.ensures.words c.part-constraints.ensures.words);
-      few = few;
-    }
+invariant_of-result c = record { few = few }
   where
     few : (part : Part) → length (part_get (record { rules = c.part-rules.result; constraints = c.part-constraints.result }) part).now < 4096
     few Part.Rules = omega (arith, c.requires.few, c.part-rules.ensures.count)
@@ -27,16 +19,16 @@ pub returns-in_err-rule_count : goal.returns-in_err-rule_count
 unfolding part_lines
 returns-in_err-rule_count c =
     let e = passed_on c.from_residual.result c.in_err-rule_count.field-0.0 c.from_residual.ensures.0 c.from_residual.ensures.1 in
-    rw e (rules_fault _ _ _ _ _ (sym (c.part_lines.ensures ∙ ap (λ (ws : List ℕ). part_answer 0 (lines_from Part.Rules 128 1 ws)) c.part-rules.ensures.words) ∙ c.in_err-rule_count.was))
+    rw e (rules_fault _ _ _ _ _ _ (sym (c.part_lines.ensures ∙ ap (λ (ws : List ℕ). part_answer 0 (lines_from Part.Rules 128 1 ws)) c.part-rules.ensures.words) ∙ c.in_err-rule_count.was))
 
 pub returns-in_err-constraint_count : goal.returns-in_err-constraint_count
 unfolding part_lines
 returns-in_err-constraint_count c =
     let e = passed_on c.from_residual-in_err-constraint_count.result c.in_err-constraint_count.field-0.0 c.from_residual-in_err-constraint_count.ensures.0 c.from_residual-in_err-constraint_count.ensures.1 in
-    rw e (constraints_fault _ _ _ _ _ _ (sym (c.part_lines.ensures ∙ ap (λ (ws : List ℕ). part_answer 0 (lines_from Part.Rules 128 1 ws)) c.part-rules.ensures.words) ∙ c.in_ok-rule_count.was) (sym (c.part_lines-2.ensures ∙ ap (λ (ws : List ℕ). part_answer 0 (lines_from Part.Constraints 64 (1 + c.args.rule_words) ws)) c.part-constraints.ensures.words) ∙ c.in_err-constraint_count.was))
+    rw e (constraints_fault _ _ _ _ _ _ _ (sym (c.part_lines.ensures ∙ ap (λ (ws : List ℕ). part_answer 0 (lines_from Part.Rules 128 1 ws)) c.part-rules.ensures.words) ∙ c.in_ok-rule_count.was) (sym (c.part_lines-2.ensures ∙ ap (λ (ws : List ℕ). part_answer 0 (lines_from Part.Constraints 64 (1 + c.args.rule_words) ws)) c.part-constraints.ensures.words) ∙ c.in_err-constraint_count.was))
 
 pub returns : goal.returns
 unfolding part_lines
 returns c =
-    ap₂ (λ (r k : List ℕ). Ok (record { parts = record { rules = r; constraints = k }; counts = record { rules = c.in_ok-rule_count.rule_count; constraints = c.in_ok-constraint_count.constraint_count } })) c.part-rules.ensures.words c.part-constraints.ensures.words
-    ∙ both_whole _ _ _ _ _ _ (sym (c.part_lines.ensures ∙ ap (λ (ws : List ℕ). part_answer 0 (lines_from Part.Rules 128 1 ws)) c.part-rules.ensures.words) ∙ c.in_ok-rule_count.was) (sym (c.part_lines-2.ensures ∙ ap (λ (ws : List ℕ). part_answer 0 (lines_from Part.Constraints 64 (1 + c.args.rule_words) ws)) c.part-constraints.ensures.words) ∙ c.in_ok-constraint_count.was)
+    ap₂ (λ (r k : List ℕ). Ok (record { form = c.args.form; parts = record { rules = r; constraints = k }; counts = record { rules = c.in_ok-rule_count.rule_count; constraints = c.in_ok-constraint_count.constraint_count } })) c.part-rules.ensures.words c.part-constraints.ensures.words
+    ∙ both_whole _ _ _ _ _ _ _ (sym (c.part_lines.ensures ∙ ap (λ (ws : List ℕ). part_answer 0 (lines_from Part.Rules 128 1 ws)) c.part-rules.ensures.words) ∙ c.in_ok-rule_count.was) (sym (c.part_lines-2.ensures ∙ ap (λ (ws : List ℕ). part_answer 0 (lines_from Part.Constraints 64 (1 + c.args.rule_words) ws)) c.part-constraints.ensures.words) ∙ c.in_ok-constraint_count.was)

@@ -1,53 +1,53 @@
-use Rattle.std.proofs.Common.{ℕ, ◌+◌, ◌≡◌, ◌≤◌, List, refl, ap, sym, ◌∙◌, subst, arith, length, drop, Ok, Err}
-use Rattle.policy.proofs.ListLaws.{true_false}
+use Rattle.std.proofs.Common.{ℕ, ◌≡◌, ◌≤◌, ◌<◌, ◌+◌, ◌-◌, List, sym, ap, ◌∙◌, subst, arith, length, drop, drop-drop, eqb-true, Ok, Err}
+use Rattle.std.proofs.lemmas.Bool.{eqb-false}
 use Rattle.word.proofs.ChunkLaws.{words_in_length}
 use Rattle.word.specs.Chunk.{words_in}
+use Rattle.word.specs.Word.{between}
 use Rattle.decode.specs.Decode.{line_at, line_length}
-use Rattle.image.proofs.PartLaws.{Counted, counted_full, counted_fault, counted_more, counted_all}
+use Rattle.image.proofs.PartLaws.{Counted, line_inside, between_rest, counted_full, counted_fault, counted_more, counted_all}
 use Rattle.image.proofs.load.part_lines.Goals as goal
 
-pub returns-then-is_at_end : goal.returns-then-is_at_end
-returns-then-is_at_end c =
-    let k = ap length c.loop-count.invariant.same_words in
-    let l = words_in_length c.args.words.now in
-    let e : length c.loop-count.walker.words.now ≤ c.loop-count.walker.at = c.if-is_at_end.ensures.0 refl in
-    counted_all c.args.part (words_in c.args.words.now) c.args.first c.args.limit c.loop-count.walker.at c.loop-count.count c.loop-count.invariant.counted (omega arith)
+pub returns-then-is_empty : goal.returns-then-is_empty
+returns-then-is_empty c =
+    let z = eqb-true (length c.loop-count.rest.now) 0 (sym c.if-is_empty.ensures) in
+    counted_all c.args.kind (words_in c.args.words.now) c.args.first c.args.limit _ c.loop-count.count c.loop-count.invariant.counted (omega (arith, z, words_in_length c.args.words.now))
 
-pub returns-in_default : goal.returns-in_default
-returns-in_default c =
-    let k = ap length c.loop-count.invariant.same_words in
-    let l = words_in_length c.args.words.now in
-    let e : length c.loop-count.walker.words.now ≤ c.loop-count.walker.at → ⊥ = λ q. true_false (c.if-is_at_end.ensures.1 q) refl in
-    ap Err c.at.ensures ∙ counted_fault c.args.part (words_in c.args.words.now) c.args.first c.args.limit c.loop-count.walker.at c.loop-count.count c.loop-count.invariant.counted (omega arith) c.loop-count-test.true
-    (subst (λ (chunks : List (List ℕ)). line_length (line_at c.args.part (drop c.loop-count.walker.at (words_in chunks))) ≡ 0) c.loop-count.invariant.same_words c.in_default.ensures)
+pub returns-then-size-eq0 : goal.returns-then-size-eq0
+returns-then-size-eq0 c =
+    let z : length c.loop-count.rest.now ≡ 0 → ⊥ = eqb-false (length c.loop-count.rest.now) 0 (sym c.if-is_empty.ensures) in
+    let e = c.line_length-size.ensures ∙ ap (λ (ws : List ℕ). line_length (line_at c.args.kind ws)) c.loop-count.invariant.behind in
+    ap Err c.at.ensures
+    ∙ counted_fault c.args.kind (words_in c.args.words.now) c.args.first c.args.limit _ c.loop-count.count c.loop-count.invariant.counted (omega (arith, z, words_in_length c.args.words.now, c.loop-count.invariant.fewer)) c.loop-count-test.true (sym e ∙ c.if-size-eq0.true)
+
+pub part-rest-requires : goal.part-rest-requires
+part-rest-requires c = record { ordered = omega (arith, line_inside c.args.kind (words_in c.loop-count.rest.now) _ c.line_length-size.ensures, words_in_length c.loop-count.rest.now); inside = omega arith }
 
 pub loop-count-preserved : goal.loop-count-preserved
 loop-count-preserved c =
-    let k = ap length c.loop-count.invariant.same_words in
+    let z : length c.loop-count.rest.now ≡ 0 → ⊥ = eqb-false (length c.loop-count.rest.now) 0 (sym c.if-is_empty.ensures) in
+    let ws : List ℕ = words_in c.args.words.now in
     let l = words_in_length c.args.words.now in
-    let e : length c.loop-count.walker.words.now ≤ c.loop-count.walker.at → ⊥ = λ q. true_false (c.if-is_at_end.ensures.1 q) refl in
-    let p = c.in-Some.ensures in
-    let n : ℕ = line_length (line_at c.args.part (drop c.loop-count.walker.at (words_in c.loop-count.walker.words.now))) in
-    let q : n ≡ line_length (line_at c.args.part (drop c.loop-count.walker.at (words_in c.args.words.now))) =
-    ap (λ (chunks : List (List ℕ)). line_length (line_at c.args.part (drop c.loop-count.walker.at (words_in chunks)))) c.loop-count.invariant.same_words in
+    let at : ℕ = length c.args.words.now - length c.loop-count.rest.now in
+    let n : ℕ = c.line_length-size.result in
+    let inside = line_inside c.args.kind (words_in c.loop-count.rest.now) n c.line_length-size.ensures in
+    let e = c.line_length-size.ensures ∙ ap (λ (xs : List ℕ). line_length (line_at c.args.kind xs)) c.loop-count.invariant.behind in
+    let r = words_in_length c.loop-count.rest.now in
+    let next : at + n ≡ length c.args.words.now - length c.part-rest.result.now = omega (arith, inside, r, c.part-rest.ensures.count, c.loop-count.invariant.fewer) in
     record {
-      same_words = ap (λ w. w.now) p.same ∙ c.loop-count.invariant.same_words;
-      counted =
-          subst (λ (i : ℕ). Counted c.args.part (words_in c.args.words.now) c.args.first c.args.limit i (c.loop-count.count + 1)) (sym p.moved)
-          (counted_more c.args.part (words_in c.args.words.now) c.args.first c.args.limit c.loop-count.walker.at c.loop-count.count c.loop-count.invariant.counted n (omega arith) c.loop-count-test.true q p.some);
+      fewer = omega (arith, c.part-rest.ensures.count, c.loop-count.invariant.fewer);
+      behind = c.part-rest.ensures.words ∙ between_rest n _ (words_in c.loop-count.rest.now) r ∙ ap (drop n) c.loop-count.invariant.behind ∙ drop-drop n at ws ∙ ap (λ (k : ℕ). drop k ws) next;
+      counted = subst (λ (i : ℕ). Counted c.args.kind ws c.args.first c.args.limit i (c.loop-count.count + 1)) next
+          (counted_more c.args.kind ws c.args.first c.args.limit at c.loop-count.count c.loop-count.invariant.counted n (omega (arith, z, l, c.loop-count.invariant.fewer)) c.loop-count-test.true e (omega (arith, c.if-size-eq0.false)));
     }
 
-pub returns-then-is_at_end-2 : goal.returns-then-is_at_end-2
-returns-then-is_at_end-2 c =
-    let k = ap length c.loop-count.invariant.same_words in
-    let l = words_in_length c.args.words.now in
-    let e : length c.loop-count.walker.words.now ≤ c.loop-count.walker.at = c.if-is_at_end-2.ensures.0 refl in
+pub returns-then-is_empty-2 : goal.returns-then-is_empty-2
+returns-then-is_empty-2 c =
+    let z = eqb-true (length c.loop-count.rest.now) 0 (sym c.if-is_empty-2.ensures) in
     let all : c.args.limit ≡ c.loop-count.count = omega arith in
-    ap Ok all ∙ counted_all c.args.part (words_in c.args.words.now) c.args.first c.args.limit c.loop-count.walker.at c.loop-count.count c.loop-count.invariant.counted (omega arith)
+    ap Ok all ∙ counted_all c.args.kind (words_in c.args.words.now) c.args.first c.args.limit _ c.loop-count.count c.loop-count.invariant.counted (omega (arith, z, words_in_length c.args.words.now))
 
-pub returns-else-is_at_end-2 : goal.returns-else-is_at_end-2
-returns-else-is_at_end-2 c =
-    let k = ap length c.loop-count.invariant.same_words in
-    let l = words_in_length c.args.words.now in
-    let e : length c.loop-count.walker.words.now ≤ c.loop-count.walker.at → ⊥ = λ q. true_false (c.if-is_at_end-2.ensures.1 q) refl in
-    ap Err c.at-else-is_at_end-2.ensures ∙ counted_full c.args.part (words_in c.args.words.now) c.args.first c.args.limit c.loop-count.walker.at c.loop-count.count c.loop-count.invariant.counted (omega arith) (omega arith)
+pub returns-else-is_empty-2 : goal.returns-else-is_empty-2
+returns-else-is_empty-2 c =
+    let z : length c.loop-count.rest.now ≡ 0 → ⊥ = eqb-false (length c.loop-count.rest.now) 0 (sym c.if-is_empty-2.ensures) in
+    ap Err c.at-else-is_empty-2.ensures
+    ∙ counted_full c.args.kind (words_in c.args.words.now) c.args.first c.args.limit _ c.loop-count.count c.loop-count.invariant.counted (omega (arith, z, words_in_length c.args.words.now, c.loop-count.invariant.fewer)) (omega arith)
