@@ -14,7 +14,8 @@ use Rattle.operation.proofs.SaidLaws.{Said, said_head, said_constant, said_readi
 use Rattle.policy.specs.declared.line.Test.{Test}
 use Rattle.operation.specs.Parts.{ending_word}
 use Rattle.operation.specs.declared.operation.Operation.{Operation}
-use Rattle.decode.specs.Steps.Scan.{less, number_lowest, relation_lowest, first_head, head_operations, first_ending, ending_numbers, is_head, ends, is_ending, head_sound, comparison_length}
+use Rattle.decode.specs.Steps.Scan.{less, number_lowest, relation_lowest, first_head, head_operations, first_ending, ending_numbers, is_head, is_ending, head_sound, comparison_length}
+use Rattle.operation.specs.Whole.{ends}
 use Rattle.policy.specs.Limits.{ending_in_range}
 use Rattle.policy.specs.declared.line.Ending.{Ending}
 use Rattle.operation.proofs.FieldLaws.{opcode_pack, head_low, head_again}

@@ -24,7 +24,8 @@ use Rattle.operation.specs.Said.{says_by, says}
 use Rattle.operation.proofs.SaidLaws.{Said, said_head, said_constant, said_reading, said_ending, said_nothing, said, said_by, test_said, ending_said}
 use Rattle.layout.specs.Layout.{condition_words, part_words, line_words}
 use Rattle.decode.specs.Stands.{in_part}
-use Rattle.decode.specs.Steps.Scan.{is_head, ends, is_ending_of, is_ending, head_sound, count_heads, head_numbers, constant_sound, reading_sound, operand_length, length_by, comparison_length, comparisons_fill, scan_line}
+use Rattle.decode.specs.Steps.Scan.{is_head, is_ending_of, is_ending, head_sound, count_heads, head_numbers, constant_sound, reading_sound, operand_length, length_by, comparison_length, comparisons_fill, scan_line}
+use Rattle.operation.specs.Whole.{ends}
 use Rattle.policy.specs.declared.line.Part.{Part}
 
 -- ---- one word, from facts and to facts
@@ -252,12 +253,15 @@ pub ending_there : (part : Part) (e : Ending) → ends part e ≡ true → endin
 unfolding is_ending is_ending_of
 ending_there part e k h = ap (is_ending_of part (ending_word e)) (ending_said e 0 h) ∙ and_in k (eq-eqb (ending_word e) (ending_word e) refl)
 
-kind_ending : (part : Part) (l : PolicyLine) → in_part part l ≡ true → ending_in_range (ending_of l) ≡ true → is_ending part (ending_word (ending_of l)) ≡ true
+pub kind_ends : (part : Part) (l : PolicyLine) → in_part part l ≡ true → ends part (ending_of l) ≡ true
 unfolding in_part ending_of ends
-kind_ending Part.Rules (rule r) k e = ending_there Part.Rules (Ending.Causes r.action) refl e
-kind_ending Part.Rules (constraint c) k e = absurd (true_false k refl)
-kind_ending Part.Constraints (rule r) k e = absurd (true_false k refl)
-kind_ending Part.Constraints (constraint c) k e = ending_there Part.Constraints Ending.Never refl e
+kind_ends Part.Rules (rule r) k = refl
+kind_ends Part.Rules (constraint c) k = absurd (true_false k refl)
+kind_ends Part.Constraints (rule r) k = absurd (true_false k refl)
+kind_ends Part.Constraints (constraint c) k = refl
+
+kind_ending : (part : Part) (l : PolicyLine) → in_part part l ≡ true → ending_in_range (ending_of l) ≡ true → is_ending part (ending_word (ending_of l)) ≡ true
+kind_ending part l k e = ending_there part (ending_of l) (kind_ends part l k) e
 
 -- ---- a valid line at the start is found
 

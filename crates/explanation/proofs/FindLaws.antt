@@ -20,6 +20,7 @@ use Rattle.syntax.specs.Judge.{line_answer}
 use Rattle.syntax.specs.Lines.{TextLine, before_later, lines_from, lines_in}
 use Rattle.syntax.specs.Walk.{lines_ahead, from_first}
 use Rattle.syntax.specs.declared.text.Lines.{Lines}
+use Rattle.image.proofs.WholeLaws.{own_line_whole}
 use Rattle.explanation.proofs.TellLaws.{line_below}
 use Rattle.explanation.proofs.TrimLaws.{trimmed_front}
 use Rattle.explanation.specs.Part.{trim_start, trim_end, trim, Stretch, shown_at, or_later, first_from}
@@ -139,7 +140,7 @@ module _ (text : List ℕ) (q : Sought) (epoch : Epoch) where
 
   -- an accepted line: its words can be run, and what is left where it is sought or not
   pub record Judging (after : Lines) (here : List ℕ) (l : PolicyLine) : Type 0 where
-    pub writable : Writable (line_words l)
+    pub writable : Writable l
     pub short : length here ≤ length text
     pub hit : (b : Bool) → b ≡ sought_by q epoch l → b ≡ true → (x : Stretch) → x ≡ shown_at (length text - length here) (first_line here)
         → Some x ≡ first_from (sought_by q epoch) 0 (lines_of text)
@@ -158,7 +159,7 @@ module _ (text : List ℕ) (q : Sought) (epoch : Epoch) where
       ap (first_ahead (sought_by q epoch) (length text)) (sym w.first) ∙ s.same
       in
       record {
-        writable = rw value (record { few = line_limit_is k v; small = line_below k v });
+        writable = rw value (record { few = line_limit_is k v; small = line_below k v; whole = own_line_whole k v });
         short = rw w.from inside.0.short;
         hit = λ b j t x u.
             ap Some (u ∙ ap₂ (λ (n : ℕ) (bytes : List ℕ). shown_at (length text - n) bytes) (ap length w.from) (ap first_line w.from ∙ inside.0.bytes))

@@ -9,7 +9,7 @@ use Rattle.policy.proofs.ValidLaws.{valid_out}
 use Rattle.policy.specs.declared.epoch.Epoch.{Epoch}
 use Rattle.policy.specs.declared.epoch.Readings.{Readings}
 use Rattle.policy.specs.Limits.{valid, ending_in_range}
-use Rattle.policy.specs.Line.{PolicyLine, rule, constraint, ending_of}
+use Rattle.policy.specs.Line.{PolicyLine, rule, constraint, ending_of, ending_part}
 use Rattle.policy.specs.List.{all}
 use Rattle.policy.specs.Policy.{Policy, Rule, Constraint}
 use Rattle.policy.specs.Set.{ActionSet, has, insert, all_events, no_actions, has_action, insert_action, actions_below}
@@ -21,6 +21,7 @@ use Rattle.word.proofs.WordLaws.{words_append}
 use Rattle.word.proofs.WriteLaws.{put_in}
 use Rattle.word.specs.Steps.Write.{put_bytes, put_words}
 use Rattle.word.specs.Word.{word_limit, Below, bytes_of, words_of, between}
+use Rattle.operation.specs.Whole.{whole_lines}
 use Rattle.layout.specs.Layout.{line_words, lines_words, rule_part_words, constraint_part_words}
 use Rattle.exactness.proofs.ImageLaws.{lines_below}
 use Rattle.run.specs.Run.{run_rules, run_constraints}
@@ -32,13 +33,18 @@ use Rattle.explanation.specs.declared.find.Sought.{Sought}
 -- ---- the small buffer
 
 -- the words are those that were put in
-pub words_back : (ws buffer after : List ℕ) (count : ℕ) → Writable ws → length buffer ≡ 68 → count ≡ length ws → after ≡ put_words buffer 0 ws → between 0 count (words_of after) ≡ ws
+pub words_back : (l : PolicyLine) (buffer after : List ℕ) (count : ℕ) → Writable l → length buffer ≡ 68 → count ≡ length (line_words l) → after ≡ put_words buffer 0 (line_words l) → between 0 count (words_of after) ≡ line_words l
 unfolding between put_bytes
-words_back ws buffer after count w long c e =
+words_back l buffer after count w long c e =
+    let ws : List ℕ = line_words l in
     let rest : List ℕ = drop (0 * 4 + length (bytes_of ws)) buffer in
     let room : 0 + length ws ≤ length buffer / 4 = omega (arith, w.few) in
     ap₂ (λ (n : ℕ) (b : List ℕ). take n (words_of b)) c (e ∙ put_in buffer 0 ws room)
     ∙ ap (take (length ws)) (words_append ws rest w.small) ∙ take_at ws (words_of rest) (length ws) refl
+
+-- what was read back can be run as a line that ends so
+pub back_whole : (l : PolicyLine) (ws : List ℕ) (e : Ending) → Writable l → ws ≡ line_words l → ending_of l ≡ e → whole_lines (ending_part e) ws ≡ true
+back_whole l ws e w back q = ap₂ (λ (x : Ending) (y : List ℕ). whole_lines (ending_part x) y) (sym q) back ∙ w.whole
 
 -- ---- each way through the function that judges a line
 

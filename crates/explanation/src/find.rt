@@ -1,7 +1,6 @@
 //! The first line of a text that tells why. A line is judged by running its words, as the engine runs those of an image.
 ghost use Rattle.std.specs.Prelude.{◌≡◌, ◌+◌, ◌^◌, ◌<◌, length, option_map};
 ghost use Rattle.lexer.specs.Lines.{lines_of, first_line};
-ghost use Rattle.layout.specs.Layout.{line_words};
 ghost use Rattle.explanation.specs.Part.{trim_end, stretch_of, shown_at, first_from};
 ghost use Rattle.explanation.specs.Steps.Sought.{Writable, sought_by};
 
@@ -26,7 +25,7 @@ const LINE_SIZE: usize = 68;
 
 /// Whether a line is sought in an epoch.
 fn told(line: &Line, sought: Sought, epoch: &Epoch) -> bool
-    requires { Writable (line_words line.now) }
+    requires { Writable line.now }
     ensures { result ≡ sought_by sought epoch.now line.now }
 {
     let mut bytes = [0u8; LINE_SIZE];

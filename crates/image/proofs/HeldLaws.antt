@@ -17,6 +17,9 @@ use Rattle.image.specs.Check.{form_byte, rule_words, constraint_words, well_size
 use Rattle.image.specs.Held.{rules_in, constraints_in, lines_in, policy_in, lines_held}
 use Rattle.image.specs.Lines.{add_line, after_line, lines_from, part_lines, rule_part, constraint_part, rule_lines, constraint_lines}
 use Rattle.image.proofs.LoadLaws.{ok_err}
+use Rattle.image.proofs.WholeLaws.{are_whole}
+use Rattle.image.specs.Steps.Part.{part_answer}
+use Rattle.operation.specs.Whole.{whole_lines}
 use Rattle.policy.specs.declared.fault.Refusal.{Refusal}
 use Rattle.image.specs.Load.{Contents, body_answer, require, load_words, load}
 use Rattle.image.specs.Walk.{lines_behind}
@@ -60,6 +63,15 @@ lines_written part zero at (w ∷ ws) ls e = let z : ◌≡◌ {A = ℕ} 0 1 = c
 lines_written part (suc room) at [] ls e = are_none part (suc room) ls e
 lines_written part (suc room) at (w ∷ ws) ls e =
     line_written part room at (w ∷ ws) ls (λ l ms q. lines_written part room (at + length (line_words l)) (drop (length (line_words l)) (w ∷ ws)) ms q) (line_at part (w ∷ ws)) refl e
+
+-- what was counted to its end is whole lines
+pub counted_whole : (part : Part) (room at : ℕ) (ws : List ℕ) (n : ℕ) → part_answer 0 (lines_from part room at ws) ≡ Ok n → whole_lines part ws ≡ true
+unfolding part_answer
+counted_whole part room at ws n e = go (lines_from part room at ws) refl e
+  where
+    go : (x : Result (List PolicyLine) ℕ) → lines_from part room at ws ≡ x → part_answer 0 x ≡ Ok n → whole_lines part ws ≡ true
+    go (Ok ls) q e = are_whole part room ws ls (lines_written part room at ws ls q)
+    go (Err k) q e = absurd (ok_err (sym e))
 
 -- ---- rules and constraints as lines
 

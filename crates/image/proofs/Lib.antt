@@ -2,3 +2,4 @@ pub mod GivenLaws
 pub mod HeldLaws
 pub mod LoadLaws
 pub mod PartLaws
+pub mod WholeLaws

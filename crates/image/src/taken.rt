@@ -1,17 +1,20 @@
 //! An image that the loader took. A field of it is private, so that no other code makes one.
-ghost use Rattle.std.specs.Prelude.{◌≡◌, ◌<◌, length};
+ghost use Rattle.std.specs.Prelude.{◌≡◌, ◌<◌, length, true};
 ghost use Rattle.policy.specs.Line.{part_get};
 ghost use Rattle.policy.specs.declared.line.Part.{Part};
+ghost use Rattle.operation.specs.Whole.{whole_lines};
+ghost use Rattle.word.specs.Chunk.{words_in};
 
 use crate::walker::Walker;
 use policy::{Part, PerPart};
 
-/// Its form, the words of its two parts, and how many lines each has.
+/// Its form, the words of its two parts, which are whole lines, and how many lines each has.
 #[derive(Clone, Copy)]
 pub struct Image<'a> {
     pub(crate) form: u8,
     pub parts: PerPart<&'a [[u8; 4]]>,
     pub counts: PerPart<usize>,
+    pub ghost whole: { (part : Part) → whole_lines part (words_in (part_get parts part).now) ≡ true },
     pub ghost few: { (part : Part) → length (part_get parts part).now < 4096 },
 }
 

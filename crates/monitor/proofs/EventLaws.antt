@@ -1,12 +1,13 @@
 -- The events of an epoch, tried from the lowest on.
 use Rattle.std.proofs.Common.{ℕ, ◌+◌, ◌*◌, ◌/◌, ◌%◌, ◌^◌, ◌≤◌, ◌<◌, Bool, true, false, List, ◌≢◌, ◌≡◌, sym, ap, ◌∙◌, arith, length}
+use Rattle.std.specs.Int.{w64, trailing_zeros}
 use Rattle.policy.specs.declared.epoch.Epoch.{Epoch}
 use Rattle.policy.specs.Set.{ActionSet, EventSet, keeping, no_events, insert_event, set_of}
 use Rattle.policy.specs.declared.set.Events.{Events}
 use Rattle.pdl.proofs.CostLaws.{trials_limit}
 use Rattle.pdl.specs.Greedy.{trials_cost}
 use Rattle.monitor.proofs.FewLaws.{clash_few}
-use Rattle.monitor.proofs.TrialLaws.{Tried, tried_none, left_limit, other_turn, trial_turn, few_spent, tried_all, all_spent}
+use Rattle.monitor.proofs.TrialLaws.{Tried, tried_none, left_limit, Next, next_candidate, trial_turn, few_spent, tried_all, all_spent}
 use Rattle.monitor.specs.Decision.{proposed_with_by, clash_by, clash_words, kept_events_by, tried_event_words}
 use Rattle.monitor.specs.Steps.Trial.{trial_of, kept_of}
 use Rattle.monitor.specs.declared.events.EventTrial.{EventTrial}
@@ -31,12 +32,9 @@ module _ (rules constraints : List ℕ) (e : Epoch) where
   kept_none none t = (tried_none bad cost e.events.bits, ap (λ (x : EventTrial). x.actions) t)
 
   module _ (small : e.events.bits < 2 ^ 64) (kept : EventSet) (actions : ActionSet) (spent left n : ℕ) (k : KeptSoFar kept actions spent left n) (some : left ≢ 0) where
-    pub other_event : left % 2 ≢ 1 → (kept' : EventSet) (actions' : ActionSet) (spent' : ℕ) → kept' ≡ kept → actions' ≡ actions → spent' ≡ spent
-        → KeptSoFar kept' actions' spent' (left / 2) (n + 1)
-    other_event q kept' actions' spent' ek ea es = (
-      other_turn bad cost e.events.bits small kept.bits spent left n k.0 some q kept'.bits spent' (ap bits ek) es,
-      ea ∙ k.1 ∙ ap (proposed_with_by rules e) (sym ek),
-    )
+    -- the next of them
+    pub next_event : (gap : ℕ) → gap ≡ trailing_zeros w64 left → Next bad cost e.events.bits kept.bits spent left n gap × KeptSoFar kept actions spent (left / 2 ^ gap) (n + gap)
+    next_event gap g = let next = next_candidate bad cost e.events.bits small kept.bits spent left n k.0 some gap g in (next, (next.tried, k.1))
 
     module _ (q : left % 2 ≡ 1) (more : EventSet) (m : more ≡ insert_event kept (record { 0 = n })) (ev : Events) (v : ev ≡ keeping e.events more)
         (trial : EventTrial) (t : trial ≡ trial_of rules constraints ev e.readings) where

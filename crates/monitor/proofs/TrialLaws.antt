@@ -1,7 +1,9 @@
 -- Trying candidates bit by bit, from the lowest on, until none is left: actions in the first mode, events in the second.
 use Rattle.std.proofs.Common.{ℕ, zero, suc, ◌+◌, ◌-◌, ◌*◌, ◌/◌, ◌%◌, ◌^◌, ◌≤◌, ◌<◌, Bool, true, false, not, cond, List, ◌≢◌, ◌≡◌, refl, sym, ap, ◌∙◌, zero-add, add-zero, suc-add, add_comm, add-one, arith, eq-eqb, ne_eqb, eqb-true, length, take, length-take, length-drop, pow_pos, shr-shr}
 use Rattle.std.proofs.lemmas.Bool.{eqb-false}
-use Rattle.std.proofs.Math.Nat.{div-eq_of_lt}
+use Rattle.std.proofs.Math.Nat.{div-eq_of_lt, div-le_self}
+use Rattle.std.proofs.lemmas.Nat.Bits.{bit_at-trailing_zeros}
+use Rattle.std.specs.Int.{w64, bit_at, trailing_zeros}
 use Rattle.std.proofs.Math.Dec.{eqb}
 use Rattle.pdl.proofs.CostLaws.{cost_below_limit}
 use Rattle.pdl.specs.Greedy.{try_next, kept_below, greedy, cost_below, trials_cost}
@@ -54,7 +56,7 @@ module _ (bad : ℕ → Bool) (cost : ℕ → ℕ) (candidates : ℕ) where
     }
 
     -- n is no candidate
-    pub other_turn : left % 2 ≢ 1 → (kept' spent' : ℕ) → kept' ≡ kept → spent' ≡ spent → Tried kept' spent' (left / 2) (n + 1)
+    other_turn : left % 2 ≢ 1 → (kept' spent' : ℕ) → kept' ≡ kept → spent' ≡ spent → Tried kept' spent' (left / 2) (n + 1)
     unfolding try_next
     other_turn q kept' spent' e c =
         next kept' spent' (e ∙ sym (rw (has_left, ne_eqb (left % 2) 1 q))) (c ∙ rw (has_left, ne_eqb (left % 2) 1 q) (sym (add-zero spent)))
@@ -76,6 +78,44 @@ module _ (bad : ℕ → Bool) (cost : ℕ → ℕ) (candidates : ℕ) where
     -- what one trial more costs, where none costs over a limit
     pub few_spent : (most : ℕ) → ((s : ℕ) → cost s ≤ most) → (s : ℕ) → spent + cost s ≤ n * most + most
     few_spent most cheap s = omega (arith, t.costs, cost_below_limit bad cost candidates most cheap n, cheap s)
+
+  -- ---- up to the next candidate
+
+  -- so many are none, and then comes one
+  pub record Next (kept spent left n gap : ℕ) : Type 0 where
+    pub tried : Tried kept spent (left / 2 ^ gap) (n + gap)
+    pub one : left / 2 ^ gap % 2 ≡ 1
+    pub some : left / 2 ^ gap ≢ 0
+    pub room : n + gap < 64
+
+  module _ (small : candidates < 2 ^ 64) (kept spent left n : ℕ) (t : Tried kept spent left n) (some : left ≢ 0) where
+    lowest : (trailing_zeros w64 left < 64) × (bit_at left (trailing_zeros w64 left) ≡ 1) × ((i : ℕ) → i < trailing_zeros w64 left → bit_at left i ≡ 0)
+    lowest = bit_at-trailing_zeros w64 left (omega (arith, some)) (omega (arith, t.others, div-le_self candidates (2 ^ n)))
+
+    some_there : (g : ℕ) → g ≤ trailing_zeros w64 left → left / 2 ^ g ≢ 0
+    some_there g h z =
+        let d : ℕ = trailing_zeros w64 left - g in
+        let all : g + d ≡ trailing_zeros w64 left = omega arith in
+        let none : left / 2 ^ trailing_zeros w64 left ≡ 0 = ap (λ (k : ℕ). left / 2 ^ k) (sym all) ∙ sym (shr-shr left g d) ∙ ap (λ (x : ℕ). x / 2 ^ d) z ∙ div-eq_of_lt (pow_pos d) in
+        let one : ◌≡◌ {A = ℕ} 0 1 = sym (ap (λ (x : ℕ). x % 2) none) ∙ lowest.1 in
+        omega arith
+
+    passed : (g : ℕ) → g ≤ trailing_zeros w64 left → Tried kept spent (left / 2 ^ g) (n + g)
+    passed zero h =
+        let whole : left / 2 ^ 0 ≡ left = omega arith in
+        let here : n + 0 ≡ n = omega arith in
+        rw (whole, here) t
+    passed (suc g) h =
+        let half : left / 2 ^ suc g ≡ left / 2 ^ g / 2 = ap (λ (k : ℕ). left / 2 ^ k) (sym (add-one g)) ∙ sym (shr-shr left g 1) in
+        let next : n + suc g ≡ n + g + 1 = omega arith in
+        let zero_there : left / 2 ^ g % 2 ≡ 0 = lowest.2 g (omega arith) in
+        rw (half, next) (other_turn small kept spent (left / 2 ^ g) (n + g) (passed g (omega arith)) (some_there g (omega arith)) (λ q. omega (arith, zero_there, q)) kept spent refl refl)
+
+    pub next_candidate : (gap : ℕ) → gap ≡ trailing_zeros w64 left → Next kept spent left n gap
+    next_candidate gap e =
+        let t' = passed gap (omega (arith, e)) in
+        let some' = some_there gap (omega (arith, e)) in
+        record { tried = t'; one = ap (bit_at left) e ∙ lowest.1; some = some'; room = left_limit small kept spent (left / 2 ^ gap) (n + gap) t' some' }
 
   -- ---- the end
 

@@ -1,5 +1,7 @@
 //! The first mode: actions are cancelled.
-ghost use Rattle.std.specs.Prelude.{◌≡◌, ◌<◌, length};
+ghost use Rattle.std.specs.Prelude.{◌≡◌, ◌<◌, length, true};
+ghost use Rattle.operation.specs.Whole.{whole_lines};
+ghost use Rattle.policy.specs.declared.line.Part.{Part};
 ghost use Rattle.word.specs.Chunk.{words_in};
 ghost use Rattle.monitor.specs.Decision.{kept_by, tried_words, yielded_by};
 
@@ -19,7 +21,8 @@ pub struct Kept {
 // constraints are those of an image, so that the words of all trials can be added up.
 #[inline(never)]
 fn resolve(constraints: &[[u8; 4]], proposed: ActionSet, readings: &Readings) -> Kept
-    requires { length constraints.now < 8192 }
+    requires whole { whole_lines Part.Constraints (words_in constraints.now) ≡ true }
+    requires few { length constraints.now < 8192 }
     ensures actions { result.actions ≡ kept_by (words_in constraints.now) readings.now proposed }
     ensures words { result.words ≡ tried_words (words_in constraints.now) readings.now proposed }
 {
@@ -29,13 +32,14 @@ fn resolve(constraints: &[[u8; 4]], proposed: ActionSet, readings: &Readings) ->
     let mut left = proposed.bits;
     let mut n = 0;
     while left != 0 {
-        if left % 2 == 1 {
-            let more = kept.insert(Action(n));
-            let trial = run_constraints(constraints, more, readings);
-            words += trial.words;
-            if !trial.conflict {
-                kept = more;
-            }
+        let gap = left.trailing_zeros();
+        left >>= gap;
+        n += gap as u8;
+        let more = kept.insert(Action(n));
+        let trial = run_constraints(constraints, more, readings);
+        words += trial.words;
+        if !trial.conflict {
+            kept = more;
         }
         left /= 2;
         n += 1;

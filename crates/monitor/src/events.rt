@@ -54,14 +54,15 @@ fn keep_events(image: &Image<'_>, none: EventTrial, epoch: &Epoch) -> KeptEvents
     let mut left = epoch.events.bits;
     let mut n = 0;
     while left != 0 {
-        if left % 2 == 1 {
-            let more = kept.insert(Event(n));
-            let trial = try_events(image, epoch.events.keeping(more), &epoch.readings);
-            words += trial.words;
-            if !trial.conflict {
-                kept = more;
-                actions = trial.actions;
-            }
+        let gap = left.trailing_zeros();
+        left >>= gap;
+        n += gap as u8;
+        let more = kept.insert(Event(n));
+        let trial = try_events(image, epoch.events.keeping(more), &epoch.readings);
+        words += trial.words;
+        if !trial.conflict {
+            kept = more;
+            actions = trial.actions;
         }
         left /= 2;
         n += 1;

@@ -143,6 +143,11 @@ pub never_operation : operation_of (ending_word Ending.Never) ≡ Operation.Neve
 unfolding ending_word
 never_operation = operation_pack Operation.Never 0 0 0 0 never_fields
 
+pub ending_skip : (e : Ending) → ending_in_range e ≡ true → skip_of (ending_word e) ≡ 0
+unfolding ending_word ending_in_range
+ending_skip (Ending.Causes a) h = skip_pack Operation.Proposes a.0 0 0 0 (causes_fields a (ltb-true a.0 64 h))
+ending_skip Ending.Never h = skip_pack Operation.Never 0 0 0 0 never_fields
+
 pub ending_below : (e : Ending) → ending_in_range e ≡ true → ending_word e < word_limit
 unfolding ending_word ending_in_range
 ending_below (Ending.Causes a) h = pack_below Operation.Proposes a.0 0 0 0 (causes_fields a (ltb-true a.0 64 h))

@@ -163,32 +163,31 @@ pub fn reading_comparison(word: u32) -> Comparison
     }
 }
 
-// What the relation of that number says of two values. Each number has its own test, so that none is turned into a relation
-// first.
+// What each relation says of two values, by its number: bit 0 where the left is less, bit 1 where they are equal, bit 2 where it is
+// greater, four bits for each relation. 6 and 7 are read as >=.
+const RELATIONS: u32 = 0x6664_3152;
+
+// What the relation of that number says of two values. A table tells it, so that the run of words has no jump by the relation.
 fn relation_holds(code: u32, left: i32, right: i32) -> bool
+    requires { code < 8 }
     ensures { result ≡ relation_holds (relation_from code) left right }
 {
-    match code {
-        0 => Relation::Equal.holds(left, right),
-        1 => Relation::NotEqual.holds(left, right),
-        2 => Relation::Less.holds(left, right),
-        3 => Relation::LessOrEqual.holds(left, right),
-        4 => Relation::Greater.holds(left, right),
-        _ => Relation::GreaterOrEqual.holds(left, right),
-    }
+    let order = u8::from(right <= left) + u8::from(right < left);
+    (RELATIONS >> (4 * code + order as u32)) % 2 == 1
 }
 
-// The value of a reading; none where the epoch does not give it. The set is cut down to the readings that there are first, which a
-// loop does but once; then no index needs a test.
-fn value(reading: Reading, readings: ReadingView<'_>) -> Option<i32>
-    ensures { result ≡ reading_value (viewed readings.entry) reading }
+// The value of the reading with that number; none where the epoch does not give it. The set is cut down to the readings that there are
+// first, which a loop does but once; then no index needs a test. The number goes from its word to the index without a byte between.
+fn value(number: usize, readings: ReadingView<'_>) -> Option<i32>
+    requires { number < 64 }
+    ensures { result ≡ reading_value (viewed readings.entry) (record { 0 = number }) }
 {
     if readings
         .given
         .below(Reading(READING_LIMIT as u8))
-        .has(reading)
+        .has(Reading(number as u8))
     {
-        Some(readings.values[reading.0 as usize])
+        Some(readings.values[number])
     } else {
         None
     }
@@ -198,7 +197,7 @@ fn value(reading: Reading, readings: ReadingView<'_>) -> Option<i32>
 pub fn constant_holds(part: Part, word: u32, constant: u32, readings: ReadingView<'_>) -> bool
     ensures { result ≡ comparison_holds part (viewed readings.entry) (constant_comparison word constant) }
 {
-    let Some(left) = value(Reading(first(word) as u8), readings) else {
+    let Some(left) = value(first(word) as usize, readings) else {
         return part.missing_holds();
     };
     relation_holds(relation_code_of(word), left, constant_from(constant))
@@ -208,10 +207,10 @@ pub fn constant_holds(part: Part, word: u32, constant: u32, readings: ReadingVie
 pub fn reading_holds(part: Part, word: u32, readings: ReadingView<'_>) -> bool
     ensures { result ≡ comparison_holds part (viewed readings.entry) (reading_comparison word) }
 {
-    let Some(left) = value(Reading(first(word) as u8), readings) else {
+    let Some(left) = value(first(word) as usize, readings) else {
         return part.missing_holds();
     };
-    let Some(right) = value(Reading(second(word) as u8), readings) else {
+    let Some(right) = value(second(word) as usize, readings) else {
         return part.missing_holds();
     };
     relation_holds(relation_code_of(word), left, right)

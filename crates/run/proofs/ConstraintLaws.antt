@@ -5,18 +5,30 @@ use Rattle.std.proofs.Math.Dec.{ltb}
 use Rattle.policy.specs.declared.epoch.Readings.{Readings}
 use Rattle.policy.specs.List.{any}
 use Rattle.policy.specs.Set.{ActionSet, has_action}
+use Rattle.policy.specs.declared.line.Ending.{Ending}
+use Rattle.policy.specs.declared.line.Part.{Part}
 use Rattle.policy.specs.declared.line.Test.{Test}
 use Rattle.operation.specs.Fields.{first_of, skip_of, operation_of}
-use Rattle.operation.specs.Parts.{action_from}
+use Rattle.operation.specs.Parts.{action_from, constant_comparison}
 use Rattle.operation.specs.Said.{says_by, says, constants_of}
 use Rattle.operation.specs.declared.operation.Operation.{Operation}
 use Rattle.operation.specs.declared.said.LinePart.{LinePart}
 use Rattle.operation.proofs.SaidLaws.{said_by}
+use Rattle.operation.proofs.WholeLaws.{InLine, OnLines, in_line_inside, lines_inside, line_goes_on, lines_behind}
+use Rattle.operation.specs.Whole.{ends, ends_line}
 use Rattle.run.specs.Run.{ran, constraint_test, ends_constraint, fetches, up_to}
 use Rattle.run.specs.Steps.Test.{IsTestOf, said_at, left_at}
 use Rattle.run.specs.declared.test.Tested.{Tested}
-use Rattle.run.proofs.RunLaws.{ran_end, turn, last_turn}
+use Rattle.run.proofs.RunLaws.{ran_end, turn}
 use Rattle.run.proofs.FetchLaws.{fetches_up_to}
+
+pub ends_same : (p : LinePart) → ends_line Part.Constraints p ≡ ends_constraint p
+unfolding ends ends_line ends_constraint
+ends_same (LinePart.Head t) = refl
+ends_same (LinePart.Comparison c) = refl
+ends_same (LinePart.Ending (Ending.Causes a)) = refl
+ends_same (LinePart.Ending Ending.Never) = refl
+ends_same LinePart.Nothing = refl
 
 -- ---- from an index on
 
@@ -65,24 +77,80 @@ module _ (rs : Readings) (s : ActionSet) (ws : List ℕ) where
         words = omega (arith, g.words, fetch_word ∙ ap (λ (b : Bool). 1 + constants_of said + cond b 0 (tried_from next)) n);
       }
 
-    module _ (next from from' : ℕ) (g : Going at from) where
-      pub constraints_turn : (t : Tested) → IsTestOf rs s said (at + 1) t → (holds : Bool) → t.holds ≡ holds
-          → next ≡ t.next + cond holds 0 (skip_of w) → from' ≡ from + cond holds 0 (skip_of w) → Going next from'
-      constraints_turn t is holds eh en ef =
-          go_on next holds (sym eh ∙ ap (λ (x : Tested). x.holds) is.is)
-          (en ∙ ap (λ (m : ℕ). m + cond holds 0 (skip_of w)) (ap (λ (x : Tested). x.next) is.is)) from from' g is.goes_on ef
+  -- ---- whole lines
 
-      pub member_turn : operation_of w ≡ Operation.Member → (holds : Bool) (f : ℕ) → f ≡ first_of w → holds ≡ has_action s (record { 0 = f })
-          → next ≡ at + 1 + cond holds 0 (skip_of w) → from' ≡ from + cond holds 0 (skip_of w) → Going next from'
-      unfolding says_by constants_of constraint_test ends_constraint
-      member_turn m holds f ef eh en e =
-          let o : said ≡ LinePart.Head (Test.Member (action_from w)) = said_by w (get_or ws (at + 1) 0) Operation.Member m in
-          go_on next holds (eh ∙ ap (λ (n : ℕ). has_action s (record { 0 = n })) ef ∙ sym (ap (constraint_test rs s) o))
-          (en ∙ ap (λ (n : ℕ). n + cond holds 0 (skip_of w)) (sym (add-zero (at + 1)) ∙ ap (λ (x : LinePart). at + 1 + constants_of x) (sym o)))
-          from from' g (ap ends_constraint o) e
+  -- the run is at a word of a line, or where a line begins
+  pub record Inside (at from : ℕ) : Type 0 where
+    pub line : InLine Part.Constraints ws at
+    pub going : Going at from
 
-  -- the word at which the code leaves its loops: the last one, or the end of a constraint
-  module _ (at w : ℕ) (within : at < length ws) (this : w ≡ get_or ws at 0) (way : (at + 1 ≡ length ws) ⊎ (ends_constraint (says w (get_or ws (at + 1) 0)) ≡ true)) where
+  pub record Begins (at from : ℕ) : Type 0 where
+    pub lines : OnLines Part.Constraints ws at
+    pub going : Going at from
+
+  pub begins_inside : (at from : ℕ) → at < length ws → Begins at from → Inside at from
+  begins_inside at from within b = record { line = lines_inside Part.Constraints ws at within b.lines; going = b.going }
+
+  pub inside_within : (at from : ℕ) → Inside at from → at < length ws
+  inside_within at from i = in_line_inside Part.Constraints ws at i.line
+
+  module _ (at from w : ℕ) (i : Inside at from) (this : w ≡ get_or ws at 0) where
+    abbrev here : LinePart
+    here = says w (get_or ws (at + 1) 0)
+
+    held : ends_constraint here ≡ false → true ≡ constraint_test rs s here → (next : ℕ) → next ≡ at + 1 + constants_of here → Inside next from
+    held n h next e = rw e (record {
+      line = line_goes_on Part.Constraints ws at w this i.line (ends_same here ∙ n);
+      going = go_on at w (inside_within at from i) this (at + 1 + constants_of here) true h (sym (add-zero _)) from from i.going n (sym (add-zero from));
+    })
+
+    failed : ends_constraint here ≡ false → false ≡ constraint_test rs s here → (next from' : ℕ) → next ≡ at + 1 + constants_of here + skip_of w → from' ≡ from + skip_of w → Begins next from'
+    failed n h next from' e f = rw (e, f) (record {
+      lines = lines_behind Part.Constraints ws at w this i.line;
+      going = go_on at w (inside_within at from i) this (at + 1 + constants_of here + skip_of w) false h refl from (from + skip_of w) i.going n refl;
+    })
+
+    module _ (m : operation_of w ≡ Operation.Member) (holds : Bool) (f : ℕ) (ef : f ≡ first_of w) (eh : holds ≡ has_action s (record { 0 = f })) where
+      is_member : here ≡ LinePart.Head (Test.Member (action_from w))
+      unfolding says_by
+      is_member = said_by w (get_or ws (at + 1) 0) Operation.Member m
+
+      is_tested : holds ≡ constraint_test rs s here
+      unfolding constraint_test
+      is_tested = eh ∙ ap (λ (n : ℕ). has_action s (record { 0 = n })) ef ∙ sym (ap (constraint_test rs s) is_member)
+
+      ends_none : ends_constraint here ≡ false
+      unfolding ends_constraint
+      ends_none = ap ends_constraint is_member
+
+      alone : constants_of here ≡ 0
+      unfolding constants_of
+      alone = ap constants_of is_member
+
+      pub member_held : holds ≡ true → Inside (at + 1) from
+      member_held h = held ends_none (sym h ∙ is_tested) (at + 1) (omega (arith, alone))
+
+      pub member_failed : holds ≡ false → (next from' : ℕ) → next ≡ at + 1 + skip_of w → from' ≡ from + skip_of w → Begins next from'
+      member_failed h next from' e = failed ends_none (sym h ∙ is_tested) next from' (omega (arith, e, alone))
+
+    -- a constant has a word of its line behind it
+    pub constant_within : operation_of w ≡ Operation.AgainstConstant → at + 2 < length ws
+    unfolding says_by ends_constraint constants_of constant_comparison
+    constant_within o =
+        let is : here ≡ LinePart.Comparison (constant_comparison w (get_or ws (at + 1) 0)) = said_by w (get_or ws (at + 1) 0) Operation.AgainstConstant o in
+        let one : constants_of here ≡ 1 = ap constants_of is in
+        let next = in_line_inside Part.Constraints ws _ (line_goes_on Part.Constraints ws at w this i.line (ends_same here ∙ ap ends_constraint is)) in
+        omega (arith, one, next)
+
+    module _ (t : Tested) (is : IsTestOf rs s here (at + 1) t) where
+      pub test_held : t.holds ≡ true → Inside t.next from
+      test_held h = held is.goes_on (sym h ∙ ap (λ (x : Tested). x.holds) is.is) t.next (ap (λ (x : Tested). x.next) is.is)
+
+      pub test_failed : t.holds ≡ false → (next from' : ℕ) → next ≡ t.next + skip_of w → from' ≡ from + skip_of w → Begins next from'
+      test_failed h next from' e = failed is.goes_on (sym h ∙ ap (λ (x : Tested). x.holds) is.is) next from' (e ∙ ap (λ (n : ℕ). n + skip_of w) (ap (λ (x : Tested). x.next) is.is))
+
+  -- the word at which the code leaves its loops ends a constraint
+  module _ (at w : ℕ) (within : at < length ws) (this : w ≡ get_or ws at 0) (ends : ends_constraint (says w (get_or ws (at + 1) 0)) ≡ true) where
     abbrev left : LinePart
     left = says w (get_or ws (at + 1) 0)
 
@@ -90,33 +158,22 @@ module _ (rs : Readings) (s : ActionSet) (ws : List ℕ) where
     abbrev beyond : ℕ
     beyond = at + 1 + constants_of left + cond (constraint_test rs s left) 0 (skip_of w)
 
-    pub constraints_last : holds_from at ≡ ends_constraint left
-    constraints_last = ⊎_elim
-        (λ e. ap (any ends_constraint) (last_turn (constraint_test rs s) ws at w within this e) ∙ or-false (ends_constraint left))
-        (λ n. run_word at w within this beyond _ refl refl ∙ ap (λ (b : Bool). b || holds_from beyond) n ∙ sym n) way
+    constraints_last : holds_from at ≡ ends_constraint left
+    constraints_last = run_word at w within this beyond _ refl refl ∙ ap (λ (b : Bool). b || holds_from beyond) ends ∙ sym ends
 
-    pub fetch_last : tried_from at ≡ 1 + constants_of left
-    unfolding up_to fetches
-    fetch_last = ⊎_elim
-        (λ e. ap (λ (l : List LinePart). fetches (up_to ends_constraint l)) (last_turn (constraint_test rs s) ws at w within this e)
-        ∙ fetches_up_to left [] ∙ ap (λ (n : ℕ). 1 + constants_of left + n) (none (ends_constraint left)) ∙ add-zero _)
-        (λ n. fetch_word at w within this beyond _ refl refl
-        ∙ ap (λ (b : Bool). 1 + constants_of left + cond b 0 (tried_from beyond)) n ∙ add-zero _) way
-      where
-        none : (b : Bool) → ◌≡◌ {A = ℕ} (cond b 0 0) 0
-        none true = refl
-        none false = refl
+    fetch_last : tried_from at ≡ 1 + constants_of left
+    fetch_last = fetch_word at w within this beyond _ refl refl ∙ ap (λ (b : Bool). 1 + constants_of left + cond b 0 (tried_from beyond)) ends ∙ add-zero _
 
   module _ (at : ℕ) (past : length ws ≤ at) where
-    pub constraints_end : holds_from at ≡ false
+    constraints_end : holds_from at ≡ false
     constraints_end = ap (any ends_constraint) (ran_end (constraint_test rs s) ws at past)
 
-    pub fetch_end : tried_from at ≡ 0
+    fetch_end : tried_from at ≡ 0
     unfolding up_to fetches
     fetch_end = ap (λ (l : List LinePart). fetches (up_to ends_constraint l)) (ran_end (constraint_test rs s) ws at past)
 
   -- the answer where the loops are left is that of the trial
-  module _ (at from : ℕ) (g : Going at from) (way : (length ws ≤ at + 1) ⊎ (ends_constraint (said_at ws at) ≡ true)) where
+  module _ (at from : ℕ) (g : Going at from) (way : (length ws ≤ at) ⊎ (ends_constraint (said_at ws at) ≡ true)) where
     pub trial_left : ((left_at ws at from).conflict ≡ holds_from 0) × ((left_at ws at from).words ≡ tried_from 0)
     unfolding left_at
     trial_left = go (ltb at (length ws)) refl
@@ -126,9 +183,9 @@ module _ (rs : Readings) (s : ActionSet) (ws : List ℕ) where
 
         go : (b : Bool) → ltb at (length ws) ≡ b → ((left_at ws at from).conflict ≡ holds_from 0) × ((left_at ws at from).words ≡ tried_from 0)
         go true q =
-            let within : at < length ws = omega (arith, ltb-true at (length ws) q) in
-            let here : (at + 1 ≡ length ws) ⊎ (ends_constraint (said_at ws at) ≡ true) = ⊎_elim (λ h. inl (omega arith)) inr way in
-            rw q (sym (constraints_last at w within refl here) ∙ g.holds, omega (arith, g.behind, g.words, fetch_last at w within refl here))
+            let within : at < length ws = ltb-true at (length ws) q in
+            let ends : ends_constraint (said_at ws at) ≡ true = ⊎_elim (λ h. absurd (omega arith)) (λ e. e) way in
+            rw q (sym (constraints_last at w within refl ends) ∙ g.holds, omega (arith, g.behind, g.words, fetch_last at w within refl ends))
         go false q =
             let past : length ws ≤ at = omega (arith, ltb-false at (length ws) q) in
             rw q (sym (constraints_end at past) ∙ g.holds, omega (arith, g.behind, g.words, fetch_end at past))

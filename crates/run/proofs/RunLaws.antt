@@ -42,9 +42,3 @@ module _ (test : LinePart → Bool) where
       where
         same : at + 1 + passes holds said w ≡ at + 1 + constants_of said + cond holds 0 (skip_of w)
         same = omega arith
-
-    -- of the last word
-    pub last_turn : at + 1 ≡ length ws → ran test 0 (drop at ws) ≡ said ∷ []
-    last_turn e =
-        let next : ℕ = at + 1 + constants_of said + cond (test said) 0 (skip_of w) in
-        turn next (test said) refl refl ∙ ap (λ (l : List LinePart). said ∷ l) (ran_end ws next (omega arith))

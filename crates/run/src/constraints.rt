@@ -7,8 +7,10 @@ ghost use Rattle.operation.specs.declared.operation.Operation.{Operation};
 ghost use Rattle.run.specs.Run.{ends_constraint, run_constraints, trial_fetches};
 ghost use Rattle.run.specs.Steps.Test.{IsTestOf, is_member_operation, is_constant_operation, left_at};
 ghost use Rattle.operation.specs.Said.{says};
+ghost use Rattle.operation.specs.Whole.{whole_lines};
+ghost use Rattle.policy.specs.declared.line.Part.{Part};
 
-use crate::test::{Tested, against_constant, against_reading, fetches, last_of};
+use crate::test::{Tested, against_constant, against_reading, fetches};
 use operation::{Operation, first, skip};
 use policy::{Action, ActionSet, Part, ReadingView, Readings};
 use word::nth_word;
@@ -26,7 +28,8 @@ fn is_member(word: u32) -> bool
 }
 
 fn is_against_constant(word: u32) -> bool
-    ensures { result ≡ is_constant_operation (operation_of word) }
+    ensures value { result ≡ is_constant_operation (operation_of word) }
+    ensures only { result ≡ true → operation_of word ≡ Operation.AgainstConstant }
 {
     match Operation::of(word) {
         Operation::AgainstConstant => true,
@@ -53,7 +56,7 @@ fn test_constraint(
     set: ActionSet,
     readings: ReadingView<'_>,
 ) -> Option<Tested>
-    requires { behind < length words.now }
+    requires { operation_of word ≡ Operation.AgainstConstant → behind < length words.now }
     ensures { MatchOption result (ends_constraint (says word (slice_index_or (words_in words.now) behind 0)) ≡ true) (IsTestOf (viewed readings.entry) set (says word (slice_index_or (words_in words.now) behind 0)) behind) }
 {
     let part = Part::Constraints;
@@ -103,20 +106,19 @@ fn left_at(words: &[[u8; 4]], at: usize, from: usize) -> Trial
     }
 }
 
-/// The trial of a set of actions by the words of the constraints. The first that holds ends it.
-// A constraint's members come before its comparisons, so they have a loop of their own, which tests for no other operation. The
-// loops are left at the word that ends a constraint which holds, or at the last word, so that a constant is always there and is read
-// without a test. The words are counted as in the run of rules.
+/// The trial of a set of actions by the words of constraints, which are whole lines. The first that holds ends it.
+// A constraint's members come before its comparisons, so they have a loop of their own, which tests for no other operation. No word
+// is asked whether it is the last: behind one that ends no line stands another of its line. The words are counted as in the run of rules.
 pub fn run_constraints(words: &[[u8; 4]], set: ActionSet, readings: &Readings) -> Trial
+    requires whole { whole_lines Part.Constraints (words_in words.now) ≡ true }
     ensures conflict { result.conflict ≡ run_constraints readings.now set (words_in words.now) }
     ensures words { result.words ≡ trial_fetches readings.now set (words_in words.now) }
 {
     let view = readings.view();
-    let last = last_of(words.len());
     let mut at = 0;
     let mut from = 0;
-    'constraints: while at < last {
-        while at < last {
+    'constraints: while at < words.len() {
+        loop {
             let word = nth_word(words, at);
             if !is_member(word) {
                 break;
@@ -128,7 +130,7 @@ pub fn run_constraints(words: &[[u8; 4]], set: ActionSet, readings: &Readings) -
                 continue 'constraints;
             }
         }
-        while at < last {
+        loop {
             let word = nth_word(words, at);
             let Some(test) = test_constraint(words, at + 1, word, set, view) else {
                 break 'constraints;

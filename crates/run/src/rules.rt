@@ -1,16 +1,19 @@
 //! The rule part of an image.
-ghost use Rattle.std.specs.Prelude.{ℕ, ◌≡◌, ◌≤◌, slice_index_or, length, MatchOption};
+ghost use Rattle.std.specs.Prelude.{ℕ, ◌≡◌, ◌<◌, ◌≤◌, slice_index_or, length, true, MatchOption};
 ghost use Rattle.word.specs.Chunk.{words_in};
 ghost use Rattle.policy.specs.Epoch.{viewed};
 ghost use Rattle.operation.specs.Fields.{operation_of};
 ghost use Rattle.operation.specs.Said.{says};
+ghost use Rattle.operation.specs.Whole.{whole_lines};
+ghost use Rattle.operation.specs.declared.operation.Operation.{Operation};
+ghost use Rattle.policy.specs.declared.line.Part.{Part};
 ghost use Rattle.run.specs.Run.{proposing, run_rules, rule_fetches};
 ghost use Rattle.run.specs.Steps.Test.{IsTestIn, AsksNothing, is_present_operation, is_absent_operation};
 
 use crate::test::{Tested, against_constant, against_reading};
 use operation::{Operation, first, skip};
 use policy::{Action, ActionSet, Event, Events, Part, ReadingView, Readings};
-use word::{nth_word, nth_word_or_zero};
+use word::nth_word;
 
 fn is_present(word: u32) -> bool
     ensures { result ≡ is_present_operation (operation_of word) }
@@ -31,7 +34,7 @@ fn is_absent(word: u32) -> bool
 }
 
 // The test of a word; none where it asks for none. Heads come first, which a run meets most.
-#[tactic(auto, unfolding(operation::specs::Said::says, operation::specs::Said::says_by, operation::specs::Said::constants_of, crate::specs::Run::rule_test, crate::specs::Run::proposing))]
+#[tactic(auto, unfolding(operation::specs::Said::says, operation::specs::Said::says_by, operation::specs::Said::constants_of, operation::specs::Whole::ends, operation::specs::Whole::ends_line, crate::specs::Run::rule_test, crate::specs::Run::proposing))]
 fn test_rule(
     words: &[[u8; 4]],
     behind: usize,
@@ -39,7 +42,7 @@ fn test_rule(
     events: Events,
     readings: ReadingView<'_>,
 ) -> Option<Tested>
-    requires { behind ≤ length words.now }
+    requires { operation_of word ≡ Operation.AgainstConstant → behind < length words.now }
     ensures { MatchOption result (AsksNothing events (viewed readings.entry) (says word (slice_index_or (words_in words.now) behind 0))) (IsTestIn events (viewed readings.entry) (says word (slice_index_or (words_in words.now) behind 0)) behind) }
 {
     let part = Part::Rules;
@@ -57,7 +60,7 @@ fn test_rule(
     }
     match Operation::of(word) {
         Operation::AgainstConstant => {
-            let constant = nth_word_or_zero(words, behind);
+            let constant = nth_word(words, behind);
             Some(against_constant(part, behind, word, constant, readings))
         }
         Operation::AgainstReading => Some(against_reading(part, behind, word, readings)),
@@ -83,11 +86,12 @@ pub struct Proposals {
     pub words: usize,
 }
 
-/// The run of the words of the rules on the events and readings of an epoch.
+/// The run of the words of rules, which are whole lines, on the events and readings of an epoch.
 // The index that goes on is the one behind the next word, from where its constant and what it skips are counted: with the word's own
 // each word took an instruction more. Every word before the next was fetched or passed over by a failed test, so that it is enough to
 // move `from` along by what such a test passes over.
 pub fn run_rules(words: &[[u8; 4]], events: Events, readings: &Readings) -> Proposals
+    requires whole { whole_lines Part.Rules (words_in words.now) ≡ true }
     ensures actions { result.actions ≡ run_rules events readings.now (words_in words.now) }
     ensures words { result.words ≡ rule_fetches events readings.now (words_in words.now) }
 {
@@ -96,18 +100,18 @@ pub fn run_rules(words: &[[u8; 4]], events: Events, readings: &Readings) -> Prop
     let mut behind = 1;
     let mut from = 1;
     while behind <= words.len() {
-        let word = nth_word(words, behind - 1);
-        match test_rule(words, behind, word, events, view) {
-            Some(test) => {
-                behind = test.next + 1;
-                if !test.holds {
-                    behind += skip(word) as usize;
-                    from += skip(word) as usize;
-                }
-            }
-            None => {
+        loop {
+            let word = nth_word(words, behind - 1);
+            let Some(test) = test_rule(words, behind, word, events, view) else {
                 actions = with_proposal(actions, word);
                 behind += 1;
+                break;
+            };
+            behind = test.next + 1;
+            if !test.holds {
+                behind += skip(word) as usize;
+                from += skip(word) as usize;
+                break;
             }
         }
     }

@@ -1,5 +1,5 @@
 //! The test of a word, which both runs share: whether it holds, and where the run goes on.
-ghost use Rattle.std.specs.Prelude.{ℕ, ◌+◌, ◌≡◌, ◌-◌, ◌≤◌};
+ghost use Rattle.std.specs.Prelude.{ℕ, ◌+◌, ◌≡◌, ◌≤◌};
 ghost use Rattle.operation.specs.Parts.{constant_comparison, reading_comparison};
 ghost use Rattle.operation.specs.Said.{says, constants_of};
 ghost use Rattle.operation.specs.declared.said.LinePart.{LinePart};
@@ -15,13 +15,6 @@ use policy::{Part, ReadingView};
 pub struct Tested {
     pub holds: bool,
     pub next: usize,
-}
-
-// The index of the last of so many words; 0 of none.
-pub(crate) fn last_of(count: usize) -> usize
-    ensures { result ≡ count - 1 }
-{
-    if 0 < count { count - 1 } else { 0 }
 }
 
 // A comparison with a constant, which is the word behind.

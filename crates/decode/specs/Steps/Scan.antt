@@ -11,6 +11,7 @@ use Rattle.operation.specs.Operation.{opcode}
 use Rattle.operation.specs.Parts.{ending_word}
 use Rattle.operation.specs.Fields.{first_of, second_of, relation_code_of, skip_of}
 use Rattle.operation.specs.Said.{says}
+use Rattle.operation.specs.Whole.{ends}
 use Rattle.decode.specs.Steps.Decoding.{said_in}
 use Rattle.decode.specs.declared.Parts.{Parts}
 use Rattle.operation.specs.declared.operation.Operation.{Operation}
@@ -55,12 +56,6 @@ ending_numbers Part.Rules = 64
 ending_numbers Part.Constraints = 1
 
 -- ---- a line
-
--- the endings of a part
-unfoldable pub ends : Part → Ending → Bool
-ends Part.Rules (Ending.Causes a) = true
-ends Part.Constraints Ending.Never = true
-ends _ _ = false
 
 -- the ending word of a line: it says an ending of the part, and nothing else is in it
 unfoldable pub is_ending_of : Part → ℕ → LinePart → Bool

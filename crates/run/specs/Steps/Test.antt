@@ -4,6 +4,8 @@ use Rattle.policy.specs.declared.epoch.Readings.{Readings}
 use Rattle.policy.specs.Set.{ActionSet}
 use Rattle.policy.specs.declared.set.Events.{Events}
 use Rattle.operation.specs.Said.{says, constants_of}
+use Rattle.operation.specs.Whole.{ends_line}
+use Rattle.policy.specs.declared.line.Part.{Part}
 use Rattle.operation.specs.declared.operation.Operation.{Operation}
 use Rattle.operation.specs.declared.said.LinePart.{LinePart}
 use Rattle.run.specs.Run.{rule_test, proposing, constraint_test, ends_constraint}
@@ -17,6 +19,7 @@ tested holds said behind = record { holds = holds; next = behind + constants_of 
 -- the test of a word that asks for one, and so proposes nothing
 pub record IsTestIn (ev : Events) (rs : Readings) (said : LinePart) (behind : ℕ) (t : Tested) : Type 0 where
   pub proposes_none : (s : ActionSet) → proposing s said ≡ s
+  pub goes_on : ends_line Part.Rules said ≡ false
   pub is : t ≡ tested (rule_test ev rs said) said behind
 
 -- a word that asks for no test, and has no constant

@@ -3,7 +3,7 @@ use Rattle.word.specs.Word.{between}
 use Rattle.word.proofs.ChunkLaws.{words_in_length}
 use Rattle.word.proofs.WordLaws.{words_length}
 use Rattle.word.proofs.WriteLaws.{put_length}
-use Rattle.explanation.proofs.TellLaws.{words_back, told_rule, told_constraint}
+use Rattle.explanation.proofs.TellLaws.{words_back, back_whole, told_rule, told_constraint}
 use Rattle.explanation.specs.Steps.Sought.{tells, sought_by}
 use Rattle.explanation.proofs.find.told.Goals as goal
 
@@ -20,6 +20,13 @@ part-words-requires-clause-inside c =
       put_length,
     )
 
+pub run_rules-run-requires : goal.run_rules-run-requires
+run_rules-run-requires c =
+    let back =
+    c.part-words.ensures.words ∙ ap (λ (ws : List ℕ). between 0 c.put_line-count.result ws) c.words.ensures
+    ∙ words_back _ _ _ _ c.requires refl c.put_line-count.ensures.answer c.put_line-count.ensures.buffer in
+    record { whole = back_whole c.args.line.now _ _ c.requires back (sym c.ending.ensures ∙ c.in-Proposing-Causes.is-1) }
+
 pub returns-in-Proposing-Causes : goal.returns-in-Proposing-Causes
 unfolding sought_by
 returns-in-Proposing-Causes c =
@@ -27,6 +34,13 @@ returns-in-Proposing-Causes c =
     c.part-words.ensures.words ∙ ap (λ (ws : List ℕ). between 0 c.put_line-count.result ws) c.words.ensures
     ∙ words_back _ _ _ _ c.requires refl c.put_line-count.ensures.answer c.put_line-count.ensures.buffer in
     told_rule _ c.args.epoch.now _ _ c.in-Proposing-Causes.action _ c.in-Proposing-Causes.is-0 (sym c.ending.ensures ∙ c.in-Proposing-Causes.is-1) _ _ _ _ back c.all.ensures c.run_rules-run.ensures.actions c.has.ensures
+
+pub run_constraints-run-requires : goal.run_constraints-run-requires
+run_constraints-run-requires c =
+    let back =
+    c.part-words.ensures.words ∙ ap (λ (ws : List ℕ). between 0 c.put_line-count.result ws) c.words.ensures
+    ∙ words_back _ _ _ _ c.requires refl c.put_line-count.ensures.answer c.put_line-count.ensures.buffer in
+    record { whole = back_whole c.args.line.now _ _ c.requires back (sym c.ending.ensures ∙ c.in-Violated-Never.is-1) }
 
 pub returns-in-Violated-Never : goal.returns-in-Violated-Never
 unfolding sought_by

@@ -1,6 +1,8 @@
-use Rattle.std.proofs.Common.{ℕ, List, length, ◌<◌, ◌+◌, ◌++◌, sym, ap, ap₂, ◌∙◌, Ok, arith}
+use Rattle.std.proofs.Common.{ℕ, List, length, true, ◌≡◌, ◌<◌, ◌+◌, ◌++◌, sym, ap, ap₂, ◌∙◌, Ok, arith}
 use Rattle.word.proofs.ChunkLaws.{words_in_length}
 use Rattle.word.specs.Chunk.{words_in}
+use Rattle.image.proofs.HeldLaws.{counted_whole}
+use Rattle.operation.specs.Whole.{whole_lines}
 use Rattle.policy.specs.Line.{part_get}
 use Rattle.policy.specs.declared.line.Part.{Part}
 use Rattle.image.specs.Lines.{lines_from, part_lines}
@@ -9,8 +11,12 @@ use Rattle.image.proofs.LoadLaws.{passed_on, rules_fault, constraints_fault, bot
 use Rattle.image.proofs.load.load_body.Goals as goal
 
 pub invariant_of-result : goal.invariant_of-result
-invariant_of-result c = record { few = few }
+invariant_of-result c = record { whole = whole; few = few }
   where
+    whole : (part : Part) → whole_lines part (words_in (part_get (record { rules = c.part-rules.result; constraints = c.part-constraints.result }) part).now) ≡ true
+    whole Part.Rules = counted_whole Part.Rules 128 1 _ c.in_ok-rule_count.rule_count (sym c.part_lines.ensures ∙ c.in_ok-rule_count.was)
+    whole Part.Constraints = counted_whole Part.Constraints 64 _ _ c.in_ok-constraint_count.constraint_count (sym c.part_lines-2.ensures ∙ c.in_ok-constraint_count.was)
+
     few : (part : Part) → length (part_get (record { rules = c.part-rules.result; constraints = c.part-constraints.result }) part).now < 4096
     few Part.Rules = omega (arith, c.requires.few, c.part-rules.ensures.count)
     few Part.Constraints = omega (arith, c.requires.few, c.part-constraints.ensures.count)

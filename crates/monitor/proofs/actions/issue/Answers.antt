@@ -9,7 +9,10 @@ use Rattle.monitor.proofs.FewLaws.{tried_few}
 use Rattle.monitor.proofs.actions.issue.Goals as goal
 
 pub resolve-kept-requires : goal.resolve-kept-requires
-resolve-kept-requires c = omega (arith, c.args.image.now.few Part.Rules, c.args.image.now.few Part.Constraints)
+resolve-kept-requires c = record { whole = c.args.image.now.whole Part.Constraints; few = omega (arith, c.args.image.now.few Part.Constraints) }
+
+pub run_rules-run-requires : goal.run_rules-run-requires
+run_rules-run-requires c = record { whole = c.args.image.now.whole Part.Rules }
 
 pub overflow_add-result : goal.overflow_add-result
 overflow_add-result c =

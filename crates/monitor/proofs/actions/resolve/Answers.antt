@@ -1,4 +1,4 @@
-use Rattle.std.proofs.Common.{ℕ, ◌^◌, ◌<◌, true, false, ⊎_elim, sym, ap, ◌∙◌, arith, length, rules}
+use Rattle.std.proofs.Common.{ℕ, ◌^◌, ◌<◌, true, false, refl, sym, ap, ◌∙◌, arith, length, rules}
 use Rattle.std.proofs.lemmas.Bool.{not-true, not-false}
 use Rattle.policy.specs.Set.{ActionSet, set_of}
 use Rattle.policy.specs.declared.epoch.Readings.{Readings}
@@ -6,8 +6,9 @@ use Rattle.word.specs.Chunk.{words_in}
 use Rattle.word.proofs.ChunkLaws.{words_in_length}
 use Rattle.monitor.specs.Decision.{conflict_by, kept_by, trial_words, tried_words}
 use Rattle.monitor.proofs.FewLaws.{trial_few}
-use Rattle.monitor.proofs.TrialLaws.{tried_none, left_limit, other_turn, trial_turn, few_spent, tried_all, all_spent}
+use Rattle.monitor.proofs.TrialLaws.{tried_none, next_candidate, trial_turn, few_spent, tried_all, all_spent}
 use Rattle.monitor.proofs.actions.resolve.Goals as goal
+use Rattle.monitor.proofs.actions.resolve.Goals.{then-not-trial, else-not-trial}
 
 pub loop-left-init : goal.loop-left-init
 loop-left-init c = tried_none _ _ _
@@ -17,12 +18,13 @@ overflow_add-words c =
     let part = words_in c.args.constraints.now in
     let rs : Readings = c.args.readings.now in
     let small : c.args.proposed.bits < 2 ^ 64 = search rules in
-    let few : length part < 8192 = omega (arith, words_in_length c.args.constraints.now, c.requires) in
+    let few : length part < 8192 = omega (arith, words_in_length c.args.constraints.now, c.requires.few) in
+    let next = next_candidate (conflict_by part rs) (trial_words part rs) c.args.proposed.bits small c.loop-left.kept.bits c.loop-left.words c.loop-left.left c.loop-left.n c.loop-left.invariant c.loop-left-test.true _ refl in
     omega (
       arith,
       c.run_constraints-trial.ensures.words,
-      left_limit (conflict_by part rs) (trial_words part rs) c.args.proposed.bits small c.loop-left.kept.bits c.loop-left.words c.loop-left.left c.loop-left.n c.loop-left.invariant c.loop-left-test.true,
-      few_spent (conflict_by part rs) (trial_words part rs) c.args.proposed.bits small c.loop-left.kept.bits c.loop-left.words c.loop-left.left c.loop-left.n c.loop-left.invariant c.loop-left-test.true 8192 (trial_few part few rs) c.insert-more.result.bits,
+      next.room,
+      few_spent (conflict_by part rs) (trial_words part rs) c.args.proposed.bits small c.loop-left.kept.bits c.loop-left.words _ _ next.tried next.some 8192 (trial_few part few rs) c.insert-more.result.bits,
     )
 
 pub loop-left-preserved : goal.loop-left-preserved
@@ -31,13 +33,12 @@ loop-left-preserved c =
     let rs : Readings = c.args.readings.now in
     let small : c.args.proposed.bits < 2 ^ 64 = search rules in
     let bits : ActionSet → ℕ = λ s. s.bits in
-    let trial = trial_turn (conflict_by part rs) (trial_words part rs) c.args.proposed.bits small c.loop-left.kept.bits c.loop-left.words c.loop-left.left c.loop-left.n c.loop-left.invariant c.loop-left-test.true in
-    ⊎_elim
-    (λ w. trial w.if-left-eq1.true w.insert-more.result.bits w.run_constraints-trial.result.words false (ap bits w.insert-more.ensures) (sym (not-true _ w.if-not-trial.true) ∙ w.run_constraints-trial.ensures.conflict) w.run_constraints-trial.ensures.words _ _ (ap bits w.kept-is) w.words-is)
-    (⊎_elim
-    (λ w. trial w.if-left-eq1.true w.insert-more.result.bits w.run_constraints-trial.result.words true (ap bits w.insert-more.ensures) (sym (not-false _ w.if-not-trial.false) ∙ w.run_constraints-trial.ensures.conflict) w.run_constraints-trial.ensures.words _ _ (ap bits w.kept-is) w.words-is)
-    (λ w. other_turn (conflict_by part rs) (trial_words part rs) c.args.proposed.bits small c.loop-left.kept.bits c.loop-left.words c.loop-left.left c.loop-left.n c.loop-left.invariant c.loop-left-test.true w.if-left-eq1.false _ _ (ap bits w.kept-is) w.words-is))
-    c.if-left-eq1.branch-raw
+    let next = next_candidate (conflict_by part rs) (trial_words part rs) c.args.proposed.bits small c.loop-left.kept.bits c.loop-left.words c.loop-left.left c.loop-left.n c.loop-left.invariant c.loop-left-test.true _ refl in
+    let trial = trial_turn (conflict_by part rs) (trial_words part rs) c.args.proposed.bits small c.loop-left.kept.bits c.loop-left.words _ _ next.tried next.some next.one c.insert-more.result.bits c.run_constraints-trial.result.words in
+    elim c.if-not-trial.branch [
+      | then-not-trial w ↦ trial false (ap bits c.insert-more.ensures) (sym (not-true _ w.if-not-trial.true) ∙ c.run_constraints-trial.ensures.conflict) c.run_constraints-trial.ensures.words _ _ (ap bits w.kept-is) refl
+      | else-not-trial w ↦ trial true (ap bits c.insert-more.ensures) (sym (not-false _ w.if-not-trial.false) ∙ c.run_constraints-trial.ensures.conflict) c.run_constraints-trial.ensures.words _ _ (ap bits w.kept-is) refl
+    ]
 
 pub returns : goal.returns
 unfolding kept_by tried_words

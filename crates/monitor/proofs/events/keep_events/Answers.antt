@@ -1,11 +1,12 @@
-use Rattle.std.proofs.Common.{◌^◌, ◌<◌, ⊎_elim, arith}
+use Rattle.std.proofs.Common.{◌^◌, ◌<◌, refl, arith}
 use Rattle.std.proofs.lemmas.Bool.{not-true, not-false}
 use Rattle.policy.specs.declared.epoch.Epoch.{Epoch}
 use Rattle.policy.specs.declared.line.Part.{Part}
 use Rattle.word.specs.Chunk.{words_in}
 use Rattle.word.proofs.ChunkLaws.{words_in_length}
-use Rattle.monitor.proofs.EventLaws.{kept_none, other_event, kept_event, dropped_event, few_words, all_tried, all_few}
+use Rattle.monitor.proofs.EventLaws.{kept_none, next_event, kept_event, dropped_event, few_words, all_tried, all_few}
 use Rattle.monitor.proofs.events.keep_events.Goals as goal
+use Rattle.monitor.proofs.events.keep_events.Goals.{then-not-trial, else-not-trial}
 
 pub loop-left-init : goal.loop-left-init
 loop-left-init c =
@@ -18,10 +19,11 @@ overflow_add-words c =
     let constraints = words_in c.args.image.now.parts.constraints.now in
     let e : Epoch = c.args.epoch.now in
     let small : c.args.epoch.now.events.bits < 2 ^ 64 = search rules in
+    let next = next_event rules constraints e small c.loop-left.kept c.loop-left.actions c.loop-left.words c.loop-left.left c.loop-left.n c.loop-left.invariant c.loop-left-test.true _ refl in
     omega (
       arith,
-      few_words rules constraints e small c.loop-left.kept c.loop-left.actions c.loop-left.words c.loop-left.left c.loop-left.n c.loop-left.invariant c.loop-left-test.true
-          c.if-left-eq1.true _ c.insert-more.ensures _ c.keeping.ensures _ c.try_events-trial.ensures
+      few_words rules constraints e small c.loop-left.kept c.loop-left.actions c.loop-left.words _ _ next.1 next.0.some
+          next.0.one _ c.insert-more.ensures _ c.keeping.ensures _ c.try_events-trial.ensures
           (omega (arith, words_in_length c.args.image.now.parts.rules.now, c.args.image.now.few Part.Rules))
           (omega (arith, words_in_length c.args.image.now.parts.constraints.now, c.args.image.now.few Part.Constraints)),
     )
@@ -32,12 +34,11 @@ loop-left-preserved c =
     let constraints = words_in c.args.image.now.parts.constraints.now in
     let e : Epoch = c.args.epoch.now in
     let small : c.args.epoch.now.events.bits < 2 ^ 64 = search rules in
-    ⊎_elim
-    (λ w. kept_event rules constraints e small c.loop-left.kept c.loop-left.actions c.loop-left.words c.loop-left.left c.loop-left.n c.loop-left.invariant c.loop-left-test.true w.if-left-eq1.true _ w.insert-more.ensures _ w.keeping.ensures _ w.try_events-trial.ensures (not-true _ w.if-not-trial.true) _ _ _ w.kept-is w.actions-is w.words-is)
-    (⊎_elim
-    (λ w. dropped_event rules constraints e small c.loop-left.kept c.loop-left.actions c.loop-left.words c.loop-left.left c.loop-left.n c.loop-left.invariant c.loop-left-test.true w.if-left-eq1.true _ w.insert-more.ensures _ w.keeping.ensures _ w.try_events-trial.ensures (not-false _ w.if-not-trial.false) _ _ _ w.kept-is w.actions-is w.words-is)
-    (λ w. other_event rules constraints e small c.loop-left.kept c.loop-left.actions c.loop-left.words c.loop-left.left c.loop-left.n c.loop-left.invariant c.loop-left-test.true w.if-left-eq1.false _ _ _ w.kept-is w.actions-is w.words-is))
-    c.if-left-eq1.branch-raw
+    let next = next_event rules constraints e small c.loop-left.kept c.loop-left.actions c.loop-left.words c.loop-left.left c.loop-left.n c.loop-left.invariant c.loop-left-test.true _ refl in
+    elim c.if-not-trial.branch [
+      | then-not-trial w ↦ kept_event rules constraints e small c.loop-left.kept c.loop-left.actions c.loop-left.words _ _ next.1 next.0.some next.0.one _ c.insert-more.ensures _ c.keeping.ensures _ c.try_events-trial.ensures (not-true _ w.if-not-trial.true) _ _ _ w.kept-is w.actions-is refl
+      | else-not-trial w ↦ dropped_event rules constraints e small c.loop-left.kept c.loop-left.actions c.loop-left.words _ _ next.1 next.0.some next.0.one _ c.insert-more.ensures _ c.keeping.ensures _ c.try_events-trial.ensures (not-false _ w.if-not-trial.false) _ _ _ w.kept-is w.actions-is refl
+    ]
 
 pub overflow_add-result : goal.overflow_add-result
 overflow_add-result c =

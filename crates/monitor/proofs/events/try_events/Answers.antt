@@ -1,3 +1,4 @@
+use Rattle.policy.specs.declared.line.Part.{Part}
 use Rattle.policy.specs.declared.epoch.Readings.{Readings}
 use Rattle.word.specs.Chunk.{words_in}
 use Rattle.word.proofs.ChunkLaws.{words_in_length}
@@ -17,3 +18,9 @@ overflow_add-result c =
       words_in_length c.args.image.now.parts.rules.now,
       words_in_length c.args.image.now.parts.constraints.now,
     )
+
+pub run_rules-run-requires : goal.run_rules-run-requires
+run_rules-run-requires c = record { whole = c.args.image.now.whole Part.Rules }
+
+pub run_constraints-trial-requires : goal.run_constraints-trial-requires
+run_constraints-trial-requires c = record { whole = c.args.image.now.whole Part.Constraints }

@@ -1,29 +1,14 @@
-use Rattle.std.proofs.Common.{ap₂, ◌∙◌, to_z-of_z, arith}
+use Rattle.std.proofs.Common.{ap, ap₂, ◌∙◌, to_z, of_z, w32, to_z-of_z, ℕ, ◌+◌, ◌*◌, ◌/◌, ◌%◌, ◌^◌, nat_eq, ℤ}
+use Rattle.std.specs.Int.{from_bool}
 use Rattle.policy.specs.Comparison.{relation_holds}
-use Rattle.policy.specs.declared.comparison.Relation.{Relation}
 use Rattle.operation.specs.Operation.{relation_from}
-use Rattle.operation.proofs.OperationLaws.{relation_high}
+use Rattle.operation.proofs.RelationLaws.{le_is, relation_by_table}
 use Rattle.operation.proofs.operation.relation_holds.Goals as goal
 
-pub returns-in-0 : goal.returns-in-0
-unfolding relation_from
-returns-in-0 c = rw c.in-0.is (c.holds.ensures ∙ ap₂ (relation_holds (relation_from 0)) (to_z-of_z c.ranges.left) (to_z-of_z c.ranges.right))
-
-pub returns-in-1 : goal.returns-in-1
-unfolding relation_from
-returns-in-1 c = rw c.in-1.is (c.holds-in-1.ensures ∙ ap₂ (relation_holds (relation_from 1)) (to_z-of_z c.ranges.left) (to_z-of_z c.ranges.right))
-
-pub returns-in-2 : goal.returns-in-2
-unfolding relation_from
-returns-in-2 c = rw c.in-2.is (c.holds-in-2.ensures ∙ ap₂ (relation_holds (relation_from 2)) (to_z-of_z c.ranges.left) (to_z-of_z c.ranges.right))
-
-pub returns-in-3 : goal.returns-in-3
-unfolding relation_from
-returns-in-3 c = rw c.in-3.is (c.holds-in-3.ensures ∙ ap₂ (relation_holds (relation_from 3)) (to_z-of_z c.ranges.left) (to_z-of_z c.ranges.right))
-
-pub returns-in-4 : goal.returns-in-4
-unfolding relation_from
-returns-in-4 c = rw c.in-4.is (c.holds-in-4.ensures ∙ ap₂ (relation_holds (relation_from 4)) (to_z-of_z c.ranges.left) (to_z-of_z c.ranges.right))
-
-pub returns-in_default : goal.returns-in_default
-returns-in_default c = rw (← relation_high c.args.code (omega arith)) (c.holds-in_default.ensures ∙ ap₂ (relation_holds Relation.GreaterOrEqual) (to_z-of_z c.ranges.left) (to_z-of_z c.ranges.right))
+pub returns : goal.returns
+returns c =
+    let left : ℤ = to_z w32 (of_z w32 c.args.left) in
+    let right : ℤ = to_z w32 (of_z w32 c.args.right) in
+    ap₂ (λ (first second : ℕ). nat_eq (1717842258 / 2 ^ (4 * c.args.code + (first + second)) % 2) 1) (c.from.ensures ∙ ap from_bool (le_is right left)) c.from-2.ensures
+    ∙ relation_by_table c.args.code c.requires left right
+    ∙ ap₂ (λ (a b : ℤ). relation_holds (relation_from c.args.code) a b) (to_z-of_z c.ranges.left) (to_z-of_z c.ranges.right)

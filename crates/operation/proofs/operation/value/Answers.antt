@@ -6,13 +6,13 @@ use Rattle.operation.proofs.operation.value.Goals as goal
 
 pub returns-then-has : goal.returns-then-has
 returns-then-has c =
-    let f : SFits w32 (get_or c.args.readings.values.now c.args.reading.0 (pos 0)) = search rules in
-    ap Some (to_z-of_z f) ∙ value_given c.args.readings.given c.args.readings.values.now c.args.reading.0 c.args.readings.all _ c.below.ensures (sym c.has.ensures ∙ c.if-has.true)
+    let f : SFits w32 (get_or c.args.readings.values.now c.args.number (pos 0)) = search rules in
+    ap Some (to_z-of_z f) ∙ value_given c.args.readings.given c.args.readings.values.now c.args.number c.args.readings.all _ c.below.ensures (sym c.has.ensures ∙ c.if-has.true)
 
 pub returns-else-has : goal.returns-else-has
 returns-else-has c =
-    value_missing c.args.readings.given c.args.readings.values.now c.args.reading.0 c.args.readings.all _ c.below.ensures (sym c.has.ensures ∙ c.if-has.false)
+    value_missing c.args.readings.given c.args.readings.values.now c.args.number c.args.readings.all _ c.below.ensures (sym c.has.ensures ∙ c.if-has.false)
 
-pub bounds-readings-reading : goal.bounds-readings-reading
-bounds-readings-reading c =
-    in_alphabet c.args.readings.given c.args.readings.values.now c.args.reading.0 c.args.readings.all _ c.below.ensures (ltb c.args.reading.0 16) refl (sym c.has.ensures ∙ c.if-has.true)
+pub bounds-readings-number : goal.bounds-readings-number
+bounds-readings-number c =
+    in_alphabet c.args.readings.given c.args.readings.values.now c.args.number c.args.readings.all _ c.below.ensures (ltb c.args.number 16) refl (sym c.has.ensures ∙ c.if-has.true)
