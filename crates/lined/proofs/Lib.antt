@@ -1,0 +1,5 @@
+pub mod LineLaws
+pub mod EndLaws
+pub mod InputLaws
+pub mod PartLaws
+pub mod WaitLaws
