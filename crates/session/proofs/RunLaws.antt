@@ -1,6 +1,7 @@
 -- Laws of the lines that pick a mode.
 use Rattle.std.specs.Prelude.{Some, None}
-use Rattle.std.proofs.Common.{◌≡◌, ℕ, suc, ◌<◌, Bool, true, false, ◌&&◌, eqb, List, [], ◌∷◌, length, refl, sym, ap, ◌∙◌, arith}
+use Rattle.std.proofs.Common.{◌≡◌, ℕ, suc, ◌<◌, Bool, true, false, ◌&&◌, eqb, List, [], ◌∷◌, length, take, refl, sym, ap, ◌∙◌, arith, length-take, take_all, leb-true, leb-false}
+use Rattle.std.proofs.Math.Dec.{leb}
 use Rattle.std.specs.Cmp.Lexicographic.{pointwise}
 use Prim.Native.String.{String}
 use Rattle.policy.specs.declared.mode.Mode.{Mode}
@@ -13,7 +14,7 @@ and_none false = refl
 
 -- ---- bytes against a word
 
-pub same_long : (s t : List ℕ) → (length s ≡ length t → ⊥) → bytes_equal s t ≡ false
+same_long : (s t : List ℕ) → (length s ≡ length t → ⊥) → bytes_equal s t ≡ false
 unfolding bytes_equal
 same_long [] [] h = absurd (h refl)
 same_long [] (y ∷ ys) h = refl
@@ -34,7 +35,7 @@ is_word word line t b c e f g = sym (same_pointwise line (bytes word)) ∙ ap (p
 
 -- ---- modes
 
-pub word_long : (word : String) (line : List ℕ) → length (bytes word) < length line → is word line ≡ false
+word_long : (word : String) (line : List ℕ) → length (bytes word) < length line → is word line ≡ false
 unfolding is
 word_long word line h = same_long line (bytes word) (λ e. omega arith)
 
@@ -51,6 +52,19 @@ module _ (line : List ℕ) where
   unfolding mode_of
   picks_none e f = rw (e, f)
 
-  pub long_none : 10 < length line → mode_of line ≡ None
-  unfolding bytes
-  long_none h = picks_none (word_long "run" line (omega arith)) (word_long "run events" line h)
+-- ---- of a line so many bytes, one more than a word has, tell whether it is the word
+
+module _ (k : ℕ) (line : List ℕ) where
+  cut_word : (word : String) → length (bytes word) < k → is word (take k line) ≡ is word line
+  cut_word word h = go (leb (length line) k) refl
+    where
+      go : (b : Bool) → leb (length line) k ≡ b → is word (take k line) ≡ is word line
+      go true q = ap (is word) (take_all k line (leb-true (length line) k q))
+      go false q =
+          let long : k < length line = leb-false (length line) k q in
+          word_long word (take k line) (omega (arith, length-take k line)) ∙ sym (word_long word line (omega arith))
+
+  -- so eleven bytes tell which mode it picks
+  pub cut_mode : 10 < k → mode_of (take k line) ≡ mode_of line
+  unfolding mode_of bytes
+  cut_mode h = rw (cut_word "run" (omega arith), cut_word "run events" h)

@@ -5,7 +5,7 @@ ghost use Rattle.session.specs.Listed.{listed};
 ghost use Rattle.session.specs.Texts.{ListsTexts, TextsEndBy};
 
 use crate::listing::{LISTING_SIZE, put_listing, put_texts_listing};
-use crate::state::TEXT_HELD;
+use crate::text::TEXT_HELD;
 use std::io;
 use stream::{Ends, Failure, Summary, Unread, keep, read_both, summarize, write_whole};
 
