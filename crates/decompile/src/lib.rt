@@ -1,10 +1,12 @@
 //! The decompiler: from an image to the rule text of its policy, in a lent buffer. Start with specs/Decompile.antt.
 #![tactic(auto)]
 
-ghost use Rattle.std.specs.Prelude.{◌≡◌, ◌≤◌, ◌↔◌, IsTrue, min, length, IfOk};
+ghost use Rattle.std.specs.Prelude.{◌≡◌, ◌≤◌, ◌↔◌, IsTrue, min, length, true, Err, is_ok, OnOk, IfOk, IfErr};
 ghost use Rattle.output.specs.Buffer.{appended};
 ghost use Rattle.output.specs.Sink.{fed};
-ghost use Rattle.printer.specs.Printed.{longest_text};
+ghost use Rattle.printer.specs.Printed.{longest_text, text_of};
+ghost use Rattle.image.specs.Held.{policy_in};
+ghost use Rattle.image.specs.Load.{load};
 ghost use Rattle.decompile.specs.Decompile.{decompiled};
 ghost use Rattle.image.specs.Taken.{image_contents};
 ghost use Rattle.image.specs.Walk.{lines_ahead};
@@ -80,4 +82,14 @@ pub fn decompile(image: &[u8], out: &mut [u8]) -> Result<usize, Refusal>
         return Err(Fault::BufferTooSmall.at(0));
     }
     Ok(write_text(out, &image))
+}
+
+/// Puts the text of an image, or answers why there is none: a fault of the image, 7 to 11. A refusal puts nothing.
+pub fn put_decompiled<S: Sink>(sink: &mut S, image: &[u8]) -> Result<(), Refusal>
+    ensures ok { OnOk result ((is_ok (load image.now) ≡ true) × (sink.new ≡ fed S.taken sink.old (text_of (policy_in image.now)))) }
+    ensures err { IfErr result (λ refusal. (load image.now ≡ Err refusal) × (sink.new ≡ sink.old)) }
+{
+    let lines = load_image(image)?.lines();
+    put_text(sink, lines);
+    Ok(())
 }

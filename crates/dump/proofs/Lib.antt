@@ -1,7 +1,4 @@
 pub mod Examples
-pub mod FinishLaws
-pub mod LineLaws
+pub mod WordLaws
 pub mod PrintedLaws
-pub mod ReadLaws
-pub mod StepLaws
 pub mod Whole

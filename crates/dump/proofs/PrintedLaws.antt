@@ -1,12 +1,15 @@
 -- What the compiler prints of an image, its words one a line, is read as those words.
 use Rattle.std.specs.Prelude.{Some}
-use Rattle.std.proofs.Common.{◌≡◌, ℕ, zero, suc, ◌+◌, ◌-◌, ◌*◌, ◌/◌, ◌%◌, ◌^◌, ◌<◌, Bool, true, false, ltb, List, [], ◌∷◌, ◌++◌, map, length, refl, ap, ◌∙◌, append_assoc, append-nil, arith, ltb-true, le-ltb, lt-ltb, ne_eqb, le-leb, fold}
+use Rattle.std.proofs.Common.{◌≡◌, ℕ, zero, suc, ◌+◌, ◌-◌, ◌*◌, ◌/◌, ◌%◌, ◌^◌, ◌<◌, Bool, true, false, ltb, List, [], ◌∷◌, ◌++◌, map, length, refl, ap, ◌∙◌, append_assoc, arith, ltb-true, le-ltb, lt-ltb, ne_eqb, le-leb, fold}
 use Rattle.std.proofs.lemmas.Bool.{lt-leb}
 use mathlib.Core.List.{flatten}
 use Rattle.policy.specs.List.{all}
 use Rattle.policy.proofs.ListLaws.{and_in, and_out, true_false}
-use Rattle.lexer.specs.Byte.{hex_value, is_hex_digit}
-use Rattle.lexer.specs.Lines.{prepend, pieces, lines_of}
+use Rattle.std.proofs.lemmas.Bool.{or_from}
+use Rattle.lexer.specs.Byte.{is_line_end, hex_value, is_hex_digit}
+use Rattle.lined.proofs.InputLaws.{lines_first}
+use Rattle.lined.specs.Lines.{HasNoEnd}
+use Rattle.lexer.specs.Lines.{pieces, lines_of}
 use Rattle.lexer.specs.Number.{hex_number}
 use Rattle.word.specs.Word.{word_limit, Below, Bytes, words_of}
 use Rattle.word.proofs.WordLaws.{words_below, bytes_of_words}
@@ -14,7 +17,7 @@ use Rattle.output.specs.Number.{hex_digit, hex_digits, hex_word, hex_digit_value
 use Rattle.output.proofs.HexLaws.{word_value}
 use Rattle.report.specs.Report.{word_line, next_number}
 use Rattle.dump.specs.Dump.{word_in, words, behind_words, read_word_line, read_dump, image_answer, dump_answer, restored}
-use Rattle.dump.proofs.LineLaws.{glue, glue_line, word_some}
+use Rattle.dump.proofs.WordLaws.{word_some}
 
 -- ---- the digits of a word
 
@@ -59,18 +62,15 @@ digit_inside : (b : ℕ) → is_hex_digit b ≡ true → b ≡ 10 → ⊥
 unfolding hex_value
 digit_inside b h e = let q : is_hex_digit 10 ≡ true = rw e at h in true_false q refl
 
-lines_hex : (line rest : List ℕ) → all is_hex_digit line ≡ true → lines_of (line ++ rest) ≡ glue line (lines_of rest)
-unfolding lines_of pieces
-lines_hex [] rest h = refl
-lines_hex (b ∷ line) rest h =
+hex_no_end : (line : List ℕ) → all is_hex_digit line ≡ true → HasNoEnd line
+hex_no_end [] h = refl
+hex_no_end (b ∷ line) h =
     let p = and_out (is_hex_digit b) (all is_hex_digit line) h in
-    rw (ne_eqb b 10 (digit_inside b p.0)) (ap (prepend b) (lines_hex line rest p.1))
+    or_from (is_line_end b) _ (ne_eqb b 10 (digit_inside b p.0)) (hex_no_end line p.1)
 
 line_first : (w : ℕ) (rest : List ℕ) → lines_of (word_line w ++ rest) ≡ hex_word w ∷ lines_of rest
-unfolding word_line lines_of pieces
-line_first w rest =
-    ap lines_of (append_assoc (hex_word w) (10 ∷ []) rest) ∙ lines_hex (hex_word w) (10 ∷ rest) (digits_hex 8 w)
-    ∙ glue_line (hex_word w) [] (lines_of rest) ∙ ap (λ (l : List ℕ). l ∷ lines_of rest) (append-nil (hex_word w))
+unfolding word_line
+line_first w rest = ap lines_of (append_assoc (hex_word w) (10 ∷ []) rest) ∙ lines_first (hex_word w) rest (hex_no_end (hex_word w) (digits_hex 8 w))
 
 -- the lines of words are read as these words
 pub dump_read : (n : ℕ) (ws : List ℕ) → Below word_limit ws → read_dump n (lines_of (flatten (map word_line ws))) ≡ words ws

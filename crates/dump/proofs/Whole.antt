@@ -1,18 +1,16 @@
--- However the input is cut into chunks, what is printed at its end is what the definition says for all of it.
-use Rattle.std.specs.Prelude.{Option, Some, None}
-use Rattle.std.proofs.Common.{◌≡◌, ℕ, ◌+◌, ◌*◌, ◌/◌, ◌%◌, ◌^◌, ◌<◌, ◌≤◌, min, Bool, true, false, cond, ◌&&◌, eqb, leb, List, [], ◌∷◌, ◌++◌, length, take, drop, sym, refl, ap, ◌∙◌, arith, length-append, length-take, take_all, take_at, le-leb, leb-false, leb-true, fold, Result, Ok, Err}
-use Rattle.std.proofs.lemmas.List.Sums.{fold-append}
-use mathlib.Core.List.{flatten}
+-- What the lines of the whole input come to is what the definition prints for it.
+use Rattle.std.specs.Prelude.{Option, Some, None, is_ok}
+use Rattle.std.proofs.Common.{◌≡◌, ℕ, ◌%◌, ◌^◌, ◌<◌, ◌≤◌, Bool, true, false, ◌&&◌, eqb, leb, List, [], ◌∷◌, ◌++◌, length, take, sym, refl, ap, ◌∙◌, append_assoc, append-nil, arith, length-append, length-take, take_all, leb-false, leb-true, Result, Ok, Err}
 use Rattle.policy.specs.Fault.{fault_number, refusal}
 use Rattle.policy.specs.declared.fault.Fault.{Fault}
 use Rattle.policy.specs.declared.fault.Refusal.{Refusal}
 use Rattle.policy.proofs.ListLaws.{and_out}
 use Rattle.lexer.specs.Byte.{bytes}
 use Rattle.lexer.specs.Lines.{lines_of}
-use Rattle.word.specs.Word.{words_of, bytes_of}
-use Rattle.word.specs.Steps.Write.{put_bytes}
-use Rattle.word.proofs.WordLaws.{words_length, bytes_length, bytes_below}
-use Rattle.word.proofs.WriteLaws.{put_in, put_length}
+use Rattle.lined.specs.Lines.{ended_lines, open_line, last_line, cut_to}
+use Rattle.lined.proofs.InputLaws.{cut_lines}
+use Rattle.word.specs.Word.{Bytes, words_of, byte_list, bytes_of}
+use Rattle.word.proofs.WordLaws.{words_length, bytes_below}
 use Rattle.image.specs.Check.{well_sized}
 use Rattle.image.specs.Held.{policy_in}
 use Rattle.image.specs.Load.{load, Contents}
@@ -21,73 +19,69 @@ use Rattle.exactness.specs.Exact.{RefusalOf, of_checks, of_weights, of_body}
 use Rattle.exactness.proofs.Exact.{held_acceptable, refusals}
 use Rattle.printer.specs.Printed.{text_of, longest_text}
 use Rattle.printer.proofs.Printing.{text_length}
-use Rattle.output.specs.Buffer.{appended, behind}
 use Rattle.output.proofs.DecimalLaws.{decimal_short}
-use Rattle.output.proofs.AppendLaws.{append_start}
-use Rattle.output.proofs.RoomLaws.{put_take}
 use Rattle.report.specs.Report.{image_refusal_line, not_word_line, next_number}
+use Rattle.stream.proofs.FrontLaws.{cut_before}
 use Rattle.dump.specs.Dump.{word_in, Dump, words, not_word, behind_words, read_word_line, read_dump, loaded_answer, image_answer, dump_answer, restored}
-use Rattle.dump.specs.Steps.Calls.{Held, held, start_state, stepped, held_behind, closed, image_held, answer_within, image_within, finished}
-use Rattle.dump.specs.declared.state.State.{State}
-use Rattle.dump.proofs.ReadLaws.{kept, Stored, Ends, reads_all}
+use Rattle.dump.specs.Steps.Lines.{read_behind}
 use Rattle.dump.specs.Steps.Sizes.{dump_size}
+use Rattle.dump.proofs.WordLaws.{word_cut}
 use Rattle.layout.specs.Layout.{size_limit}
 
--- ---- the words that are held are those of the image, or tell that there are too many
-
-stored_bytes : (buffer ws : List ℕ) (count : ℕ) (image : List ℕ) → Stored buffer ws count image
-    → take (min count (length image / 4) * 4) image ≡ bytes_of (kept buffer ws)
-unfolding put_bytes
-stored_bytes buffer ws count image s =
-    let x : List ℕ = kept buffer ws in
-    let few : length x ≤ length buffer / 4 = omega (arith, length-take (length buffer / 4) ws) in
-    let long : length image ≡ length buffer = ap length s.stored ∙ put_length buffer 0 x in
-    let size : min count (length image / 4) * 4 ≡ length (bytes_of x) = omega (arith, s.counted, bytes_length x) in
-    let here : image ≡ bytes_of x ++ drop (0 + length (bytes_of x)) buffer = s.stored ∙ put_in buffer 0 x (omega arith) in
-    rw (size, here) (take_at (bytes_of x) (drop (0 + length (bytes_of x)) buffer) (length (bytes_of x)) refl)
+-- ---- of the bytes of words, as many as are held tell what is printed
 
 too_large : (image : List ℕ) → size_limit < length image → image_answer image ≡ image_refusal_line (refusal Fault.ImageSize 0)
 unfolding image_answer loaded_answer
 too_large image h = rw (sym (load_size image (sym (size_large (length image) (omega arith) h))))
 
-kept_answer : (buffer ws : List ℕ) → dump_size ≤ length buffer → image_answer (bytes_of (kept buffer ws)) ≡ image_answer (bytes_of ws)
-kept_answer buffer ws room = go (leb (length ws) (length buffer / 4)) refl
+image_cut : (image : List ℕ) → image_answer (take dump_size image) ≡ image_answer image
+image_cut image = go (leb (length image) dump_size) refl
   where
-    go : (b : Bool) → leb (length ws) (length buffer / 4) ≡ b → image_answer (bytes_of (kept buffer ws)) ≡ image_answer (bytes_of ws)
-    go true e = ap (λ (vs : List ℕ). image_answer (bytes_of vs)) (take_all (length buffer / 4) ws (leb-true (length ws) (length buffer / 4) e))
+    go : (b : Bool) → leb (length image) dump_size ≡ b → image_answer (take dump_size image) ≡ image_answer image
+    go true e = ap image_answer (take_all dump_size image (leb-true (length image) dump_size e))
     go false e =
-        let l : length buffer / 4 < length ws = leb-false (length ws) (length buffer / 4) e in
-        let k : length (kept buffer ws) ≡ length buffer / 4 = length-take (length buffer / 4) ws ∙ omega arith in
-        too_large (bytes_of (kept buffer ws)) (omega (arith, bytes_length (kept buffer ws))) ∙ sym (too_large (bytes_of ws) (omega (arith, bytes_length ws)))
+        let l : dump_size < length image = leb-false (length image) dump_size e in
+        too_large (take dump_size image) (omega (arith, length-take dump_size image)) ∙ sym (too_large image (omega arith))
 
--- ---- a text always has room
+-- with a word more
+image_same : (x y more : List ℕ) → y ≡ take dump_size x → image_answer (x ++ more) ≡ image_answer (y ++ more)
+image_same x y more e =
+    sym (image_cut (x ++ more)) ∙ ap image_answer (sym (cut_before dump_size x more)) ∙ image_cut (take dump_size x ++ more) ∙ ap (λ l. image_answer (l ++ more)) (sym e)
 
-text_short : (ws : List ℕ) → (l : Result Contents Refusal) → load (bytes_of ws) ≡ l → (room : ℕ) → longest_text ≤ room
-    → answer_within room l (text_of (policy_in (bytes_of ws))) ≡ loaded_answer l (text_of (policy_in (bytes_of ws)))
-unfolding answer_within loaded_answer
-text_short ws (Err r) e room h = refl
-text_short ws (Ok contents) e room h =
-    let image : List ℕ = bytes_of ws in
-    let short = text_length (policy_in image) (held_acceptable image (bytes_below ws) contents e) in
-    rw (le-leb (length (text_of (policy_in image))) room (omega arith))
+-- ---- an image, by the loader's answer
 
-image_whole : (ws : List ℕ) (room : ℕ) → longest_text ≤ room → image_within room (bytes_of ws) ≡ image_answer (bytes_of ws)
-unfolding image_within image_answer
-image_whole ws room h = text_short ws (load (bytes_of ws)) refl room h
+pub refused_answer : (image : List ℕ) (r : Refusal) → load image ≡ Err r → image_answer image ≡ image_refusal_line r
+unfolding image_answer loaded_answer
+refused_answer image r e = rw e refl
 
--- ---- the whole input
+pub taken_answer : (image : List ℕ) → is_ok (load image) ≡ true → image_answer image ≡ text_of (policy_in image)
+unfolding image_answer loaded_answer
+taken_answer image e = go (load image) e
+  where
+    go : (l : Result Contents Refusal) → is_ok l ≡ true → loaded_answer l (text_of (policy_in image)) ≡ text_of (policy_in image)
+    go (Err r) e = absurd (let z : ◌≡◌ {A = Bool} false true = e in cc)
+    go (Ok contents) e = refl
 
-ends_answer : (buffer : List ℕ) (d : Dump) (h : Held) (room : ℕ) → dump_size ≤ length buffer → longest_text ≤ room → Ends buffer d h
-    → finished room h ≡ dump_answer d
-unfolding Ends finished dump_answer
-ends_answer buffer (words ws) h room long large (b, s) =
-    rw b (ap (image_within room) (stored_bytes buffer ws h.state.words h.image s) ∙ image_whole (kept buffer ws) room large ∙ kept_answer buffer ws long)
-ends_answer buffer (not_word n) h room long large (b, e) = rw b (ap not_word_line e)
+-- ---- a line more
 
-fed_joined : (h : Held) (chunks : List (List ℕ)) → fold held_behind h chunks ≡ held_behind h (flatten chunks)
-unfolding flatten
-fed_joined h [] = refl
-fed_joined h (chunk ∷ chunks) = fed_joined (held_behind h chunk) chunks ∙ sym (fold-append stepped h chunk (flatten chunks))
+module _ (held : List ℕ) (n : ℕ) (line : List ℕ) where
+  pub line_word : (w : ℕ) (held' : List ℕ) → word_in line ≡ Some w → held' ≡ take dump_size (held ++ byte_list w)
+      → (rest : List (List ℕ)) → read_behind held (read_dump n (line ∷ rest)) ≡ read_behind held' (read_dump (next_number n) rest)
+  unfolding read_dump read_word_line behind_words bytes_of
+  line_word w held' e is rest = rw e (go (read_dump (next_number n) rest))
+    where
+      go : (d : Dump) → read_behind held (behind_words (w ∷ []) d) ≡ read_behind held' d
+      go (words ws) = ap image_answer (sym (append_assoc held (byte_list w) (bytes_of ws))) ∙ image_same (held ++ byte_list w) held' (bytes_of ws) is
+      go (not_word m) = refl
+
+  pub line_none : word_in line ≡ None → (rest : List (List ℕ)) → read_behind held (read_dump n (line ∷ rest)) ≡ not_word_line (next_number n)
+  unfolding read_dump read_word_line
+  line_none e rest = rw e refl
+
+-- no line is left
+pub none_left : (held : List ℕ) (n : ℕ) → read_behind held (read_dump n []) ≡ image_answer held
+unfolding read_dump bytes_of
+none_left held n = ap image_answer (append-nil held)
 
 -- ---- all of it has room
 
@@ -115,13 +109,13 @@ refusal_short : (r : Refusal) → fault_number r.fault < 2 ^ 64 → r.location <
 unfolding image_refusal_line bytes
 refusal_short r f l = simp length-append (omega (arith, decimal_short (fault_number r.fault) f, decimal_short r.location l))
 
-image_short : (ws : List ℕ) → length (image_answer (bytes_of ws)) ≤ longest_text
+pub image_short : (image : List ℕ) → Bytes image → length (image_answer image) ≤ longest_text
 unfolding image_answer loaded_answer
-image_short ws = go (load (bytes_of ws)) refl
+image_short image bounded = go (load image) refl
   where
-    go : (l : Result Contents Refusal) → load (bytes_of ws) ≡ l → length (loaded_answer l (text_of (policy_in (bytes_of ws)))) ≤ longest_text
-    go (Err r) e = let s = refusal_small (bytes_of ws) r e in refusal_short r s.0 s.1
-    go (Ok contents) e = text_length (policy_in (bytes_of ws)) (held_acceptable (bytes_of ws) (bytes_below ws) contents e)
+    go : (l : Result Contents Refusal) → load image ≡ l → length (loaded_answer l (text_of (policy_in image))) ≤ longest_text
+    go (Err r) e = let s = refusal_small image r e in refusal_short r s.0 s.1
+    go (Ok contents) e = text_length (policy_in image) (held_acceptable image bounded contents e)
 
 number_small : (n : ℕ) (lines : List (List ℕ)) (m : ℕ) → read_dump n lines ≡ not_word m → m < 2 ^ 64
 unfolding read_dump read_word_line behind_words
@@ -133,7 +127,7 @@ number_small n (line ∷ lines) m e = go (word_in line) (read_dump (next_number 
     go (Some w) (words vs) f q = let z : ◌≡◌ {A = ℕ} 0 1 = cc in absurd (omega arith)
     go (Some w) (not_word k) f q = f q
 
-line_short : (n : ℕ) → n < 2 ^ 64 → length (not_word_line n) ≤ longest_text
+pub line_short : (n : ℕ) → n < 2 ^ 64 → length (not_word_line n) ≤ longest_text
 unfolding not_word_line bytes
 line_short n h = simp length-append (omega (arith, decimal_short n h))
 
@@ -143,61 +137,20 @@ unfolding restored dump_answer
 restored_short input = go (read_dump 0 (lines_of input)) refl
   where
     go : (d : Dump) → read_dump 0 (lines_of input) ≡ d → length (dump_answer d) ≤ longest_text
-    go (words ws) e = image_short ws
+    go (words ws) e = image_short (bytes_of ws) (bytes_below ws)
     go (not_word n) e = line_short n (number_small 0 (lines_of input) n e)
 
--- `begin`, `feed` on each chunk, and `finish`, as their contracts have it: the output holds just what is to be printed, from its start up
--- to the position that is answered
-pub all_restored : (chunks : List (List ℕ)) (image out after : List ℕ) (end : ℕ) → dump_size ≤ length image → longest_text ≤ length out
-    → end ≡ behind out 0 (finished (length out) (closed (fold held_behind (held start_state image) chunks)))
-    → after ≡ appended out 0 (finished (length out) (closed (fold held_behind (held start_state image) chunks)))
-    → take end after ≡ restored (flatten chunks)
-unfolding restored behind
-all_restored chunks image out after end long large p q =
-    let input : List ℕ = flatten chunks in
-    let e : finished (length out) (closed (fold held_behind (held start_state image) chunks)) ≡ restored input =
-    ap (λ (h : Held). finished (length out) (closed h)) (fed_joined (held start_state image) chunks)
-    ∙ ends_answer image (read_dump 0 (lines_of input)) (closed (held_behind (held start_state image) input)) (length out) long large (reads_all image input) in
-    let short = restored_short input in
-    let n : end ≡ length (restored input) = (rw e at p) ∙ omega arith in
-    let here : after ≡ restored input ++ drop (length (restored input)) out = (rw e at q) ∙ append_start out (restored input) (omega arith) in
-    rw here (take_at (restored input) (drop (length (restored input)) out) end (sym n))
+-- ---- the whole input
 
--- ---- what is printed at the end of the input has room, whatever was read
+lines_cut : (n : ℕ) (lines : List (List ℕ)) → read_dump n (cut_to 9 lines) ≡ read_dump n lines
+unfolding read_dump
+lines_cut n [] = refl
+lines_cut n (line ∷ lines) = rw (word_cut line, lines_cut (next_number n) lines)
 
-within_short : (image : List ℕ) → length (image_within longest_text image) ≤ longest_text
-unfolding image_within answer_within
-within_short image = go (load image) refl
+pub all_restored : (input : List ℕ) → read_behind [] (read_dump 0 (cut_to 9 (ended_lines input) ++ last_line (take 9 (open_line input)))) ≡ restored input
+unfolding restored dump_answer
+all_restored input = ap (λ ls. read_behind [] (read_dump 0 ls)) (cut_lines 9 (omega arith) input) ∙ ap (read_behind []) (lines_cut 0 (lines_of input)) ∙ go (read_dump 0 (lines_of input))
   where
-    text : List ℕ
-    text = text_of (policy_in image)
-
-    go : (l : Result Contents Refusal) → load image ≡ l → length (answer_within longest_text l text) ≤ longest_text
-    go (Err r) e = let s = refusal_small image r e in refusal_short r s.0 s.1
-    go (Ok contents) e = fit (leb (length text) longest_text) refl
-      where
-        fit : (b : Bool) → leb (length text) longest_text ≡ b → length (cond b text (image_refusal_line (refusal Fault.BufferTooSmall 0))) ≤ longest_text
-        fit true t = leb-true (length text) longest_text t
-        fit false t = refusal_short (refusal Fault.BufferTooSmall 0) (omega arith) (omega arith)
-
-finished_short : (h : Held) → length (finished longest_text h) ≤ longest_text
-unfolding finished
-finished_short h = go h.state.broken
-  where
-    go : (b : Bool) → length (cond b (not_word_line (next_number h.state.lines)) (image_within longest_text (image_held h))) ≤ longest_text
-    go true = line_short (next_number h.state.lines) (omega arith)
-    go false = within_short (image_held h)
-
-pub finished_whole : (h : Held) (out after : List ℕ) (end : ℕ) → length out ≡ longest_text
-    → (end ≡ behind out 0 (finished (length out) h)) × (after ≡ appended out 0 (finished (length out) h)) → take end after ≡ finished longest_text h
-finished_whole h out after end long p = put_take out 0 (finished longest_text h) after end (omega (arith, long, finished_short h)) (rw long at p)
-
--- from the start of the input, what is printed is what the definition says for all of it
-start_restored : (image : List ℕ) → dump_size ≤ length image → (input : List ℕ) → finished longest_text (closed (held_behind (held start_state image) input)) ≡ restored input
-unfolding restored
-start_restored image long input =
-    ends_answer image (read_dump 0 (lines_of input)) (closed (held_behind (held start_state image) input)) longest_text long (omega arith) (reads_all image input)
-
-pub starts_restored : (s : State) (image : List ℕ) → s ≡ start_state → dump_size ≤ length image
-    → (λ (input : List ℕ). finished longest_text (closed (held_behind (held s image) input))) ≡ restored
-starts_restored s image e long = rw e (λ i. λ input. start_restored image long input i)
+    go : (d : Dump) → read_behind [] d ≡ dump_answer d
+    go (words ws) = refl
+    go (not_word n) = refl

@@ -1,5 +1,4 @@
--- Mechanism of the code, which no contract of a public function cites: a reader need not believe it. `Sizes` is that of the buffer, `Calls` what the functions do with
--- the bytes of the input, `Decompiler` what the machine prints in these words.
+-- Mechanism of the code, which no contract of a public function cites: a reader need not believe it. `Sizes` is that of the buffer, `Lines` what
+-- is printed from one of the lines on.
 pub mod Sizes
-pub mod Calls
-pub mod Decompiler
+pub mod Lines

@@ -1,9 +1,11 @@
 -- The lines of a whole input: those that have ended, and the open one where it has a byte.
-use Rattle.std.proofs.Common.{◌≡◌, ℕ, Bool, true, false, cond, List, [], ◌∷◌, ◌++◌, refl, ap, ◌∙◌}
+use Rattle.std.proofs.Common.{◌≡◌, ℕ, zero, suc, ◌<◌, Bool, true, false, cond, List, [], ◌∷◌, ◌++◌, take, refl, sym, ap, ◌∙◌, arith}
+use Rattle.std.proofs.lemmas.Bool.{or_parts}
+use Rattle.std.specs.List.{list_any}
 use Rattle.lexer.specs.Byte.{is_line_end}
 use Rattle.lexer.specs.Lines.{prepend, pieces, lines_of}
 use Rattle.stream.specs.Lines.{add_to_whole, whole_part}
-use Rattle.lined.specs.Lines.{ended_behind, open_behind, ended_lines, open_line, last_line}
+use Rattle.lined.specs.Lines.{ended_behind, open_behind, ended_lines, open_line, last_line, cut_to, HasNoEnd}
 
 -- ---- bytes in front of the first line, or of none
 
@@ -43,6 +45,23 @@ all_behind (b ∷ bytes) line = all_byte b bytes (all_behind bytes) line (is_lin
 
 pub all_lines : (bytes : List ℕ) → lines_of bytes ≡ ended_lines bytes ++ last_line (open_line bytes)
 all_lines bytes = all_behind bytes []
+
+pub lines_first : (line rest : List ℕ) → HasNoEnd line → lines_of (line ++ 10 ∷ rest) ≡ line ∷ lines_of rest
+unfolding lines_of pieces prepend
+lines_first [] rest h = refl
+lines_first (b ∷ line) rest h =
+    let p = or_parts (is_line_end b) (list_any is_line_end line) h in
+    ap (λ t. cond t ([] ∷ lines_of (line ++ 10 ∷ rest)) (prepend b (lines_of (line ++ 10 ∷ rest)))) p.0 ∙ ap (prepend b) (lines_first line rest p.1)
+
+-- as much of each as is handed on
+pub cut_last : (most : ℕ) → 0 < most → (lines : List (List ℕ)) (last : List ℕ) → cut_to most lines ++ last_line (take most last) ≡ cut_to most (lines ++ last_line last)
+cut_last zero h lines last = absurd (omega arith)
+cut_last (suc most) h [] [] = refl
+cut_last (suc most) h [] (b ∷ last) = refl
+cut_last (suc most) h (line ∷ lines) last = ap (λ ls. take (suc most) line ∷ ls) (cut_last (suc most) h lines last)
+
+pub cut_lines : (most : ℕ) → 0 < most → (bytes : List ℕ) → cut_to most (ended_lines bytes) ++ last_line (take most (open_line bytes)) ≡ cut_to most (lines_of bytes)
+cut_lines most h bytes = cut_last most h (ended_lines bytes) (open_line bytes) ∙ ap (cut_to most) (sym (all_lines bytes))
 
 -- ---- up to the last line end
 

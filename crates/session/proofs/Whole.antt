@@ -12,7 +12,7 @@ use Rattle.layout.specs.Layout.{image_of}
 use Rattle.lexer.specs.Byte.{is_line_end}
 use Rattle.lexer.specs.Lines.{pieces, lines_of}
 use Rattle.lined.specs.Lines.{ended_behind, open_behind, ended_lines, open_line, last_line, cut_to}
-use Rattle.lined.proofs.InputLaws.{all_lines, whole_lines}
+use Rattle.lined.proofs.InputLaws.{all_lines, cut_last, whole_lines}
 use Rattle.lined.proofs.LineLaws.{cut_again}
 use Rattle.output.specs.Buffer.{appended, behind}
 use Rattle.report.specs.Report.{refusal_line, texts_refusal_line}
@@ -52,11 +52,6 @@ epochs_kept done mode lines = go (read_text done)
     go (Err r) = refl
     go (Ok policy) = cut_epochs mode (image_of newest_form policy) text_held (omega arith) 0 lines
 
-lines_kept : (lines : List (List ℕ)) (last : List ℕ) → cut_to text_held lines ++ last_line (take text_held last) ≡ cut_to text_held (lines ++ last_line last)
-lines_kept [] [] = refl
-lines_kept [] (b ∷ last) = refl
-lines_kept (line ∷ lines) last = ap (λ ls. take text_held line ∷ ls) (lines_kept lines last)
-
 -- ---- before the end
 
 given_more : (done line : List ℕ) (rest : List (List ℕ)) → ((d : List ℕ) → given_text d (cut_to text_held rest) ≡ given_text d rest) → (o : Option Mode) → mode_of line ≡ o
@@ -85,7 +80,7 @@ printed_more done line rest last h None e =
     ∙ sym (printed_line done line rest last e)
 printed_more done line rest last h (Some mode) e =
     printed_run done (take text_held line) (cut_to text_held rest) (take text_held last) mode (mode_kept line ∙ e)
-    ∙ ap (λ ls. printed_for done (with_epochs [] mode ls)) (lines_kept rest last) ∙ epochs_kept done mode (rest ++ last_line last) ∙ sym (printed_run done line rest last mode e)
+    ∙ ap (λ ls. printed_for done (with_epochs [] mode ls)) (cut_last text_held (omega arith) rest last) ∙ epochs_kept done mode (rest ++ last_line last) ∙ sym (printed_run done line rest last mode e)
 
 printed_kept : (lines : List (List ℕ)) (last done : List ℕ) → printed_text done (cut_to text_held lines) (take text_held last) ≡ printed_text done lines last
 printed_kept [] last done = last_kept done last (mode_of last) refl

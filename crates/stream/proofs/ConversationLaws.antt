@@ -1,5 +1,5 @@
 -- How a conversation goes on and ends.
-use Rattle.std.proofs.Common.{◌≡◌, ◌+◌, ◌<◌, inr, ℕ, List, [], ◌++◌, length, take, refl, sym, ap, ◌∙◌, subst, append-nil, IfSome}
+use Rattle.std.proofs.Common.{◌≡◌, ◌+◌, ◌<◌, inl, inr, arith, ℕ, List, [], ◌++◌, length, take, refl, sym, ap, ◌∙◌, subst, append-nil, IfSome}
 use Rattle.std.specs.Io.{StartsWith}
 use Rattle.std.specs.Io.KnownBytes.{IsAtEnd}
 use Rattle.std.specs.declared.io.Error.{Error}
@@ -94,3 +94,9 @@ pub listing_fails : {S : Type 0} (printed : S → List ℕ → List ℕ) (a b : 
 listing_fails printed a b old k turns bytes goes talks mid new read end (Read e) w = absurd w.0
 listing_fails printed a b old k turns bytes goes talks mid new read end (Write e) (w, (n, sent)) =
     last_write_fails (λ s. nothing_due) printed a b old k turns bytes [] goes refl talks mid new read end n e sent
+
+-- so a run of a machine is one of a listing
+pub listing_ends : (e : Failure) (answer : List ℕ → List ℕ) (old new : Known) → EndsBy e nothing_due answer old new → ListingEndsBy e answer old new
+listing_ends (Read e) answer old new h = h
+listing_ends (Write e) answer old new (inl h) = absurd (omega (arith, h.some))
+listing_ends (Write e) answer old new (inr h) = h

@@ -1,5 +1,5 @@
 -- Laws of `Goes`, and of what begins with what.
-use Rattle.std.proofs.Common.{◌≡◌, ℕ, ◌+◌, ◌-◌, List, [], ◌++◌, length, take, drop, refl, sym, ap, ◌∙◌, subst, append_assoc, append-nil, take-append-drop, take-add, Result, Ok, Err, IfErr, IsErrAnd, OnOk, take_all, arith}
+use Rattle.std.proofs.Common.{◌≡◌, ℕ, ◌+◌, ◌-◌, ◌<◌, List, [], ◌++◌, length, take, drop, refl, sym, ap, ◌∙◌, subst, append_assoc, append-nil, take-append-drop, take-add, Result, Ok, Err, IfErr, IsErrAnd, OnOk, OnErr, take_all, length-append, arith}
 use Rattle.std.proofs.lemmas.List.{append_cancel_left, take_rest}
 use Rattle.std.proofs.Math.Seq.{take-append_seam}
 use Rattle.std.specs.Io.{StartsWith}
@@ -15,6 +15,9 @@ starts_refl xs = take_all (length xs) xs (omega arith)
 
 pub starts_rest : (xs front : List ℕ) → StartsWith xs front → xs ≡ front ++ drop (length front) xs
 starts_rest xs front h = sym (take-append-drop (length front) xs) ∙ ap (λ l. l ++ drop (length front) xs) h
+
+pub starts_some : (xs ts front : List ℕ) → StartsWith xs (ts ++ front) → 0 < length front → 0 < length xs
+starts_some xs ts front h some = omega (arith, ap length (starts_rest xs (ts ++ front) h), length-append (ts ++ front) (drop (length (ts ++ front)) xs), length-append ts front)
 
 pub starts_cut : (xs front : List ℕ) (n : ℕ) → StartsWith xs front → StartsWith xs (take n front)
 starts_cut xs front n h =
@@ -78,6 +81,10 @@ module _ {S : Type 0} (given printed : S → List ℕ → List ℕ) where
       (goes_front a c _ text front (drop (at + n) chunk) (goes_fed a b c chunk text at n p q) (h _))
 
 -- ---- results
+
+pub on_err : {A E : Type 0} (r : Result A E) (P : Type 0) → P → OnErr r P
+on_err (Ok a) P p = tt
+on_err (Err e) P p = p
 
 pub if_err : {A E : Type 0} (r : Result A E) (P : E → Type 0) (e : E) → IsErrAnd r (λ y. y ≡ e) → P e → IfErr r P
 if_err (Ok a) P e is p = tt

@@ -4,7 +4,7 @@ use Rattle.stream.specs.declared.failure.Failure.TheVariants.{Write}
 use Rattle.stream.specs.Event.{GoOn, Fails}
 use Rattle.stream.proofs.EventLaws.{go_on_append, fails_behind}
 use Rattle.stream.proofs.KnownLaws.{sends_nil, sends_trans}
-use Rattle.stream.proofs.MachineLaws.{goes_turned, goes_refl, goes_step, goes_front_fed, goes_emptied, starts_cut, if_err}
+use Rattle.stream.proofs.MachineLaws.{goes_turned, goes_refl, goes_step, goes_front_fed, goes_emptied, starts_some, starts_cut, if_err, on_err}
 use Rattle.stream.proofs.conversation.answer.Goals as goal
 
 pub loop-at-init : goal.loop-at-init
@@ -49,3 +49,15 @@ returns-in_err-hand_out-clause-err g c =
       goes_front_fed given printed _ _ _ c.args.chunk.now text _ c.loop-at.at c.feed-at.result goes c.feed-at.ensures.goes
           (λ rest. starts_cut _ _ n (first rest)),
     )
+
+pub returns-in_err-hand_out-clause-some : goal.returns-in_err-hand_out-clause-some
+returns-in_err-hand_out-clause-some g c =
+    let given = g.M.Machine.given in
+    let printed = g.M.Machine.printed in
+    let (text, goes, written) = c.loop-at.invariant.moved in
+    let (n, cut, due, first) = c.in_err-hand_out.ensures.err in
+    on_err c.from_residual.result _
+    (starts_some _ text _
+    (goes_front_fed printed given _ _ _ c.args.chunk.now text _ c.loop-at.at c.feed-at.result (goes_turned given printed _ _ _ _ goes)
+    (goes_turned given printed _ _ _ _ c.feed-at.ensures.goes) due)
+    c.in_err-hand_out.ensures.some)

@@ -1,4 +1,4 @@
-use Rattle.std.proofs.Common.{◌+◌, ◌<◌, arith, inl, length, [], ◌++◌, take}
+use Rattle.std.proofs.Common.{◌+◌, ◌<◌, ap, arith, inl, length, length-append, [], ◌++◌, take}
 use Rattle.std.proofs.lemmas.Result.{IfErr-weaker}
 use Rattle.stream.specs.declared.failure.Failure.TheVariants.{Write}
 use Rattle.stream.specs.Event.{GoOn, Fails}
@@ -53,6 +53,7 @@ returns-in-Err-answer-clause-err g c =
       bytes = bytes ++ chunk;
       text = text ++ more;
       talk = talks_send _ (GoOn (turns + 1)) (Fails failure) (Fails failure) _ _ _ _ text more (λ es fs p w q. fails_behind failure es fs p.0 q) read sent;
+      some = omega (arith, c.in-Err-answer.ensures.some, ap length (goes.at_once chunk), length-append text (given c.loop-turn.machine chunk));
       owed = goes_front printed given _ _ bytes text more _ (goes_turned given printed _ _ _ _ goes) due;
       front = goes_front given printed _ _ bytes text more _ goes starts;
     })
