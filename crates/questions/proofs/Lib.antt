@@ -3,6 +3,5 @@ pub mod AnswerLaws
 pub mod Whole
 pub mod LeftLaws
 pub mod CutLaws
-pub mod ExplainerLaws
 pub mod Room
 pub mod Examples

@@ -80,12 +80,8 @@ module _ (maker site : List ℕ) (m : length maker ≤ text_limit) (s : length s
   answered_size image (Token.Number n) epoch = said_size_on maker site text_limit m s epoch n image
   answered_size image Token.Other epoch = nothing
 
-  -- into a buffer of 32,802 bytes the whole answer to a question that is held is put
-  pub question-whole : (image held : List ℕ) (q : Question) (n : ℕ) → n < 2 ^ 64 → (out after : List ℕ) (end : ℕ) → answer_size ≤ length out
-      → (end ≡ behind out 0 (question_line maker site image n q held)) × (after ≡ appended out 0 (question_line maker site image n q held))
-      → take end after ≡ question_line maker site image n q held
+  -- the answer to a question that is held has at most 32,802 bytes
+  pub question_short : (image held : List ℕ) (q : Question) (n : ℕ) → n < 2 ^ 64 → length (question_line maker site image n q held) ≤ answer_size
   unfolding question_line
-  question-whole image held q n h out after end room p =
-      let x : Result Explanation Refusal = answer_on maker site image q.token (take (min q.count (length held)) held) in
-      let k = answered_size image q.token (take (min q.count (length held)) held) in
-      put_take out 0 (explained_line n x) after end (omega (arith, answer_short n h x k)) p
+  question_short image held q n h =
+      answer_short n h (answer_on maker site image q.token (take (min q.count (length held)) held)) (answered_size image q.token (take (min q.count (length held)) held))

@@ -1,12 +1,10 @@
--- What is held of a question answers it as the whole line does, and what the program prints for all of its input.
+-- What is held of a question answers it as the whole line does.
 use Rattle.std.specs.Prelude.{Option, Some, None, Result, Ok}
 use Rattle.policy.specs.Fault.{refusal}
 use Rattle.std.proofs.Common.{ℕ, ◌+◌, ◌*◌, ◌-◌, min, ◌≤◌, ◌<◌, Bool, true, false, not, cond, ◌&&◌, ◌||◌, List, [], ◌∷◌, ◌++◌, append_assoc, append-nil, ◌⊎◌, inl, inr, ◌≡◌, refl, sym, ap, ap₂, ◌∙◌, add-one, arith, lt-ltb, le-ltb, ltb-true, ltb-false, eqb-true, eqb, ltb, length, take, set, length-set, length-append, length-take, take_all, take-suc-set, length-take-le, fold, Err}
-use Rattle.std.proofs.lemmas.Bool.{not-true}
 use Rattle.std.proofs.lemmas.List.Sums.{fold-append}
-use Rattle.std.proofs.Math.Path.{subst⁻¹}
-use Rattle.std.proofs.Math.Seq.{take-append-le, take-append-add}
-use Rattle.policy.proofs.ListLaws.{and_in, and_out, all_append}
+use Rattle.std.proofs.Math.Seq.{take-append-le}
+use Rattle.policy.proofs.ListLaws.{and_in, and_out}
 use Rattle.policy.specs.declared.fault.Fault.{Fault}
 use Rattle.policy.specs.List.{all}
 use Rattle.policy.specs.Number.{check_action}
@@ -14,7 +12,7 @@ use Rattle.policy.specs.Policy.{Policy}
 use Rattle.policy.specs.Result.{result_and_then}
 use Rattle.policy.specs.declared.fault.Refusal.{Refusal}
 use Rattle.lexer.specs.Byte.{is_space, is_digit}
-use Rattle.lexer.specs.Lines.{prepend, pieces, lines_of, take_leading, in_line}
+use Rattle.lexer.specs.Lines.{take_leading}
 use Rattle.lexer.specs.Number.{decimal_from, is_empty, number_of}
 use Rattle.lexer.specs.Token.{named}
 use Rattle.epoch_line.specs.Epoch.{read_epoch, epoch_limit}
@@ -25,14 +23,12 @@ use Rattle.codegen.specs.Compile.{newest_form}
 use Rattle.explanation.proofs.WhyLaws.{on_image_is, same_action}
 use Rattle.explanation.specs.Steps.On.{explained_on}
 use Rattle.explanation.specs.Why.{on_epoch, explained}
-use Rattle.questions.specs.Answered.{in_word, word_of, epoch_part, no_action, explained_line, answer_for, question_answer, answer_lines, answers_on, answers_printed}
+use Rattle.questions.specs.Answered.{in_word, word_of, epoch_part, no_action, explained_line, answer_for, question_answer}
 use Rattle.questions.proofs.LineLaws.{push_length}
-use Rattle.questions.specs.Steps.Asked.{answer_held, Asked, begun, took, answers, last_answer}
 use Rattle.questions.specs.Steps.Answer.{answer_on, question_line}
-use Rattle.questions.specs.Steps.Held.{first_digit, more_digits, next_digit, scan_byte, start_question, has_byte, is_open, Held, held_by, kept, pushed, bytes_taken, line_taken}
+use Rattle.questions.specs.Steps.Held.{first_digit, more_digits, next_digit, scan_byte, start_question, has_byte, is_open, Held, held_by, kept, pushed}
 use Rattle.questions.specs.declared.line.Question.{Question}
 use Rattle.questions.specs.declared.line.Token.{Token}
-use Rattle.report.specs.Report.{next_number}
 use Rattle.questions.specs.Steps.Sizes.{line_held}
 
 -- ---- the word
@@ -316,71 +312,7 @@ module _ (maker site : List ℕ) where
         ∙ answer_cut (number_in (fold scan_byte Token.Empty (word_of line))) (epoch_part line)
         ∙ answer_agrees (number_in (fold scan_byte Token.Empty (word_of line))) (named 65 (word_of line)) (epoch_part line) (word_number (word_of line)))
 
--- ---- all of the input
-
-pub line_ends : (l rest : List ℕ) → all in_line l ≡ true → lines_of (l ++ 10 ∷ rest) ≡ l ∷ lines_of rest
-unfolding lines_of pieces prepend
-line_ends [] rest h = refl
-line_ends (b ∷ l) rest h =
-    let p = and_out (in_line b) (all in_line l) h in
-    rw (not-true (eqb b 10) p.0) (ap (prepend b) (line_ends l rest p.1))
-
-line_open : (b : ℕ) (l : List ℕ) → all in_line (b ∷ l) ≡ true → lines_of (b ∷ l) ≡ (b ∷ l) ∷ []
-unfolding lines_of pieces prepend
-line_open b [] h = let p = and_out (in_line b) true h in rw (not-true (eqb b 10) p.0)
-line_open b (c ∷ l) h =
-    let p = and_out (in_line b) (all in_line (c ∷ l)) h in
-    rw (not-true (eqb b 10) p.0) (ap (prepend b) (line_open c l p.1))
-
-pub while_passes : (p : ℕ → Bool) (s : List ℕ) → all p (take_leading p s) ≡ true
-while_passes p [] = refl
-while_passes p (b ∷ s) = go (p b) refl (while_passes p s)
-  where
-    go : (x : Bool) → p b ≡ x → all p (take_leading p s) ≡ true → all p (cond x (b ∷ take_leading p s) []) ≡ true
-    go true e k = and_in e k
-    go false e k = refl
-
--- a chunk is within the line, or has the line's end in it
-data Chunk (chunk : List ℕ) : Type 0 where
-  inside : chunk ≡ take_leading in_line chunk → Chunk chunk
-  ends : (rest : List ℕ) → chunk ≡ take_leading in_line chunk ++ 10 ∷ rest → Chunk chunk
-
-parted : (chunk : List ℕ) → Chunk chunk
-parted [] = inside refl
-parted (b ∷ s) = go (eqb b 10) refl (parted s)
-  where
-    go : (x : Bool) → eqb b 10 ≡ x → Chunk s → Chunk (b ∷ s)
-    go true e k = let h : b ≡ 10 = eqb-true b 10 e in ends s (rw e (ap (λ (c : ℕ). c ∷ s) h))
-    go false e (inside f) = inside (rw e (ap (λ (t : List ℕ). b ∷ t) f))
-    go false e (ends rest f) = ends rest (rw e (ap (λ (t : List ℕ). b ∷ t) f))
-
-pub chunk_inside : (q : Question) (held chunk : List ℕ) → (line_taken q held chunk).ended ≡ false → chunk ≡ take_leading in_line chunk
-unfolding line_taken
-chunk_inside q held chunk e = go (parted chunk)
-  where
-    go : Chunk chunk → chunk ≡ take_leading in_line chunk
-    go (inside f) = f
-    go (ends rest f) =
-        let k : length chunk ≤ length (take_leading in_line chunk) = ltb-false (length (take_leading in_line chunk)) (length chunk) e in
-        absurd (omega (arith, ap length f, length-append (take_leading in_line chunk) (10 ∷ rest)))
-
-pub chunk_open : (q : Question) (held chunk : List ℕ) → (line_taken q held chunk).ended ≡ false → take (line_taken q held chunk).taken chunk ≡ take_leading in_line chunk
-unfolding line_taken
-chunk_open q held chunk e =
-    let w : List ℕ = take_leading in_line chunk in
-    let inside : chunk ≡ w = chunk_inside q held chunk e in
-    rw e (take_all (length w) chunk (omega (arith, ap length inside)) ∙ inside)
-
-pub chunk_ends : (q : Question) (held chunk : List ℕ) → (line_taken q held chunk).ended ≡ true → take (line_taken q held chunk).taken chunk ≡ take_leading in_line chunk ++ 10 ∷ []
-unfolding line_taken
-chunk_ends q held chunk e = rw e (go (parted chunk))
-  where
-    go : Chunk chunk → take (length (take_leading in_line chunk) + 1) chunk ≡ take_leading in_line chunk ++ 10 ∷ []
-    go (inside f) =
-        let k : length (take_leading in_line chunk) < length chunk = ltb-true (length (take_leading in_line chunk)) (length chunk) e in
-        absurd (omega (arith, ap length f))
-    go (ends rest f) =
-        ap (take (length (take_leading in_line chunk) + 1)) f ∙ take-append-add (take_leading in_line chunk) (10 ∷ rest) 1
+-- ---- the open line
 
 -- every byte opens a line
 scanned_byte : (t : Token) (b : ℕ) → has_byte (scan_byte t b) ≡ true
@@ -408,7 +340,7 @@ spaced_open : (q : Question) → q.spaced ≡ true → is_open q ≡ true
 unfolding is_open
 spaced_open q e = rw e
 
-open_byte : (h : Held) (b : ℕ) → is_open (pushed h b).question ≡ true
+pub open_byte : (h : Held) (b : ℕ) → is_open (pushed h b).question ≡ true
 unfolding is_open pushed kept
 open_byte h b = go h.question.spaced (ltb h.question.count (length h.held)) (is_space b) refl
   where
@@ -422,104 +354,10 @@ open_byte h b = go h.question.spaced (ltb h.question.count (length h.held)) (is_
     go false x true e = refl
     go false x false e = scanned_byte h.question.token b
 
-open_bytes : (l : List ℕ) (h : Held) → is_open h.question ≡ true → is_open (fold pushed h l).question ≡ true
+pub open_bytes : (l : List ℕ) (h : Held) → is_open h.question ≡ true → is_open (fold pushed h l).question ≡ true
 open_bytes [] h e = e
 open_bytes (b ∷ l) h e = open_bytes l (pushed h b) (open_byte h b)
 
 pub fold_length : (l : List ℕ) (h : Held) → length (fold pushed h l).held ≡ length h.held
 fold_length [] h = refl
 fold_length (b ∷ l) h = fold_length l (pushed h b) ∙ push_length h b
-
-module _ (maker site : List ℕ) (p : Policy) (r : read_texts maker site ≡ Ok p) where
-  -- where the input ends, the open line is answered if it has a byte
-  pub last_answered : (n : ℕ) (first : List ℕ) → length first ≡ line_held → (begins : List ℕ) → all in_line begins ≡ true
-      → last_answer maker site (image_of newest_form p) n (fold pushed (held_by start_question first) begins) ≡ answer_lines maker site n (lines_of (begins ++ []))
-  unfolding answer_lines lines_of pieces is_open has_byte
-  last_answered n first long [] line = refl
-  last_answered n first long (b ∷ l) line =
-      let start : Held = held_by start_question first in
-      let h : Held = fold pushed start (b ∷ l) in
-      let opened : is_open h.question ≡ true = open_bytes l (pushed start b) (open_byte start b) in
-      let lines : lines_of ((b ∷ l) ++ []) ≡ (b ∷ l) ∷ [] = ap lines_of (append-nil (b ∷ l)) ∙ line_open b l line in
-      ap (λ (x : Bool). cond x (answer_held maker site (image_of newest_form p) n h) []) opened
-      ∙ line_answered maker site p r (next_number n) (b ∷ l) h (line_says (b ∷ l) first long)
-      ∙ sym (ap (answer_lines maker site n) lines ∙ append-nil (explained_line (next_number n) (question_answer maker site (b ∷ l))))
-
-  -- what the calls led to: the open line is held, and the rest of the input is answered behind what was printed
-  record Reached (consumed printed : List ℕ) (n : ℕ) (h : Held) : Type 0 where
-    first : List ℕ
-    long : length first ≡ line_held
-    begins : List ℕ
-    line : all in_line begins ≡ true
-    holds : h ≡ fold pushed (held_by start_question first) begins
-    prints : (rest : List ℕ) → answer_lines maker site 0 (lines_of (consumed ++ rest)) ≡ printed ++ answer_lines maker site n (lines_of (begins ++ rest))
-
-  -- what is printed for the open line
-  answers_open : (consumed printed : List ℕ) (n k : ℕ) (h : Held) (q : Reached consumed printed n h) → question_line maker site (image_of newest_form p) k h.question h.held ≡ explained_line k (question_answer maker site q.begins)
-  answers_open consumed printed n k h q =
-      line_answered maker site p r k q.begins h (rw q.holds (line_says q.begins q.first q.long))
-
-  module _ (consumed printed : List ℕ) (n : ℕ) (h : Held) (q : Reached consumed printed n h) (chunk : List ℕ) where
-    abbrev w : List ℕ
-    w = take_leading in_line chunk
-
-    -- the line goes on
-    onward : Reached (consumed ++ w) printed n (bytes_taken h.question h.held chunk)
-    unfolding bytes_taken
-    onward =
-        record {
-          first = q.first;
-          long = q.long;
-          begins = q.begins ++ w;
-          line = all_append in_line q.begins w q.line (while_passes in_line chunk);
-          holds = ap (λ (x : Held). fold pushed x w) q.holds ∙ sym (fold-append pushed (held_by start_question q.first) q.begins w);
-          prints = λ rest.
-              ap (λ (s : List ℕ). answer_lines maker site 0 (lines_of s)) (append_assoc consumed w rest) ∙ q.prints (w ++ rest)
-              ∙ ap (λ (s : List ℕ). printed ++ answer_lines maker site n (lines_of s)) (sym (append_assoc q.begins w rest));
-        }
-
-    -- and ends
-    ended : Reached (consumed ++ (w ++ 10 ∷ [])) (printed ++ answer_held maker site (image_of newest_form p) n (bytes_taken h.question h.held chunk)) (next_number n)
-        (held_by start_question (bytes_taken h.question h.held chunk).held)
-    unfolding answer_lines
-    ended =
-        let x = onward in
-        let held' : List ℕ = (bytes_taken h.question h.held chunk).held in
-        record {
-          first = held';
-          long = ap (λ (y : Held). length y.held) x.holds ∙ fold_length x.begins (held_by start_question x.first) ∙ x.long;
-          begins = [];
-          line = refl;
-          holds = refl;
-          prints = λ rest.
-              ap (λ (s : List ℕ). answer_lines maker site 0 (lines_of s)) (behind_end consumed w rest) ∙ x.prints (10 ∷ rest)
-              ∙ ap (λ (ls : List (List ℕ)). printed ++ answer_lines maker site n ls) (line_ends x.begins rest x.line)
-              ∙ sym (append_assoc printed (explained_line (next_number n) (question_answer maker site x.begins)) (answer_lines maker site (next_number n) (lines_of rest)))
-              ∙ ap (λ (s : List ℕ). (printed ++ s) ++ answer_lines maker site (next_number n) (lines_of rest)) (sym (answers_open (consumed ++ w) printed n (next_number n) (bytes_taken h.question h.held chunk) x));
-        }
-      where
-        behind_end : (a b rest : List ℕ) → (a ++ (b ++ 10 ∷ [])) ++ rest ≡ (a ++ b) ++ 10 ∷ rest
-        behind_end a b rest = append_assoc a (b ++ 10 ∷ []) rest ∙ ap (λ (s : List ℕ). a ++ s) (append_assoc b (10 ∷ []) rest) ∙ sym (append_assoc a b (10 ∷ rest))
-
-  -- ---- every way that the calls may go
-
-  reached : (consumed printed : List ℕ) (n : ℕ) (h : Held) → Asked maker site (image_of newest_form p) consumed printed n h → Reached consumed printed n h
-  reached _ _ _ _ (begun {held} long) = record { first = held; long = long; begins = []; line = refl; holds = refl; prints = λ rest. refl }
-  reached _ _ _ _ (took {consumed} {printed} {n} {h} chunk a e) =
-      subst⁻¹ (λ (s : List ℕ). Reached (consumed ++ s) printed n (bytes_taken h.question h.held chunk)) (chunk_inside h.question h.held chunk e)
-      (onward consumed printed n h (reached consumed printed n h a) chunk)
-  reached _ _ _ _ (answers {consumed} {printed} {n} {h} chunk a e) =
-      subst⁻¹ (λ (s : List ℕ). Reached (consumed ++ s) (printed ++ answer_held maker site (image_of newest_form p) n (bytes_taken h.question h.held chunk)) (next_number n) (held_by start_question (bytes_taken h.question h.held chunk).held))
-      (chunk_ends h.question h.held chunk e)
-      (ended consumed printed n h (reached consumed printed n h a) chunk)
-
-  -- in whatever chunks the input came: what the calls printed, with the answer to the open line, is what is printed for all of it
-  pub input_answered : (consumed printed : List ℕ) (n : ℕ) (h : Held) → Asked maker site (image_of newest_form p) consumed printed n h
-      → printed ++ last_answer maker site (image_of newest_form p) n h ≡ answers_printed maker site consumed
-  unfolding answers_printed answers_on
-  input_answered consumed printed n h a =
-      let q = reached consumed printed n h a in
-      let last : last_answer maker site (image_of newest_form p) n h ≡ answer_lines maker site n (lines_of (q.begins ++ [])) =
-      ap (last_answer maker site (image_of newest_form p) n) q.holds ∙ last_answered n q.first q.long q.begins q.line in
-      ap (λ (s : List ℕ). printed ++ s) last ∙ sym (q.prints []) ∙ ap (λ (s : List ℕ). answer_lines maker site 0 (lines_of s)) (append-nil consumed)
-      ∙ sym (ap (λ (s : Result Policy Refusal). answers_on maker site s (lines_of consumed)) r)

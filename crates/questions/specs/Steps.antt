@@ -1,9 +1,6 @@
--- Mechanism of the code, which laws tie to the definitions above: a reader need not believe it. `Sizes` are those of the buffers, `Held` is what is held of a question byte
--- by byte, `Answer` its answer on an image, `Asked` the calls that take and answer questions, `Left` and `Explainer` what is answered
--- from there on.
+-- Mechanism of the code, which laws tie to the definitions above: a reader need not believe it. `Sizes` are those of the buffers, `Held` is
+-- what is held of a question byte by byte, `Answer` its answer on an image, and `Left` what is answered from there on.
 pub mod Sizes
 pub mod Held
 pub mod Answer
-pub mod Asked
 pub mod Left
-pub mod Explainer

@@ -1,8 +1,6 @@
 //! The answer to a question.
 ghost use Rattle.std.specs.Prelude.{◌≡◌};
 ghost use Rattle.std.specs.Result.{result_map_both};
-ghost use Rattle.io.specs.Counts.{IsPrefixLen};
-ghost use Rattle.output.specs.Buffer.{appended, behind};
 ghost use Rattle.output.specs.Sink.{fed};
 ghost use Rattle.explanation.specs.Part.{quote_of};
 ghost use Rattle.explanation.specs.Why.{said_by};
@@ -11,12 +9,9 @@ ghost use Rattle.questions.specs.Steps.Answer.{answer_on, question_line};
 
 use crate::line::{Question, Token};
 use explanation::{Outcome, Shown, explain_on};
-use output::{Page, Sink};
+use output::Sink;
 use policy::{Fault, Refusal, Source};
 use report::{put_not_explained, put_not_proposed, put_shown};
-
-/// Bytes of the longest answer: a number of 20 digits, ` cancelled `, the text, a space, a part of a text's length, and the line end.
-pub(crate) const ANSWER_SIZE: usize = 32802;
 
 /// Bytes of the longest epoch line.
 const EPOCH_LIMIT: usize = 1024;
@@ -60,8 +55,8 @@ fn put_quote<'m, 's, S: Sink>(sink: &mut S, number: u64, became: &[u8], shown: S
     }
 }
 
-/// The answer to the question of that number, whose epoch line is held.
-fn put_question<S: Sink>(
+/// Puts the answer to the question of that number, whose epoch line is held, on the image of both texts.
+pub(crate) fn put_question<S: Sink>(
     sink: &mut S,
     number: u64,
     question: Question,
@@ -79,25 +74,4 @@ fn put_question<S: Sink>(
         Ok(Outcome::Accepted(shown)) => put_quote(sink, number, b" accepted ", shown),
         Ok(Outcome::Cancelled(shown)) => put_quote(sink, number, b" cancelled ", shown),
     }
-}
-
-/// Puts the answer to the question of that number, whose epoch line is held, on the image of both texts, at the start of `out`, and
-/// answers how many bytes it has; `ANSWER_SIZE` are enough.
-#[tactic(auto, using(output::proofs::SinkLaws::stored_all), unfolding(output::specs::Buffer::behind))]
-pub(crate) fn put_answer(
-    number: u64,
-    question: Question,
-    held: &[u8],
-    image: &[u8],
-    maker: &[u8],
-    site: &[u8],
-    out: &mut [u8],
-) -> usize
-    ensures prefix_len { IsPrefixLen result out.new }
-    ensures answer { result ≡ behind out.old 0 (question_line maker.now site.now image.now number question held.now) }
-    ensures buffer { out.new ≡ appended out.old 0 (question_line maker.now site.now image.now number question held.now) }
-{
-    let mut page = Page { bytes: out, end: 0 };
-    put_question(&mut page, number, question, held, image, maker, site);
-    page.end
 }

@@ -1,4 +1,4 @@
-//! The questions on two texts as a machine, and the whole run on them.
+//! The questions on two texts as a machine of parts of lines, and the whole run on them. A question's first word may have any length.
 ghost use Rattle.std.specs.Prelude.{◌≡◌, ℕ, ◌≤◌, length, take, OnOk, IfErr};
 ghost use Rattle.rule_text.specs.Text.{read_texts, text_limit};
 ghost use Rattle.output.specs.Buffer.{appended, behind};
@@ -7,23 +7,26 @@ ghost use Rattle.stream.specs.Event.{GoOn, Fails};
 ghost use Rattle.stream.specs.Machine.{Sends, IsWriteFailure};
 ghost use Rattle.questions.specs.Run.{AnswersTexts, QuestionsEndBy};
 
-use crate::answer::{ANSWER_SIZE, put_answer};
-use crate::line::{EPOCH_HELD, Question, begun, is_open, take_line};
+use crate::answer::put_question;
+use crate::line::{EPOCH_HELD, Question, begun, is_open, take_part};
 use codegen::NEWEST_FORM;
 use image::IMAGE_SIZE;
-use output::Page;
+use lined::{PartMachine, answer_parts};
+use output::{Page, Sink};
 use policy::Refusal;
 use report::put_texts_refusal;
-use stream::{Ends, Failure, Machine, converse, write_whole};
+use stream::{Ends, Failure, write_whole};
 
 /// Bytes that are read at once.
 pub(crate) const CHUNK_SIZE: usize = 65536;
 
+/// Bytes of the longest answer: a number of 20 digits, ` cancelled `, the text, a space, a part of a text's length, and the line end.
+const ANSWER_SIZE: usize = 32802;
+
 /// Bytes that the refusal of a text has room in.
 const REFUSAL_SIZE: usize = 64;
 
-/// Both texts and their image; how many questions were answered, and the open one, with what is held of its epoch line; and the answer
-/// that waits, which has `used` bytes.
+/// Both texts and their image; how many questions were answered, and the open one, with what is held of its epoch line.
 #[derive(Drop)]
 struct Explainer<'t> {
     maker: &'t [u8],
@@ -32,83 +35,54 @@ struct Explainer<'t> {
     number: u64,
     question: Question,
     held: [u8; EPOCH_HELD],
-    out: [u8; ANSWER_SIZE],
-    used: usize,
     ghost maker_short: { length maker.now ≤ text_limit },
     ghost site_short: { length site.now ≤ text_limit },
-    ghost within: { used ≤ length out },
 }
 
-impl<'t> Explainer<'t> {
-    ghost use Rattle.questions.specs.Steps.Explainer.{IsAnswered, Starts};
+impl<'t> PartMachine for Explainer<'t> {
+    ghost use Rattle.std.specs.Prelude.{fold};
+    ghost use Rattle.questions.specs.Steps.Held.{held_by, pushed};
+    ghost use Rattle.questions.specs.Steps.Left.{answer_held, answers_so_far, answers_to_end, none_so_far};
+    ghost use Rattle.questions.specs.Steps.Sizes.{answer_size};
 
-    fn new(maker: &'t [u8], site: &'t [u8], image: &'t [u8]) -> Explainer<'t>
-        requires maker_short { length maker.now ≤ text_limit }
-        requires site_short { length site.now ≤ text_limit }
-        ensures { Starts result maker.now site.now image.now }
-    {
-        Explainer {
-            maker,
-            site,
-            image,
-            number: 0,
-            question: begun(),
-            held: [0; EPOCH_HELD],
-            out: [0; ANSWER_SIZE],
-            used: 0,
-        }
+    ghost says = { λ e part. answer_held e.maker.now e.site.now e.image.now e.number (fold pushed (held_by e.question e.held) part) };
+
+    ghost given = { λ e bytes. answers_so_far e.maker.now e.site.now e.image.now e.number (held_by e.question e.held) bytes };
+
+    ghost printed = { λ e bytes. answers_to_end e.maker.now e.site.now e.image.now e.number (held_by e.question e.held) bytes };
+
+    ghost room = { answer_size };
+
+    fn room(&self) -> usize {
+        ANSWER_SIZE
     }
 
-    /// The open line is a question: its answer waits, and the next line begins.
-    fn answer(&mut self)
-        ensures { IsAnswered self.old self.new }
-    {
+    fn part(&mut self, bytes: &[u8]) {
+        self.question = take_part(self.question, bytes, &mut self.held);
+    }
+
+    fn end_line<S: Sink>(&mut self, part: &[u8], sink: &mut S) {
+        self.question = take_part(self.question, part, &mut self.held);
         self.number = self.number.wrapping_add(1);
-        self.used = put_answer(
+        put_question(
+            sink,
             self.number,
             self.question,
             &self.held,
             self.image,
             self.maker,
             self.site,
-            &mut self.out,
         );
         self.question = begun();
     }
-}
 
-impl<'t> Machine for Explainer<'t> {
-    ghost use Rattle.questions.specs.Steps.Explainer.{given_of, printed_of};
-
-    ghost given = { given_of };
-
-    ghost printed = { printed_of };
-
-    fn feed(&mut self, chunk: &[u8]) -> usize {
-        if 0 < self.used {
-            return 0;
-        }
-        let line = take_line(self.question, chunk, &mut self.held);
-        self.question = line.question;
-        if line.ended {
-            self.answer();
-        }
-        line.taken
-    }
-
-    fn finish(&mut self) {
+    fn end<S: Sink>(&mut self, sink: &mut S) {
         if is_open(self.question) {
-            self.answer();
+            self.end_line(b"", sink);
         }
     }
 
-    fn waiting(&self) -> &[u8] {
-        &self.out[..self.used]
-    }
-
-    fn clear(&mut self) {
-        self.used = 0;
-    }
+    ghost quiet = { λ e. none_so_far e.maker.now e.site.now e.image.now e.number (held_by e.question e.held) };
 }
 
 /// Puts why the texts are refused at the start of a buffer, and answers how many bytes it has.
@@ -146,9 +120,17 @@ pub fn answer_questions<E: Ends>(maker: &[u8], site: &[u8], ends: &mut E) -> Res
     match codegen::compile_texts(NEWEST_FORM, maker, site, &mut image) {
         Err(refusal) => refuse(refusal, ends),
         Ok(size) => {
-            let mut explainer = Explainer::new(maker, site, &image[..size]);
+            let explainer = Explainer {
+                maker,
+                site,
+                image: &image[..size],
+                number: 0,
+                question: begun(),
+                held: [0; EPOCH_HELD],
+            };
+            let mut out = [0u8; ANSWER_SIZE];
             let mut chunk = [0u8; CHUNK_SIZE];
-            converse(ends, &mut explainer, &mut chunk)
+            answer_parts(ends, explainer, &mut out, &mut chunk)
         }
     }
 }

@@ -1,6 +1,6 @@
 //! A question, byte by byte: the word that names the action, and the epoch line behind the first space.
-ghost use Rattle.std.specs.Prelude.{◌≡◌};
-ghost use Rattle.questions.specs.Steps.Held.{first_digit, next_digit, scan_byte, start_question, is_open, held_by, pushed, bytes_taken, line_taken};
+ghost use Rattle.std.specs.Prelude.{◌≡◌, fold};
+ghost use Rattle.questions.specs.Steps.Held.{first_digit, next_digit, scan_byte, start_question, is_open, held_by, pushed};
 
 use lexer::is_digit;
 
@@ -129,37 +129,14 @@ fn push(question: Question, byte: u8, held: &mut [u8]) -> Question
     }
 }
 
-/// What was taken of a chunk: so many bytes, and whether the last of them ended the line.
-#[derive(Clone, Copy)]
-pub(crate) struct Taken {
-    pub question: Question,
-    pub taken: usize,
-    pub ended: bool,
-}
-
-/// Takes the bytes of a chunk to the end of the line, its line end too, or all of them. The bytes of the epoch line go into `held`, as
-/// many as it has room for; `EPOCH_HELD` are enough.
-pub(crate) fn take_line(start: Question, chunk: &[u8], held: &mut [u8]) -> Taken
-    ensures answer { result ≡ line_taken start held.old chunk.now }
-    ensures buffer { held.new ≡ (bytes_taken start held.old chunk.now).held }
+/// Takes a part of the line. The bytes of the epoch line go into `held`, as many as it has room for; `EPOCH_HELD` are enough.
+pub(crate) fn take_part(start: Question, part: &[u8], held: &mut [u8]) -> Question
+    ensures answer { result ≡ (fold pushed (held_by start held.old) part.now).question }
+    ensures buffer { held.new ≡ (fold pushed (held_by start held.old) part.now).held }
 {
     let mut question = start;
-    let mut i = 0;
-    while i < chunk.len() {
-        let byte = chunk[i];
-        if byte == b'\n' {
-            return Taken {
-                question,
-                taken: i + 1,
-                ended: true,
-            };
-        }
-        question = push(question, byte, held);
-        i += 1;
+    for byte in part {
+        question = push(question, *byte, held);
     }
-    Taken {
-        question,
-        taken: i,
-        ended: false,
-    }
+    question
 }

@@ -1,10 +1,8 @@
 -- A question byte by byte, and what is held of it.
 use Rattle.std.specs.Str.{byte}
-use Rattle.std.specs.Prelude.{ℕ, ◌+◌, ◌*◌, ◌-◌, Bool, true, false, ◌||◌, length, set, List, fold, ◌==◌, nat_lt, if◌then◌else◌}
+use Rattle.std.specs.Prelude.{ℕ, ◌+◌, ◌*◌, ◌-◌, Bool, true, false, ◌||◌, length, set, List, ◌==◌, nat_lt, if◌then◌else◌}
 use Rattle.lexer.specs.Byte.{is_space, is_digit}
-use Rattle.lexer.specs.Lines.{take_leading, in_line}
 use Rattle.questions.specs.declared.line.Question.{Question}
-use Rattle.questions.specs.declared.line.Taken.{Taken}
 use Rattle.questions.specs.declared.line.Token.{Token}
 
 unfoldable pub first_digit : ℕ → Token
@@ -54,12 +52,3 @@ pushed h b =
     if h.question.spaced then kept h b
     else (if is_space b then held_by (record { token = h.question.token; spaced = true; count = h.question.count }) h.held
     else held_by (record { token = scan_byte h.question.token b; spaced = false; count = h.question.count }) h.held)
-
--- the bytes of a chunk up to the end of the line
-unfoldable pub bytes_taken : Question → List ℕ → List ℕ → Held
-bytes_taken q held chunk = fold pushed (held_by q held) (take_leading in_line chunk)
-
-unfoldable pub line_taken : Question → List ℕ → List ℕ → Taken
-line_taken q held chunk =
-    let n : ℕ = length (take_leading in_line chunk) in
-    record { question = (bytes_taken q held chunk).question; taken = if nat_lt n (length chunk) then n + 1 else n; ended = nat_lt n (length chunk) }

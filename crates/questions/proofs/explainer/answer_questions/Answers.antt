@@ -1,26 +1,25 @@
-use Rattle.std.proofs.Common.{refl, sym, subst, OnOk, IfErr}
-use Rattle.stream.specs.Machine.{AnswersAll, EndsBy}
-use Rattle.questions.specs.Answered.{answers_printed}
-use Rattle.questions.specs.Steps.Explainer.{given_of}
+use Rattle.std.proofs.Common.{◌≡◌, ℕ, List, length, refl, sym, ◌∙◌, subst, OnOk, IfErr, Result, Ok, Err, rules, arith}
+use Rattle.codegen.proofs.AcceptedLaws.{newest_known}
+use Rattle.codegen.proofs.RoomLaws.{Read, texts_read_is, texts_refusal}
+use Rattle.codegen.specs.Compile.{newest_form, compiled_texts}
+use Rattle.layout.specs.Layout.{size_limit}
+use Rattle.policy.specs.declared.fault.Refusal.{Refusal}
+use Rattle.rule_text.specs.Text.{read_texts}
+use Rattle.std.proofs.lemmas.Result.{IfErr-weaker}
+use Rattle.stream.proofs.MachineLaws.{on_ok_weaker}
+use Rattle.questions.proofs.LeftLaws.{texts_answered, questions_end}
 use Rattle.questions.specs.Run.{AnswersTexts, QuestionsEndBy}
 use Rattle.questions.proofs.Room.{accepted-short}
-use Rattle.questions.proofs.ExplainerLaws.{start_answered, start_due, start_empty, image_read, texts_refused}
 use Rattle.questions.proofs.explainer.answer_questions.Goals as goal
 
-pub new-explainer-requires-clause-maker_short : goal.new-explainer-requires-clause-maker_short
-new-explainer-requires-clause-maker_short g c =
-    let made = c.compile_texts.ensures in
-    let read = image_read _ _ _ refl _ _ made.answer made.buffer _ c.in-Ok.is in
-    (accepted-short _ _ read.read).0
+-- what compiling answers of both texts
+module _ (maker site buffer : List ℕ) (room : length buffer ≡ size_limit) (answer : Result ℕ Refusal) (after : List ℕ)
+    (a : answer ≡ (compiled_texts newest_form maker site buffer).answer) (b : after ≡ (compiled_texts newest_form maker site buffer).buffer) where
+  image_read : (size : ℕ) → answer ≡ Ok size → Read newest_form (read_texts maker site) after size
+  image_read size e = subst (λ (l : List ℕ). Read newest_form (read_texts maker site) l size) (sym b) (texts_read_is newest_form newest_known maker site buffer room size (sym a ∙ e))
 
-pub new-explainer-requires-clause-site_short : goal.new-explainer-requires-clause-site_short
-new-explainer-requires-clause-site_short g c =
-    let made = c.compile_texts.ensures in
-    let read = image_read _ _ _ refl _ _ made.answer made.buffer _ c.in-Ok.is in
-    (accepted-short _ _ read.read).1
-
-pub converse-requires-clause-empty : goal.converse-requires-clause-empty
-converse-requires-clause-empty g c = start_empty _ _ _ _ c.new-explainer.ensures
+  texts_refused : (x : Refusal) → answer ≡ Err x → read_texts maker site ≡ Err x
+  texts_refused x e = texts_refusal newest_form newest_known maker site buffer room x (sym a ∙ e)
 
 pub returns-in-Err-clause-ok : goal.returns-in-Err-clause-ok
 returns-in-Err-clause-ok g c =
@@ -38,28 +37,21 @@ returns-in-Err-clause-err g c =
     let new = g.E.Ends.known c.refuse.new.ends in
     subst (λ s. IfErr c.refuse.result (λ e. QuestionsEndBy e s c.args.maker.now c.args.site.now old new)) (sym refused) c.refuse.ensures.err
 
+pub invariant_of-explainer : goal.invariant_of-explainer
+invariant_of-explainer g c =
+    let made = c.compile_texts.ensures in
+    let read = image_read _ _ _ refl _ _ made.answer made.buffer _ c.in-Ok.is in
+    let short = accepted-short _ _ read.read in
+    record { maker_short = short.0; site_short = short.1 }
+
 pub returns-in-Ok-clause-ok : goal.returns-in-Ok-clause-ok
 returns-in-Ok-clause-ok g c =
     let made = c.compile_texts.ensures in
     let read = image_read _ _ _ refl _ _ made.answer made.buffer _ c.in-Ok.is in
-    let e = c.new-explainer.result in
-    let maker = c.args.maker.now in
-    let site = c.args.site.now in
-    let old = g.E.Ends.known c.args.ends.now in
-    let new = g.E.Ends.known c.converse.new.ends in
-    subst (λ s. OnOk c.converse.result (AnswersTexts s maker site old new)) (sym read.read)
-    (subst (λ d. OnOk c.converse.result (AnswersAll (answers_printed maker site) d old new)) (start_due maker site _ read.read e _ c.new-explainer.ensures read.image)
-    (subst (λ p. OnOk c.converse.result (AnswersAll p (given_of e) old new)) (start_answered maker site _ read.read e _ c.new-explainer.ensures read.image) c.converse.ensures.ok))
+    on_ok_weaker c.answer_parts.result _ _ (texts_answered _ _ _ read.read _ read.image _ c.begun.ensures _ (search (rules, arith)) _ _) c.answer_parts.ensures.ok
 
 pub returns-in-Ok-clause-err : goal.returns-in-Ok-clause-err
 returns-in-Ok-clause-err g c =
     let made = c.compile_texts.ensures in
     let read = image_read _ _ _ refl _ _ made.answer made.buffer _ c.in-Ok.is in
-    let e = c.new-explainer.result in
-    let maker = c.args.maker.now in
-    let site = c.args.site.now in
-    let old = g.E.Ends.known c.args.ends.now in
-    let new = g.E.Ends.known c.converse.new.ends in
-    subst (λ s. IfErr c.converse.result (λ f. QuestionsEndBy f s maker site old new)) (sym read.read)
-    (subst (λ d. IfErr c.converse.result (λ f. EndsBy f d (answers_printed maker site) old new)) (start_due maker site _ read.read e _ c.new-explainer.ensures read.image)
-    (subst (λ p. IfErr c.converse.result (λ f. EndsBy f (given_of e) p old new)) (start_answered maker site _ read.read e _ c.new-explainer.ensures read.image) c.converse.ensures.err))
+    IfErr-weaker c.answer_parts.result _ _ (questions_end _ _ _ read.read _ read.image _ c.begun.ensures _ (search (rules, arith)) _ _) c.answer_parts.ensures.err
