@@ -1,4 +1,4 @@
-//! The decompiler: from an image to the rule text of its policy, in a lent buffer. Start with specs/Decompile.antt.
+//! The decompiler: from an image to the rule text of its policy, in a lent buffer or a sink. Start with specs/Decompile.antt.
 #![tactic(auto)]
 
 ghost use Rattle.std.specs.Prelude.{◌≡◌, ◌≤◌, ◌↔◌, IsTrue, min, length, true, Err, is_ok, OnOk, IfOk, IfErr};

@@ -1,11 +1,9 @@
 -- What is handed out behind what waits.
-use Rattle.std.proofs.Common.{◌≡◌, ℕ, ◌+◌, ◌-◌, ◌≤◌, List, [], ◌∷◌, ◌++◌, length, take, drop, refl, sym, ap, ◌∙◌, subst, append_assoc, take-add, add-one, arith}
-use Rattle.std.proofs.lemmas.List.{take_rest}
+use Rattle.std.proofs.Common.{◌≡◌, ℕ, ◌+◌, ◌-◌, ◌≤◌, List, [], ◌∷◌, ◌++◌, length, take, refl, sym, ap, ◌∙◌, subst, append_assoc, add-one, arith}
 use Rattle.output.specs.Buffer.{appended, behind}
 use Rattle.output.proofs.AppendLaws.{put_length, put_within}
 use Rattle.output.proofs.RoomLaws.{put_take}
 use Rattle.stream.specs.Machine.{Goes}
-use Rattle.stream.proofs.MachineLaws.{goes_trans}
 use Rattle.lined.specs.Lines.{EndsAt}
 use Rattle.lined.specs.Waiting.{Waiting, given_behind, printed_behind}
 
@@ -27,15 +25,7 @@ pub none_waited : (waits more : List ℕ) → waits ++ more ≡ [] → waits ≡
 none_waited [] more e = refl
 none_waited (x ∷ xs) more e = absurd (omega (arith, ap length e))
 
--- ---- bytes of a chunk
-
--- n bytes more, behind the first `at`
-pub goes_on : {S : Type 0} (given printed : S → List ℕ → List ℕ) (a b c : S) (chunk : List ℕ) (at n : ℕ) → Goes given printed a b (take at chunk) []
-    → Goes given printed b c (take n (take (length chunk - at) (drop at chunk))) [] → Goes given printed a c (take (at + n) chunk) []
-goes_on given printed a b c chunk at n p q =
-    let bytes : take at chunk ++ take n (take (length chunk - at) (drop at chunk)) ≡ take (at + n) chunk =
-    ap (λ l. take at chunk ++ take n l) (take_rest chunk at) ∙ sym (take-add at n chunk) in
-    subst (λ l. Goes given printed a c l []) bytes (goes_trans given printed a b c _ _ [] [] p q)
+-- ---- what a machine printed
 
 module _ {M : Type 0} (given printed : M → List ℕ → List ℕ) where
   abbrev Moves : Waiting M → Waiting M → List ℕ → Type 0

@@ -1,5 +1,5 @@
-//! A machine that answers lines, as a machine that takes its input in chunks of any size. However the input is cut into reads, that is
-//! the same. Start with specs/Lines.antt.
+//! Machines that answer lines. A machine of parts takes its lines as they come; a machine of lines is handed each whole, or as much of it as
+//! a lent buffer has room for. However the input is cut into reads, what they print is the same. Start with specs/Lines.antt.
 #![tactic(auto)]
 
 mod conversation;

@@ -3,6 +3,7 @@ use Rattle.std.specs.Prelude.{Option, Some, None, Result, Ok}
 use Rattle.policy.specs.Fault.{refusal}
 use Rattle.std.proofs.Common.{ℕ, ◌+◌, ◌*◌, ◌-◌, min, ◌≤◌, ◌<◌, Bool, true, false, not, cond, ◌&&◌, ◌||◌, List, [], ◌∷◌, ◌++◌, append_assoc, append-nil, ◌⊎◌, inl, inr, ◌≡◌, refl, sym, ap, ap₂, ◌∙◌, add-one, arith, lt-ltb, le-ltb, ltb-true, ltb-false, eqb-true, eqb, ltb, length, take, set, length-set, length-append, length-take, take_all, take-suc-set, length-take-le, fold, Err}
 use Rattle.std.proofs.lemmas.List.Sums.{fold-append}
+use Rattle.std.proofs.Math.Bool.{and-false}
 use Rattle.std.proofs.Math.Seq.{take-append-le}
 use Rattle.policy.proofs.ListLaws.{and_in, and_out}
 use Rattle.policy.specs.declared.fault.Fault.{Fault}
@@ -82,10 +83,6 @@ digits (d ∷ ds) n v l = go (is_digit d) (digits ds (more_digits n d) (v * 10 +
     go true h = h
     go false h = rw (stays_other ds) tt
 
-and_none : (a : Bool) → a && false ≡ false
-and_none true = refl
-and_none false = refl
-
 or_any : (a b : Bool) → a && (b || true) ≡ a
 or_any true true = refl
 or_any true false = refl
@@ -102,7 +99,7 @@ letter_number (d ∷ ds) = go (eqb d 48) (is_digit d) refl refl ds
     go : (x y : Bool) → eqb d 48 ≡ x → is_digit d ≡ y → (ds : List ℕ)
         → Agrees (number_in (fold scan_byte (cond x Token.Zero (cond y (Token.Number (d - 48)) Token.Other)) ds)) (cond ((y && all is_digit ds) && (is_empty ds || not x)) (Some (decimal_from (0 * 10 + (d - 48)) ds)) None)
     go true true e f [] = let k : d ≡ 48 = eqb-true d 48 e in rw k refl
-    go true true e f (c ∷ cs) = rw (stays_other cs, and_none (true && (is_digit c && all is_digit cs))) tt
+    go true true e f (c ∷ cs) = rw (stays_other cs, and-false (true && (is_digit c && all is_digit cs))) tt
     go true false e f ds = let k : d ≡ 48 = eqb-true d 48 e in let w : false ≡ true = sym f ∙ zero_digit k in let z : ◌≡◌ {A = ℕ} 0 1 = cc in absurd (omega arith)
     go false true e f ds = rw (or_any (all is_digit ds) (is_empty ds)) (digits ds (d - 48) (0 * 10 + (d - 48)) (same (omega arith)))
       where

@@ -1,16 +1,13 @@
 -- Laws of the lines that pick a mode.
 use Rattle.std.specs.Prelude.{Some, None}
 use Rattle.std.proofs.Common.{◌≡◌, ℕ, suc, ◌<◌, Bool, true, false, ◌&&◌, eqb, List, [], ◌∷◌, length, take, refl, sym, ap, ◌∙◌, arith, length-take, take_all, leb-true, leb-false}
+use Rattle.std.proofs.Math.Bool.{and-false}
 use Rattle.std.proofs.Math.Dec.{leb}
 use Rattle.std.specs.Cmp.Lexicographic.{pointwise}
 use Prim.Native.String.{String}
 use Rattle.policy.specs.declared.mode.Mode.{Mode}
 use Rattle.lexer.specs.Byte.{bytes, bytes_equal, is}
 use Rattle.session.specs.Printed.{mode_of}
-
-and_none : (b : Bool) → (b && false) ≡ false
-and_none true = refl
-and_none false = refl
 
 -- ---- bytes against a word
 
@@ -19,7 +16,7 @@ unfolding bytes_equal
 same_long [] [] h = absurd (h refl)
 same_long [] (y ∷ ys) h = refl
 same_long (x ∷ xs) [] h = refl
-same_long (x ∷ xs) (y ∷ ys) h = ap (◌&&◌ (eqb x y)) (same_long xs ys (λ e. h (ap suc e))) ∙ and_none (eqb x y)
+same_long (x ∷ xs) (y ∷ ys) h = ap (◌&&◌ (eqb x y)) (same_long xs ys (λ e. h (ap suc e))) ∙ and-false (eqb x y)
 
 -- the comparison of slices is that of the definition
 same_pointwise : (s t : List ℕ) → pointwise eqb s t ≡ bytes_equal s t

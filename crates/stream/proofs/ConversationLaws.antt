@@ -86,16 +86,7 @@ module _ {S : Type 0} (given printed : S → List ℕ → List ℕ) (a b : S) (o
     last_fails (Read e) w = absurd w.0
     last_fails (Write e) (w, (n, sent)) = inr (last_write_fails n e sent)
 
--- the same where nothing is due before the end
-pub listing_fails : {S : Type 0} (printed : S → List ℕ → List ℕ) (a b : S) (old k : Known) (turns : ℕ) (bytes : List ℕ)
-    → Goes (λ s. nothing_due) printed a b bytes [] → Talks nothing_due (GoOn turns) old k bytes []
-    → (mid new : Known) → Reads (StopsAt (came [])) k mid [] → IsAtEnd mid.unread
-    → (e : Failure) → IsWriteFailure e × ((n : ℕ) × Sends (Fails e) mid new (take n (printed b []))) → ListingEndsBy e (printed a) old new
-listing_fails printed a b old k turns bytes goes talks mid new read end (Read e) w = absurd w.0
-listing_fails printed a b old k turns bytes goes talks mid new read end (Write e) (w, (n, sent)) =
-    last_write_fails (λ s. nothing_due) printed a b old k turns bytes [] goes refl talks mid new read end n e sent
-
--- so a run of a machine is one of a listing
+-- where nothing is due before the end, no write fails there
 pub listing_ends : (e : Failure) (answer : List ℕ → List ℕ) (old new : Known) → EndsBy e nothing_due answer old new → ListingEndsBy e answer old new
 listing_ends (Read e) answer old new h = h
 listing_ends (Write e) answer old new (inl h) = absurd (omega (arith, h.some))

@@ -57,7 +57,7 @@ module _ {S : Type 0} (given printed : S → List ℕ → List ℕ) where
   goes_emptied a b xs p = append_cancel_left (given a xs) (given b []) [] (sym (p.at_once []) ∙ ap (given a) (append-nil xs) ∙ sym (append-nil (given a xs)))
 
   -- the machine took n bytes behind the first `at` of a chunk
-  goes_fed : (a b c : S) (chunk text : List ℕ) (at n : ℕ) → From a b (take at chunk) text
+  pub goes_fed : (a b c : S) (chunk text : List ℕ) (at n : ℕ) → From a b (take at chunk) text
       → From b c (take n (take (length chunk - at) (drop at chunk))) [] → From a c (take (at + n) chunk) text
   goes_fed a b c chunk text at n p q =
       let bytes : take at chunk ++ take n (take (length chunk - at) (drop at chunk)) ≡ take (at + n) chunk =

@@ -3,7 +3,7 @@ use Rattle.std.proofs.lemmas.Result.{IfErr-weaker}
 use Rattle.stream.specs.Machine.{Goes, nothing_due}
 use Rattle.stream.proofs.KnownLaws.{reads_end, talks_nil}
 use Rattle.stream.proofs.MachineLaws.{goes_refl, goes_trans, on_ok_weaker}
-use Rattle.stream.proofs.ConversationLaws.{talks_chunk, read_fails, answers_all, listing_fails}
+use Rattle.stream.proofs.ConversationLaws.{talks_chunk, read_fails, answers_all, last_fails, listing_ends}
 use Rattle.stream.proofs.summary.summarize.Goals as goal
 
 pub loop-turn-init : goal.loop-turn-init
@@ -44,7 +44,5 @@ returns-then-size-eq0-clause-err g c =
     let (bytes, goes, talks) = c.loop-turn.invariant.moved in
     let end = reads_end _ _ c.in-Ok.size c.read_some.new.buffer c.if-size-eq0.true c.in-Ok.ensures.ok in
     let room : 0 < length c.loop-turn.buffer = omega arith in
-    IfErr-weaker c.print.result _ _
-    (listing_fails g.S.Summary.printed _ _ _ _ c.loop-turn._turn bytes goes talks _ _ end
-    (c.in-Ok.ensures.end c.if-size-eq0.true room))
-    c.print.ensures.err
+    let fails = last_fails (λ s. nothing_due) g.S.Summary.printed _ _ _ _ c.loop-turn._turn bytes [] goes refl talks _ _ end (c.in-Ok.ensures.end c.if-size-eq0.true room) in
+    IfErr-weaker c.print.result _ _ (λ e w. listing_ends e _ _ _ (fails e w)) c.print.ensures.err
