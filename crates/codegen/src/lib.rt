@@ -7,7 +7,7 @@ ghost use Rattle.layout.specs.Layout.{line_words, check_count, rule_word_limit, 
 ghost use Rattle.syntax.specs.Lines.{lines_in};
 ghost use Rattle.rule_text.specs.Text.{text_limit};
 ghost use Rattle.policy.specs.Line.{line_part, part_get};
-ghost use Rattle.codegen.specs.Compile.{newest_form, compiled, compiled_texts};
+ghost use Rattle.codegen.specs.Compile.{compiled, compiled_texts};
 ghost use Rattle.codegen.specs.Steps.Put.{word_count, cursors_after, cursors_behind, accepted_lines, lines_of_both, put_lines, put_image, Near, Further};
 
 use layout::{check_count, header, is_known_form, put_check_words, put_line};

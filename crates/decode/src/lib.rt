@@ -1,7 +1,7 @@
 //! The lines of an image: whether words begin with a whole line that an accepted text may have, and the value of a line.
 #![tactic(auto)]
 
-ghost use Rattle.std.specs.Prelude.{◌≡◌, ◌+◌, ◌<◌, ◌≤◌, ◌==◌, false, true, MatchOption, length, slice_index_or};
+ghost use Rattle.std.specs.Prelude.{◌≡◌, ◌+◌, ◌<◌, ◌==◌, false, true, MatchOption, length, slice_index_or};
 ghost use Rattle.word.specs.Word.{word_limit, Below};
 ghost use Rattle.word.specs.Chunk.{words_in};
 ghost use Rattle.operation.specs.Fields.{first_of};

@@ -84,12 +84,12 @@ pub fn decompile(image: &[u8], out: &mut [u8]) -> Result<usize, Refusal>
     Ok(write_text(out, &image))
 }
 
-/// Puts the text of an image, or answers why there is none: a fault of the image, 7 to 11. A refusal puts nothing.
+/// Puts the text of an image, or answers why there is none: a fault of the image, 7 to 11 or 16. A refusal puts nothing.
 pub fn put_decompiled<S: Sink>(sink: &mut S, image: &[u8]) -> Result<(), Refusal>
     ensures ok { OnOk result ((is_ok (load image.now) ≡ true) × (sink.new ≡ fed S.taken sink.old (text_of (policy_in image.now)))) }
     ensures err { IfErr result (λ refusal. (load image.now ≡ Err refusal) × (sink.new ≡ sink.old)) }
 {
-    let lines = load_image(image)?.lines();
-    put_text(sink, lines);
+    let image = load_image(image)?;
+    put_text(sink, &image);
     Ok(())
 }

@@ -1,10 +1,10 @@
 -- An image in which two neighbours among the words before its check words were exchanged is refused, where it has a weighted word.
-use Rattle.std.proofs.Common.{ℕ, zero, suc, ◌+◌, ◌*◌, ◌%◌, ◌^◌, ◌≤◌, ◌<◌, true, false, cond, ◌==◌, List, [], ◌∷◌, ◌++◌, map, ◌≡◌, refl, sym, ap, ap₂, ◌∙◌, subst, arith, Bool, ◌&&◌, eqb-true, eq-eqb, ne_eqb, length, take, length-set, length-append, append_assoc, Result, Ok, Err}
+use Rattle.std.proofs.Common.{ℕ, zero, suc, ◌+◌, ◌*◌, ◌%◌, ◌^◌, ◌≤◌, ◌<◌, true, false, cond, ◌==◌, List, [], ◌∷◌, ◌++◌, map, ◌≡◌, refl, sym, ap, ap₂, ◌∙◌, subst, arith, Bool, ◌&&◌, eqb-true, ne_eqb, length, take, length-append, append_assoc, Err}
 use Rattle.std.proofs.lemmas.List.Edits.{swap_is, length-swap}
 use Rattle.std.specs.List.{swap}
 use Rattle.std.proofs.Math.Dec.{leb, eqb}
 use Rattle.std.proofs.Math.ListN.{get_or, set}
-use Rattle.policy.proofs.ListLaws.{and_in, and_out}
+use Rattle.policy.proofs.ListLaws.{and_out}
 use Rattle.policy.specs.Fault.{refusal}
 use Rattle.policy.specs.Limits.{Acceptable, test_number}
 use Rattle.policy.specs.Line.{PolicyLine, rule, constraint, heads_of, comparisons_of, ending_of}
@@ -14,18 +14,18 @@ use Rattle.policy.specs.declared.comparison.Operand.{Operand}
 use Rattle.policy.specs.declared.fault.Fault.{Fault}
 use Rattle.policy.specs.declared.line.Ending.{Ending}
 use Rattle.policy.specs.declared.line.Test.{Test}
-use Rattle.word.specs.Word.{word_limit, Bytes, words_of, word_at, bytes_of, Below}
+use Rattle.word.specs.Word.{word_limit, Bytes, words_of, word_at, Below}
 use Rattle.word.proofs.WordLaws.{bytes_below, words_length, words_below, words_of_bytes, bytes_length}
 use Rattle.operation.specs.Fields.{pack}
 use Rattle.operation.specs.Operation.{opcode, relation_code}
 use Rattle.operation.specs.declared.operation.Operation.{Operation}
 use Rattle.operation.specs.Parts.{test_operation, test_word, operand_word, comparison_word, comparison_words, ending_word}
-use Rattle.layout.specs.Header.{form_of, rule_count_of, constraint_count_of}
-use Rattle.layout.specs.Layout.{known_form, check_count, size_limit, rule_word_limit, constraint_word_limit, sum, weighted_word, weighted_right, condition_words, part_words, line_words, lines_words, check_words, rule_part_words, constraint_part_words, content_words, image_words, image_of}
+use Rattle.layout.specs.Header.{form_of}
+use Rattle.layout.specs.Layout.{known_form, check_count, size_limit, weighted_word, condition_words, part_words, line_words, lines_words, check_words, rule_part_words, constraint_part_words, content_words, image_words, image_of}
 use Rattle.layout.proofs.CheckLaws.{weighted_is, weighted_is_not}
 use Rattle.layout.proofs.SwapLaws.{sum_swapped, behind_swapped, before_swapped, moved_swapped, swap_noticed}
 use Rattle.image.specs.Check.{rule_words, constraint_words, form_byte, well_sized, counts_fit, sums_to_zero, weights_right}
-use Rattle.image.specs.Load.{Contents, load_words, load}
+use Rattle.image.specs.Load.{load_words, load}
 use Rattle.image.proofs.HeldLaws.{counted}
 use Rattle.exactness.proofs.Exact.{set_below, image_taken, image_words_is, form_is, rules_are, constraints_are, took}
 use Rattle.exactness.specs.Exact.{contents_of, exchanged, exchange_fault, Weighed}

@@ -5,7 +5,6 @@ use Rattle.policy.specs.Limits.{valid}
 use Rattle.policy.specs.Line.{PolicyLine}
 use Rattle.policy.specs.declared.fault.Fault.{Fault}
 use Rattle.policy.specs.declared.fault.Refusal.{Refusal}
-use Rattle.layout.specs.Layout.{line_words}
 use Rattle.exactness.proofs.PartLines.{line_limit_is}
 use Rattle.acceptance.proofs.Accepted.{accepted_valid}
 use Rattle.lexer.proofs.LeadingLaws.{leading_length}

@@ -11,7 +11,6 @@ ghost use Rattle.exactness.specs.Exact.{changed, exchanged, exchange_fault, exch
 ghost use Rattle.image.specs.Check.{rule_words, constraint_words};
 ghost use Rattle.std.specs.List.{swap};
 ghost use Rattle.word.specs.Word.{word_at, word_limit, words_of, Bytes};
-ghost use Rattle.monitor.specs.declared.decision.Actions.{Actions};
 ghost use Rattle.policy.specs.declared.fault.Refusal.{Refusal};
 ghost use Rattle.policy.specs.Set.{EventSet, no_actions};
 ghost use Rattle.policy.specs.declared.epoch.Epoch.{Epoch};

@@ -1,7 +1,7 @@
 -- The lines of an image that is taken are those of the policy that it holds.
-use Rattle.std.proofs.Common.{ℕ, zero, suc, ◌+◌, ◌<◌, ◌≤◌, Bool, true, false, List, [], ◌∷◌, ◌++◌, map, ◌≡◌, refl, sym, ap, ap₂, ◌∙◌, subst, arith, eqb-true, leb-true, length, take, drop, length-take, length-drop, Result, Ok, Err, append_assoc}
+use Rattle.std.proofs.Common.{ℕ, zero, suc, ◌+◌, ◌<◌, ◌≤◌, Bool, true, false, List, [], ◌∷◌, ◌++◌, map, ◌≡◌, refl, sym, ap, ap₂, ◌∙◌, subst, arith, eqb-true, leb-true, length, take, drop, length-take, length-drop, Result, Ok, Err}
 use Rattle.std.specs.Prelude.{Option, Some, None}
-use Rattle.policy.proofs.ListLaws.{true_false, and_in, and_out, all_append}
+use Rattle.policy.proofs.ListLaws.{true_false, and_in, and_out}
 use Rattle.policy.specs.Limits.{valid}
 use Rattle.policy.specs.Line.{PolicyLine, rule, constraint, part_get}
 use Rattle.policy.specs.List.{all}

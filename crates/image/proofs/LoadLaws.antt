@@ -12,7 +12,7 @@ use Rattle.word.specs.Word.{word_limit, words_of, word_at, between}
 use Rattle.layout.specs.Header.{form_of, rule_count_of, constraint_count_of}
 use Rattle.image.specs.Check.{rule_words, constraint_words, form_byte, well_sized, counts_fit, sums_to_zero, weights_right}
 use Rattle.layout.specs.Layout.{known_form, check_count, rule_word_limit, constraint_word_limit, size_limit, sum, weighted_right}
-use Rattle.image.specs.Lines.{part_lines, rule_part, constraint_part, rule_lines, constraint_lines}
+use Rattle.image.specs.Lines.{part_lines}
 use Rattle.image.specs.Load.{Contents, require, body_answer, load_words, load}
 use Rattle.image.specs.Steps.Checks.{checks_answer, whole_answer}
 use Rattle.image.specs.Steps.Part.{part_answer}

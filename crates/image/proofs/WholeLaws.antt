@@ -1,5 +1,5 @@
 -- The words of lines that an accepted text may have are whole lines.
-use Rattle.std.proofs.Common.{ℕ, suc, ◌+◌, ◌-◌, ◌<◌, ◌≤◌, true, false, List, [], ◌∷◌, ◌++◌, append_assoc, append-nil, ◌≡◌, refl, sym, ap, ap₂, ◌∙◌, arith, ltb-true, get_or, length, length-append}
+use Rattle.std.proofs.Common.{ℕ, suc, ◌+◌, ◌-◌, ◌<◌, ◌≤◌, true, List, [], ◌∷◌, ◌++◌, append_assoc, append-nil, ◌≡◌, refl, sym, ap, ap₂, ◌∙◌, arith, ltb-true, get_or, length, length-append}
 use Rattle.policy.proofs.ListLaws.{and_in, and_out}
 use Rattle.policy.proofs.ValidLaws.{valid_out, test_in_range}
 use Rattle.policy.specs.Limits.{valid, test_number, comparison_in_range, ending_in_range}
@@ -12,7 +12,6 @@ use Rattle.policy.specs.declared.line.Test.{Test}
 use Rattle.operation.proofs.PartsLaws.{Written, with_constant, with_reading, written, test_skip, ending_skip}
 use Rattle.operation.proofs.SaidLaws.{test_said, ending_said, constant_said, reading_said}
 use Rattle.operation.proofs.WholeLaws.{end_whole, test_whole, whole_begins}
-use Rattle.operation.specs.Fields.{skip_of}
 use Rattle.operation.specs.Parts.{test_word, comparison_words, ending_word}
 use Rattle.operation.specs.Said.{constants_of}
 use Rattle.operation.specs.Whole.{ends, ends_line, whole_from, whole_lines}

@@ -1,5 +1,5 @@
 //! A walker over words of an image: it refers to the lent words and stands at one of them, or behind the last.
-ghost use Rattle.std.specs.Prelude.{◌≡◌, ◌+◌, ◌<◌, ◌≤◌, ◌↔◌, IsTrue, MatchOption, drop, length};
+ghost use Rattle.std.specs.Prelude.{◌≡◌, ◌+◌, ◌<◌, drop, length};
 ghost use Rattle.std.specs.Iterator.{item_count};
 ghost use Rattle.word.specs.Chunk.{words_in};
 ghost use Rattle.image.specs.Walk.{GivesLine, lines_ahead, told_length};

@@ -1,5 +1,5 @@
 -- Laws of the check words of every form, which hold whatever they are made of.
-use Rattle.std.proofs.Common.{◌≡◌, ℕ, zero, suc, ◌+◌, ◌*◌, ◌%◌, ◌<◌, ◌≤◌, Bool, true, false, cond, if◌then◌else◌, ◌==◌, ◌||◌, List, [], ◌∷◌, ◌++◌, length, get_or, take, drop, refl, sym, ap, ◌∙◌, arith, eqb-true, eq-eqb, ne_eqb, add-zero, take_at, get_or-append-add, take-append-drop, drop-cons, drop_of_length-le, append_assoc}
+use Rattle.std.proofs.Common.{◌≡◌, ℕ, zero, suc, ◌+◌, ◌*◌, ◌%◌, ◌<◌, ◌≤◌, Bool, true, false, if◌then◌else◌, ◌==◌, ◌||◌, List, [], ◌∷◌, ◌++◌, length, get_or, take, drop, refl, sym, ap, ◌∙◌, arith, eqb-true, eq-eqb, ne_eqb, add-zero, take_at, get_or-append-add, take-append-drop, drop-cons, drop_of_length-le, append_assoc}
 use Rattle.std.proofs.lemmas.List.{take_more}
 use Rattle.policy.proofs.ListLaws.{true_false}
 use Rattle.word.specs.Word.{word_limit, Below}

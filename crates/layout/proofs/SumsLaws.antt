@@ -1,5 +1,5 @@
 -- What the code answers for check words.
-use Rattle.std.proofs.Common.{◌≡◌, ℕ, suc, ◌+◌, ◌%◌, true, List, [], ◌∷◌, ◌++◌, length, get_or, take, drop, sym, ap, ◌∙◌, arith, eq-eqb, ne_eqb, take-append-drop, drop-cons, drop_of_length-le, Ok, Err}
+use Rattle.std.proofs.Common.{◌≡◌, ℕ, suc, ◌+◌, ◌%◌, List, [], ◌∷◌, ◌++◌, length, get_or, take, drop, sym, ap, ◌∙◌, arith, eq-eqb, ne_eqb, take-append-drop, drop-cons, drop_of_length-le, Ok, Err}
 use Rattle.policy.specs.Fault.{refusal}
 use Rattle.policy.specs.declared.fault.Fault.{Fault}
 use Rattle.word.specs.Word.{word_limit, between}

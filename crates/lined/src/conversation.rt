@@ -1,5 +1,5 @@
 //! The whole run of a machine of parts, and of one of lines.
-ghost use Rattle.std.specs.Prelude.{◌<◌, ◌≤◌, [], length, OnOk, IfErr};
+ghost use Rattle.std.specs.Prelude.{◌<◌, ◌≤◌, length, OnOk, IfErr};
 ghost use Rattle.stream.specs.Machine.{AnswersAll, EndsBy};
 ghost use Rattle.lined.specs.Machine.{line_answer, line_due};
 

@@ -1,5 +1,5 @@
 //! The second mode: events are dropped, with all that they cause.
-ghost use Rattle.std.specs.Prelude.{◌≡◌, ◌<◌, length};
+ghost use Rattle.std.specs.Prelude.{◌≡◌, ◌<◌};
 ghost use Rattle.policy.specs.Set.{keeping, no_events};
 ghost use Rattle.word.specs.Chunk.{words_in};
 ghost use Rattle.monitor.specs.Decision.{proposed_by, proposed_with_by, reduction_by};

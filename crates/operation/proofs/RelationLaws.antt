@@ -1,5 +1,5 @@
 -- The table of relations: what each says of two values, by which of them is less.
-use Rattle.std.proofs.Common.{ℕ, zero, suc, ◌+◌, ◌*◌, ◌/◌, ◌%◌, ◌^◌, ◌<◌, ◌≤◌, Bool, true, false, not, ◌&&◌, ◌≡◌, refl, sym, ap, ap₂, ◌∙◌, arith, ℤ, pos, negsuc, nat_eq, ltb-true, ltb-false, le-leb}
+use Rattle.std.proofs.Common.{ℕ, zero, suc, ◌+◌, ◌*◌, ◌/◌, ◌%◌, ◌^◌, ◌<◌, Bool, true, false, not, ◌&&◌, ◌≡◌, refl, sym, ap₂, ◌∙◌, arith, ℤ, pos, negsuc, nat_eq, ltb-true, ltb-false, le-leb}
 use Rattle.std.proofs.lemmas.Bool.{lt-leb, le-ltb}
 use Rattle.std.proofs.Math.Dec.{ltb, leb}
 use Rattle.std.specs.Int.Signed.{lt_z, le_z}

@@ -1,5 +1,5 @@
 -- Laws of words that are whole lines: from each word of a line on, and behind it.
-use Rattle.std.proofs.Common.{ℕ, zero, suc, ◌+◌, ◌<◌, ◌≤◌, Bool, true, false, ◌&&◌, ◌||◌, ◌==◌, nat_lt, if◌then◌else◌, List, [], ◌∷◌, ◌≡◌, refl, sym, ap, ◌∙◌, ap₂, subst, ◌-◌, arith, eqb-true, eq-eqb, ne_eqb, ltb-true, ltb-false, lt-ltb, get_or, length, drop, drop-drop, drop_of_length-le, drop-cons, get_or-drop, add-zero, add-one, zero-add}
+use Rattle.std.proofs.Common.{ℕ, zero, suc, ◌+◌, ◌<◌, Bool, true, false, ◌||◌, ◌==◌, nat_lt, if◌then◌else◌, List, [], ◌∷◌, ◌≡◌, refl, sym, ap, ◌∙◌, ap₂, subst, ◌-◌, arith, eqb-true, eq-eqb, ne_eqb, ltb-true, ltb-false, lt-ltb, get_or, length, drop, drop-drop, drop_of_length-le, drop-cons, get_or-drop, add-zero, add-one, zero-add}
 use Rattle.std.proofs.Math.Dec.{ltb}
 use Rattle.policy.proofs.ListLaws.{and_in, and_out, true_false}
 use Rattle.policy.specs.declared.line.Part.{Part}

@@ -172,8 +172,8 @@ fn relation_holds(code: u32, left: i32, right: i32) -> bool
     requires { code < 8 }
     ensures { result ≡ relation_holds (relation_from code) left right }
 {
-    let order = u8::from(right <= left) + u8::from(right < left);
-    (RELATIONS >> (4 * code + order as u32)) % 2 == 1
+    let order = u32::from(right <= left) + u32::from(right < left);
+    (RELATIONS >> (4 * code + order)) % 2 == 1
 }
 
 // The value of the reading with that number; none where the epoch does not give it. The set is cut down to the readings that there are

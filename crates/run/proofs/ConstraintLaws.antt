@@ -1,6 +1,5 @@
 -- Laws of the loops that run constraints: whether one holds, and how many words are fetched, from an index on.
-use Rattle.std.proofs.Common.{ℕ, ◌+◌, ◌≤◌, ◌<◌, Bool, true, false, cond, ◌||◌, List, [], ◌∷◌, ◌⊎◌, inl, inr, ⊎_elim, ◌≡◌, refl, sym, ap, ◌∙◌, add-zero, arith, ltb-true, ltb-false, get_or, length, drop}
-use Rattle.std.proofs.Math.Bool.{or-false}
+use Rattle.std.proofs.Common.{ℕ, ◌+◌, ◌≤◌, ◌<◌, Bool, true, false, cond, ◌||◌, List, ◌∷◌, ◌⊎◌, ⊎_elim, ◌≡◌, refl, sym, ap, ◌∙◌, add-zero, arith, ltb-true, ltb-false, get_or, length, drop}
 use Rattle.std.proofs.Math.Dec.{ltb}
 use Rattle.policy.specs.declared.epoch.Readings.{Readings}
 use Rattle.policy.specs.List.{any}

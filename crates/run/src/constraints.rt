@@ -2,10 +2,10 @@
 ghost use Rattle.std.specs.Prelude.{ℕ, ◌≡◌, ◌<◌, ◌≤◌, length, slice_index_or, true, MatchOption};
 ghost use Rattle.word.specs.Chunk.{words_in};
 ghost use Rattle.policy.specs.Epoch.{viewed};
-ghost use Rattle.operation.specs.Fields.{operation_of};
+ghost use Rattle.operation.specs.Fields.{first_of, operation_of};
 ghost use Rattle.operation.specs.declared.operation.Operation.{Operation};
 ghost use Rattle.run.specs.Run.{ends_constraint, run_constraints, trial_fetches};
-ghost use Rattle.run.specs.Steps.Test.{IsTestOf, is_member_operation, is_constant_operation, left_at};
+ghost use Rattle.run.specs.Steps.Test.{IsTestOf, is_constant_operation, left_at};
 ghost use Rattle.operation.specs.Said.{says};
 ghost use Rattle.operation.specs.Whole.{whole_lines};
 ghost use Rattle.policy.specs.declared.line.Part.{Part};
@@ -17,14 +17,12 @@ use word::nth_word;
 
 // Words are told apart by functions of their own, each of which compiles to one comparison.
 
-fn is_member(word: u32) -> bool
-    ensures value { result ≡ is_member_operation (operation_of word) }
-    ensures only { result ≡ true → operation_of word ≡ Operation.Member }
+// The action whose word as a member this is; 64 or more for any other word.
+fn member(word: u32) -> u32
+    ensures member { result < 64 → operation_of word ≡ Operation.Member }
+    ensures action { result < 64 → result ≡ first_of word }
 {
-    match Operation::of(word) {
-        Operation::Member => true,
-        _ => false,
-    }
+    word.wrapping_sub(0x6000_0000) >> 22
 }
 
 fn is_against_constant(word: u32) -> bool
@@ -120,11 +118,12 @@ pub fn run_constraints(words: &[[u8; 4]], set: ActionSet, readings: &Readings) -
     'constraints: while at < words.len() {
         loop {
             let word = nth_word(words, at);
-            if !is_member(word) {
+            let action = member(word);
+            if 63 < action {
                 break;
             }
             at += 1;
-            if !set.has(Action(first(word) as u8)) {
+            if !set.has(Action(action as u8)) {
                 at += skip(word) as usize;
                 from += skip(word) as usize;
                 continue 'constraints;

@@ -1,6 +1,6 @@
 -- How the code goes over a line, word by word. That this finds the lines that `line_at` finds, and their values, is proved
 -- (`scan_line_is` in proofs/ScanLines.antt, `line_from_is` in proofs/ReadLaws.antt): a reader need not believe this file.
-use Rattle.std.specs.Prelude.{ℕ, zero, suc, ◌+◌, ◌-◌, ◌*◌, ◌/◌, ◌%◌, ◌^◌, ◌<◌, ◌≤◌, ◌≡◌, Bool, true, false, not, ◌&&◌, ◌||◌, if◌then◌else◌, List, [], ◌∷◌, ◌++◌, map, fold, length, take, drop, ◌==◌, nat_lt, nat_le, slice_index_or}
+use Rattle.std.specs.Prelude.{ℕ, zero, suc, ◌+◌, ◌-◌, ◌*◌, ◌/◌, ◌%◌, ◌^◌, ◌<◌, ◌≤◌, ◌≡◌, Bool, false, not, ◌&&◌, ◌||◌, if◌then◌else◌, List, [], ◌∷◌, ◌++◌, map, fold, length, take, drop, ◌==◌, nat_lt, nat_le, slice_index_or}
 use Rattle.line_value.specs.Value.{fits, line_of}
 use Rattle.policy.specs.Limits.{head_limit, comparison_limit, repeats}
 use Rattle.policy.specs.Line.{PolicyLine, ending_part}

@@ -1,4 +1,4 @@
-use Rattle.std.proofs.Common.{[], ◌∷◌, ◌+◌, List, ◌≡◌, ap, sym, ◌∙◌, add-one, arith, drop, drop-cons, drop_of_length-le, get_or}
+use Rattle.std.proofs.Common.{[], ◌∷◌, ◌+◌, List, ◌≡◌, ap, ◌∙◌, add-one, arith, drop, drop-cons, drop_of_length-le, get_or}
 use Rattle.policy.specs.declared.line.Part.{Part}
 use Rattle.output.specs.Sink.{fed}
 use Rattle.image.specs.Taken.{image_contents}

@@ -32,10 +32,6 @@ pub record IsTestOf (rs : Readings) (s : ActionSet) (said : LinePart) (behind : 
   pub goes_on : ends_constraint said ≡ false
   pub is : t ≡ tested (constraint_test rs s said) said behind
 
-abbrev pub is_member_operation : Operation → Bool
-is_member_operation Operation.Member = true
-is_member_operation _ = false
-
 abbrev pub is_present_operation : Operation → Bool
 is_present_operation Operation.Present = true
 is_present_operation _ = false

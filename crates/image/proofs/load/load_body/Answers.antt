@@ -1,5 +1,4 @@
-use Rattle.std.proofs.Common.{ℕ, List, length, true, ◌≡◌, ◌<◌, ◌+◌, ◌++◌, sym, ap, ap₂, ◌∙◌, Ok, arith}
-use Rattle.word.proofs.ChunkLaws.{words_in_length}
+use Rattle.std.proofs.Common.{ℕ, List, length, true, ◌≡◌, ◌<◌, ◌+◌, sym, ap, ap₂, ◌∙◌, Ok, arith}
 use Rattle.word.specs.Chunk.{words_in}
 use Rattle.image.proofs.HeldLaws.{counted_whole}
 use Rattle.operation.specs.Whole.{whole_lines}

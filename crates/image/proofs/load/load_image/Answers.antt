@@ -1,4 +1,4 @@
-use Rattle.std.proofs.Common.{List, ℕ, get_or, length, ◌+◌, sym, ap, ◌∙◌, arith, Err}
+use Rattle.std.proofs.Common.{List, ℕ, get_or, ◌+◌, sym, ap, ◌∙◌, arith, Err}
 use Rattle.word.proofs.ChunkLaws.{words_in_length}
 use Rattle.word.specs.Word.{between}
 use Rattle.policy.specs.declared.line.Part.{Part}

@@ -1,8 +1,7 @@
-use Rattle.std.proofs.Common.{ℕ, ◌≡◌, ◌≤◌, ◌<◌, ◌+◌, ◌-◌, List, sym, ap, ◌∙◌, subst, arith, length, drop, drop-drop, eqb-true, Ok, Err}
+use Rattle.std.proofs.Common.{ℕ, ◌≡◌, ◌+◌, ◌-◌, List, sym, ap, ◌∙◌, subst, arith, length, drop, drop-drop, eqb-true, Ok, Err}
 use Rattle.std.proofs.lemmas.Bool.{eqb-false}
 use Rattle.word.proofs.ChunkLaws.{words_in_length}
 use Rattle.word.specs.Chunk.{words_in}
-use Rattle.word.specs.Word.{between}
 use Rattle.decode.specs.Decode.{line_at, line_length}
 use Rattle.image.proofs.PartLaws.{Counted, line_inside, between_rest, counted_full, counted_fault, counted_more, counted_all}
 use Rattle.image.proofs.load.part_lines.Goals as goal

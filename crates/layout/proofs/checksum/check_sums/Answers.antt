@@ -1,9 +1,7 @@
-use Rattle.std.proofs.Common.{◌≡◌, ℕ, ◌+◌, ◌%◌, ◌<◌, List, length, get_or, take, arith, sym, ap, ◌∙◌, Err}
+use Rattle.std.proofs.Common.{arith, sym, ap, ◌∙◌, Err}
 use Rattle.word.proofs.ChunkLaws.{words_in_length}
 use Rattle.word.specs.Chunk.{words_in}
-use Rattle.word.specs.Word.{word_limit, between}
-use Rattle.layout.specs.Layout.{sum, weighted_word}
-use Rattle.layout.proofs.SumsLaws.{sum_behind, sum_wrong, first_right, two_checks, both_right, weighted_wrong, weighted_before, summed}
+use Rattle.layout.proofs.SumsLaws.{sum_wrong, first_right, two_checks, both_right, weighted_wrong, weighted_before, summed}
 use Rattle.layout.proofs.checksum.check_sums.Goals as goal
 
 pub returns-then-sum_words-eq0 : goal.returns-then-sum_words-eq0

@@ -1,4 +1,4 @@
-use Rattle.std.proofs.Common.{◌+◌, ◌/◌, ◌<◌, ◌≤◌, ◌≡◌, length, [], ◌∷◌, arith, ap, sym, ◌∙◌}
+use Rattle.std.proofs.Common.{◌+◌, ◌≡◌, length, [], ◌∷◌, arith, ap, sym, ◌∙◌}
 use Rattle.word.proofs.WriteLaws.{fits_in, fits_out, put_out, put_append, put_length}
 use Rattle.word.specs.Steps.Write.{put_words}
 use Rattle.layout.proofs.checksum.put_both.Goals as goal

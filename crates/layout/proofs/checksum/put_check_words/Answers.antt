@@ -1,4 +1,4 @@
-use Rattle.std.proofs.Common.{◌≡◌, ℕ, ◌%◌, ◌++◌, [], ◌∷◌, List, sym, ap, ap₂, ◌∙◌, arith, ne_eqb, take}
+use Rattle.std.proofs.Common.{ℕ, ◌%◌, [], ◌∷◌, List, sym, ap, ap₂, ◌∙◌, arith, ne_eqb, take}
 use Rattle.word.specs.Steps.Write.{fits, put_words}
 use Rattle.word.specs.Word.{word_limit, words_of}
 use Rattle.layout.specs.Layout.{check_count, check_words, check_word, weighted_word, sum}

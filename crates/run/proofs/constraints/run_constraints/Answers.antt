@@ -1,5 +1,5 @@
 use Rattle.policy.specs.Epoch.{viewed}
-use Rattle.std.proofs.Common.{ℕ, ◌+◌, ◌≤◌, ◌<◌, true, List, ◌⊎◌, inl, inr, ⊎_elim, ◌≡◌, sym, ap, ◌∙◌, get_or, length, arith}
+use Rattle.std.proofs.Common.{ℕ, ◌+◌, ◌≤◌, true, List, ◌⊎◌, inl, inr, ⊎_elim, ◌≡◌, sym, ap, ◌∙◌, get_or, length, arith}
 use Rattle.std.proofs.lemmas.Bool.{not-true, not-false}
 use Rattle.policy.specs.declared.epoch.Readings.{Readings}
 use Rattle.word.specs.Chunk.{words_in}
@@ -24,13 +24,13 @@ pub constraints-preserved-then-not-has : goal.constraints-preserved-then-not-has
 constraints-preserved-then-not-has c =
     record {
       onward = omega arith;
-      begins = member_failed _ _ _ _ _ _ c.loop-word.invariant.inside c.nth_word-word.ensures (c.is_member.ensures.only c.if-not-is_member.false) _ _ c.first.ensures c.has.ensures c.if-not-has.true _ _
+      begins = member_failed _ _ _ _ _ _ c.loop-word.invariant.inside c.nth_word-word.ensures (c.member-action.ensures.member (omega (arith, c.if-action-gt63.false))) _ _ (c.member-action.ensures.action (omega (arith, c.if-action-gt63.false))) c.has.ensures c.if-not-has.true _ _
           (ap (λ (n : ℕ). c.loop-word.at + 1 + n) c.skip.ensures) (ap (λ (n : ℕ). c.loop-word.from + n) c.skip-then-not-has.ensures);
     }
 
 pub loop-word-preserved : goal.loop-word-preserved
 loop-word-preserved c =
-    let on = member_held _ _ _ _ _ _ c.loop-word.invariant.inside c.nth_word-word.ensures (c.is_member.ensures.only c.if-not-is_member.false) _ _ c.first.ensures c.has.ensures c.if-not-has.false in
+    let on = member_held _ _ _ _ _ _ c.loop-word.invariant.inside c.nth_word-word.ensures (c.member-action.ensures.member (omega (arith, c.if-action-gt63.false))) _ _ (c.member-action.ensures.action (omega (arith, c.if-action-gt63.false))) c.has.ensures c.if-not-has.false in
     record { onward = omega (arith, c.loop-word.invariant.onward); within = omega (arith, inside_within _ _ _ _ _ on, words_in_length c.args.words.now); inside = on }
 
 pub test_constraint-requires : goal.test_constraint-requires

@@ -1,5 +1,5 @@
 use Rattle.policy.specs.Epoch.{viewed}
-use Rattle.std.proofs.Common.{ℕ, ◌+◌, ◌≤◌, List, refl, sym, ap, ◌∙◌, get_or, length, arith}
+use Rattle.std.proofs.Common.{ℕ, ◌≤◌, List, refl, sym, ap, ◌∙◌, get_or, length, arith}
 use Rattle.std.proofs.lemmas.Bool.{not-true, not-false}
 use Rattle.policy.specs.declared.epoch.Readings.{Readings}
 use Rattle.word.specs.Chunk.{words_in}
