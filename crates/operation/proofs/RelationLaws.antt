@@ -1,10 +1,10 @@
 -- The table of relations: what each says of two values, by which of them is less.
-use Rattle.std.proofs.Common.{ℕ, zero, suc, ◌+◌, ◌*◌, ◌/◌, ◌%◌, ◌^◌, ◌<◌, Bool, true, false, not, ◌&&◌, ◌≡◌, refl, sym, ap₂, ◌∙◌, arith, ℤ, pos, negsuc, nat_eq, ltb-true, ltb-false, le-leb}
-use Rattle.std.proofs.lemmas.Bool.{lt-leb, le-ltb}
+use Rattle.std.proofs.Common.{ℕ, ◌/◌, ◌%◌, ◌^◌, ◌<◌, Bool, true, false, not, ◌&&◌, ◌≡◌, refl, sym, ap, ap₂, ◌∙◌, arith, ℤ, pos, negsuc, nat_eq, ltb-true, ltb-false, le-leb}
+use Rattle.std.proofs.lemmas.Bool.{lt-leb, le-ltb, agree_below, agree_below_at, true_from_ne_false}
 use Rattle.std.proofs.Math.Dec.{ltb, leb}
 use Rattle.std.specs.Int.Signed.{lt_z, le_z}
-use Rattle.std.specs.Int.{from_bool}
-use Rattle.policy.proofs.ListLaws.{true_false}
+use Rattle.policy.proofs.ListLaws.{true_false, and_in}
+use Rattle.policy.proofs.RelationLaws.{eq_z_true}
 use Rattle.policy.specs.Comparison.{eq_z, relation_holds}
 use Rattle.policy.specs.declared.comparison.Relation.{Relation}
 use Rattle.operation.specs.Operation.{relation_from}
@@ -18,7 +18,7 @@ not_less m n = go (ltb n m) refl
     go true q = lt-leb m n (ltb-true n m q)
     go false q = le-leb m n (ltb-false n m q)
 
-pub le_is : (a b : ℤ) → le_z a b ≡ not (lt_z b a)
+le_is : (a b : ℤ) → le_z a b ≡ not (lt_z b a)
 le_is (pos m) (pos n) = not_less m n
 le_is (pos m) (negsuc n) = refl
 le_is (negsuc m) (pos n) = refl
@@ -27,11 +27,15 @@ le_is (negsuc m) (negsuc n) = not_less n m
 less_once : (m n : ℕ) → ltb m n ≡ true → ltb n m ≡ false
 less_once m n e = let h = ltb-true m n e in le-ltb n m (omega (arith, h))
 
-one_less : (a b : ℤ) → lt_z a b ≡ true → lt_z b a ≡ false
+pub one_less : (a b : ℤ) → lt_z a b ≡ true → lt_z b a ≡ false
 one_less (pos m) (pos n) e = less_once m n e
 one_less (pos m) (negsuc n) e = absurd (true_false e refl)
 one_less (negsuc m) (pos n) e = refl
 one_less (negsuc m) (negsuc n) e = less_once n m e
+
+pub other_less : (a b : ℤ) → lt_z a b ≡ false → (a ≡ b → ⊥) → lt_z b a ≡ true
+unfolding eq_z
+other_less a b l n = true_from_ne_false (lt_z b a) (λ g. n (eq_z_true a b (and_in (le_is a b ∙ ap not g) (le_is b a ∙ ap not l))))
 
 -- ---- the table
 
@@ -52,38 +56,12 @@ holds_by_less Relation.LessOrEqual a b = le_is a b
 holds_by_less Relation.Greater a b = refl
 holds_by_less Relation.GreaterOrEqual a b = le_is b a
 
-abbrev entry : ℕ → Bool → Bool → Bool
-entry code less greater = nat_eq (1717842258 / 2 ^ (4 * code + (from_bool (not less) + from_bool greater)) % 2) 1
-
--- of a number of three bits, where not both values are less
-by_number : (code : ℕ) → code < 8 → (less greater : Bool) → (less ≡ true → greater ≡ false) → entry code less greater ≡ by_less (relation_from code) less greater
-unfolding relation_from
-by_number code h true true e = absurd (true_false refl (e refl))
-by_number zero h true false e = refl
-by_number zero h false true e = refl
-by_number zero h false false e = refl
-by_number (suc zero) h true false e = refl
-by_number (suc zero) h false true e = refl
-by_number (suc zero) h false false e = refl
-by_number (suc (suc zero)) h true false e = refl
-by_number (suc (suc zero)) h false true e = refl
-by_number (suc (suc zero)) h false false e = refl
-by_number (suc (suc (suc zero))) h true false e = refl
-by_number (suc (suc (suc zero))) h false true e = refl
-by_number (suc (suc (suc zero))) h false false e = refl
-by_number (suc (suc (suc (suc zero)))) h true false e = refl
-by_number (suc (suc (suc (suc zero)))) h false true e = refl
-by_number (suc (suc (suc (suc zero)))) h false false e = refl
-by_number (suc (suc (suc (suc (suc zero))))) h true false e = refl
-by_number (suc (suc (suc (suc (suc zero))))) h false true e = refl
-by_number (suc (suc (suc (suc (suc zero))))) h false false e = refl
-by_number (suc (suc (suc (suc (suc (suc zero)))))) h true false e = refl
-by_number (suc (suc (suc (suc (suc (suc zero)))))) h false true e = refl
-by_number (suc (suc (suc (suc (suc (suc zero)))))) h false false e = refl
-by_number (suc (suc (suc (suc (suc (suc (suc zero))))))) h true false e = refl
-by_number (suc (suc (suc (suc (suc (suc (suc zero))))))) h false true e = refl
-by_number (suc (suc (suc (suc (suc (suc (suc zero))))))) h false false e = refl
-by_number (suc (suc (suc (suc (suc (suc (suc (suc n)))))))) h less greater e = absurd (omega arith)
-
-pub relation_by_table : (code : ℕ) → code < 8 → (a b : ℤ) → entry code (lt_z a b) (lt_z b a) ≡ relation_holds (relation_from code) a b
-relation_by_table code h a b = by_number code h (lt_z a b) (lt_z b a) (one_less a b) ∙ sym (holds_by_less (relation_from code) a b)
+-- what a table answers of two values, of which the one is less, or the other, or neither
+pub by_table : (table : ℕ) (less greater : Bool)
+    → agree_below (λ (n : ℕ). nat_eq (table / 2 ^ n % 2) 1) (λ (n : ℕ). by_less (relation_from (n % 8)) less greater) 32 ≡ true
+    → (a b : ℤ) → lt_z a b ≡ less → lt_z b a ≡ greater
+    → (n : ℕ) → n < 32 → nat_eq (table / 2 ^ n % 2) 1 ≡ relation_holds (relation_from (n % 8)) a b
+by_table table less greater agree a b l g n h =
+    agree_below_at (λ (k : ℕ). nat_eq (table / 2 ^ k % 2) 1) (λ (k : ℕ). by_less (relation_from (k % 8)) less greater) 32 n agree h
+    ∙ ap₂ (λ (x y : Bool). by_less (relation_from (n % 8)) x y) (sym l) (sym g)
+    ∙ sym (holds_by_less (relation_from (n % 8)) a b)

@@ -6,7 +6,7 @@ mod fields;
 mod operation;
 mod said;
 
-pub use fields::{first, opcode, second, skip};
+pub use fields::{first, first_if, opcode, second, skip};
 pub use operation::{
     Operation, comparison_word, constant_comparison, constant_holds, ending_word,
     reading_comparison, reading_holds, test_word,

@@ -1,13 +1,13 @@
 //! What the fields of a word stand for, both ways: operations, relations, constants, and the words of the parts of a line.
-ghost use Rattle.std.specs.Prelude.{◌≡◌, ◌<◌};
+ghost use Rattle.std.specs.Prelude.{ℕ, ◌≡◌, ◌<◌, ◌/◌, ◌%◌, ◌^◌, nat_eq};
 ghost use Rattle.policy.specs.Epoch.{reading_value};
 ghost use Rattle.policy.specs.Comparison.{relation_holds, comparison_holds};
 ghost use Rattle.policy.specs.Epoch.{viewed};
 ghost use Rattle.operation.specs.Operation.{opcode, relation_code, relation_from};
-ghost use Rattle.operation.specs.Fields.{pack, operation_of};
+ghost use Rattle.operation.specs.Fields.{pack, operation_of, first_of, relation_code_of};
 ghost use Rattle.operation.specs.Parts.{test_word, comparison_word, ending_word, constant_comparison, reading_comparison};
 
-use crate::fields::{first, opcode, relation_code_of, second};
+use crate::fields::{first, opcode, relation_bits, relation_code_of, second};
 use policy::{
     Comparison, Ending, Operand, Part, READING_LIMIT, Reading, ReadingView, Relation, Test,
     constant_from,
@@ -163,17 +163,32 @@ pub fn reading_comparison(word: u32) -> Comparison
     }
 }
 
-// What each relation says of two values, by its number: bit 0 where the left is less, bit 1 where they are equal, bit 2 where it is
-// greater, four bits for each relation. 6 and 7 are read as >=.
-const RELATIONS: u32 = 0x6664_3152;
+// What holds of a left value that is less than the right one, equal to it or greater: bit n is set where the relation of number n does.
+// The eight bits stand four times over, so that a shift by five bits of a word needs no mask. 6 and 7 are read as >=.
+const LESS: u32 = 0x0E0E_0E0E;
 
-// What the relation of that number says of two values. A table tells it, so that the run of words has no jump by the relation.
-fn relation_holds(code: u32, left: i32, right: i32) -> bool
-    requires { code < 8 }
-    ensures { result ≡ relation_holds (relation_from code) left right }
+const EQUAL: u32 = 0xE9E9_E9E9;
+
+const GREATER: u32 = 0xF2F2_F2F2;
+
+// With `right < left` for the second test the back end made a jump of the choice.
+fn relations_of(left: i32, right: i32) -> u32
+    ensures { (n : ℕ) → n < 32 → nat_eq (result / 2 ^ n % 2) 1 ≡ relation_holds (relation_from (n % 8)) left right }
 {
-    let order = u32::from(right <= left) + u32::from(right < left);
-    (RELATIONS >> (4 * code + order)) % 2 == 1
+    if left < right {
+        LESS
+    } else if left == right {
+        EQUAL
+    } else {
+        GREATER
+    }
+}
+
+// What the relation of a word says of two values. A table tells it, so that the run of words has no jump by the relation.
+fn relation_holds(word: u32, left: i32, right: i32) -> bool
+    ensures { result ≡ relation_holds (relation_from (relation_code_of word)) left right }
+{
+    (relations_of(left, right) >> relation_bits(word)) % 2 == 1
 }
 
 // The value of the reading with that number; none where the epoch does not give it. The set is cut down to the readings that there are
@@ -193,14 +208,22 @@ fn value(number: usize, readings: ReadingView<'_>) -> Option<i32>
     }
 }
 
-/// Whether a comparison with a constant, by its word and the constant word, holds on the readings of an epoch in a line of the part.
-pub fn constant_holds(part: Part, word: u32, constant: u32, readings: ReadingView<'_>) -> bool
+/// Whether a comparison with a constant, by its word, the number of its reading and the constant word, holds on the readings of an epoch
+/// in a line of the part.
+pub fn constant_holds(
+    part: Part,
+    word: u32,
+    number: u32,
+    constant: u32,
+    readings: ReadingView<'_>,
+) -> bool
+    requires { number ≡ first_of word }
     ensures { result ≡ comparison_holds part (viewed readings.entry) (constant_comparison word constant) }
 {
-    let Some(left) = value(first(word) as usize, readings) else {
+    let Some(left) = value(number as usize, readings) else {
         return part.missing_holds();
     };
-    relation_holds(relation_code_of(word), left, constant_from(constant))
+    relation_holds(word, left, constant_from(constant))
 }
 
 /// The same for a comparison with a reading.
@@ -213,5 +236,5 @@ pub fn reading_holds(part: Part, word: u32, readings: ReadingView<'_>) -> bool
     let Some(right) = value(second(word) as usize, readings) else {
         return part.missing_holds();
     };
-    relation_holds(relation_code_of(word), left, right)
+    relation_holds(word, left, right)
 }

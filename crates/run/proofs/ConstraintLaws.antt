@@ -1,5 +1,5 @@
 -- Laws of the loops that run constraints: whether one holds, and how many words are fetched, from an index on.
-use Rattle.std.proofs.Common.{ℕ, ◌+◌, ◌≤◌, ◌<◌, Bool, true, false, cond, ◌||◌, List, ◌∷◌, ◌⊎◌, ⊎_elim, ◌≡◌, refl, sym, ap, ◌∙◌, add-zero, arith, ltb-true, ltb-false, get_or, length, drop}
+use Rattle.std.proofs.Common.{ℕ, ◌+◌, ◌-◌, ◌≤◌, ◌<◌, Bool, true, false, cond, ◌||◌, List, ◌∷◌, ◌⊎◌, ⊎_elim, ◌≡◌, refl, sym, ap, ◌∙◌, add-zero, arith, ltb-true, ltb-false, get_or, length, drop}
 use Rattle.std.proofs.Math.Dec.{ltb}
 use Rattle.policy.specs.declared.epoch.Readings.{Readings}
 use Rattle.policy.specs.List.{any}
@@ -78,41 +78,59 @@ module _ (rs : Readings) (s : ActionSet) (ws : List ℕ) where
 
   -- ---- whole lines
 
-  -- the run is at a word of a line, or where a line begins
-  pub record Inside (at from : ℕ) : Type 0 where
+  -- the run goes on with the word before `behind`, which is one of a line, or with which a line begins
+  pub record Inside (behind from : ℕ) : Type 0 where
+    pub at : ℕ
+    pub next : behind ≡ at + 1
     pub line : InLine Part.Constraints ws at
     pub going : Going at from
 
-  pub record Begins (at from : ℕ) : Type 0 where
+  pub record Begins (behind from : ℕ) : Type 0 where
+    pub at : ℕ
+    pub next : behind ≡ at + 1
     pub lines : OnLines Part.Constraints ws at
     pub going : Going at from
 
-  pub begins_inside : (at from : ℕ) → at < length ws → Begins at from → Inside at from
-  begins_inside at from within b = record { line = lines_inside Part.Constraints ws at within b.lines; going = b.going }
+  pub begins_inside : (behind from : ℕ) → behind ≤ length ws → Begins behind from → Inside behind from
+  begins_inside behind from within b = record { at = b.at; next = b.next; line = lines_inside Part.Constraints ws b.at (omega (arith, within, b.next)) b.lines; going = b.going }
 
-  pub inside_within : (at from : ℕ) → Inside at from → at < length ws
-  inside_within at from i = in_line_inside Part.Constraints ws at i.line
+  pub inside_within : (behind from : ℕ) → Inside behind from → behind ≤ length ws
+  inside_within behind from i = omega (arith, in_line_inside Part.Constraints ws i.at i.line, i.next)
 
-  module _ (at from w : ℕ) (i : Inside at from) (this : w ≡ get_or ws at 0) where
+  module _ (behind from w : ℕ) (i : Inside behind from) (this : w ≡ get_or ws (behind - 1) 0) where
     abbrev here : LinePart
-    here = says w (get_or ws (at + 1) 0)
+    here = says w (get_or ws behind 0)
 
-    held : ends_constraint here ≡ false → true ≡ constraint_test rs s here → (next : ℕ) → next ≡ at + 1 + constants_of here → Inside next from
-    held n h next e = rw e (record {
-      line = line_goes_on Part.Constraints ws at w this i.line (ends_same here ∙ n);
-      going = go_on at w (inside_within at from i) this (at + 1 + constants_of here) true h (sym (add-zero _)) from from i.going n (sym (add-zero from));
-    })
+    this_at : w ≡ get_or ws i.at 0
+    this_at = this ∙ ap (λ (n : ℕ). get_or ws n 0) (omega (arith, i.next))
 
-    failed : ends_constraint here ≡ false → false ≡ constraint_test rs s here → (next from' : ℕ) → next ≡ at + 1 + constants_of here + skip_of w → from' ≡ from + skip_of w → Begins next from'
-    failed n h next from' e f = rw (e, f) (record {
-      lines = lines_behind Part.Constraints ws at w this i.line;
-      going = go_on at w (inside_within at from i) this (at + 1 + constants_of here + skip_of w) false h refl from (from + skip_of w) i.going n refl;
+    -- behind a word that ends no constraint stands another of its line
+    goes_onward : ends_constraint here ≡ false → InLine Part.Constraints ws (behind + constants_of here)
+    goes_onward n = rw i.next (line_goes_on Part.Constraints ws i.at w this_at i.line (rw (← i.next) (ends_same here ∙ n)))
+
+    goes : (holds : Bool) → holds ≡ constraint_test rs s here → ends_constraint here ≡ false → Going (behind + constants_of here + cond holds 0 (skip_of w)) (from + cond holds 0 (skip_of w))
+    goes holds h n = rw i.next (go_on i.at w (in_line_inside Part.Constraints ws i.at i.line) this_at _ holds (rw (← i.next) h) refl from _ i.going (rw (← i.next) n) refl)
+
+    held : ends_constraint here ≡ false → true ≡ constraint_test rs s here → (next : ℕ) → next ≡ behind + 1 + constants_of here → Inside next from
+    held n h next e = record {
+      at = behind + constants_of here;
+      next = omega (arith, e);
+      line = goes_onward n;
+      going = going_at _ _ _ _ (goes true h n) (sym (add-zero _)) (sym (add-zero from));
+    }
+
+    failed : ends_constraint here ≡ false → false ≡ constraint_test rs s here → (next from' : ℕ) → next ≡ behind + 1 + constants_of here + skip_of w → from' ≡ from + skip_of w → Begins next from'
+    failed n h next from' e f = rw f (record {
+      at = behind + constants_of here + skip_of w;
+      next = omega (arith, e);
+      lines = rw i.next (lines_behind Part.Constraints ws i.at w this_at i.line);
+      going = goes false h n;
     })
 
     module _ (m : operation_of w ≡ Operation.Member) (holds : Bool) (f : ℕ) (ef : f ≡ first_of w) (eh : holds ≡ has_action s (record { 0 = f })) where
       is_member : here ≡ LinePart.Head (Test.Member (action_from w))
       unfolding says_by
-      is_member = said_by w (get_or ws (at + 1) 0) Operation.Member m
+      is_member = said_by w (get_or ws behind 0) Operation.Member m
 
       is_tested : holds ≡ constraint_test rs s here
       unfolding constraint_test
@@ -126,27 +144,30 @@ module _ (rs : Readings) (s : ActionSet) (ws : List ℕ) where
       unfolding constants_of
       alone = ap constants_of is_member
 
-      pub member_held : holds ≡ true → Inside (at + 1) from
-      member_held h = held ends_none (sym h ∙ is_tested) (at + 1) (omega (arith, alone))
+      pub member_held : holds ≡ true → Inside (behind + 1) from
+      member_held h = held ends_none (sym h ∙ is_tested) (behind + 1) (omega (arith, alone))
 
-      pub member_failed : holds ≡ false → (next from' : ℕ) → next ≡ at + 1 + skip_of w → from' ≡ from + skip_of w → Begins next from'
+      pub member_failed : holds ≡ false → (next from' : ℕ) → next ≡ behind + 1 + skip_of w → from' ≡ from + skip_of w → Begins next from'
       member_failed h next from' e = failed ends_none (sym h ∙ is_tested) next from' (omega (arith, e, alone))
 
     -- a constant has a word of its line behind it
-    pub constant_within : operation_of w ≡ Operation.AgainstConstant → at + 2 < length ws
+    pub constant_within : operation_of w ≡ Operation.AgainstConstant → behind + 1 < length ws
     unfolding says_by ends_constraint constants_of constant_comparison
     constant_within o =
-        let is : here ≡ LinePart.Comparison (constant_comparison w (get_or ws (at + 1) 0)) = said_by w (get_or ws (at + 1) 0) Operation.AgainstConstant o in
+        let is : here ≡ LinePart.Comparison (constant_comparison w (get_or ws behind 0)) = said_by w (get_or ws behind 0) Operation.AgainstConstant o in
         let one : constants_of here ≡ 1 = ap constants_of is in
-        let next = in_line_inside Part.Constraints ws _ (line_goes_on Part.Constraints ws at w this i.line (ends_same here ∙ ap ends_constraint is)) in
+        let next = in_line_inside Part.Constraints ws _ (goes_onward (ap ends_constraint is)) in
         omega (arith, one, next)
 
-    module _ (t : Tested) (is : IsTestOf rs s here (at + 1) t) where
-      pub test_held : t.holds ≡ true → Inside t.next from
-      test_held h = held is.goes_on (sym h ∙ ap (λ (x : Tested). x.holds) is.is) t.next (ap (λ (x : Tested). x.next) is.is)
+    module _ (t : Tested) (is : IsTestOf rs s here behind t) where
+      next_is : t.next ≡ behind + constants_of here
+      next_is = ap (λ (x : Tested). x.next) is.is
 
-      pub test_failed : t.holds ≡ false → (next from' : ℕ) → next ≡ t.next + skip_of w → from' ≡ from + skip_of w → Begins next from'
-      test_failed h next from' e = failed is.goes_on (sym h ∙ ap (λ (x : Tested). x.holds) is.is) next from' (e ∙ ap (λ (n : ℕ). n + skip_of w) (ap (λ (x : Tested). x.next) is.is))
+      pub test_held : t.holds ≡ true → Inside (t.next + 1) from
+      test_held h = held is.goes_on (sym h ∙ ap (λ (x : Tested). x.holds) is.is) (t.next + 1) (omega (arith, next_is))
+
+      pub test_failed : t.holds ≡ false → (next from' : ℕ) → next ≡ t.next + 1 + skip_of w → from' ≡ from + skip_of w → Begins next from'
+      test_failed h next from' e = failed is.goes_on (sym h ∙ ap (λ (x : Tested). x.holds) is.is) next from' (omega (arith, e, next_is))
 
   -- the word at which the code leaves its loops ends a constraint
   module _ (at w : ℕ) (within : at < length ws) (this : w ≡ get_or ws at 0) (ends : ends_constraint (says w (get_or ws (at + 1) 0)) ≡ true) where

@@ -8,30 +8,12 @@ ghost use Rattle.operation.specs.Whole.{whole_lines};
 ghost use Rattle.operation.specs.declared.operation.Operation.{Operation};
 ghost use Rattle.policy.specs.declared.line.Part.{Part};
 ghost use Rattle.run.specs.Run.{proposing, run_rules, rule_fetches};
-ghost use Rattle.run.specs.Steps.Test.{IsTestIn, AsksNothing, is_present_operation, is_absent_operation};
+ghost use Rattle.run.specs.Steps.Test.{IsTestIn, AsksNothing};
 
 use crate::test::{Tested, against_constant, against_reading};
-use operation::{Operation, first, skip};
+use operation::{Operation, first, first_if, skip};
 use policy::{Action, ActionSet, Event, Events, Part, ReadingView, Readings};
 use word::nth_word;
-
-fn is_present(word: u32) -> bool
-    ensures { result ≡ is_present_operation (operation_of word) }
-{
-    match Operation::of(word) {
-        Operation::Present => true,
-        _ => false,
-    }
-}
-
-fn is_absent(word: u32) -> bool
-    ensures { result ≡ is_absent_operation (operation_of word) }
-{
-    match Operation::of(word) {
-        Operation::Absent => true,
-        _ => false,
-    }
-}
 
 // The test of a word; none where it asks for none. Heads come first, which a run meets most.
 #[tactic(auto, unfolding(operation::specs::Said::says, operation::specs::Said::says_by, operation::specs::Said::constants_of, operation::specs::Whole::ends, operation::specs::Whole::ends_line, crate::specs::Run::rule_test, crate::specs::Run::proposing))]
@@ -46,23 +28,26 @@ fn test_rule(
     ensures { MatchOption result (AsksNothing events (viewed readings.entry) (says word (slice_index_or (words_in words.now) behind 0))) (IsTestIn events (viewed readings.entry) (says word (slice_index_or (words_in words.now) behind 0)) behind) }
 {
     let part = Part::Rules;
-    if is_present(word) {
+    let present = first_if(word, Operation::Present);
+    if present < 64 {
         return Some(Tested {
-            holds: events.present.has(Event(first(word) as u8)),
+            holds: events.present.has(Event(present as u8)),
             next: behind,
         });
     }
-    if is_absent(word) {
+    let absent = first_if(word, Operation::Absent);
+    if absent < 64 {
         return Some(Tested {
-            holds: !events.occurred.has(Event(first(word) as u8)),
+            holds: !events.occurred.has(Event(absent as u8)),
             next: behind,
         });
+    }
+    let number = first_if(word, Operation::AgainstConstant);
+    if number < 64 {
+        let constant = nth_word(words, behind);
+        return Some(against_constant(part, behind, word, number, constant, readings));
     }
     match Operation::of(word) {
-        Operation::AgainstConstant => {
-            let constant = nth_word(words, behind);
-            Some(against_constant(part, behind, word, constant, readings))
-        }
         Operation::AgainstReading => Some(against_reading(part, behind, word, readings)),
         _ => None,
     }

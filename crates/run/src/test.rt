@@ -1,5 +1,6 @@
 //! The test of a word, which both runs share: whether it holds, and where the run goes on.
 ghost use Rattle.std.specs.Prelude.{ℕ, ◌+◌, ◌≡◌, ◌≤◌};
+ghost use Rattle.operation.specs.Fields.{first_of};
 ghost use Rattle.operation.specs.Parts.{constant_comparison, reading_comparison};
 ghost use Rattle.operation.specs.Said.{says, constants_of};
 ghost use Rattle.operation.specs.declared.said.LinePart.{LinePart};
@@ -17,20 +18,22 @@ pub struct Tested {
     pub next: usize,
 }
 
-// A comparison with a constant, which is the word behind.
+// A comparison with a constant, which is the word behind, of the reading with that number.
 #[tactic(auto, unfolding(operation::specs::Said::constants_of, operation::specs::Parts::constant_comparison))]
 pub(crate) fn against_constant(
     part: Part,
     behind: usize,
     word: u32,
+    number: u32,
     constant: u32,
     readings: ReadingView<'_>,
 ) -> Tested
-    requires { behind ≤ 0x4000_0000_0000_0000 }
+    requires reading { number ≡ first_of word }
+    requires room { behind ≤ 0x4000_0000_0000_0000 }
     ensures { result ≡ tested (comparison_holds part (viewed readings.entry) (constant_comparison word constant)) (LinePart.Comparison (constant_comparison word constant)) behind }
 {
     Tested {
-        holds: constant_holds(part, word, constant, readings),
+        holds: constant_holds(part, word, number, constant, readings),
         next: behind + 1,
     }
 }

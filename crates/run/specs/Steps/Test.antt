@@ -6,7 +6,6 @@ use Rattle.policy.specs.declared.set.Events.{Events}
 use Rattle.operation.specs.Said.{says, constants_of}
 use Rattle.operation.specs.Whole.{ends_line}
 use Rattle.policy.specs.declared.line.Part.{Part}
-use Rattle.operation.specs.declared.operation.Operation.{Operation}
 use Rattle.operation.specs.declared.said.LinePart.{LinePart}
 use Rattle.run.specs.Run.{rule_test, proposing, constraint_test, ends_constraint}
 use Rattle.run.specs.declared.constraints.Trial.{Trial}
@@ -31,19 +30,6 @@ pub record AsksNothing (ev : Events) (rs : Readings) (said : LinePart) : Type 0 
 pub record IsTestOf (rs : Readings) (s : ActionSet) (said : LinePart) (behind : ℕ) (t : Tested) : Type 0 where
   pub goes_on : ends_constraint said ≡ false
   pub is : t ≡ tested (constraint_test rs s said) said behind
-
-abbrev pub is_present_operation : Operation → Bool
-is_present_operation Operation.Present = true
-is_present_operation _ = false
-
-abbrev pub is_absent_operation : Operation → Bool
-is_absent_operation Operation.Absent = true
-is_absent_operation _ = false
-
--- a comparison with a constant
-abbrev pub is_constant_operation : Operation → Bool
-is_constant_operation Operation.AgainstConstant = true
-is_constant_operation _ = false
 
 -- what the word at an index says
 abbrev pub said_at : List ℕ → ℕ → LinePart

@@ -1,5 +1,5 @@
 use Rattle.policy.specs.Epoch.{viewed}
-use Rattle.std.proofs.Common.{sym, ap, ◌∙◌, to_z-of_z, w32, SFits, rules, Some}
+use Rattle.std.proofs.Common.{refl, sym, ap, ◌∙◌, to_z-of_z, w32, SFits, rules, Some}
 use Rattle.operation.proofs.HoldsLaws.{reading_missing, second_missing, reading_given}
 use Rattle.operation.proofs.operation.reading_holds.Goals as goal
 
@@ -16,4 +16,4 @@ returns c =
     let f : SFits w32 c.in-Some.left = search rules in
     let g : SFits w32 c.in-Some-value.right = search rules in
     c.relation_holds.ensures
-    ∙ reading_given c.args.part (viewed c.args.readings) c.args.word _ c.first.ensures _ c.relation_code_of.ensures _ (sym c.value.ensures ∙ c.in-Some.is ∙ ap Some (sym (to_z-of_z f))) _ c.second.ensures _ (sym c.value-2.ensures ∙ c.in-Some-value.is ∙ ap Some (sym (to_z-of_z g)))
+    ∙ reading_given c.args.part (viewed c.args.readings) c.args.word _ c.first.ensures _ refl _ (sym c.value.ensures ∙ c.in-Some.is ∙ ap Some (sym (to_z-of_z f))) _ c.second.ensures _ (sym c.value-2.ensures ∙ c.in-Some-value.is ∙ ap Some (sym (to_z-of_z g)))
