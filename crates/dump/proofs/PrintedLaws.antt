@@ -1,7 +1,6 @@
 -- What the compiler prints of an image, its words one a line, is read as those words.
 use Rattle.std.specs.Prelude.{Some}
-use Rattle.std.proofs.Common.{◌≡◌, ℕ, zero, suc, ◌+◌, ◌-◌, ◌*◌, ◌/◌, ◌%◌, ◌^◌, ◌<◌, Bool, true, false, ltb, List, [], ◌∷◌, ◌++◌, map, length, refl, ap, ◌∙◌, append_assoc, arith, ltb-true, le-ltb, lt-ltb, ne_eqb, le-leb, fold}
-use Rattle.std.proofs.lemmas.Bool.{lt-leb}
+use Rattle.std.proofs.Common.{◌≡◌, ℕ, zero, suc, ◌+◌, ◌*◌, ◌/◌, ◌%◌, ◌^◌, ◌<◌, true, List, [], ◌∷◌, ◌++◌, map, length, subst, refl, ap, ◌∙◌, append_assoc, arith, lt-ltb, ne_eqb, fold}
 use mathlib.Core.List.{flatten}
 use Rattle.policy.specs.List.{all}
 use Rattle.policy.proofs.ListLaws.{and_in, and_out, true_false}
@@ -23,15 +22,7 @@ use Rattle.dump.proofs.WordLaws.{word_some}
 
 digit_read : (d : ℕ) → d < 16 → (hex_value (hex_digit d) < 16) × (hex_value (hex_digit d) ≡ hex_digit_value (hex_digit d))
 unfolding hex_value hex_digit hex_digit_value
-digit_read d h = go (ltb d 10) refl
-  where
-    go : (b : Bool) → ltb d 10 ≡ b → (hex_value (hex_digit d) < 16) × (hex_value (hex_digit d) ≡ hex_digit_value (hex_digit d))
-    go true e =
-        let l : d < 10 = ltb-true d 10 e in
-        rw (e, le-leb 48 (48 + d) (omega arith), le-leb (48 + d) 57 (omega arith), lt-ltb (48 + d) 65 (omega arith)) (omega arith, refl)
-    go false e =
-        rw (e, le-leb 48 (65 + (d - 10)) (omega arith), lt-leb (65 + (d - 10)) 57 (omega arith), le-leb 65 (65 + (d - 10)) (omega arith), le-leb (65 + (d - 10)) 70 (omega arith), le-ltb (65 + (d - 10)) 65 (omega arith))
-        (omega arith, omega arith)
+digit_read d h = grind arith
 
 pub digits_hex : (k w : ℕ) → all is_hex_digit (hex_digits k w) ≡ true
 unfolding hex_digits
@@ -58,15 +49,12 @@ word_read w h = word_some (hex_word w) (digits_length 8 w) (digits_hex 8 w) ∙ 
 
 -- ---- lines of digits
 
-digit_inside : (b : ℕ) → is_hex_digit b ≡ true → b ≡ 10 → ⊥
-unfolding hex_value
-digit_inside b h e = let q : is_hex_digit 10 ≡ true = rw e at h in true_false q refl
-
 hex_no_end : (line : List ℕ) → all is_hex_digit line ≡ true → HasNoEnd line
+unfolding hex_value
 hex_no_end [] h = refl
 hex_no_end (b ∷ line) h =
     let p = and_out (is_hex_digit b) (all is_hex_digit line) h in
-    or_from (is_line_end b) _ (ne_eqb b 10 (digit_inside b p.0)) (hex_no_end line p.1)
+    or_from (is_line_end b) _ (ne_eqb b 10 (λ e. true_false (subst (λ x. is_hex_digit x ≡ true) e p.0) refl)) (hex_no_end line p.1)
 
 line_first : (w : ℕ) (rest : List ℕ) → lines_of (word_line w ++ rest) ≡ hex_word w ∷ lines_of rest
 unfolding word_line

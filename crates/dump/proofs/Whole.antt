@@ -1,10 +1,11 @@
 -- What the lines of the whole input come to is what the definition prints for it.
 use Rattle.std.specs.Prelude.{Option, Some, None, is_ok}
-use Rattle.std.proofs.Common.{◌≡◌, ℕ, ◌%◌, ◌^◌, ◌<◌, ◌≤◌, Bool, true, false, ◌&&◌, eqb, leb, List, [], ◌∷◌, ◌++◌, length, take, sym, refl, ap, ◌∙◌, append_assoc, append-nil, arith, length-append, length-take, take_all, leb-false, leb-true, Result, Ok, Err}
+use Rattle.std.proofs.Common.{◌≡◌, ℕ, ◌%◌, ◌^◌, ◌<◌, ◌≤◌, Bool, true, false, ◌&&◌, eqb, leb, List, [], ◌∷◌, ◌++◌, length, take, sym, refl, ap, ◌∙◌, append_assoc, append-nil, arith, length-append, leb-true, Result, Ok, Err}
 use Rattle.policy.specs.Fault.{fault_number, refusal}
 use Rattle.policy.specs.declared.fault.Fault.{Fault}
 use Rattle.policy.specs.declared.fault.Refusal.{Refusal}
-use Rattle.policy.proofs.ListLaws.{and_out}
+use Rattle.policy.proofs.FaultLaws.{fault_number_small}
+use Rattle.policy.proofs.ListLaws.{and_out, true_false}
 use Rattle.lexer.specs.Byte.{bytes}
 use Rattle.lexer.specs.Lines.{lines_of}
 use Rattle.lined.specs.Lines.{ended_lines, open_line, last_line, cut_to}
@@ -25,7 +26,7 @@ use Rattle.stream.proofs.FrontLaws.{cut_before}
 use Rattle.dump.specs.Dump.{word_in, Dump, words, not_word, behind_words, read_word_line, read_dump, loaded_answer, image_answer, dump_answer, restored}
 use Rattle.dump.specs.Steps.Lines.{read_behind}
 use Rattle.dump.specs.Steps.Sizes.{dump_size}
-use Rattle.dump.proofs.WordLaws.{word_cut}
+use Rattle.dump.proofs.WordLaws.{cut_same, word_cut}
 use Rattle.layout.specs.Layout.{size_limit}
 
 -- ---- of the bytes of words, as many as are held tell what is printed
@@ -35,13 +36,7 @@ unfolding image_answer loaded_answer
 too_large image h = rw (sym (load_size image (sym (size_large (length image) (omega arith) h))))
 
 image_cut : (image : List ℕ) → image_answer (take dump_size image) ≡ image_answer image
-image_cut image = go (leb (length image) dump_size) refl
-  where
-    go : (b : Bool) → leb (length image) dump_size ≡ b → image_answer (take dump_size image) ≡ image_answer image
-    go true e = ap image_answer (take_all dump_size image (leb-true (length image) dump_size e))
-    go false e =
-        let l : dump_size < length image = leb-false (length image) dump_size e in
-        too_large (take dump_size image) (omega (arith, length-take dump_size image)) ∙ sym (too_large image (omega arith))
+image_cut = cut_same dump_size image_answer (image_refusal_line (refusal Fault.ImageSize 0)) (λ image h. too_large image (omega arith))
 
 -- with a word more
 image_same : (x y more : List ℕ) → y ≡ take dump_size x → image_answer (x ++ more) ≡ image_answer (y ++ more)
@@ -56,11 +51,8 @@ refused_answer image r e = rw e refl
 
 pub taken_answer : (image : List ℕ) → is_ok (load image) ≡ true → image_answer image ≡ text_of (policy_in image)
 unfolding image_answer loaded_answer
-taken_answer image e = go (load image) e
-  where
-    go : (l : Result Contents Refusal) → is_ok l ≡ true → loaded_answer l (text_of (policy_in image)) ≡ text_of (policy_in image)
-    go (Err r) e = absurd (let z : ◌≡◌ {A = Bool} false true = e in cc)
-    go (Ok contents) e = refl
+taken_answer image e =
+    elim (load image) as (λ l. is_ok l ≡ true → loaded_answer l (text_of (policy_in image)) ≡ text_of (policy_in image)) [ Err r ↦ λ h. absurd (true_false h refl) | Ok contents ↦ λ h. refl ] e
 
 -- ---- a line more
 
@@ -89,43 +81,47 @@ sized_few : (n : ℕ) → well_sized n ≡ true → n ≤ size_limit
 unfolding well_sized
 sized_few n e = leb-true n size_limit (and_out (leb 8 n) (leb n size_limit) (and_out (leb 8 n && leb n size_limit) (eqb (n % 4) 0) e).0).1
 
-location_small : (image : List ℕ) (r : Refusal) → length image ≤ size_limit → RefusalOf (length (words_of image)) r
-    → (fault_number r.fault < 2 ^ 64) × (r.location < 2 ^ 64)
-location_small image r h (of_checks s a b c) = (omega arith, omega arith)
-location_small image r h (of_weights s a b) = (omega arith, omega arith)
-location_small image r h (of_body s a b c) = (omega arith, omega (arith, words_length image))
+location_small : (image : List ℕ) (r : Refusal) → length image ≤ size_limit → RefusalOf (length (words_of image)) r → r.location < 2 ^ 64
+location_small image r h (of_checks s a b c) = omega arith
+location_small image r h (of_weights s a b) = omega arith
+location_small image r h (of_body s a b c) = omega (arith, words_length image)
 
-refusal_small : (image : List ℕ) (r : Refusal) → load image ≡ Err r → (fault_number r.fault < 2 ^ 64) × (r.location < 2 ^ 64)
+refusal_small : (image : List ℕ) (r : Refusal) → load image ≡ Err r → r.location < 2 ^ 64
 refusal_small image r e = go (well_sized (length image)) refl
   where
-    go : (b : Bool) → well_sized (length image) ≡ b → (fault_number r.fault < 2 ^ 64) × (r.location < 2 ^ 64)
+    go : (b : Bool) → well_sized (length image) ≡ b → r.location < 2 ^ 64
     go true q = location_small image r (sized_few (length image) q) (refusals image r e)
     go false q =
         let f : Err r ≡ Err (refusal Fault.ImageSize 0) = sym e ∙ sym (load_size image q) in
         let p : r ≡ refusal Fault.ImageSize 0 = cc in
-        rw p (omega arith, omega arith)
+        rw p (omega arith)
 
-refusal_short : (r : Refusal) → fault_number r.fault < 2 ^ 64 → r.location < 2 ^ 64 → length (image_refusal_line r) ≤ longest_text
+refusal_short : (r : Refusal) → r.location < 2 ^ 64 → length (image_refusal_line r) ≤ longest_text
 unfolding image_refusal_line bytes
-refusal_short r f l = simp length-append (omega (arith, decimal_short (fault_number r.fault) f, decimal_short r.location l))
+refusal_short r l = simp length-append (omega (arith, decimal_short (fault_number r.fault) (omega (arith, fault_number_small r.fault)), decimal_short r.location l))
 
 pub image_short : (image : List ℕ) → Bytes image → length (image_answer image) ≤ longest_text
 unfolding image_answer loaded_answer
 image_short image bounded = go (load image) refl
   where
     go : (l : Result Contents Refusal) → load image ≡ l → length (loaded_answer l (text_of (policy_in image))) ≤ longest_text
-    go (Err r) e = let s = refusal_small image r e in refusal_short r s.0 s.1
+    go (Err r) e = refusal_short r (refusal_small image r e)
     go (Ok contents) e = text_length (policy_in image) (held_acceptable image bounded contents e)
 
-number_small : (n : ℕ) (lines : List (List ℕ)) (m : ℕ) → read_dump n lines ≡ not_word m → m < 2 ^ 64
-unfolding read_dump read_word_line behind_words
-number_small n [] m e = let z : ◌≡◌ {A = ℕ} 0 1 = cc in absurd (omega arith)
-number_small n (line ∷ lines) m e = go (word_in line) (read_dump (next_number n) lines) (number_small (next_number n) lines m) e
+-- a line that is told has a number of 64 bits
+Small : Dump → Type 0
+Small (words ws) = Unit {0}
+Small (not_word n) = n < 2 ^ 64
+
+number_small : (n : ℕ) (lines : List (List ℕ)) → Small (read_dump n lines)
+unfolding read_dump read_word_line behind_words Small
+number_small n [] = tt
+number_small n (line ∷ lines) = go (word_in line) (read_dump (next_number n) lines) (number_small (next_number n) lines)
   where
-    go : (o : Option ℕ) (d : Dump) → (d ≡ not_word m → m < 2 ^ 64) → read_word_line n o d ≡ not_word m → m < 2 ^ 64
-    go None d f q = let p : next_number n ≡ m = cc in omega arith
-    go (Some w) (words vs) f q = let z : ◌≡◌ {A = ℕ} 0 1 = cc in absurd (omega arith)
-    go (Some w) (not_word k) f q = f q
+    go : (o : Option ℕ) (d : Dump) → Small d → Small (read_word_line n o d)
+    go None d h = omega arith
+    go (Some w) (words vs) h = tt
+    go (Some w) (not_word k) h = h
 
 pub line_short : (n : ℕ) → n < 2 ^ 64 → length (not_word_line n) ≤ longest_text
 unfolding not_word_line bytes
@@ -133,12 +129,12 @@ line_short n h = simp length-append (omega (arith, decimal_short n h))
 
 -- what is printed for any input is no longer than the longest text
 pub restored_short : (input : List ℕ) → length (restored input) ≤ longest_text
-unfolding restored dump_answer
-restored_short input = go (read_dump 0 (lines_of input)) refl
+unfolding restored dump_answer Small
+restored_short input = go (read_dump 0 (lines_of input)) (number_small 0 (lines_of input))
   where
-    go : (d : Dump) → read_dump 0 (lines_of input) ≡ d → length (dump_answer d) ≤ longest_text
-    go (words ws) e = image_short (bytes_of ws) (bytes_below ws)
-    go (not_word n) e = line_short n (number_small 0 (lines_of input) n e)
+    go : (d : Dump) → Small d → length (dump_answer d) ≤ longest_text
+    go (words ws) h = image_short (bytes_of ws) (bytes_below ws)
+    go (not_word n) h = line_short n h
 
 -- ---- the whole input
 
@@ -149,8 +145,6 @@ lines_cut n (line ∷ lines) = rw (word_cut line, lines_cut (next_number n) line
 
 pub all_restored : (input : List ℕ) → read_behind [] (read_dump 0 (cut_to 9 (ended_lines input) ++ last_line (take 9 (open_line input)))) ≡ restored input
 unfolding restored dump_answer
-all_restored input = ap (λ ls. read_behind [] (read_dump 0 ls)) (cut_lines 9 (omega arith) input) ∙ ap (read_behind []) (lines_cut 0 (lines_of input)) ∙ go (read_dump 0 (lines_of input))
-  where
-    go : (d : Dump) → read_behind [] d ≡ dump_answer d
-    go (words ws) = refl
-    go (not_word n) = refl
+all_restored input =
+    ap (λ ls. read_behind [] (read_dump 0 ls)) (cut_lines 9 (omega arith) input) ∙ ap (read_behind []) (lines_cut 0 (lines_of input))
+    ∙ elim (read_dump 0 (lines_of input)) as (λ d. read_behind [] d ≡ dump_answer d) [ words ws ↦ refl | not_word n ↦ refl ]

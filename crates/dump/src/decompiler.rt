@@ -37,6 +37,7 @@ struct Decompiler {
 
 impl Decompiler {
     /// A line more.
+    #[tactic(auto, using(crate::proofs::Whole::line_word, crate::proofs::Whole::line_none))]
     fn take_line(&mut self, line: &[u8])
         ensures { (rest : List (List ℕ)) → read_in self.old.broken (take self.old.size self.old.image) self.old.lines (line.now ∷ rest)
             ≡ read_in self.new.broken (take self.new.size self.new.image) self.new.lines rest }
@@ -54,6 +55,7 @@ impl Decompiler {
     }
 
     /// All lines were read.
+    #[tactic(auto, using(crate::proofs::Whole::line_short, crate::proofs::Whole::none_left))]
     fn put_all<S: Sink>(&self, sink: &mut S)
         ensures puts { sink.new ≡ fed S.taken sink.old (read_in self.now.broken (take self.now.size self.now.image) self.now.lines []) }
         ensures short { length (read_in self.now.broken (take self.now.size self.now.image) self.now.lines []) ≤ longest_text }

@@ -12,6 +12,7 @@ use output::Sink;
 const DIGITS: usize = 8;
 
 /// The word that a line stands for.
+#[tactic(auto, using(crate::proofs::WordLaws::word_by_digits))]
 pub(crate) fn word_in(line: &[u8]) -> Option<u32>
     ensures { result ≡ word_in line.now }
 {
@@ -24,6 +25,7 @@ pub(crate) fn word_in(line: &[u8]) -> Option<u32>
 }
 
 /// Puts what is printed for an image: its text, or why it is refused.
+#[tactic(auto, using(crate::proofs::Whole::refused_answer, crate::proofs::Whole::taken_answer, crate::proofs::Whole::image_short))]
 pub(crate) fn put_image<S: Sink>(sink: &mut S, image: &[u8])
     ensures puts { sink.new ≡ fed S.taken sink.old (image_answer image.now) }
     ensures short { length (image_answer image.now) ≤ longest_text }

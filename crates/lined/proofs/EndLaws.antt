@@ -1,29 +1,25 @@
 -- Where the first line end stands.
-use Rattle.std.proofs.Common.{◌≡◌, ℕ, zero, suc, ◌+◌, ◌<◌, Bool, true, false, cond, ◌||◌, List, [], ◌∷◌, ◌++◌, get_or, take, Option, Some, None, refl, sym, ap, ◌∙◌, arith, eqb-true}
-use Rattle.std.specs.List.{list_any, position, position_from}
-use Rattle.std.proofs.lemmas.Bool.{or_from}
-use Rattle.std.proofs.lemmas.Iterator.Adapters.{position_from-zero}
+use Rattle.std.proofs.Common.{◌≡◌, ℕ, ◌≤◌, ◌<◌, false, List, [], ◌∷◌, ◌++◌, length, get_or, take, Option, Some, None, sym, ap, ◌∙◌, arith, eqb-true, take_all, length-take}
+use Rattle.std.specs.List.{position, position_or_len}
+use Rattle.std.proofs.lemmas.List.{get_or-take}
+use Rattle.std.proofs.lemmas.List.Elements.{All-from_get_or}
+use Rattle.std.proofs.lemmas.List.Folds.{list_any_none}
+use Rattle.std.proofs.lemmas.List.Sums.{fails_before_first}
 use Rattle.std.proofs.lemmas.List.Quantifiers.{position-Some}
-use Rattle.std.proofs.lemmas.Option.{none-some}
 use Rattle.std.proofs.Math.Seq.{take-suc}
 use Rattle.lexer.specs.Byte.{is_line_end}
 use Rattle.lined.specs.Lines.{HasNoEnd, EndsAt}
 
-none_step : (t u : Bool) (i : ℕ) (r : Option ℕ) → (r ≡ None → u ≡ false) → cond t (Some i) r ≡ None → (t || u) ≡ false
-none_step true u i r h e = absurd (none-some i (sym e))
-none_step false u i r h e = h e
-
-none_from : (bytes : List ℕ) (i : ℕ) → position_from is_line_end i bytes ≡ None → HasNoEnd bytes
-none_from [] i e = refl
-none_from (b ∷ bytes) i e = none_step (is_line_end b) (list_any is_line_end bytes) i _ (none_from bytes (i + 1)) e
+none_before : (bytes : List ℕ) (n : ℕ) → ((k : ℕ) → k < n → is_line_end (get_or bytes k 0) ≡ false) → HasNoEnd (take n bytes)
+none_before bytes n h =
+    list_any_none is_line_end (take n bytes)
+    (All-from_get_or (λ b. is_line_end b ≡ false) (take n bytes) 0
+    (λ k l. let within : k < n = omega (arith, length-take n bytes) in ap is_line_end (get_or-take n bytes k 0 within) ∙ h k within))
 
 pub found_none : (bytes : List ℕ) (r : Option ℕ) → r ≡ position is_line_end bytes → r ≡ None → HasNoEnd bytes
-found_none bytes r e is = none_from bytes 0 (sym (position_from-zero is_line_end bytes) ∙ sym e ∙ is)
-
-none_before : (bytes : List ℕ) (n : ℕ) → ((k : ℕ) → k < n → is_line_end (get_or bytes k 0) ≡ false) → HasNoEnd (take n bytes)
-none_before bytes zero h = refl
-none_before [] (suc n) h = refl
-none_before (b ∷ bytes) (suc n) h = or_from (is_line_end b) _ (h 0 (omega arith)) (none_before bytes n (λ k l. h (suc k) (omega arith)))
+found_none bytes r e is =
+    let all : length bytes ≤ position_or_len is_line_end bytes = grind (arith, e, is) in
+    rw (take_all (length bytes) bytes (omega arith)) at (none_before bytes (length bytes) (λ k l. fails_before_first is_line_end bytes k 0 (omega arith)))
 
 pub found_some : (bytes : List ℕ) (r : Option ℕ) (n : ℕ) → r ≡ position is_line_end bytes → r ≡ Some n → EndsAt bytes n
 found_some bytes r n e is =

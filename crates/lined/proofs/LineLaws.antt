@@ -1,5 +1,5 @@
 -- Laws of lines that come in parts.
-use Rattle.std.proofs.Common.{◌≡◌, ℕ, Bool, true, false, cond, List, [], ◌∷◌, ◌++◌, take, refl, sym, ap, ◌∙◌, append_assoc, append-nil, arith}
+use Rattle.std.proofs.Common.{◌≡◌, ℕ, List, [], ◌∷◌, ◌++◌, take, sym, ap, ◌∙◌, append_assoc, append-nil, arith}
 use Rattle.std.proofs.lemmas.Bool.{or_parts}
 use Rattle.std.proofs.lemmas.List.{take-take}
 use Rattle.std.specs.List.{list_any}
@@ -7,48 +7,38 @@ use Rattle.lexer.specs.Byte.{is_line_end}
 use Rattle.stream.proofs.FrontLaws.{cut_before}
 use Rattle.lined.specs.Lines.{ended_behind, open_behind, cut_to, HasNoEnd}
 
--- ---- bytes with no line end go to the open line
+-- the lines that end, and the open one
+abbrev pub cut_behind : (line bytes : List ℕ) → List (List ℕ) × List ℕ
+cut_behind line bytes = (ended_behind line bytes, open_behind line bytes)
 
-pub part_ended : (line part rest : List ℕ) → HasNoEnd part → ended_behind line (part ++ rest) ≡ ended_behind (line ++ part) rest
-part_ended line [] rest h = ap (λ l. ended_behind l rest) (sym (append-nil line))
-part_ended line (b ∷ part) rest h =
-    let p = or_parts (is_line_end b) (list_any is_line_end part) h in
-    ap (λ t. cond t (line ∷ ended_behind [] (part ++ rest)) (ended_behind (line ++ b ∷ []) (part ++ rest))) p.0
-    ∙ part_ended (line ++ b ∷ []) part rest p.1 ∙ ap (λ l. ended_behind l rest) (append_assoc line (b ∷ []) part)
-
-pub part_open : (line part rest : List ℕ) → HasNoEnd part → open_behind line (part ++ rest) ≡ open_behind (line ++ part) rest
-part_open line [] rest h = ap (λ l. open_behind l rest) (sym (append-nil line))
-part_open line (b ∷ part) rest h =
-    let p = or_parts (is_line_end b) (list_any is_line_end part) h in
-    ap (λ t. cond t (open_behind [] (part ++ rest)) (open_behind (line ++ b ∷ []) (part ++ rest))) p.0
-    ∙ part_open (line ++ b ∷ []) part rest p.1 ∙ ap (λ l. open_behind l rest) (append_assoc line (b ∷ []) part)
-
--- ---- as much of the open line as is handed on tells the rest
+-- bytes with no line end go to the open line
+pub part_behind : (line part rest : List ℕ) → HasNoEnd part → cut_behind line (part ++ rest) ≡ cut_behind (line ++ part) rest
+part_behind line [] rest h = ap (λ l. cut_behind l rest) (sym (append-nil line))
+part_behind line (b ∷ part) rest h =
+    let (no_end, none) = or_parts (is_line_end b) (list_any is_line_end part) h in
+    rw no_end (part_behind (line ++ b ∷ []) part rest none ∙ ap (λ l. cut_behind l rest) (append_assoc line (b ∷ []) part))
 
 module _ (most : ℕ) where
   pub cut_again : (line : List ℕ) → take most (take most line) ≡ take most line
   cut_again line = take-take most most line (omega arith)
 
-  abbrev EndedCut : List ℕ → Type 0
-  EndedCut rest = (line : List ℕ) → cut_to most (ended_behind (take most line) rest) ≡ cut_to most (ended_behind line rest)
+  -- of the lines that end and of the open one, as much as is handed on
+  abbrev pub handed : (line bytes : List ℕ) → List (List ℕ) × List ℕ
+  handed line bytes = (cut_to most (ended_behind line bytes), take most (open_behind line bytes))
 
-  ended_byte : (b : ℕ) (rest : List ℕ) → EndedCut rest → (line : List ℕ) (t : Bool)
-      → cut_to most (cond t (take most line ∷ ended_behind [] rest) (ended_behind (take most line ++ b ∷ []) rest)) ≡ cut_to most (cond t (line ∷ ended_behind [] rest) (ended_behind (line ++ b ∷ []) rest))
-  ended_byte b rest h line true = ap (λ l. l ∷ cut_to most (ended_behind [] rest)) (cut_again line)
-  ended_byte b rest h line false = sym (h (take most line ++ b ∷ [])) ∙ ap (λ l. cut_to most (ended_behind l rest)) (cut_before most line (b ∷ [])) ∙ h (line ++ b ∷ [])
+  handed_part : (line part rest : List ℕ) → HasNoEnd part → handed line (part ++ rest) ≡ handed (line ++ part) rest
+  handed_part line part rest none = ap (λ (p : List (List ℕ) × List ℕ). (cut_to most p.0, take most p.1)) (part_behind line part rest none)
 
-  pub cut_ended : (rest : List ℕ) → EndedCut rest
-  cut_ended [] line = refl
-  cut_ended (b ∷ rest) line = ended_byte b rest (cut_ended rest) line (is_line_end b)
+  -- as much of the open line as is handed on tells the rest
+  handed_cut : (rest line : List ℕ) → handed (take most line) rest ≡ handed line rest
+  handed_cut [] line = ap (λ l. ([], l)) (cut_again line)
+  handed_cut (b ∷ rest) line = grind (arith, cut_again line, cut_before most line (b ∷ []), handed_cut rest (take most line ++ b ∷ []), handed_cut rest (line ++ b ∷ []))
 
-  abbrev OpenCut : List ℕ → Type 0
-  OpenCut rest = (line : List ℕ) → take most (open_behind (take most line) rest) ≡ take most (open_behind line rest)
+  -- so what is kept of a line and of its part tells the rest
+  pub part_handed : (most' : ℕ) (line line' part : List ℕ) → most' ≡ most → line' ≡ take most (line ++ part) → HasNoEnd part
+      → (rest : List ℕ) → handed line (part ++ rest) ≡ (cut_to most' (ended_behind line' rest), take most' (open_behind line' rest))
+  part_handed most' line line' part same keeps none rest = rw (same, keeps) (handed_part line part rest none ∙ sym (handed_cut rest (line ++ part)))
 
-  open_byte : (b : ℕ) (rest : List ℕ) → OpenCut rest → (line : List ℕ) (t : Bool)
-      → take most (cond t (open_behind [] rest) (open_behind (take most line ++ b ∷ []) rest)) ≡ take most (cond t (open_behind [] rest) (open_behind (line ++ b ∷ []) rest))
-  open_byte b rest h line true = refl
-  open_byte b rest h line false = sym (h (take most line ++ b ∷ [])) ∙ ap (λ l. take most (open_behind l rest)) (cut_before most line (b ∷ [])) ∙ h (line ++ b ∷ [])
-
-  pub cut_open : (rest : List ℕ) → OpenCut rest
-  cut_open [] line = cut_again line
-  cut_open (b ∷ rest) line = open_byte b rest (cut_open rest) line (is_line_end b)
+  pub end_handed : (most' : ℕ) (line part : List ℕ) → most' ≡ most → HasNoEnd part
+      → (rest : List ℕ) → handed line ((part ++ 10 ∷ []) ++ rest) ≡ (take most (line ++ part) ∷ cut_to most' (ended_behind [] rest), take most' (open_behind [] rest))
+  end_handed most' line part same none rest = rw same (ap (handed line) (append_assoc part (10 ∷ []) rest) ∙ handed_part line part (10 ∷ rest) none)

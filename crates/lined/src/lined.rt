@@ -8,7 +8,7 @@ use crate::part::PartMachine;
 use output::Sink;
 use stream::keep;
 
-/// The line goes on with a part and ends behind it: it is kept whole and handed on.
+/// The line goes on with a part and ends behind it, and is handed on: from the part where it lies whole in that, else it is kept whole.
 fn line_held<L: LineMachine, S: Sink>(
     machine: &mut L,
     held: &mut [u8],
@@ -23,8 +23,13 @@ fn line_held<L: LineMachine, S: Sink>(
     ensures goes { LineGoes L.given L.printed machine.old machine.new (take (length held.old) (take size held.old ++ part.now))
         (L.says machine.old (take (length held.old) (take size held.old ++ part.now))) }
 {
-    let end = keep(held, size, part);
-    machine.line(&held[..end], sink);
+    if size == 0 {
+        let count = part.len().min(held.len());
+        machine.line(&part[..count], sink);
+    } else {
+        let end = keep(held, size, part);
+        machine.line(&held[..end], sink);
+    }
 }
 
 /// Hands the first `size` bytes on as the open line at the end of the input.
@@ -64,15 +69,9 @@ impl<'a, L: LineMachine> PartMachine for Lined<'a, L> {
         self.size = keep(self.held, self.size, bytes);
     }
 
-    // A line that lies whole in what was read is handed on from there.
     fn end_line<S: Sink>(&mut self, part: &[u8], sink: &mut S) {
-        if self.size == 0 {
-            let count = part.len().min(self.held.len());
-            self.machine.line(&part[..count], sink);
-        } else {
-            line_held(&mut self.machine, self.held, self.size, part, sink);
-            self.size = 0;
-        }
+        line_held(&mut self.machine, self.held, self.size, part, sink);
+        self.size = 0;
     }
 
     fn end<S: Sink>(&mut self, sink: &mut S) {

@@ -59,6 +59,7 @@ pub(crate) struct Parted<'a, P: PartMachine> {
 
 impl<'a, P: PartMachine> Parted<'a, P> {
     /// Takes the bytes to the end of the first line, or all of them.
+    #[tactic(auto, using(output::proofs::AppendLaws::append_length), unfolding(output::specs::Buffer::behind))]
     fn take_line(&mut self, bytes: &[u8]) -> usize
         requires some { 0 < length bytes.now }
         requires room { P.room ≤ length self.old.out.now - self.old.used }
@@ -96,6 +97,7 @@ impl<'a, P: PartMachine> Machine for Parted<'a, P> {
         at
     }
 
+    #[tactic(auto, using(output::proofs::AppendLaws::append_length), unfolding(output::specs::Buffer::behind))]
     fn finish(&mut self) {
         self.used = conclude(&mut self.machine, self.out);
     }

@@ -1,5 +1,6 @@
 -- The buffers of the program are long enough: of each text 32,769 bytes, of an answer 32,802, of a refusal 64.
-use Rattle.std.proofs.Common.{ℕ, min, ◌^◌, ◌≤◌, ◌<◌, List, ◌≡◌, refl, sym, ap, ap₂, ◌∙◌, arith, take_all, length, take, Result, Ok, Err}
+use Rattle.std.specs.Prelude.{option_map}
+use Rattle.std.proofs.Common.{ℕ, ◌^◌, ◌≤◌, ◌<◌, List, ◌≡◌, refl, sym, ap, ap₂, ◌∙◌, arith, take_all, length, take, subst, Option, Some, None, Result, Ok, Err}
 use Rattle.policy.proofs.ResultLaws.{and_then_ok, in_text_ok}
 use Rattle.policy.specs.Fault.{in_text}
 use Rattle.policy.specs.Policy.{Policy}
@@ -7,6 +8,8 @@ use Rattle.policy.specs.declared.fault.Refusal.{Refusal}
 use Rattle.policy.specs.declared.fault.Source.{Source}
 use Rattle.lexer.specs.Byte.{bytes}
 use Rattle.lexer.specs.Lines.{lines_of}
+use Rattle.lexer.specs.Steps.Scan.{clip}
+use Rattle.lexer.specs.Token.{named}
 use Rattle.rule_text.proofs.ReadLaws.{behind_read}
 use Rattle.rule_text.specs.Text.{empty_policy, read_text_behind, read_text, read_texts, text_limit}
 use Rattle.acceptance.proofs.Cut.{texts_cut}
@@ -15,13 +18,13 @@ use Rattle.explanation.proofs.SizeLaws.{said_size, said_size_on}
 use Rattle.explanation.specs.Part.{of_maker, of_site}
 use Rattle.explanation.specs.Why.{Explanation, not_proposed, accepted_by, cancelled_by}
 use Rattle.output.specs.Buffer.{appended, behind}
+use Rattle.output.specs.Sink.{advanced}
 use Rattle.output.proofs.RoomLaws.{put_take}
 use Rattle.report.proofs.LengthLaws.{texts_refusal_short, not_proposed_short, not_explained_short, shown_short}
 use Rattle.report.specs.Report.{texts_refusal_line}
 use Rattle.questions.specs.Steps.Answer.{answer_on, question_line}
-use Rattle.questions.specs.declared.line.Question.{Question}
-use Rattle.questions.specs.declared.line.Token.{Token}
-use Rattle.questions.specs.Answered.{quoted_line, explained_line, answers_on, answers_printed}
+use Rattle.questions.specs.Answered.{word_of, epoch_part, quoted_line, explained_line, question_answer, answers_on, answers_printed}
+use Rattle.questions.proofs.LeftLaws.{Compiled, line_answered}
 use Rattle.questions.specs.Steps.Sizes.{answer_size, text_held}
 
 -- ---- texts
@@ -36,17 +39,22 @@ module _ (maker site : List ℕ) where
       let s = in_text_ok Source.Site (read_text_behind k.0 site) p k.2 in
       ((behind_read empty_policy maker k.0 m).0, (behind_read k.0 site p s).0)
 
-  -- of a text over its length 32,769 bytes are enough
+  -- of a text over its length 32,769 bytes are enough, for all that depends on refused texts by their refusal alone
+  module _ (first second : List ℕ) (m : first ≡ take text_held maker) (s : second ≡ take text_held site) where
+    pub cut_texts : (P : Result Policy Refusal → List ℕ → List ℕ → Type 0) → ((x : Refusal) → P (Err x) first second → P (Err x) maker site)
+        → P (read_texts first second) first second → P (read_texts maker site) maker site
+    cut_texts P refused h = go (read_texts maker site) refl (subst (λ r. P r first second) (ap₂ read_texts m s ∙ texts_cut maker site) h)
+      where
+        go : (r : Result Policy Refusal) → read_texts maker site ≡ r → P r first second → P r maker site
+        go (Ok p) e k =
+            let short = accepted-short e in
+            subst (P (Ok p) maker) (s ∙ take_all text_held site (omega arith)) (subst (λ l. P (Ok p) l second) (m ∙ take_all text_held maker (omega arith)) k)
+        go (Err x) e k = refused x k
+
   pub answers_cut : (input : List ℕ) → answers_printed (take text_held maker) (take text_held site) input ≡ answers_printed maker site input
   unfolding answers_printed answers_on
   answers_cut input =
-      ap (λ (r : Result Policy Refusal). answers_on (take text_held maker) (take text_held site) r (lines_of input)) (texts_cut maker site) ∙ go (read_texts maker site) refl
-    where
-      go : (r : Result Policy Refusal) → read_texts maker site ≡ r → answers_on (take text_held maker) (take text_held site) r (lines_of input) ≡ answers_on maker site r (lines_of input)
-      go (Ok p) e =
-          let h = accepted-short e in
-          ap₂ (λ (x y : List ℕ). answers_on x y (Ok p) (lines_of input)) (take_all text_held maker (omega arith)) (take_all text_held site (omega arith))
-      go (Err x) e = refl
+      cut_texts (take text_held maker) (take text_held site) refl refl (λ r first second. answers_printed (take text_held maker) (take text_held site) input ≡ answers_on first second r (lines_of input)) (λ x h. h) refl
 
   -- ---- a refusal
 
@@ -57,10 +65,15 @@ module _ (maker site : List ℕ) where
       put_take out 0 (texts_refusal_line x) after end (omega (arith, texts_refusal_short x (omega (arith, locations_small maker site x e)))) p
       ∙ sym (ap (λ (s : Result Policy Refusal). answers_on maker site s (lines_of input)) e)
 
--- ---- an answer
+pub refusal_stored : (x : Refusal) (out : List ℕ) → x.location < 2 ^ 64 → 64 ≤ length out
+    → take (advanced 0 (length (texts_refusal_line x)) (length out)) (appended out 0 (texts_refusal_line x)) ≡ texts_refusal_line x
+unfolding behind
+refusal_stored x out small room =
+    let line = texts_refusal_line x in
+    let end : advanced 0 (length line) (length out) ≡ behind out 0 line = omega arith in
+    rw end (put_take out 0 line (appended out 0 line) (behind out 0 line) (omega (arith, texts_refusal_short x small)) (refl, refl))
 
-nothing : 0 ≤ text_limit
-nothing = omega arith
+-- ---- an answer
 
 answer_short : (n : ℕ) → n < 2 ^ 64 → (x : Result Explanation Refusal) → said_size x ≤ text_limit → length (explained_line n x) ≤ answer_size
 unfolding explained_line quoted_line bytes
@@ -72,16 +85,18 @@ answer_short n h (Ok (cancelled_by (of_maker x))) k = omega (arith, shown_short 
 answer_short n h (Ok (cancelled_by (of_site x))) k = omega (arith, shown_short n (bytes " cancelled ") Source.Site x.bytes h, k)
 
 module _ (maker site : List ℕ) (m : length maker ≤ text_limit) (s : length site ≤ text_limit) where
-  answered_size : (image : List ℕ) (token : Token) (epoch : List ℕ) → said_size (answer_on maker site image token epoch) ≤ text_limit
+  answered_size : (image epoch : List ℕ) (o : Option ℕ) → said_size (answer_on maker site image o epoch) ≤ text_limit
   unfolding answer_on
-  answered_size image Token.Empty epoch = nothing
-  answered_size image Token.Letter epoch = nothing
-  answered_size image Token.Zero epoch = said_size_on maker site text_limit m s epoch 0 image
-  answered_size image (Token.Number n) epoch = said_size_on maker site text_limit m s epoch n image
-  answered_size image Token.Other epoch = nothing
+  answered_size image epoch (Some n) = said_size_on maker site text_limit m s epoch n image
+  answered_size image epoch None = omega arith
 
-  -- the answer to a question that is held has at most 32,802 bytes
-  pub question_short : (image held : List ℕ) (q : Question) (n : ℕ) → n < 2 ^ 64 → length (question_line maker site image n q held) ≤ answer_size
+  -- the answer to a question has at most 32,802 bytes
+  pub question_short : (image line : List ℕ) (n : ℕ) → n < 2 ^ 64 → length (question_line maker site image n line) ≤ answer_size
   unfolding question_line
-  question_short image held q n h =
-      answer_short n h (answer_on maker site image q.token (take (min q.count (length held)) held)) (answered_size image q.token (take (min q.count (length held)) held))
+  question_short image line n h = answer_short n h _ (answered_size image (epoch_part line) (option_map clip (named 65 (word_of line))))
+
+-- that of both texts too
+pub answered_short : (maker site image : List ℕ) → Compiled image (read_texts maker site) → (line : List ℕ) (n : ℕ) → n < 2 ^ 64 → length (explained_line n (question_answer maker site line)) ≤ answer_size
+answered_short maker site image k line n h =
+    let short = accepted-short maker site k.read in
+    subst (λ l. length l ≤ answer_size) (line_answered maker site image k n line line refl) (question_short maker site short.0 short.1 image line n h)

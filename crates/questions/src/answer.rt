@@ -5,9 +5,9 @@ ghost use Rattle.output.specs.Sink.{fed};
 ghost use Rattle.explanation.specs.Part.{quote_of};
 ghost use Rattle.explanation.specs.Why.{said_by};
 ghost use Rattle.questions.specs.Answered.{no_action, quoted_line};
-ghost use Rattle.questions.specs.Steps.Answer.{answer_on, question_line};
+ghost use Rattle.questions.specs.Steps.Answer.{line_answer, question_line};
 
-use crate::line::{Question, Token};
+use crate::line::{action, epoch_line};
 use explanation::{Outcome, Shown, explain_on};
 use output::Sink;
 use policy::{Fault, Refusal, Source};
@@ -17,6 +17,7 @@ use report::{put_not_explained, put_not_proposed, put_shown};
 const EPOCH_LIMIT: usize = 1024;
 
 /// What is refused where the first word names no action.
+#[tactic(auto, unfolding(crate::specs::Answered::no_action))]
 fn no_action(epoch: &[u8]) -> Refusal
     ensures { result ≡ no_action epoch.now }
 {
@@ -27,25 +28,24 @@ fn no_action(epoch: &[u8]) -> Refusal
     }
 }
 
+#[tactic(auto, unfolding(crate::specs::Steps::Answer::answer_on))]
 fn answer<'m, 's>(
-    token: Token,
-    epoch: &[u8],
+    line: &[u8],
     image: &[u8],
     maker: &'m [u8],
     site: &'s [u8],
 ) -> Result<Outcome<'m, 's>, Refusal>
-    ensures { result_map_both said_by (λ refusal. refusal) result ≡ answer_on maker.now site.now image.now token epoch.now }
+    ensures { result_map_both said_by (λ refusal. refusal) result ≡ line_answer maker.now site.now image.now line.now }
 {
-    match token {
-        Token::Zero => explain_on(image, maker, site, epoch, 0),
-        Token::Number(n) => explain_on(image, maker, site, epoch, n),
-        Token::Empty => Err(no_action(epoch)),
-        Token::Letter => Err(no_action(epoch)),
-        Token::Other => Err(no_action(epoch)),
+    let epoch = epoch_line(line);
+    match action(line) {
+        Some(number) => explain_on(image, maker, site, epoch, number),
+        None => Err(no_action(epoch)),
     }
 }
 
 /// What became of an action, and the line of one of both texts that says why.
+#[tactic(auto, unfolding(crate::specs::Answered::quoted_line))]
 fn put_quote<'m, 's, S: Sink>(sink: &mut S, number: u64, became: &[u8], shown: Shown<'m, 's>)
     ensures { sink.new ≡ fed S.taken sink.old (quoted_line number became.now (quote_of shown.entry)) }
 {
@@ -55,20 +55,19 @@ fn put_quote<'m, 's, S: Sink>(sink: &mut S, number: u64, became: &[u8], shown: S
     }
 }
 
-/// Puts the answer to the question of that number, whose epoch line is held, on the image of both texts.
+/// Puts the answer to the question of that number, on the image of both texts.
+#[tactic(auto, unfolding(crate::specs::Answered::explained_line, crate::specs::Steps::Answer::question_line, lexer::specs::Byte::bytes))]
 pub(crate) fn put_question<S: Sink>(
     sink: &mut S,
     number: u64,
-    question: Question,
-    held: &[u8],
+    line: &[u8],
     image: &[u8],
     maker: &[u8],
     site: &[u8],
 )
-    ensures { sink.new ≡ fed S.taken sink.old (question_line maker.now site.now image.now number question held.now) }
+    ensures { sink.new ≡ fed S.taken sink.old (question_line maker.now site.now image.now number line.now) }
 {
-    let count = question.count.min(held.len());
-    match answer(question.token, &held[..count], image, maker, site) {
+    match answer(line, image, maker, site) {
         Err(refusal) => put_not_explained(sink, number, refusal.fault),
         Ok(Outcome::NotProposed) => put_not_proposed(sink, number),
         Ok(Outcome::Accepted(shown)) => put_quote(sink, number, b" accepted ", shown),

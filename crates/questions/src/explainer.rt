@@ -1,14 +1,19 @@
 //! The questions on two texts as a machine of parts of lines, and the whole run on them. A question's first word may have any length.
-ghost use Rattle.std.specs.Prelude.{◌≡◌, ℕ, ◌≤◌, length, take, OnOk, IfErr};
-ghost use Rattle.rule_text.specs.Text.{read_texts, text_limit};
+ghost use Rattle.std.specs.Prelude.{◌≡◌, ℕ, ◌≤◌, length, take, OnOk, IfErr, Ok};
+ghost use Rattle.std.specs.Result.{result_map_both};
+ghost use Rattle.codegen.specs.Compile.{newest_form};
+ghost use Rattle.layout.specs.Layout.{image_of};
+ghost use Rattle.rule_text.specs.Text.{read_texts};
 ghost use Rattle.output.specs.Buffer.{appended, behind};
 ghost use Rattle.report.specs.Report.{texts_refusal_line};
 ghost use Rattle.stream.specs.Event.{GoOn, Fails};
 ghost use Rattle.stream.specs.Machine.{Sends, IsWriteFailure};
+ghost use Rattle.questions.specs.Answered.{word_of};
 ghost use Rattle.questions.specs.Run.{AnswersTexts, QuestionsEndBy};
+ghost use Rattle.questions.specs.Steps.Sizes.{word_held, line_held};
 
 use crate::answer::put_question;
-use crate::line::{EPOCH_HELD, Question, begun, is_open, take_part};
+use crate::line::{LINE_HELD, is_open, take_part};
 use codegen::NEWEST_FORM;
 use image::IMAGE_SIZE;
 use lined::{PartMachine, answer_parts};
@@ -26,30 +31,34 @@ const ANSWER_SIZE: usize = 32802;
 /// Bytes that the refusal of a text has room in.
 const REFUSAL_SIZE: usize = 64;
 
-/// Both texts and their image; how many questions were answered, and the open one, with what is held of its epoch line.
+/// Both texts and their image; how many questions were answered, and what is held of the open line.
 #[derive(Drop)]
 struct Explainer<'t> {
     maker: &'t [u8],
     site: &'t [u8],
     image: &'t [u8],
     number: u64,
-    question: Question,
-    held: [u8; EPOCH_HELD],
-    ghost maker_short: { length maker.now ≤ text_limit },
-    ghost site_short: { length site.now ≤ text_limit },
+    held: [u8; LINE_HELD],
+    size: usize,
+    ghost compiled: { result_map_both (image_of newest_form) (λ refusal. refusal) (read_texts maker.now site.now) ≡ Ok image.now },
+    ghost long: { length held ≡ line_held },
+    ghost within: { size ≤ line_held },
+    ghost word: { length (word_of (take size held)) ≤ word_held },
 }
 
 impl<'t> PartMachine for Explainer<'t> {
-    ghost use Rattle.std.specs.Prelude.{fold};
-    ghost use Rattle.questions.specs.Steps.Held.{held_by, pushed};
-    ghost use Rattle.questions.specs.Steps.Left.{answer_held, answers_so_far, answers_to_end, none_so_far};
+    ghost use Rattle.std.specs.Prelude.{◌++◌};
+    ghost use Rattle.lined.specs.Lines.{last_line};
+    ghost use Rattle.report.specs.Report.{next_number};
+    ghost use Rattle.questions.specs.Answered.{explained_line, question_answer};
+    ghost use Rattle.questions.specs.Steps.Left.{answers_behind, no_line, none_so_far};
     ghost use Rattle.questions.specs.Steps.Sizes.{answer_size};
 
-    ghost says = { λ e part. answer_held e.maker.now e.site.now e.image.now e.number (fold pushed (held_by e.question e.held) part) };
+    ghost says = { λ e part. explained_line (next_number e.number) (question_answer e.maker.now e.site.now (take e.size e.held ++ part)) };
 
-    ghost given = { λ e bytes. answers_so_far e.maker.now e.site.now e.image.now e.number (held_by e.question e.held) bytes };
+    ghost given = { λ e bytes. answers_behind e.maker.now e.site.now no_line e.number (take e.size e.held) bytes };
 
-    ghost printed = { λ e bytes. answers_to_end e.maker.now e.site.now e.image.now e.number (held_by e.question e.held) bytes };
+    ghost printed = { λ e bytes. answers_behind e.maker.now e.site.now last_line e.number (take e.size e.held) bytes };
 
     ghost room = { answer_size };
 
@@ -58,38 +67,38 @@ impl<'t> PartMachine for Explainer<'t> {
     }
 
     fn part(&mut self, bytes: &[u8]) {
-        self.question = take_part(self.question, bytes, &mut self.held);
+        self.size = take_part(&mut self.held, self.size, bytes);
     }
 
     fn end_line<S: Sink>(&mut self, part: &[u8], sink: &mut S) {
-        self.question = take_part(self.question, part, &mut self.held);
+        self.size = take_part(&mut self.held, self.size, part);
         self.number = self.number.wrapping_add(1);
         put_question(
             sink,
             self.number,
-            self.question,
-            &self.held,
+            &self.held[..self.size],
             self.image,
             self.maker,
             self.site,
         );
-        self.question = begun();
+        self.size = 0;
     }
 
     fn end<S: Sink>(&mut self, sink: &mut S) {
-        if is_open(self.question) {
+        if is_open(&self.held[..self.size]) {
             self.end_line(b"", sink);
         }
     }
 
-    ghost quiet = { λ e. none_so_far e.maker.now e.site.now e.image.now e.number (held_by e.question e.held) };
+    ghost quiet = { λ e. none_so_far e.maker.now e.site.now e.number (take e.size e.held) };
 }
 
 /// Puts why the texts are refused at the start of a buffer, and answers how many bytes it has.
-#[tactic(auto, using(output::proofs::SinkLaws::stored_all), unfolding(output::specs::Buffer::behind))]
+#[tactic(auto, using(output::proofs::SinkLaws::stored_all, crate::proofs::Room::refusal_stored))]
 fn put_refusal(refusal: Refusal, out: &mut [u8]) -> usize
-    ensures answer { result ≡ behind out.old 0 (texts_refusal_line refusal) }
-    ensures buffer { out.new ≡ appended out.old 0 (texts_refusal_line refusal) }
+    requires { 64 ≤ length out.old }
+    ensures within { result ≤ length out.new }
+    ensures value { take result out.new ≡ texts_refusal_line refusal }
 {
     let mut page = Page { bytes: out, end: 0 };
     put_texts_refusal(&mut page, refusal);
@@ -125,8 +134,8 @@ pub fn answer_questions<E: Ends>(maker: &[u8], site: &[u8], ends: &mut E) -> Res
                 site,
                 image: &image[..size],
                 number: 0,
-                question: begun(),
-                held: [0; EPOCH_HELD],
+                held: [0; LINE_HELD],
+                size: 0,
             };
             let mut out = [0u8; ANSWER_SIZE];
             let mut chunk = [0u8; CHUNK_SIZE];

@@ -1,142 +1,147 @@
-//! A question, byte by byte: the word that names the action, and the epoch line behind the first space.
-ghost use Rattle.std.specs.Prelude.{◌≡◌, fold};
-ghost use Rattle.questions.specs.Steps.Held.{first_digit, next_digit, scan_byte, start_question, is_open, held_by, pushed};
+//! A question's line, of which a short one is held that asks the same, whatever it goes on with.
+ghost use Rattle.std.specs.Prelude.{◌≡◌, ◌≤◌, ◌&&◌, nat_lt, not, fold, length, option_map, take};
+ghost use Rattle.std.specs.List.{list_all};
+ghost use Rattle.lexer.specs.Byte.{is_digit};
+ghost use Rattle.lexer.specs.Lines.{take_leading, drop_leading};
+ghost use Rattle.lexer.specs.Number.{is_empty, number_of};
+ghost use Rattle.lexer.specs.Steps.Scan.{clip};
+ghost use Rattle.lexer.specs.Token.{named};
+ghost use Rattle.questions.specs.Answered.{in_word, word_of, epoch_part};
+ghost use Rattle.questions.specs.Steps.Sizes.{word_held, line_held};
+ghost use Rattle.questions.specs.Steps.Held.{word_with, Goes};
 
-use lexer::is_digit;
+use lexer::{digits, is_digit};
+use stream::keep;
 
-/// Bytes of an epoch line that are held: one over its limit, which tells that it is too long.
-pub(crate) const EPOCH_HELD: usize = 1025;
+/// Bytes of a first word that are held: `A` and three digits.
+const WORD_HELD: usize = 4;
 
-/// What the bytes before the first space are so far: `A` and a number, or something else. Of a number over 63 only that is kept.
-#[derive(Clone, Copy)]
-pub(crate) enum Token {
-    Empty,
-    Letter,
-    Zero,
-    Number(u32),
-    Other,
-}
+/// Bytes of a line that are held: a first word, a space, and an epoch line and one byte more, which tells that it is too long.
+pub(crate) const LINE_HELD: usize = 1030;
 
-/// One byte more of the word.
-fn scanned(token: Token, byte: u8) -> Token
-    ensures { result ≡ scan_byte token byte }
+/// What stands from the first space on.
+fn behind_word(line: &[u8]) -> &[u8]
+    ensures { result.now ≡ drop_leading in_word line.now }
 {
-    match token {
-        Token::Empty => {
-            if byte == b'A' {
-                Token::Letter
-            } else {
-                Token::Other
-            }
+    let mut rest = line;
+    while let [b, others @ ..] = rest {
+        if *b == b' ' {
+            break;
         }
-        Token::Letter => first_digit(byte),
-        Token::Number(n) => next_digit(n, byte),
-        Token::Zero => Token::Other,
-        Token::Other => Token::Other,
+        rest = others;
     }
-}
-
-fn first_digit(byte: u8) -> Token
-    ensures { result ≡ first_digit byte }
-{
-    if byte == b'0' {
-        return Token::Zero;
-    }
-    if is_digit(byte) {
-        Token::Number((byte - b'0') as u32)
-    } else {
-        Token::Other
-    }
-}
-
-fn next_digit(n: u32, byte: u8) -> Token
-    ensures { result ≡ next_digit n byte }
-{
-    if !is_digit(byte) {
-        return Token::Other;
-    }
-    if n < 64 {
-        Token::Number(n * 10 + (byte - b'0') as u32)
-    } else {
-        Token::Number(n)
-    }
-}
-
-/// The open line: its word, whether the first space was met, and how many bytes of the epoch line are held.
-#[derive(Clone, Copy)]
-pub(crate) struct Question {
-    pub token: Token,
-    pub spaced: bool,
-    pub count: usize,
-}
-
-/// The question before any byte of its line.
-pub(crate) fn begun() -> Question
-    ensures { result ≡ start_question }
-{
-    Question {
-        token: Token::Empty,
-        spaced: false,
-        count: 0,
-    }
+    rest
 }
 
 /// Whether the line has a byte.
-pub(crate) fn is_open(question: Question) -> bool
-    ensures { result ≡ is_open question }
+pub(crate) fn is_open(line: &[u8]) -> bool
+    ensures { result ≡ not (is_empty line.now) }
 {
-    if question.spaced {
-        return true;
-    }
-    match question.token {
-        Token::Empty => false,
-        Token::Letter => true,
-        Token::Zero => true,
-        Token::Number(_) => true,
-        Token::Other => true,
+    0 < line.len()
+}
+
+/// Whether there is no space.
+#[tactic(auto, using(crate::proofs::LineLaws::leading_all))]
+fn is_word(line: &[u8]) -> bool
+    ensures { result ≡ list_all in_word line.now }
+{
+    match behind_word(line) {
+        [] => true,
+        _ => false,
     }
 }
 
-/// One byte more of the line.
-fn push(question: Question, byte: u8, held: &mut [u8]) -> Question
-    ensures answer { result ≡ (pushed (held_by question held.old) byte).question }
-    ensures buffer { held.new ≡ (pushed (held_by question held.old) byte).held }
+/// What stands before the first space.
+#[tactic(auto, using(crate::proofs::LineLaws::leading_cut, lexer::proofs::LeadingLaws::drop_shorter))]
+fn first_word(line: &[u8]) -> &[u8]
+    ensures { result.now ≡ take_leading in_word line.now }
 {
-    let token = question.token;
-    let count = question.count;
-    if question.spaced {
-        if count < held.len() {
-            held[count] = byte;
-            return Question {
-                token,
-                spaced: true,
-                count: count + 1,
-            };
-        }
-        return question;
-    }
-    if byte == b' ' {
-        return Question {
-            token,
-            spaced: true,
-            count,
-        };
-    }
-    Question {
-        token: scanned(token, byte),
-        spaced: false,
-        count,
+    &line[..line.len() - behind_word(line).len()]
+}
+
+/// The epoch line behind the first space.
+#[tactic(auto, unfolding(crate::specs::Answered::epoch_part))]
+pub(crate) fn epoch_line(line: &[u8]) -> &[u8]
+    ensures { result.now ≡ epoch_part line.now }
+{
+    match behind_word(line) {
+        [] => b"",
+        [_, epoch @ ..] => epoch,
     }
 }
 
-/// Takes a part of the line. The bytes of the epoch line go into `held`, as many as it has room for; `EPOCH_HELD` are enough.
-pub(crate) fn take_part(start: Question, part: &[u8], held: &mut [u8]) -> Question
-    ensures answer { result ≡ (fold pushed (held_by start held.old) part.now).question }
-    ensures buffer { held.new ≡ (fold pushed (held_by start held.old) part.now).held }
+/// The number that a text is, at most 3,000,000,000.
+#[tactic(auto, using(crate::proofs::LineLaws::number_whole))]
+fn number(text: &[u8]) -> Option<u32>
+    ensures { result ≡ option_map clip (number_of text.now) }
 {
-    let mut question = start;
-    for byte in part {
-        question = push(question, *byte, held);
+    let (value, rest) = digits(text)?;
+    if rest.is_empty() { Some(value) } else { None }
+}
+
+/// The number of the action that the first word names, at most 3,000,000,000.
+#[tactic(auto, using(crate::proofs::LineLaws::named_first), unfolding(crate::specs::Answered::word_of))]
+pub(crate) fn action(line: &[u8]) -> Option<u32>
+    ensures { result ≡ option_map clip (named 65 (word_of line.now)) }
+{
+    let [first, rest @ ..] = first_word(line) else {
+        return None;
+    };
+    if *first == b'A' { number(rest) } else { None }
+}
+
+/// Whether the byte is one more digit where that tells nothing: of as many bytes as are held the number is over 63.
+fn is_settled(size: usize, byte: u8) -> bool
+    ensures { result ≡ nat_lt 3 size && is_digit byte }
+{
+    WORD_HELD <= size && is_digit(byte)
+}
+
+/// One byte more of a first word. What is no digit takes the place of the last that is held, since the word then names no action.
+#[tactic(auto, using(crate::proofs::LineLaws::word_step, crate::proofs::LineLaws::word_set))]
+fn push(held: &mut [u8], size: usize, byte: u8) -> usize
+    requires word { size ≤ word_held }
+    requires room { word_held ≤ length held.old }
+    ensures word { result ≤ word_held }
+    ensures room { length held.new ≡ length held.old }
+    ensures value { take result held.new ≡ word_with (take size held.old) byte }
+{
+    if is_settled(size, byte) {
+        return size;
     }
-    question
+    let last = size.min(WORD_HELD - 1);
+    held[last] = byte;
+    last + 1
+}
+
+/// More bytes of a first word.
+fn take_word(held: &mut [u8], size: usize, word: &[u8]) -> usize
+    requires word { size ≤ word_held }
+    requires room { word_held ≤ length held.old }
+    ensures word { result ≤ word_held }
+    ensures room { length held.new ≡ length held.old }
+    ensures value { take result held.new ≡ fold word_with (take size held.old) word.now }
+{
+    let mut end = size;
+    for byte in word {
+        end = push(held, end, *byte);
+    }
+    end
+}
+
+/// A part of the line. What is held asks what all of the line asks.
+pub(crate) fn take_part(held: &mut [u8], size: usize, part: &[u8]) -> usize
+    requires within { size ≤ length held.old }
+    requires room { line_held ≤ length held.old }
+    requires word { length (word_of (take size held.old)) ≤ word_held }
+    ensures within { result ≤ length held.new }
+    ensures room { length held.new ≡ length held.old }
+    ensures goes { Goes (take size held.old) part.now (take result held.new) }
+{
+    if is_word(&held[..size]) {
+        let end = take_word(held, size, first_word(part));
+        keep(held, end, behind_word(part))
+    } else {
+        keep(held, size, part)
+    }
 }

@@ -65,15 +65,15 @@ struct Engine {
 }
 
 impl LineMachine for Engine {
-    ghost use Rattle.std.specs.Prelude.{take};
+    ghost use Rattle.std.specs.Prelude.{take, Some, None};
     ghost use Rattle.session.specs.Steps.Sizes.{line_size};
-    ghost use Rattle.session.specs.Steps.Session.{says_in, given_in, printed_in, given_none};
+    ghost use Rattle.session.specs.Steps.Session.{says_in, told_in, told_none};
 
     ghost says = { λ s line. says_in s.phase (take s.count s.text) (take s.size s.image) s.number line };
 
-    ghost given = { λ s lines. given_in s.phase (take s.count s.text) (take s.size s.image) s.number lines };
+    ghost given = { λ s lines. told_in s.phase (take s.count s.text) (take s.size s.image) s.number lines None };
 
-    ghost printed = { λ s lines last. printed_in s.phase (take s.count s.text) (take s.size s.image) s.number lines last };
+    ghost printed = { λ s lines last. told_in s.phase (take s.count s.text) (take s.size s.image) s.number lines (Some last) };
 
     ghost room = { line_size };
 
@@ -124,7 +124,7 @@ impl LineMachine for Engine {
         }
     }
 
-    ghost quiet = { λ s. given_none s.phase (take s.count s.text) (take s.size s.image) s.number };
+    ghost quiet = { λ s. told_none s.phase (take s.count s.text) (take s.size s.image) s.number };
 }
 
 /// Answers the epochs of an input: a rule text, a line `run` or `run events`, and epoch lines. What is printed for the lines that have

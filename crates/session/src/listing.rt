@@ -12,6 +12,7 @@ use output::{Page, Sink};
 use word::words;
 
 /// The words of an image, each a line.
+#[tactic(auto, using(crate::proofs::ListingLaws::word_put, crate::proofs::ListingLaws::words_put))]
 fn put_words<S: Sink>(sink: &mut S, words: &[[u8; 4]])
     ensures { sink.new ≡ fed S.taken sink.old (word_lines (words_in words.now)) }
 {
@@ -46,7 +47,7 @@ fn put_texts_listed<S: Sink>(sink: &mut S, maker: &[u8], site: &[u8])
 pub(crate) const LISTING_SIZE: usize = IMAGE_SIZE / 4 * 9;
 
 /// Puts what the compiler prints for a text at the start of `out`, and answers how many bytes it has; `LISTING_SIZE` are enough.
-#[tactic(auto, using(output::proofs::SinkLaws::stored_all), unfolding(output::specs::Buffer::behind))]
+#[tactic(auto, using(output::proofs::SinkLaws::stored_all, output::proofs::AppendLaws::append_length, io::proofs::Counting::prefix_len_of_le), unfolding(output::specs::Buffer::behind))]
 pub(crate) fn put_listing(text: &[u8], out: &mut [u8]) -> usize
     ensures prefix_len { IsPrefixLen result out.new }
     ensures answer { result ≡ behind out.old 0 (listed text.now) }
@@ -58,7 +59,7 @@ pub(crate) fn put_listing(text: &[u8], out: &mut [u8]) -> usize
 }
 
 /// The same for the maker's and the site's text as one.
-#[tactic(auto, using(output::proofs::SinkLaws::stored_all), unfolding(output::specs::Buffer::behind))]
+#[tactic(auto, using(output::proofs::SinkLaws::stored_all, output::proofs::AppendLaws::append_length, io::proofs::Counting::prefix_len_of_le), unfolding(output::specs::Buffer::behind))]
 pub(crate) fn put_texts_listing(maker: &[u8], site: &[u8], out: &mut [u8]) -> usize
     ensures prefix_len { IsPrefixLen result out.new }
     ensures answer { result ≡ behind out.old 0 (listed_texts maker.now site.now) }

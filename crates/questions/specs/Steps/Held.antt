@@ -1,54 +1,33 @@
--- A question byte by byte, and what is held of it.
+-- What is held of a line: a shorter one that asks the same, whatever both go on with.
 use Rattle.std.specs.Str.{byte}
-use Rattle.std.specs.Prelude.{ℕ, ◌+◌, ◌*◌, ◌-◌, Bool, true, false, ◌||◌, length, set, List, ◌==◌, nat_lt, if◌then◌else◌}
-use Rattle.lexer.specs.Byte.{is_space, is_digit}
-use Rattle.questions.specs.declared.line.Question.{Question}
-use Rattle.questions.specs.declared.line.Token.{Token}
+use Rattle.std.specs.Prelude.{◌≡◌, ℕ, ◌≤◌, min, Bool, ◌&&◌, List, [], ◌∷◌, ◌++◌, length, take, nat_lt, Option, option_map, if◌then◌else◌}
+use Rattle.lexer.specs.Byte.{is_digit}
+use Rattle.lexer.specs.Number.{is_empty}
+use Rattle.lexer.specs.Token.{named}
+use Rattle.questions.specs.Answered.{word_of, epoch_part}
+use Rattle.questions.specs.Steps.Sizes.{epoch_held, word_held}
 
-unfoldable pub first_digit : ℕ → Token
-first_digit b = if b == byte "0" then Token.Zero else (if is_digit b then Token.Number (b - byte "0") else Token.Other)
+-- a first word and a byte more: of a number over 63 no further digit tells anything, and behind what is no digit no word names an action
+unfoldable pub word_with : List ℕ → ℕ → List ℕ
+word_with w b = if nat_lt 3 (length w) && is_digit b then w else take 3 w ++ b ∷ []
 
--- a number over 63 stays over 63
-unfoldable pub more_digits : ℕ → ℕ → ℕ
-more_digits n b = if nat_lt n 64 then n * 10 + (b - byte "0") else n
+-- numbers over 63 are all the same
+abbrev pub over : ℕ → ℕ
+over n = min n 64
 
-unfoldable pub next_digit : ℕ → ℕ → Token
-next_digit n b = if is_digit b then Token.Number (more_digits n b) else Token.Other
+-- all that matters of a line
+pub record Asked : Type 0 where
+  pub empty : Bool
+  pub action : Option ℕ
+  pub epoch : List ℕ
 
-unfoldable pub scan_byte : Token → ℕ → Token
-scan_byte Token.Empty b = if b == byte "A" then Token.Letter else Token.Other
-scan_byte Token.Letter b = first_digit b
-scan_byte (Token.Number n) b = next_digit n b
-scan_byte _ b = Token.Other
+unfoldable pub asked : List ℕ → Asked
+asked line = record { empty = is_empty line; action = option_map over (named (byte "A") (word_of line)); epoch = take epoch_held (epoch_part line) }
 
-abbrev pub start_question : Question
-start_question = record { token = Token.Empty; spaced = false; count = 0 }
+abbrev pub Alike : (line line' : List ℕ) → Type 0
+Alike line line' = (rest : List ℕ) → asked (line ++ rest) ≡ asked (line' ++ rest)
 
-unfoldable pub has_byte : Token → Bool
-has_byte Token.Empty = false
-has_byte _ = true
-
--- the line has a byte
-unfoldable pub is_open : Question → Bool
-is_open q = q.spaced || has_byte q.token
-
--- the question and the bytes that are held of its epoch line
-pub record Held : Type 0 where
-  pub question : Question
-  pub held : List ℕ
-
-abbrev pub held_by : Question → List ℕ → Held
-held_by q held = record { question = q; held = held }
-
--- one byte more of the epoch line, where there is room for it
-unfoldable pub kept : Held → ℕ → Held
-kept h b =
-    if nat_lt h.question.count (length h.held) then held_by (record { token = h.question.token; spaced = true; count = h.question.count + 1 }) (set h.held h.question.count b)
-    else h
-
--- one byte more of the line
-unfoldable pub pushed : Held → ℕ → Held
-pushed h b =
-    if h.question.spaced then kept h b
-    else (if is_space b then held_by (record { token = h.question.token; spaced = true; count = h.question.count }) h.held
-    else held_by (record { token = scan_byte h.question.token b; spaced = false; count = h.question.count }) h.held)
+-- what is held where a part comes behind a line that is held
+pub record Goes (line part line' : List ℕ) : Type 0 where
+  pub word : length (word_of line') ≤ word_held
+  pub asks : Alike line' (line ++ part)

@@ -7,8 +7,16 @@ use Rattle.rule_text.specs.Text.{text_limit}
 abbrev pub text_held : ℕ
 text_held = suc text_limit
 
+abbrev pub epoch_held : ℕ
+epoch_held = suc epoch_limit
+
+-- of a first word
+abbrev pub word_held : ℕ
+word_held = 4
+
+-- of a line: a first word, a space and an epoch line
 abbrev pub line_held : ℕ
-line_held = suc epoch_limit
+line_held = word_held + 1 + epoch_held
 
 -- the longest answer to a question: a line of a text, and what stands around it
 abbrev pub answer_size : ℕ

@@ -9,24 +9,25 @@ use Rattle.session.specs.declared.engine.Phase.{Phase}
 
 -- ---- in the text
 
--- the bytes of the text in these lines and an open one
-abbrev pub text_bytes : List (List ℕ) → List ℕ → Session → List ℕ
-text_bytes lines last text_only = ended lines ++ last
-text_bytes lines last (with_epochs text mode epochs) = ended text
-
-abbrev pub printed_with : List ℕ → List (List ℕ) → List ℕ → Session → List ℕ
-printed_with done lines last s = printed_for (done ++ text_bytes lines last s) s
-
-abbrev pub printed_text : List ℕ → List (List ℕ) → List ℕ → List ℕ
-printed_text done lines last = printed_with done lines last (split_at_run (lines ++ last_line last))
+-- what follows lines that have ended: an open line at the end of the input, or maybe more
+abbrev pub following : Option (List ℕ) → List (List ℕ)
+following None = []
+following (Some last) = last_line last
 
 -- before the end nothing is due for a text that goes on
-abbrev pub given_with : List ℕ → Session → List ℕ
-given_with done text_only = []
-given_with done (with_epochs text mode epochs) = printed_for (done ++ ended text) (with_epochs text mode epochs)
+abbrev pub told_with : List ℕ → List (List ℕ) → Option (List ℕ) → Session → List ℕ
+told_with done lines next (with_epochs text mode epochs) = printed_for (done ++ ended text) (with_epochs text mode epochs)
+told_with done lines None text_only = []
+told_with done lines (Some last) text_only = printed_for (done ++ (ended lines ++ last)) text_only
+
+abbrev pub told_text : List ℕ → List (List ℕ) → Option (List ℕ) → List ℕ
+told_text done lines next = told_with done lines next (split_at_run (lines ++ following next))
+
+abbrev pub printed_text : List ℕ → List (List ℕ) → List ℕ → List ℕ
+printed_text done lines last = told_text done lines (Some last)
 
 abbrev pub given_text : List ℕ → List (List ℕ) → List ℕ
-given_text done lines = given_with done (split_at_run lines)
+given_text done lines = told_text done lines None
 
 abbrev pub says_at : List ℕ → Option Mode → List ℕ
 says_at done None = []
@@ -45,18 +46,13 @@ says_in Phase.Text done image n line = says_at done (mode_of line)
 says_in (Phase.Epochs mode) done image n line = decision_line (next_number n) (decision_in mode image line)
 says_in Phase.Over done image n line = []
 
-abbrev pub given_in : Phase → (done image : List ℕ) → ℕ → List (List ℕ) → List ℕ
-given_in Phase.Text done image n lines = given_text done lines
-given_in (Phase.Epochs mode) done image n lines = epoch_lines mode image n lines
-given_in Phase.Over done image n lines = []
+abbrev pub told_in : Phase → (done image : List ℕ) → ℕ → List (List ℕ) → Option (List ℕ) → List ℕ
+told_in Phase.Text done image n lines next = told_text done lines next
+told_in (Phase.Epochs mode) done image n lines next = epoch_lines mode image n (lines ++ following next)
+told_in Phase.Over done image n lines next = []
 
-abbrev pub printed_in : Phase → (done image : List ℕ) → ℕ → List (List ℕ) → List ℕ → List ℕ
-printed_in Phase.Text done image n lines last = printed_text done lines last
-printed_in (Phase.Epochs mode) done image n lines last = epoch_lines mode image n (lines ++ last_line last)
-printed_in Phase.Over done image n lines last = []
-
-pub given_none : (p : Phase) (done image : List ℕ) (n : ℕ) → given_in p done image n [] ≡ []
+pub told_none : (p : Phase) (done image : List ℕ) (n : ℕ) → told_in p done image n [] None ≡ []
 unfolding split_at_run epoch_lines
-given_none Phase.Text done image n = refl
-given_none (Phase.Epochs mode) done image n = refl
-given_none Phase.Over done image n = refl
+told_none Phase.Text done image n = refl
+told_none (Phase.Epochs mode) done image n = refl
+told_none Phase.Over done image n = refl

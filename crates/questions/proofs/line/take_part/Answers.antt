@@ -1,18 +1,22 @@
-use Rattle.std.proofs.Common.{◌+◌, sym, ap, ap₂, ◌∙◌, drop, fold}
-use Rattle.std.proofs.lemmas.List.{at_drop_more, at_drop_all}
-use Rattle.questions.specs.Steps.Held.{Held, held_by, pushed}
+use Rattle.std.proofs.Common.{◌≡◌, sym, ap, ◌∙◌, ◌++◌, take, fold, arith, length, length-take-le}
+use Rattle.questions.specs.Answered.{word_of}
+use Rattle.questions.specs.Steps.Held.{word_with}
+use Rattle.questions.proofs.LineLaws.{held_word, word_goes, line_goes}
 use Rattle.questions.proofs.line.take_part.Goals as goal
 
-pub loop-byte-preserved : goal.loop-byte-preserved
-loop-byte-preserved c =
-    let h = held_by c.loop-byte.question c.loop-byte.held in
-    let part = c.args.part.now in
-    let i = c.loop-byte.byte-index in
-    ap (λ (x : Held). fold pushed x (drop (i + 1) part)) (ap₂ held_by c.push-question.ensures.answer c.push-question.ensures.buffer)
-    ∙ sym (at_drop_more (fold pushed h) part i 0 c.loop-byte-test.true) ∙ c.loop-byte.invariant
+pub take_word-end-requires-clause-word : goal.take_word-end-requires-clause-word
+take_word-end-requires-clause-word c =
+    let same : word_of (take c.args.size c.args.held.now) ≡ take c.args.size c.args.held.now = held_word _ (sym c.is_word.ensures ∙ c.if-is_word.true) in
+    omega (arith, c.requires.word, ap length same, length-take-le c.args.size c.args.held.now c.requires.within)
 
-pub returns : goal.returns
-returns c =
-    let h = held_by c.loop-byte.question c.loop-byte.held in
-    let all = sym (at_drop_all (fold pushed h) c.args.part.now c.loop-byte.byte-index c.loop-byte-test.false) ∙ c.loop-byte.invariant in
-    record { answer = ap (λ (x : Held). x.question) all; buffer = ap (λ (x : Held). x.held) all }
+pub returns-then-is_word-clause-goes : goal.returns-then-is_word-clause-goes
+returns-then-is_word-clause-goes c =
+    let told = c.take_word-end.ensures in
+    let w = take c.take_word-end.result c.take_word-end.new.held in
+    word_goes (length c.take_word-end.new.held) (omega (arith, told.room, c.requires.room)) _ c.args.part.now _ c.requires.word (sym c.is_word.ensures ∙ c.if-is_word.true) w
+    (told.value ∙ ap (fold word_with (take c.args.size c.args.held.now)) c.first_word.ensures)
+    (c.keep.ensures.value ∙ ap (λ t. take (length c.take_word-end.new.held) (w ++ t)) c.behind_word.ensures)
+
+pub returns-else-is_word-clause-goes : goal.returns-else-is_word-clause-goes
+returns-else-is_word-clause-goes c =
+    line_goes (length c.args.held.now) c.requires.room _ c.args.part.now _ c.requires.word (sym c.is_word.ensures ∙ c.if-is_word.false) c.keep-else-is_word.ensures.value

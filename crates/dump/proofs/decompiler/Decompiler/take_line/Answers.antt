@@ -1,12 +1,7 @@
 use Rattle.std.proofs.Common.{ℕ, List, ◌++◌, ap, sym, ◌∙◌, take}
 use Rattle.dump.specs.Steps.Sizes.{dump_size}
-use Rattle.dump.proofs.Whole.{line_word, line_none}
+use Rattle.dump.proofs.Whole.{line_word}
 use Rattle.dump.proofs.decompiler.Decompiler.take_line.Goals as goal
-
-pub returns-in-None : goal.returns-in-None
-returns-in-None c rest =
-    let self = c.args.self.now in
-    rw c.if-self.false (line_none (take self.size self.image) self.lines c.args.line.now (sym c.word_in.ensures ∙ c.in-None.is) rest)
 
 pub returns-in-Some : goal.returns-in-Some
 returns-in-Some c rest =

@@ -1,6 +1,7 @@
 use Rattle.std.proofs.Common.{[], length, take, sym, arith, append-nil, take_all}
+use Rattle.output.proofs.RoomLaws.{put_take}
 use Rattle.lined.proofs.EndLaws.{found_none, found_some}
-use Rattle.lined.proofs.WaitLaws.{waits_behind, goes_behind, goes_line}
+use Rattle.lined.proofs.WaitLaws.{goes_behind, goes_line}
 use Rattle.lined.proofs.parted.Parted.take_line.Goals as goal
 
 pub answer-self-requires-clause-none : goal.answer-self-requires-clause-none
@@ -9,20 +10,13 @@ answer-self-requires-clause-none g c = (found_some c.args.bytes.now _ _ c.line_e
 pub part-requires : goal.part-requires
 part-requires g c = found_none c.args.bytes.now _ c.line_end.ensures c.in-None.is
 
-pub invariant_of-self : goal.invariant_of-self
-invariant_of-self g c =
-    let self = c.args.self.now in
-    let told = c.answer-self.ensures in
-    let put = waits_behind self.out.now self.used _ _ _ g.P.PartMachine.room told.short self.waits c.requires.room told.answer told.buffer in
-    record { waits = put.2; room = omega (arith, self.room, put.1) }
-
 pub returns-in-Some-clause-goes : goal.returns-in-Some-clause-goes
 returns-in-Some-clause-goes g c =
     let self = c.args.self.now in
     let told = c.answer-self.ensures in
-    let put = waits_behind self.out.now self.used _ _ _ g.P.PartMachine.room told.short self.waits c.requires.room told.answer told.buffer in
     goes_line g.P.PartMachine.given g.P.PartMachine.printed self.machine _ (take self.used self.out.now) _ c.args.bytes.now _ c.in-Some.end
-    (found_some c.args.bytes.now _ _ c.line_end.ensures c.in-Some.is) put.0 told.goes
+    (found_some c.args.bytes.now _ _ c.line_end.ensures c.in-Some.is)
+    (put_take self.out.now self.used _ _ _ (omega (arith, told.short, self.waits, c.requires.room)) (told.answer, told.buffer)) told.goes
 
 pub returns-in-None-clause-goes : goal.returns-in-None-clause-goes
 returns-in-None-clause-goes g c =

@@ -1,5 +1,4 @@
-use Rattle.std.proofs.Common.{ℕ, ◌≤◌, ◌++◌, length, take, ap, sym, ◌∙◌, subst, arith}
-use Rattle.output.specs.Sink.{fed}
+use Rattle.std.proofs.Common.{ℕ, ◌++◌, take, ap, sym, ◌∙◌, arith}
 use Rattle.session.proofs.PhaseLaws.{end_kept, end_picked, epoch_ends, none_ends}
 use Rattle.session.proofs.engine.EngineLineMachine.end.Goals as goal
 
@@ -8,22 +7,22 @@ returns-in-None g c =
     let s = c.args.self.now in
     let kept = c.keep-self.ensures.value ∙ ap (λ (k : ℕ). take k (take s.count s.text ++ c.args.last.now)) s.text_long in
     let same = end_kept s.phase (take s.count s.text) (take s.size s.image) s.number c.args.last.now c.in-Text.is _ (sym c.pick_mode.ensures ∙ c.in-None.is) kept in
-    record { puts = c.end_text.ensures.puts ∙ ap (fed g.S.Sink.taken c.args.sink.now) same; short = subst (λ l. length l ≤ 512) same (omega (arith, c.end_text.ensures.short)) }
+    rw (← same) (record { puts = c.end_text.ensures.puts; short = (omega (arith, c.end_text.ensures.short)) })
 
 pub returns-in-Some : goal.returns-in-Some
 returns-in-Some g c =
     let s = c.args.self.now in
     let same = end_picked s.phase (take s.count s.text) (take s.size s.image) s.number c.args.last.now c.in-Text.is _ (sym c.pick_mode.ensures ∙ c.in-Some.is) in
-    record { puts = c.end_text-in-Some.ensures.puts ∙ ap (fed g.S.Sink.taken c.args.sink.now) same; short = subst (λ l. length l ≤ 512) same (omega (arith, c.end_text-in-Some.ensures.short)) }
+    rw (← same) (record { puts = c.end_text-in-Some.ensures.puts; short = (omega (arith, c.end_text-in-Some.ensures.short)) })
 
 pub returns-then-last-gt0 : goal.returns-then-last-gt0
 returns-then-last-gt0 g c =
     let s = c.args.self.now in
     let same = epoch_ends s.phase (take s.count s.text) (take s.size s.image) s.number c.args.last.now _ c.in-Epochs.is c.if-last-gt0.true in
-    record { puts = c.line.ensures.puts ∙ ap (fed g.S.Sink.taken c.args.sink.now) same; short = subst (λ l. length l ≤ 512) same c.line.ensures.short }
+    rw (← same) (record { puts = c.line.ensures.puts; short = c.line.ensures.short })
 
 pub returns-else-last-gt0 : goal.returns-else-last-gt0
 returns-else-last-gt0 g c =
     let s = c.args.self.now in
     let same = none_ends s.phase (take s.count s.text) (take s.size s.image) s.number c.args.last.now _ c.in-Epochs.is c.if-last-gt0.false in
-    record { puts = sym (g.met.S.Sink.none c.args.sink.now) ∙ ap (fed g.S.Sink.taken c.args.sink.now) same; short = subst (λ l. length l ≤ 512) same (omega arith) }
+    rw (← same) (record { puts = sym (g.met.S.Sink.none c.args.sink.now); short = omega arith })

@@ -1,3 +1,4 @@
+use Rattle.std.specs.Prelude.{Some, None}
 use Rattle.std.proofs.Common.{ℕ, [], ◌∷◌, ◌++◌, ◌≤◌, length, take, ap, sym, ◌∙◌, subst, arith}
 use Rattle.session.proofs.LengthLaws.{decision_short}
 use Rattle.session.proofs.PhaseLaws.{kept_goes, refused_goes, accepted_goes, epoch_says, epoch_goes}
@@ -8,19 +9,19 @@ returns-in-None-clause-goes g c =
     let s = c.args.self.now in
     let kept = c.keep_line-self.ensures.kept ∙ ap (λ (k : ℕ). take k (take s.count s.text ++ (c.args.line.now ++ 10 ∷ []))) s.text_long in
     let goes = kept_goes s.phase (take s.count s.text) (take s.size s.image) s.number c.args.line.now c.in-Text.is _ (sym c.pick_mode.ensures ∙ c.in-None.is) kept in
-    record { at_once = goes.at_once; in_all = goes.in_all }
+    record { at_once = λ rest. goes rest None; in_all = λ rest last. goes rest (Some last) }
 
 pub returns-in-None-end_text-clause-goes : goal.returns-in-None-end_text-clause-goes
 returns-in-None-end_text-clause-goes g c =
     let s = c.args.self.now in
     let goes = refused_goes s.phase (take s.count s.text) (take s.size s.image) s.number c.args.line.now c.in-Text.is c.in-Some.mode c.end_text.new.image (sym c.pick_mode.ensures ∙ c.in-Some.is) (take s.size c.end_text.new.image) s.number c.in-None-end_text.ensures.ends in
-    record { at_once = goes.at_once; in_all = goes.in_all }
+    record { at_once = λ rest. goes rest None; in_all = λ rest last. goes rest (Some last) }
 
 pub returns-in-Some-end_text-clause-goes : goal.returns-in-Some-end_text-clause-goes
 returns-in-Some-end_text-clause-goes g c =
     let s = c.args.self.now in
     let goes = accepted_goes s.phase (take s.count s.text) (take s.size s.image) s.number c.args.line.now c.in-Text.is c.in-Some.mode c.end_text.new.image (sym c.pick_mode.ensures ∙ c.in-Some.is) _ c.in-Some-end_text.ensures.ends in
-    record { at_once = goes.at_once; in_all = goes.in_all }
+    record { at_once = λ rest. goes rest None; in_all = λ rest last. goes rest (Some last) }
 
 pub returns-in-Epochs-clause-short : goal.returns-in-Epochs-clause-short
 returns-in-Epochs-clause-short g c =
@@ -31,4 +32,4 @@ pub returns-in-Epochs-clause-goes : goal.returns-in-Epochs-clause-goes
 returns-in-Epochs-clause-goes g c =
     let s = c.args.self.now in
     let goes = epoch_goes s.phase (take s.count s.text) (take s.size s.image) s.number c.args.line.now c.in-Epochs.mode c.in-Epochs.is in
-    record { at_once = goes.at_once; in_all = goes.in_all }
+    record { at_once = λ rest. goes rest None; in_all = λ rest last. goes rest (Some last) }
