@@ -2,9 +2,9 @@
 #include "scan.h"
 
 struct kinohazel_decision plain_decide_events(
-    const uint8_t *image, size_t image_length, const uint8_t *line, size_t line_length)
+    const uint8_t *image, size_t image_length, uint64_t pending, const uint8_t *line, size_t line_length)
 {
-    struct kinohazel_decision decision = {0, 0, 0, 0, 0};
+    struct kinohazel_decision decision = {0, 0, 0, 0, 0, 0};
     struct kinohazel_image_check check = load(image, image_length);
     if (check.fault != KINOHAZEL_OK) {
         decision.fault = check.fault;
@@ -15,6 +15,7 @@ struct kinohazel_decision plain_decide_events(
     decision.fault = read_epoch(line, line_length, &epoch);
     if (decision.fault != KINOHAZEL_OK)
         return decision;
+    epoch.events |= pending;
 
     struct header header = unpack_header(word_at(image, 0));
     size_t middle = 1 + header.rule_words;

@@ -6,9 +6,10 @@ struct kinohazel_image_check plain_check(const uint8_t *image, size_t image_leng
     return load(image, image_length);
 }
 
-struct kinohazel_decision plain_decide(const uint8_t *image, size_t image_length, const uint8_t *line, size_t line_length)
+struct kinohazel_decision plain_decide(
+    const uint8_t *image, size_t image_length, uint64_t pending, const uint8_t *line, size_t line_length)
 {
-    struct kinohazel_decision decision = {0, 0, 0, 0, 0};
+    struct kinohazel_decision decision = {0, 0, 0, 0, 0, 0};
     struct kinohazel_image_check check = load(image, image_length);
     if (check.fault != KINOHAZEL_OK) {
         decision.fault = check.fault;
@@ -19,6 +20,7 @@ struct kinohazel_decision plain_decide(const uint8_t *image, size_t image_length
     decision.fault = read_epoch(line, line_length, &epoch);
     if (decision.fault != KINOHAZEL_OK)
         return decision;
+    epoch.events |= pending;
 
     struct header header = unpack_header(word_at(image, 0));
     size_t middle = 1 + header.rule_words;

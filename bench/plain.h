@@ -1,12 +1,14 @@
-/* What a scan costs in plain C: what checks and decisions of the library are measured against. Same inputs, same answers. */
+/* What a scan costs in plain C: what checks and decisions of the library are measured against. Same inputs, same answers, but for lines
+ * that trigger events: images are measured in forms 1 and 2, which have none. */
 #ifndef PLAIN_H
 #define PLAIN_H
 
 #include "kinohazel.h"
 
 struct kinohazel_image_check plain_check(const uint8_t *image, size_t image_length);
-struct kinohazel_decision plain_decide(const uint8_t *image, size_t image_length, const uint8_t *line, size_t line_length);
+struct kinohazel_decision plain_decide(
+    const uint8_t *image, size_t image_length, uint64_t pending, const uint8_t *line, size_t line_length);
 struct kinohazel_decision plain_decide_events(
-    const uint8_t *image, size_t image_length, const uint8_t *line, size_t line_length);
+    const uint8_t *image, size_t image_length, uint64_t pending, const uint8_t *line, size_t line_length);
 
 #endif

@@ -1,4 +1,4 @@
-/* The parts of a scan in plain C, by the algorithms of the library: an image of either form is checked word by word, an epoch line is
+/* The parts of a scan in plain C, by the algorithms of the library: an image of form 1 or 2 is checked word by word, an epoch line is
  * read, and words are run by their skips and counted. They are for plain.c and events.c, which stand alone as the two libraries do, so
  * that each is optimised by itself. */
 #ifndef SCAN_H

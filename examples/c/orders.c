@@ -66,8 +66,8 @@ int main(void)
         const uint8_t *line = (const uint8_t *)scans[i];
         size_t length = strlen(scans[i]);
         printf("%s\n", scans[i]);
-        print_decision("actions", kinohazel_decide(image, compiled.size, line, length));
-        print_decision("events", kinohazel_decide_events(image, compiled.size, line, length));
+        print_decision("actions", kinohazel_decide(image, compiled.size, 0, line, length));
+        print_decision("events", kinohazel_decide_events(image, compiled.size, 0, line, length));
     }
     return 0;
 }

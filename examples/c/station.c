@@ -52,7 +52,7 @@ int main(void)
 
     for (size_t i = 0; i < sizeof scans / sizeof scans[0]; i++) {
         struct kinohazel_decision decision =
-            kinohazel_decide(image, compiled.size, (const uint8_t *)scans[i], strlen(scans[i]));
+            kinohazel_decide(image, compiled.size, 0, (const uint8_t *)scans[i], strlen(scans[i])); /* no event is pending */
         printf("%zu", i + 1);
         if (decision.fault == KINOHAZEL_OK) {
             print_actions("accept", decision.accepted);

@@ -59,8 +59,8 @@ int main(void)
     for (size_t i = 0; i < sizeof questions / sizeof questions[0]; i++) {
         const char *scan = questions[i].scan;
         printf("%s: A%" PRIu64, scan, questions[i].action);
-        print_explanation(kinohazel_explain((const uint8_t *)maker, strlen(maker), (const uint8_t *)site, strlen(site),
-            (const uint8_t *)scan, strlen(scan), questions[i].action));
+        print_explanation(kinohazel_explain((const uint8_t *)maker, strlen(maker), (const uint8_t *)site, strlen(site), 0,
+            (const uint8_t *)scan, strlen(scan), questions[i].action)); /* no event is pending */
     }
     return 0;
 }

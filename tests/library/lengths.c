@@ -58,7 +58,7 @@ static bool painted(const uint8_t *out, size_t from)
     return from == START;
 }
 
-/* Inputs too long by any power of 2 are refused under this fault, into a short buffer and into a long one. Texts are compiled to either
+/* Inputs too long by any power of 2 are refused under this fault, into a short buffer and into a long one. Texts are compiled to every
    form, and images are of any. */
 static void try_long(uint8_t *area, uint8_t *out, fill_function *fill, const void *input, size_t size, unsigned first_bit,
     enum kinohazel_fault fault)
@@ -71,7 +71,7 @@ static void try_long(uint8_t *area, uint8_t *out, fill_function *fill, const voi
             struct filled answer;
             length = ((size_t)1 << bit) + size;
             paint(out);
-            answer = fill(FIRST_FORM + (bit + k / 2) % NEWEST_FORM, area, length, out, k % 2 == 0 ? KINOHAZEL_IMAGE_LIMIT : length);
+            answer = fill(FIRST_FORM + (bit + k / 2) % LAST_FORM, area, length, out, k % 2 == 0 ? KINOHAZEL_IMAGE_LIMIT : length);
             if (answer.fault != (uint64_t)fault || answer.location != 0 || answer.size != 0)
                 fail("a text or an image too long is not refused under 1 or 7", length);
             if (!painted(out, 0))
@@ -103,13 +103,28 @@ static void try_rooms(uint8_t *area, uint8_t *out, fill_function *fill, uint64_t
     }
 }
 
-/* The function of each mode. */
+/* The functions of each mode. */
 static struct kinohazel_decision (*const deciders[2])(
-    const uint8_t *, size_t, const uint8_t *, size_t) = {kinohazel_decide, kinohazel_decide_events};
+    const uint8_t *, size_t, uint64_t, const uint8_t *, size_t) = {kinohazel_decide, kinohazel_decide_events};
+static struct kinohazel_decision (*const steps[2])(
+    const uint8_t *, size_t, struct kinohazel_state *, const uint8_t *, size_t) = {kinohazel_step, kinohazel_step_events};
 
-static bool is_refused(struct kinohazel_decision answer, enum kinohazel_fault fault)
+/* Whether a line on an image is refused so in a mode, by the decision and by the step, which leaves the state as it was. */
+static bool is_refused(const uint8_t *image, size_t length, const uint8_t *line, size_t line_length, unsigned mode,
+    enum kinohazel_fault fault)
 {
-    return answer.fault == (uint64_t)fault && (answer.word | answer.accepted | answer.cancelled | answer.visited) == 0;
+    const uint64_t pending = UINT64_C(1) << 60 | 2;
+    struct kinohazel_state state = {pending};
+    struct kinohazel_decision answers[2];
+    unsigned i;
+    answers[0] = deciders[mode](image, length, pending, line, line_length);
+    answers[1] = steps[mode](image, length, &state, line, line_length);
+    calls += 2;
+    for (i = 0; i < 2; i++)
+        if (answers[i].fault != (uint64_t)fault
+            || (answers[i].word | answers[i].accepted | answers[i].cancelled | answers[i].triggered | answers[i].visited) != 0)
+            return false;
+    return state.pending == pending;
 }
 
 /* Forms that are known but for any higher bits are refused under 8. */
@@ -117,8 +132,8 @@ static void try_forms(uint8_t *area, uint8_t *out)
 {
     unsigned bit, k;
     put(area, EXAMPLE, strlen(EXAMPLE));
-    for (bit = 2; bit < 64; bit++)
-        for (k = 0; k < 4; k++) { /* 0 to 3 */
+    for (bit = 3; bit < 64; bit++)
+        for (k = 0; k <= LAST_FORM; k++) {
             uint64_t form = ((uint64_t)1 << bit) + k;
             struct kinohazel_compilation answer;
             struct kinohazel_texts_compilation joint;
@@ -147,12 +162,9 @@ static void try_images(uint8_t *area, const uint8_t *image, size_t size)
             fail("an image too long is not refused under 7", length);
         calls++;
         for (i = 0; i < sizeof lines / sizeof *lines; i++)
-            for (mode = 0; mode < 2; mode++) {
-                struct kinohazel_decision answer = deciders[mode](area, length, (const uint8_t *)lines[i], strlen(lines[i]));
-                if (!is_refused(answer, KINOHAZEL_IMAGE_SIZE))
+            for (mode = 0; mode < 2; mode++)
+                if (!is_refused(area, length, (const uint8_t *)lines[i], strlen(lines[i]), mode, KINOHAZEL_IMAGE_SIZE))
                     fail("a decision on an image too long is not refused under 7", length);
-                calls++;
-            }
     }
 }
 
@@ -171,10 +183,8 @@ static void try_lines(uint8_t *area, const uint8_t *image, size_t size)
                 bool right = k % 2 == 0;
                 length = ((size_t)1 << bit) + strlen(lines[i]);
                 put(area, lines[i], strlen(lines[i]));
-                if (!is_refused(deciders[k / 2](right ? image : changed, size, area, length),
-                        right ? KINOHAZEL_TOO_LONG : KINOHAZEL_IMAGE_SUM))
+                if (!is_refused(right ? image : changed, size, area, length, k / 2, right ? KINOHAZEL_TOO_LONG : KINOHAZEL_IMAGE_SUM))
                     fail("a line too long is not refused under 1, or before its image", length);
-                calls++;
             }
 }
 
@@ -199,8 +209,8 @@ static void try_long_texts(uint8_t *area, uint8_t *out)
             lengths[0] = k == 0 ? length : k == 1 ? size : sizeof faulty - 1;
             lengths[1] = k == 0 ? size : length;
             paint(out);
-            answer = kinohazel_compile_texts(FIRST_FORM + bit % NEWEST_FORM, maker, lengths[0], site, lengths[1], out, length);
-            why = kinohazel_explain(maker, lengths[0], site, lengths[1], (const uint8_t *)"E1", 2, 2);
+            answer = kinohazel_compile_texts(FIRST_FORM + bit % LAST_FORM, maker, lengths[0], site, lengths[1], out, length);
+            why = kinohazel_explain(maker, lengths[0], site, lengths[1], 0, (const uint8_t *)"E1", 2, 2);
             if (answer.fault != fault || answer.text != number || answer.line != (k == 2) || answer.size != 0 || !painted(out, 0))
                 fail("of two texts one too long is not refused under 1", length);
             if (why.fault != fault || why.text != number || why.line != (k == 2)
@@ -232,13 +242,13 @@ static void try_two_texts(uint8_t *area, uint8_t *out, uint64_t form)
         if (answer.fault != KINOHAZEL_OK || (answer.text | answer.line) != 0 || answer.size != size || memcmp(out, image, size) != 0
             || !painted(out, size))
             fail("a large room is not enough for two texts", room);
-        why = kinohazel_explain(maker, lengths[0], site, lengths[1], area, room, 2);
+        why = kinohazel_explain(maker, lengths[0], site, lengths[1], 0, area, room, 2);
         if (bit >= 10 && (why.fault != KINOHAZEL_TOO_LONG || (why.text | why.outcome | why.part_text | why.part_length) != 0))
             fail("an explanation for a line too long is not refused under 1", room);
-        why = kinohazel_explain(maker, lengths[0], site, lengths[1], area, 7, action);
+        why = kinohazel_explain(maker, lengths[0], site, lengths[1], 0, area, 7, action);
         if (why.fault != KINOHAZEL_EPOCH_RANGE || (why.text | why.outcome | why.part_text | why.part_length) != 0)
             fail("an action over 63 is not refused under 13", room);
-        why = kinohazel_explain(maker, lengths[0], site, lengths[1], area, 7, 2);
+        why = kinohazel_explain(maker, lengths[0], site, lengths[1], 0, area, 7, 2);
         if (why.outcome != KINOHAZEL_CANCELLED || why.part_text != 2 || why.part_start != 0 || why.part_length != lengths[1] - 1)
             fail("an action is not explained", room);
         calls += 4;
@@ -270,10 +280,10 @@ int main(void)
         try_long(area, out, fill_with_image, texts[i], strlen(texts[i]), 16, KINOHAZEL_TOO_LONG);
     try_long_texts(area, out);
     try_forms(area, out);
-    for (form = FIRST_FORM; form <= NEWEST_FORM; form++) {
+    for (form = FIRST_FORM; form <= LAST_FORM; form++) {
         try_two_texts(area, out, form);
         try_text(area, out, form, EXAMPLE);
-        try_text(area, out, form, "");
+        try_text(area, out, form, form < TRIGGER_FORM ? "" : "E2 triggers E1\n");
     }
     printf("library: %lu calls with lengths up to 2 to the power of %d and more agree\n", calls, LAST_BIT);
     return 0;

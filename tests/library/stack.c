@@ -16,7 +16,8 @@ static struct {
     uint8_t *out, *frame;
     size_t text_length, image_length, line_length, out_length;
     struct texts texts;
-    uint64_t form, action;
+    uint64_t form, pending, action;
+    struct kinohazel_state state;
 } call;
 
 static struct {
@@ -57,20 +58,32 @@ static void call_text(void)
 static void call_decide(void)
 {
     call.frame = __builtin_frame_address(0);
-    answer.decision = kinohazel_decide(call.image, call.image_length, call.line, call.line_length);
+    answer.decision = kinohazel_decide(call.image, call.image_length, call.pending, call.line, call.line_length);
+}
+
+static void call_step(void)
+{
+    call.frame = __builtin_frame_address(0);
+    answer.decision = kinohazel_step(call.image, call.image_length, &call.state, call.line, call.line_length);
 }
 
 static void call_decide_events(void)
 {
     call.frame = __builtin_frame_address(0);
-    answer.decision = kinohazel_decide_events(call.image, call.image_length, call.line, call.line_length);
+    answer.decision = kinohazel_decide_events(call.image, call.image_length, call.pending, call.line, call.line_length);
+}
+
+static void call_step_events(void)
+{
+    call.frame = __builtin_frame_address(0);
+    answer.decision = kinohazel_step_events(call.image, call.image_length, &call.state, call.line, call.line_length);
 }
 
 static void call_explain(void)
 {
     call.frame = __builtin_frame_address(0);
     answer.explanation = kinohazel_explain(call.texts.maker.bytes, call.texts.maker.length, call.texts.site.bytes,
-        call.texts.site.length, call.line, call.line_length, call.action);
+        call.texts.site.length, call.pending, call.line, call.line_length, call.action);
 }
 
 static struct function {
@@ -84,6 +97,8 @@ static struct function {
   writing = {"text", call_text, KINOHAZEL_TEXT_STACK, 0, 0},
   deciding = {"decide", call_decide, KINOHAZEL_DECIDE_STACK, 0, 0},
   deciding_events = {"decide_events", call_decide_events, KINOHAZEL_DECIDE_EVENTS_STACK, 0, 0},
+  stepping = {"step", call_step, KINOHAZEL_STEP_STACK, 0, 0},
+  stepping_events = {"step_events", call_step_events, KINOHAZEL_STEP_EVENTS_STACK, 0, 0},
   explaining = {"explain", call_explain, KINOHAZEL_EXPLAIN_STACK, 0, 0};
 
 static void measure(struct function *function)
@@ -106,9 +121,11 @@ static void measure(struct function *function)
     function->calls++;
 }
 
+/* The events that the step triggers are pending in the decisions on the next line. */
 static void measure_image(const uint8_t *image, size_t length, const uint8_t *line, size_t line_length)
 {
     call.image = image;
+    call.pending = call.state.pending;
     call.image_length = length;
     call.line = line;
     call.line_length = line_length;
@@ -116,6 +133,9 @@ static void measure_image(const uint8_t *image, size_t length, const uint8_t *li
     measure(&writing);
     measure(&deciding);
     measure(&deciding_events);
+    measure(&stepping);
+    call.state.pending = call.pending;
+    measure(&stepping_events);
 }
 
 /* A text split over two, and some of the epoch lines of an input from `at` on. */
@@ -134,6 +154,7 @@ static void measure_texts(const struct buffer *input, size_t at, struct dice *di
     for (lines = 0; lines < 4; lines++) {
         if (lines == 0 || !next_line(input->bytes, input->length, &at, &call.line, &call.line_length))
             call.line_length = 0;
+        call.pending = lines % 2 == 0 ? 0 : roll(dice);
         for (call.action = lines % 2 == 0 ? 0 : 58; call.action < (lines % 2 == 0 ? 6 : 66); call.action++)
             measure(&explaining);
     }
@@ -174,7 +195,7 @@ static void measure_form(uint64_t form, const struct buffer *input, struct dice 
 static void measure_input(const struct buffer *input, struct dice *dice)
 {
     uint64_t form;
-    for (form = FIRST_FORM; form <= NEWEST_FORM; form++)
+    for (form = FIRST_FORM; form <= NEWEST_FORM; form++) /* those behind it are as the newest */
         measure_form(form, input, dice);
 }
 
@@ -194,7 +215,11 @@ static void measure_largest(struct buffer *input, struct dice *dice)
     }
     measure_input(input, dice);
     input->length = 0;
-    add_widest(input);
+    add_widest(input, FIRST_FORM);
+    measure_input(input, dice);
+    input->length = 0;
+    add_widest(input, NEWEST_FORM);
+    add(input, "run\nR10=0 R11=0 R12=0 R15=0\n");
     measure_input(input, dice);
     input->length = 0;
     add_most_tried(input);
@@ -213,7 +238,7 @@ static bool report(const struct function *function)
 int main(void)
 {
     static const struct function *const functions[] = {
-        &compiling, &compiling_texts, &checking, &writing, &deciding, &deciding_events, &explaining};
+        &compiling, &compiling_texts, &checking, &writing, &deciding, &deciding_events, &stepping, &stepping_events, &explaining};
     struct buffer input = new_buffer();
     struct dice dice = {UINT64_C(0x57) << 32};
     unsigned i;

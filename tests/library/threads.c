@@ -1,5 +1,5 @@
 /* Calls the functions of include/kinohazel.h from several threads at once, on the same texts, images and lines, each thread with
-   buffers of its own. The answers must be those that one thread alone had before. */
+   buffers and states of its own. The answers must be those that one thread alone had before. */
 #define _POSIX_C_SOURCE 200112L
 #include "../reference/inputs.h"
 #include "kinohazel.h"
@@ -15,7 +15,8 @@ struct answers {
     struct kinohazel_texts_compilation texts_compilation;
     struct kinohazel_image_check check;
     struct kinohazel_text_written written;
-    struct kinohazel_decision decisions[LINES], by_events[LINES];
+    struct kinohazel_decision decisions[LINES], by_events[LINES], steps[LINES], steps_by_events[LINES];
+    struct kinohazel_state state; /* after all steps */
     struct kinohazel_explanation explanations[LINES];
     uint8_t out[IMAGE_BYTES], joint[IMAGE_BYTES], text[WRITTEN_BYTES];
 };
@@ -36,6 +37,7 @@ static pthread_barrier_t start;
 static void answer(const struct sample *sample, struct answers *to)
 {
     const struct buffer *maker = &sample->maker, *site = &sample->site;
+    const uint64_t pending = 1 << 4 | 1 << 6;
     size_t i;
     memset(to, 0, sizeof *to);
     to->compilation = kinohazel_compile(sample->form, sample->input.bytes, sample->text_length, to->out, sizeof to->out);
@@ -44,10 +46,12 @@ static void answer(const struct sample *sample, struct answers *to)
     to->check = kinohazel_check(sample->image, sample->size);
     to->written = kinohazel_text(sample->image, sample->size, to->text, sizeof to->text);
     for (i = 0; i < sample->count; i++) {
-        to->decisions[i] = kinohazel_decide(sample->image, sample->size, sample->lines[i], sample->lengths[i]);
-        to->by_events[i] = kinohazel_decide_events(sample->image, sample->size, sample->lines[i], sample->lengths[i]);
+        to->decisions[i] = kinohazel_decide(sample->image, sample->size, pending, sample->lines[i], sample->lengths[i]);
+        to->by_events[i] = kinohazel_decide_events(sample->image, sample->size, pending, sample->lines[i], sample->lengths[i]);
+        to->steps[i] = kinohazel_step(sample->image, sample->size, &to->state, sample->lines[i], sample->lengths[i]);
+        to->steps_by_events[i] = kinohazel_step_events(sample->image, sample->size, &to->state, sample->lines[i], sample->lengths[i]);
         to->explanations[i] = kinohazel_explain(
-            maker->bytes, maker->length, site->bytes, site->length, sample->lines[i], sample->lengths[i], i % 6);
+            maker->bytes, maker->length, site->bytes, site->length, pending, sample->lines[i], sample->lengths[i], i % 6);
     }
 }
 

@@ -130,7 +130,7 @@ static bool reads_input(const struct tool *tool)
 {
     static struct policy policy;
     return !has_files(tool)
-        || (strcmp(tool->program, "explain") == 0 && read_texts(tool->texts, &policy).fault == FAULT_NONE);
+        || (strcmp(tool->program, "explain") == 0 && read_texts(NEWEST_FORM, tool->texts, &policy).fault == FAULT_NONE);
 }
 
 static struct bytes due_of(const struct tool *tool, const uint8_t *input, size_t length)
@@ -489,6 +489,7 @@ static void add_compiler_samples(void)
     add_sample(compiler, "the example", EXAMPLE);
     add_sample(compiler, "a last line without its end", "E1 causes A1\nnever A1");
     add_sample(compiler, "a faulty line", "E1 causes A1\nE64 causes A2\nE3 causes A3\n");
+    add_sample(compiler, "a line that triggers", "E1 & E2 triggers E60 if R0 > 5\nE60 causes A1");
     add_largest(add_sample(compiler, "the largest image", ""));
     add_length(add_sample(compiler, "32,768 bytes", ""), TEXT_BYTES, true);
     add_length(add_sample(compiler, "32,769 bytes", ""), TEXT_BYTES + 1, true);
@@ -509,15 +510,19 @@ static void add_decompiler_samples(void)
     add(&text, EXAMPLE);
     compile(FIRST_FORM, text.bytes, text.length, image, sizeof image, &size);
     add_dump(add_sample(decompiler, "the example", ""), image, size);
-    compile(NEWEST_FORM, text.bytes, text.length, image, sizeof image, &size);
+    compile(2, text.bytes, text.length, image, sizeof image, &size);
     add_dump(add_sample(decompiler, "the example in form 2", ""), image, size);
+    compile(NEWEST_FORM, text.bytes, text.length, image, sizeof image, &size);
+    add_dump(add_sample(decompiler, "the example in the newest form", ""), image, size);
     image[size - WORD_BYTES - 1] ^= 1;
     put_sum(image, size / WORD_BYTES);
     add_dump(add_sample(decompiler, "a changed weighted word", ""), image, size);
     add_sample(decompiler, "a last line without its end", "01002000\n10400001\n50400000\n9e7fdfff");
+    add_sample(decompiler, "a line that triggers",
+        "03005000\n10400004\n10800003\n30008001\n00000005\n8F000000\n6F02502E\nAE3CDFC5\n");
     add_sample(decompiler, "a line that is no word", "01000000\nFF00000\nFF000000\nx\n");
     text.length = 0;
-    add_widest(&text);
+    add_widest(&text, NEWEST_FORM);
     compile(NEWEST_FORM, text.bytes, text.length, image, sizeof image, &size);
     add_dump(add_sample(decompiler, "the longest text", ""), image, size);
     image[size - 1] ^= 1;
@@ -530,6 +535,8 @@ static void add_decompiler_samples(void)
     add_times(add_sample(decompiler, "200,000 digits", ""), "0", 200000);
     free(text.bytes);
 }
+
+#define REMEMBERED "E1 triggers E60\nE60 causes A2\nE2 causes A1\nnever A1 & A2\n"
 
 static void add_engine_samples(void)
 {
@@ -544,6 +551,8 @@ static void add_engine_samples(void)
     add_sample(engine, "run without its end", "E1 causes A1\nrun");
     add_sample(engine, "the example by events", EXAMPLE "run events\nE1 E3 R0=41\n\nrun\nE1 E3");
     add_sample(engine, "run events without its end", "E1 causes A1\nrun events");
+    add_sample(engine, "events that are remembered", REMEMBERED "run\nE1\n\nE1\nE64\nE1 E2\nE60\n\nE1");
+    add_sample(engine, "remembered by events", REMEMBERED "run events\nE1 E2\nx\nE2\nE60\nE1\n\n");
     input = add_sample(engine, "32,769 bytes and run events", "");
     add_length(input, TEXT_BYTES + 1, true);
     add(input, NEAR_RUN "run events\nE1\n");
@@ -599,7 +608,7 @@ static void add_texts_samples(void)
         const char *program = on_texts[i];
         add_sample(tool_of(program, "", ""), "two empty texts", "");
         add_sample(tool_of(program, EXAMPLE_OF_MAKER, EXAMPLE_OF_SITE), "two texts",
-            "A3 E1 E3 R0=41\nA4 E1 E3 R0=41\n\nA4\nA4 E3 R0=4");
+            "A3 E1 E3 R0=41\nA4,E1,E3 R0=41\n\nA4\nA4,E64\nA4, E3\nA4,E3 R0=4");
         add_sample(tool_of(program, "E1 causes A1\nnever A1", "\nE64 causes A1\n"), "a faulty line of the site", "A1 E1\n");
         add_sample(tool_on(program, &open, &closed), "two texts of 32,768 bytes", "A3 E1\n");
         add_sample(tool_on(program, &closed, &longer), "a text of 200,000 bytes", "A3 E1\n");
@@ -621,6 +630,10 @@ static void add_explain_samples(void)
     input = add_sample(tool_of("explain", EXAMPLE_OF_MAKER, EXAMPLE_OF_SITE), "long questions", "A4 E3");
     add_times(input, " ", 70000);
     add(input, "\nA1");
+    add_times(input, "0", 70000);
+    add(input, "\nA4");
+    add_times(input, ",E3", 20000);
+    add(input, "\nA4,E3,E1");
     add_times(input, "0", 70000);
     add(input, "\nA4 E3");
 }
@@ -940,8 +953,9 @@ static void test_blocking_input(void)
         "02000000\n02000000\nFC000000\n", "02000000\n02000000\n", "x\n", "01000000\n\n"};
     static const char *const inputs[] = {"", "E1 causes A1\n", "E1 causes A1\nrun", "E1 causes A1\nrun\n",
         "E1 causes A1\nrun\nE1", "E1 causes A1\nrun\nE1\n", "E1 causes A1\nrun\nE1\n\nE64\nE1 E2", "E64 causes A1\n",
-        "E64 causes A1\nru", "E64 causes A1\nrun\nE1\nE", "run\n\n\n "};
-    static const char *const questions[] = {"", "A", "A3 E1 R0=41", "A4 E3\n", "A4 E3\n\nA64\nA3 E", "\n\nx\n "};
+        "E64 causes A1\nru", "E64 causes A1\nrun\nE1\nE", "run\n\n\n ", REMEMBERED "run\nE1\nE60\n\nE"};
+    static const char *const questions[] = {
+        "", "A", "A3 E1 R0=41", "A4 E3\n", "A4 E3\n\nA64\nA3 E", "\n\nx\n ", "A4,", "A4,E3", "A4,E3\nA4,E3,"};
     static const char *const names[] = {"32,769 bytes", "33,000 bytes and no run", "a faulty line in 60,000 bytes",
         "many answers", "long answers"};
     size_t i;

@@ -11,6 +11,7 @@ enum {
     DECOMPILER_CASES = 1600,
     ENGINE_CASES = 3200,
     CLASH_CASES = 400,
+    REMEMBERED_CASES = 400,
     TEXTS_CASES = 1600,
     EXPLAIN_CASES = 2640
 };
@@ -27,11 +28,13 @@ static void fail(const char *message, const char *name)
 /* Writing cases, and counting what they meet */
 
 struct tally {
-    unsigned long text[FAULTS], epoch[MODES][FAULTS], dump[FAULTS], no_words, forms[NEWEST_FORM + 1]; /* of accepted dumps */
+    unsigned long text[FAULTS], epoch[MODES][FAULTS], dump[FAULTS], no_words, forms[LAST_FORM + 1]; /* of accepted dumps */
     unsigned long decisions[MODES], cancelling[MODES], dropping, loaded, bodies;
+    unsigned long triggering[MODES], occurring[MODES], kept[MODES]; /* accepted with pending events, and refused with them */
     unsigned long most_accepted[MODES], most_cancelled[MODES], most_visited[MODES], most_epochs; /* in one decision, in one input */
     unsigned long texts[FAULTS][OWNERS], refused_texts[FAULTS][OWNERS]; /* of the compiler, of explain */
-    unsigned long question[FAULTS], outcomes[OUTCOMES][OWNERS], over; /* refused for the number of the action alone */
+    unsigned long question[FAULTS], outcomes[OUTCOMES][OWNERS], over; /* refused for the number of the action or of an event alone */
+    unsigned long asked_pending, changed; /* answered with pending events, and by them otherwise than without */
     unsigned long both, most_questions; /* accepted texts with lines of both; in one input */
 };
 
@@ -77,7 +80,7 @@ static void check_loader(const uint8_t *image, size_t length, struct dice *dice,
         fail("a changed image is not written again as it was", name);
 }
 
-/* In form 2 two words before the weighted one that stand next to each other and differ are refused if they are exchanged: words 0 and 1
+/* Two words before the weighted one that stand next to each other and differ are refused if they are exchanged: words 0 and 1
    under 8, others under 16. */
 static void check_swap(const uint8_t *image, size_t length, struct dice *dice, const char *name)
 {
@@ -114,17 +117,18 @@ static void check_writer(const uint8_t *image, size_t length, const char *name)
         fail("the text of the image does not compile to it", name);
 }
 
-/* The words and the policy decide alike on an epoch line, and agree on the words that are visited. */
-static struct decision check_decision(const struct policy *policy, const uint8_t *image, size_t size, const uint8_t *line,
-    size_t length, enum mode mode, const char *name)
+/* The words and the policy decide alike on an epoch line where these events are pending, and agree on the words that are visited. */
+static struct decision check_decision(const struct policy *policy, const uint8_t *image, size_t size, event_set pending,
+    const uint8_t *line, size_t length, enum mode mode, const char *name)
 {
-    struct decision one = decide(image, size, line, length, mode), other = decide_by_policy(policy, line, length, mode);
+    struct decision one = decide(image, size, pending, line, length, mode),
+                    other = decide_by_policy(policy, pending, line, length, mode);
     struct epoch epoch;
     if (one.verdict.fault != other.verdict.fault || one.verdict.location != other.verdict.location
-        || one.accepted != other.accepted || one.cancelled != other.cancelled)
+        || one.accepted != other.accepted || one.cancelled != other.cancelled || one.triggered != other.triggered)
         fail("the words and the policy decide differently", name);
     if (one.verdict.fault == FAULT_NONE) {
-        read_epoch(line, length, &epoch);
+        read_next_epoch(policy, pending, line, length, &epoch);
         other.visited = visits_by_policy(policy, &epoch, mode).words;
     }
     if (one.visited != other.visited || one.visited > visit_limit(image, mode))
@@ -132,8 +136,12 @@ static struct decision check_decision(const struct policy *policy, const uint8_t
     return one;
 }
 
-static void count_decision(struct decision decision, enum mode mode, struct tally *tally)
+static void count_decision(struct decision decision, event_set pending, enum mode mode, struct tally *tally)
 {
+    bool taken = decision.verdict.fault == FAULT_NONE;
+    tally->triggering[mode] += decision.triggered != 0;
+    tally->occurring[mode] += taken && pending != 0;
+    tally->kept[mode] += !taken && pending != 0;
     tally->epoch[mode][decision.verdict.fault]++;
     tally->decisions[mode] += decision.accepted != 0;
     tally->cancelling[mode] += decision.cancelled != 0;
@@ -143,11 +151,12 @@ static void count_decision(struct decision decision, enum mode mode, struct tall
 }
 
 /* Of an accepted epoch line: whether the second mode drops an event. */
-static bool drops(const struct policy *policy, const uint8_t *line, size_t length)
+static bool drops(const struct policy *policy, event_set pending, const uint8_t *line, size_t length)
 {
     struct epoch epoch;
     event_set kept;
-    return read_epoch(line, length, &epoch).fault == FAULT_NONE && kept_events(policy, &epoch, &kept) && kept != epoch.present;
+    return read_next_epoch(policy, pending, line, length, &epoch).fault == FAULT_NONE && kept_events(policy, &epoch, &kept)
+        && kept != epoch.present;
 }
 
 /* The image of an accepted text in a form loads as it was written, and its text compiles to it. A changed word is refused under 7
@@ -179,30 +188,52 @@ static void check_image(
         check_swap(image, written, dice, name);
 }
 
-/* A text in both forms; running one of its images and the plain machine agree on each epoch line. */
+/* The least form for which a text of this policy is accepted. */
+static unsigned least_form(const struct policy *policy)
+{
+    return reserved(policy) == 0 ? FIRST_FORM : TRIGGER_FORM;
+}
+
+/* A text in every form; in a lower form than its least one its first line that triggers has neither shape. */
+static void check_forms(const struct policy *policy, const uint8_t *text, size_t length, struct dice *dice, const char *name,
+    struct tally *tally)
+{
+    static uint8_t image[IMAGE_BYTES];
+    unsigned form;
+    size_t size;
+    for (form = FIRST_FORM; form <= LAST_FORM; form++)
+        if (form >= least_form(policy))
+            check_image(form, text, length, dice, name, tally);
+        else if (compile(form, text, length, image, sizeof image, &size).fault != FAULT_SHAPE)
+            fail("a line that triggers is taken in a lower form", name);
+}
+
+/* A text in every form; running one of its images and the plain machine agree on each epoch line, one after the other. */
 static void check_reference(const struct buffer *input, const char *name, bool engine, struct tally *tally)
 {
     static uint8_t image[IMAGE_BYTES];
     static struct policy policy;
     struct dice dice = {input->length};
     unsigned long epochs = 0;
-    unsigned form;
+    event_set pending = 0;
     const uint8_t *line;
     size_t text_length = input->length, at = input->length, written, line_length;
     struct verdict verdict;
+    struct decision decision;
     enum mode mode = CANCEL_ACTIONS;
     if (engine)
         find_run(input->bytes, input->length, &text_length, &at, &mode);
-    verdict = read_text(input->bytes, text_length, &policy);
+    verdict = read_text(NEWEST_FORM, input->bytes, text_length, &policy);
     tally->text[verdict.fault]++;
     if (verdict.fault != FAULT_NONE)
         return;
-    for (form = FIRST_FORM; form <= NEWEST_FORM; form++)
-        check_image(form, input->bytes, text_length, &dice, name, tally);
-    compile(FIRST_FORM + below(&dice, NEWEST_FORM), input->bytes, text_length, image, sizeof image, &written);
+    check_forms(&policy, input->bytes, text_length, &dice, name, tally);
+    compile(LAST_FORM - below(&dice, LAST_FORM + 1 - least_form(&policy)), input->bytes, text_length, image, sizeof image, &written);
     while (next_line(input->bytes, input->length, &at, &line, &line_length)) {
-        count_decision(check_decision(&policy, image, written, line, line_length, mode, name), mode, tally);
-        tally->dropping += mode == CANCEL_EVENTS && drops(&policy, line, line_length);
+        decision = check_decision(&policy, image, written, pending, line, line_length, mode, name);
+        count_decision(decision, pending, mode, tally);
+        tally->dropping += mode == CANCEL_EVENTS && drops(&policy, pending, line, line_length);
+        pending = pending_after(pending, decision);
         raise_to(&tally->most_epochs, ++epochs);
     }
 }
@@ -241,14 +272,15 @@ static void write_dump(const char *folder, const char *name, const struct buffer
         tally->forms[image[0]]++;
 }
 
-/* The image of a text in form 1, if the text is accepted. That in the newest form is what the compiler prints, and goes through the
-   decompiler in `run`. */
+/* The image of a text in one of the other forms, if the text is accepted. That in the newest form is what the compiler prints, and goes
+   through the decompiler in `run`. */
 static void write_dump_of(const char *folder, const char *name, const struct buffer *text, struct tally *tally)
 {
+    static const unsigned others[] = {1, 2, 4, 5};
     static uint8_t image[IMAGE_BYTES];
     struct buffer dump;
     size_t size;
-    if (compile(FIRST_FORM, text->bytes, text->length, image, sizeof image, &size).fault != FAULT_NONE)
+    if (compile(others[text->length % 4], text->bytes, text->length, image, sizeof image, &size).fault != FAULT_NONE)
         return;
     dump = new_buffer();
     add_dump(&dump, image, size);
@@ -313,7 +345,7 @@ static bool check_texts(const struct asked *asked, const char *name, unsigned lo
     verdict = compile_texts(NEWEST_FORM, texts_in(asked), less, size - 1, &written);
     if (verdict.fault != FAULT_ROOM || verdict.text != NEITHER || verdict.location != 0 || written != 0)
         fail("a buffer with too little room was taken, or a text is named for it", name);
-    read_texts(texts_in(asked), policy);
+    read_texts(NEWEST_FORM, texts_in(asked), policy);
     for (i = 0; i < policy->rule_count; i++)
         lines[policy->rules[i].shown.text] = true;
     for (i = 0; i < policy->constraint_count; i++)
@@ -331,52 +363,43 @@ static void check_shown(const struct asked *asked, struct part shown, const stru
     const struct buffer *text = shown.text == MAKER ? &asked->maker : &asked->site;
     action_set one = UINT64_C(1) << action, before = decision.accepted & (one - 1);
     const uint8_t *line = text->bytes + shown.start;
-    if (read_text(line, shown.length, &alone).fault != FAULT_NONE || line[0] == ' ' || line[shown.length - 1] == ' '
+    if (read_text(NEWEST_FORM, line, shown.length, &alone).fault != FAULT_NONE || line[0] == ' ' || line[shown.length - 1] == ' '
         || (in_set(decision.accepted, action) ? proposed(&alone, epoch) != one || alone.rule_count != 1
                                               : accepted(&alone, epoch, before | one) != before || alone.constraint_count != 1))
         fail("the line that is shown does not say why", name);
 }
 
-/* What a question asks, if it is not refused. */
-static unsigned action_of(const uint8_t *question, size_t length)
+/* What becomes of an action by a decision that is not refused. */
+static enum outcome outcome_of(struct decision decision, uint64_t action)
 {
-    unsigned action = 0;
-    size_t at;
-    for (at = 1; at < length && question[at] != ' '; at++)
-        action = action * 10 + (unsigned)(question[at] - '0');
-    return action;
+    if (!in_set(decision.accepted | decision.cancelled, (unsigned)action))
+        return NOT_PROPOSED;
+    return in_set(decision.accepted, (unsigned)action) ? IS_ACCEPTED : IS_CANCELLED;
 }
 
-static struct slice line_of(const uint8_t *question, size_t length)
-{
-    const uint8_t *space = memchr(question, ' ', length), *end = question + length;
-    struct slice line = {space == NULL ? end : space + 1, 0};
-    line.length = (size_t)(end - line.bytes);
-    return line;
-}
-
-static void check_question(const struct asked *asked, const struct policy *policy, const uint8_t *question, size_t length,
+static void check_question(const struct asked *asked, const struct policy *policy, const uint8_t *bytes, size_t length,
     const char *name, struct tally *tally)
 {
-    struct explanation why = answer_question(policy, question, length);
-    struct slice line = line_of(question, length);
-    unsigned action = action_of(question, length);
-    enum outcome due = NOT_PROPOSED;
+    struct explanation why = answer_question(policy, bytes, length);
+    struct question question;
     struct decision decision;
     struct epoch epoch;
-    enum fault fault = read_epoch(line.bytes, line.length, &epoch).fault;
+    enum fault fault;
+    read_question(bytes, length, &question);
+    fault = read_next_epoch(policy, question.pending, question.line.bytes, question.line.length, &epoch).fault;
     tally->question[why.verdict.fault]++;
     tally->outcomes[why.outcome][why.shown.text]++;
     tally->over += why.verdict.fault == FAULT_EPOCH_RANGE && fault == FAULT_NONE;
     if (why.verdict.fault != FAULT_NONE)
         return;
-    decision = decide_by_policy(policy, line.bytes, line.length, CANCEL_ACTIONS);
-    if (in_set(decision.accepted | decision.cancelled, action))
-        due = in_set(decision.accepted, action) ? IS_ACCEPTED : IS_CANCELLED;
-    if (why.outcome != due)
+    decision = decide_by_policy(policy, question.pending, question.line.bytes, question.line.length, CANCEL_ACTIONS);
+    if (why.outcome != outcome_of(decision, question.action))
         fail("an action is explained otherwise than it is decided", name);
-    if (due != NOT_PROPOSED)
-        check_shown(asked, why.shown, &epoch, decision, action, name);
+    if (why.outcome != NOT_PROPOSED)
+        check_shown(asked, why.shown, &epoch, decision, (unsigned)question.action, name);
+    decision = decide_by_policy(policy, 0, question.line.bytes, question.line.length, CANCEL_ACTIONS);
+    tally->asked_pending += question.pending != 0;
+    tally->changed += why.outcome != outcome_of(decision, question.action);
 }
 
 static void write_on_texts(const char *folder, const char *program, const char *name, const struct asked *asked)
@@ -414,7 +437,7 @@ static void write_explain(const char *folder, const char *name, const struct ask
 
 /* Cases at the limits, by name */
 
-/* The largest image in each form, and with it a word more, and a line that is none. */
+/* An image as large as it can be in each form, and with it a word more, and a line that is none. */
 static void write_widest_dumps(const char *folder, struct tally *tally)
 {
     static uint8_t image[IMAGE_BYTES];
@@ -422,8 +445,9 @@ static void write_widest_dumps(const char *folder, struct tally *tally)
     size_t size;
     unsigned form;
     char name[40];
-    add_widest(&text);
-    for (form = FIRST_FORM; form <= NEWEST_FORM; form++) {
+    for (form = FIRST_FORM; form <= LAST_FORM; form++) {
+        text.length = 0;
+        add_widest(&text, form);
         compile(form, text.bytes, text.length, image, sizeof image, &size);
         dump.length = 0;
         add_dump(&dump, image, size);
@@ -449,7 +473,7 @@ static void write_limits(const char *folder, struct buffer *input, struct tally 
 
     input->length = 0;
     add_largest(input);
-    if (read_text(input->bytes, input->length, &policy).fault != FAULT_NONE
+    if (read_text(NEWEST_FORM, input->bytes, input->length, &policy).fault != FAULT_NONE
         || write_image(NEWEST_FORM, &policy, image) != IMAGE_BYTES || IMAGE_WORDS != 3267)
         fail("the largest image has not 3,267 words", "largest");
     write_case(folder, false, "largest", input, tally);
@@ -483,11 +507,14 @@ static void write_limits(const char *folder, struct buffer *input, struct tally 
     add_epochs_of_largest(input);
     write_case(folder, true, "most_tried", input, tally);
     input->length = 0;
-    add_widest(input);
-    if (read_text(input->bytes, input->length, &policy).fault != FAULT_NONE
-        || write_text(&policy, text) != WRITTEN_BYTES || WRITTEN_BYTES != 27968)
-        fail("the longest text has not 27,968 bytes", "widest");
+    add_widest(input, NEWEST_FORM);
+    if (read_text(NEWEST_FORM, input->bytes, input->length, &policy).fault != FAULT_NONE
+        || write_text(&policy, text) != WRITTEN_BYTES || WRITTEN_BYTES != 28224)
+        fail("the longest text has not 28,224 bytes", "widest");
     write_case(folder, false, "widest", input, tally);
+    input->length = 0;
+    add_widest(input, FIRST_FORM);
+    write_case(folder, false, "widest_1", input, tally);
     write_widest_dumps(folder, tally);
 
     for (i = 0; i < 4; i++) {
@@ -841,7 +868,7 @@ static void write_clashes(const char *folder, struct buffer *input, struct tally
         struct dice dice = {UINT64_C(0xE7) << 32 | i};
         unsigned events = i % 8 == 7 ? EVENTS : 2 + i % 8;
         input->length = 0;
-        add_clashing_text(input, &dice, events);
+        add_clashing_text(input, &dice, events, 0);
         add(input, "run events\n");
         for (k = 0; k < 16; k++) {
             add_clashing_epoch(input, &dice, events);
@@ -849,6 +876,115 @@ static void write_clashes(const char *folder, struct buffer *input, struct tally
         }
         sprintf(name, "seed_clash_%03u", i);
         write_case(folder, true, name, input, tally);
+    }
+}
+
+/* Events that are remembered */
+
+/* Texts with lines that trigger, and epochs in either mode, one after the other, with refused ones between. */
+static void write_remembered(const char *folder, struct buffer *input, struct tally *tally)
+{
+    static const char *const refused[] = {"E64", "x", "R0=1 R0=1", "E0 R0=1 R0=1 E63", "E1,E2", "R0=1 E1 R0=2"};
+    unsigned i, k;
+    char name[32];
+    for (i = 0; i < REMEMBERED_CASES; i++) {
+        struct dice dice = {UINT64_C(0xE8) << 32 | i};
+        unsigned events = i % 8 == 7 ? EVENTS : 2 + i % 8, triggered = 1 + below(&dice, events / 2);
+        input->length = 0;
+        add_clashing_text(input, &dice, events, triggered);
+        add(input, i / 8 % 2 == 0 ? "run\n" : "run events\n");
+        for (k = 0; k < 24; k++) {
+            if (chance(&dice, 150)) /* some name an event that is triggered, if not all */
+                add_clashing_epoch(input, &dice, events);
+            else if (chance(&dice, 100))
+                add(input, CHOOSE(&dice, refused));
+            else if (chance(&dice, 800))
+                add_clashing_epoch(input, &dice, events - triggered);
+            if (chance(&dice, 10))
+                add_times(input, " ", EPOCH_BYTES);
+            add(input, "\n");
+        }
+        sprintf(name, i < 24 ? "remembered_%03u" : "seed_remembered_%03u", i);
+        write_case(folder, true, name, input, tally);
+    }
+}
+
+/* Each event is triggered by the one before it, so that it goes round; all of them at once; and one that triggers itself, over many
+   epochs and over refused ones. */
+static void write_rounds(const char *folder, struct buffer *input, struct tally *tally)
+{
+    static const char *const runs[] = {"run\n", "run events\n"};
+    unsigned i, k;
+    char name[32];
+    for (k = 0; k < 2; k++) {
+        input->length = 0;
+        add(input, "E0 triggers E1 if R0 = 1\n");
+        for (i = 1; i < EVENTS; i++)
+            add_format(input, "E%u triggers E%u\nE%u causes A%u\n", i, i == EVENTS - 1 ? 1 : i + 1, i, i);
+        add(input, "never A10 & A11\n");
+        add(input, runs[k]);
+        add(input, "E0 R0=1\n");
+        for (i = 0; i < 150; i++)
+            add(input, i % 70 == 30 ? "E0 R0=1\n" : i % 9 == 4 ? "E64\n" : i % 11 == 5 ? "E0 E7\n" : i % 5 == 0 ? "R0=1\n" : "\n");
+        sprintf(name, "round_%u", k);
+        write_case(folder, true, name, input, tally);
+        input->length = 0;
+        for (i = 1; i < EVENTS; i++)
+            add_format(input, "E0 triggers E%u\nE%u causes A%u\n", i, i, i);
+        add(input, "E63 & E1 triggers E1\n");
+        add(input, runs[k]);
+        for (i = 0; i < 12; i++)
+            add(input, i % 4 == 0 ? "E0\n" : i % 4 == 2 ? "E1\n" : "\n");
+        sprintf(name, "round_all_%u", k);
+        write_case(folder, true, name, input, tally);
+        input->length = 0;
+        add(input, "E1 triggers E5\nE5 triggers E5\nE5 causes A5\nE2 causes A2\nnever A2 & A5\n");
+        add(input, runs[k]);
+        for (i = 0; i < 6000; i++)
+            add(input, i == 100 ? "E1\n" : i % 7 == 3 ? "E2\n" : i % 13 == 6 ? "x\n" : i % 17 == 8 ? "E5\n" : "\n");
+        sprintf(name, "large_round_%u", k);
+        write_case(folder, true, name, input, tally);
+    }
+}
+
+/* Lines that trigger and such that nearly do; their images in each form, known or not. */
+static void write_trigger_lines(const char *folder, struct buffer *input, struct tally *tally)
+{
+    static const char *const lines[] = {"E0 triggers E0", "E0 & !E63 triggers E63 if R0 = R15 , R1 != -1", "  !E1  triggers   E2  ",
+        "E0 triggers", "triggers E0", "E0 triggers A0", "E0 triggers !E1", "E0 triggers E1 & E2", "E0 triggers E1 causes A1",
+        "E0 causes A1 triggers E1", "E0 causes E1", "E0 Triggers E1", "E0 trigger E1", "E0 triggers E01", "E0 triggers E1 if",
+        "never A1 triggers E1", "never triggers E1", "E0 & triggers E1", "E0 triggersE1", "E0 triggers E64", "E0 & E0 triggers E64",
+        "E0 & E1 & E2 & E3 & E4 & E5 & E6 & E7 & E8 triggers E1", "E0 & !E0 triggers E1", "E0 triggers\tE1", "E0\ttriggers E1",
+        "E0 triggers E4294967296", "E0 triggers E1\r", "# E0 triggers E1"};
+    static const uint32_t words[] = {0x10400004, 0x10800003, 0x30008001, 0x00000005, 0x8F000000};
+    enum { WORDS = sizeof words / sizeof *words };
+    uint8_t image[WORD_BYTES * (1 + WORDS + CHECK_WORDS)];
+    unsigned i, form;
+    char name[32];
+    for (i = 0; i < sizeof lines / sizeof *lines; i++) {
+        input->length = 0;
+        add(input, "E1 causes A1\n");
+        add(input, lines[i]);
+        sprintf(name, "trigger_%02u", i);
+        write_case(folder, false, name, input, tally);
+    }
+    for (i = 0; i < 2; i++) { /* they count among the rules */
+        input->length = 0;
+        add_times(input, "E0 causes A0\nE1 triggers E2\n", RULES / 2);
+        add(input, i == 0 ? "" : "E1 triggers E2\n");
+        write_case(folder, false, i == 0 ? "triggers_64_of_128" : "triggers_129", input, tally);
+    }
+    for (form = 0; form <= LAST_FORM + 1; form++) { /* E1 & E2 triggers E60 if R0 > 5 */
+        struct header header = {form, WORDS, 0};
+        size_t count = 1 + WORDS + check_words(form);
+        put_word(image, 0, pack_header(header));
+        for (i = 0; i < WORDS; i++)
+            put_word(image, 1 + i, words[i]);
+        put_check_words(image, count, form);
+        input->length = 0;
+        add_dump(input, image, WORD_BYTES * count);
+        sprintf(name, "trigger_of_form_%u", form);
+        write_dump(folder, name, input, tally);
     }
 }
 
@@ -1063,18 +1199,18 @@ static void damage_dump(struct buffer *dump, struct dice *dice)
     }
 }
 
-/* A dump of a kind from 0 to 7: of the image of a text in either form, of a damaged image, damaged itself, or by chance. */
+/* A dump of a kind from 0 to 7: of the image of a text in any form, of a damaged image, damaged itself, or by chance. */
 static void add_any_dump(struct buffer *to, struct dice *dice, unsigned kind)
 {
     struct buffer text = new_buffer(), image = new_buffer();
     struct taste taste = make_taste(dice);
-    unsigned i;
+    unsigned least = taste.triggers > 0 ? TRIGGER_FORM : FIRST_FORM, i;
     if (kind < 7) {
         if (kind == 0)
             add_lines(&text, dice, &taste, 0, RULES, 0, CONSTRAINTS, true);
         else
             add_lines(&text, dice, &taste, 0, 6, 0, 4, true);
-        compile(FIRST_FORM + below(dice, NEWEST_FORM), text.bytes, text.length, image.bytes, IMAGE_BYTES, &image.length);
+        compile(least + below(dice, LAST_FORM + 1 - least), text.bytes, text.length, image.bytes, IMAGE_BYTES, &image.length);
     } else {
         for (i = below(dice, 12) * WORD_BYTES; i > 0; i--)
             add_byte(&image, below(dice, 256));
@@ -1097,7 +1233,7 @@ static void write_limit_texts(const char *folder, const char *name, const struct
     struct tally *tally)
 {
     static struct policy policy;
-    struct verdict verdict = read_texts(texts_in(asked), &policy);
+    struct verdict verdict = read_texts(NEWEST_FORM, texts_in(asked), &policy);
     if (verdict.fault != due.fault || verdict.text != due.text || verdict.location != due.location)
         fail("not the fault, text and line that are due", name);
     write_texts(folder, name, asked, tally);
@@ -1179,21 +1315,22 @@ static void write_largest_texts(const char *folder, struct asked *asked, struct 
     unsigned kind;
     char name[40];
     add_epochs_of_largest(&epochs);
-    for (kind = 0; kind < 2; kind++)
+    for (kind = 0; kind < 3; kind++)
         for (i = 0; i < sizeof shares / sizeof *shares; i++) {
+            static const char *const names[] = {"largest", "widest", "widest_1"};
             clear(asked);
             text.length = 0;
             if (kind == 0)
                 add_largest(&text);
             else
-                add_widest(&text);
+                add_widest(&text, kind == 1 ? NEWEST_FORM : FIRST_FORM);
             for (at = from = 0; from < shares[i] && next_line(text.bytes, text.length, &at, &line, &length); from++)
                 continue;
             add_bytes(&asked->maker, text.bytes, at);
             add_bytes(&asked->site, text.bytes + at, text.length - at);
             for (at = 0; next_line(epochs.bytes, epochs.length, &at, &line, &length);)
-                add_every_question(&asked->questions, line, length);
-            sprintf(name, "large_%s_%u", kind == 0 ? "largest" : "widest", shares[i]);
+                add_every_question(&asked->questions, i % 2 == 0 ? 0 : UINT64_C(0xC0000003), line, length);
+            sprintf(name, "large_%s_%u", names[kind], shares[i]);
             write_limit_texts(folder, name, asked, due, tally);
         }
     free(text.bytes);
@@ -1229,27 +1366,65 @@ static void add_asked_texts(struct asked *asked)
 {
     clear(asked);
     add(&asked->maker, "E1 causes A4\n  E2 causes A6 \nnever A4 & A5 if R0 > 1");
-    add(&asked->site, "# E9 causes A9\n!E1 causes A4 \nE1 causes A5\n never A6 if R1 < 0x10");
+    add(&asked->site, "# E9 causes A9\n!E1 causes A4 \nE1 causes A5\n never A6 if R1 < 0x10\nE2 triggers E3\nE3 causes A7");
 }
 
 /* Every byte in the place of each byte of a question, before each and behind the last. */
+static void write_bytes_of_question(
+    const char *folder, const char *question, unsigned inserted, const char *name, struct asked *asked, struct tally *tally)
+{
+    unsigned byte;
+    size_t at;
+    add_asked_texts(asked);
+    for (at = 0; at < strlen(question) + inserted; at++)
+        for (byte = 0; byte < 256; byte++) {
+            add_bytes(&asked->questions, question, at);
+            add_byte(&asked->questions, byte);
+            add(&asked->questions, question + at + !inserted);
+            add(&asked->questions, "\n");
+        }
+    write_explain(folder, name, asked, tally);
+}
+
 static void write_question_bytes(const char *folder, struct asked *asked, struct tally *tally)
 {
-    static const char question[] = "A5 E1 R0=2";
-    const size_t length = sizeof question - 1;
-    unsigned byte, inserted;
-    size_t at;
-    for (inserted = 0; inserted < 2; inserted++) {
+    write_bytes_of_question(folder, "A5 E1 R0=2", 0, "large_bytes_replaced", asked, tally);
+    write_bytes_of_question(folder, "A5 E1 R0=2", 1, "large_bytes_inserted", asked, tally);
+    write_bytes_of_question(folder, "A7,E3,E12 E1", 0, "large_pending_replaced", asked, tally);
+    write_bytes_of_question(folder, "A7,E3,E12 E1", 1, "large_pending_inserted", asked, tally);
+}
+
+/* Pending events in any number, each in any number of digits, in range or not, before lines of all kinds. */
+static void write_pending(const char *folder, struct asked *asked, struct tally *tally)
+{
+    static const char *const fills[] = {",E3", ",E63", ",E1,E2", ",E3,E64", ",", ",E3 ", ",E"};
+    static const char *const ends[] = {"\n", " \n", " E1\n", " E3\n", " E64\n", " x\n", ",E3 R0=1 R0=1\n", ",E12 E2\n"};
+    static const unsigned counts[] = {1, 2, 3, 63, 64, 65, 255, 256, 340, 341, 342, 1000, 20000};
+    unsigned i, k, n;
+    char name[40];
+    for (i = 0; i < sizeof counts / sizeof *counts; i++) {
         add_asked_texts(asked);
-        for (at = 0; at < length + inserted; at++)
-            for (byte = 0; byte < 256; byte++) {
-                add_bytes(&asked->questions, question, at);
-                add_byte(&asked->questions, byte);
-                add(&asked->questions, question + at + !inserted);
-                add(&asked->questions, "\n");
+        for (k = 0; k < (counts[i] < 1000 ? 7 : 4); k++)
+            for (n = 0; n < (counts[i] < 1000 ? 8 : 2); n++) {
+                add(&asked->questions, k % 2 == 0 ? "A7" : "A64");
+                add_times(&asked->questions, fills[k], counts[i]);
+                add(&asked->questions, ends[n]);
             }
-        write_explain(folder, inserted == 0 ? "large_bytes_replaced" : "large_bytes_inserted", asked, tally);
+        sprintf(name, "large_pending_%u", counts[i]);
+        write_explain(folder, name, asked, tally);
     }
+    add_asked_texts(asked);
+    for (n = 1; n < 70000; n += n < 24 ? 1 : n < 2000 ? 499 : 16384)
+        for (k = 0; k < 4; k++) {
+            add(&asked->questions, k % 2 == 0 ? "A7,E3" : "A7,E0");
+            add_times(&asked->questions, "0", n - 1);
+            add(&asked->questions, k < 2 ? "\n" : ",E3 E1\n");
+        }
+    write_explain(folder, "large_pending_digits", asked, tally);
+    add_asked_texts(asked);
+    for (n = 0; n < 70; n++) /* each event, and some beyond */
+        add_format(&asked->questions, "A7,E%u\nA6,E%u E1 R1=16\nA4,E%u\nA4,E3,E%u E2\n", n, n, n, n);
+    write_explain(folder, "pending_each", asked, tally);
 }
 
 /* Actions of any number of digits, before epoch lines about as long as they may be, and far longer lines. */
@@ -1308,6 +1483,7 @@ static void write_two_texts(const char *folder, struct tally *tally)
     write_long_parts(folder, &asked, tally);
     write_question_bytes(folder, &asked, tally);
     write_question_lengths(folder, &asked, tally);
+    write_pending(folder, &asked, tally);
     write_question_floods(folder, &asked, tally);
     for (i = 0; i < TEXTS_CASES; i++) {
         struct dice dice = {UINT64_C(0xC6) << 32 | i};
@@ -1371,10 +1547,11 @@ static bool print_questions(const struct tally *tally, const enum fault *faults,
         }
     printf(", refused under");
     print_counts(tally->question, faults, size);
-    printf(", for the action alone %lu", tally->over);
+    printf(", for the number of the action or a pending event alone %lu; with pending events %lu, otherwise by them %lu", tally->over,
+        tally->asked_pending, tally->changed);
     for (i = 0; i < size; i++)
         all = all && tally->question[faults[i]] >= ANSWERS_LEAST;
-    return all;
+    return all && tally->asked_pending >= ANSWERS_LEAST && tally->changed >= ANSWERS_LEAST;
 }
 
 /* The same for the epochs in one mode, with the most words that were visited. */
@@ -1385,9 +1562,10 @@ static bool print_epochs(const struct tally *tally, enum mode mode, const enum f
         mode == CANCEL_ACTIONS ? "action cancellation" : "event cancellation", tally->epoch[mode][FAULT_NONE],
         tally->decisions[mode], tally->cancelling[mode]);
     all = print_counts(tally->epoch[mode], faults, size);
-    printf("; at most %lu words visited", tally->most_visited[mode]);
+    printf("; at most %lu words visited; %lu trigger an event, %lu are accepted with pending ones, %lu refused with them",
+        tally->most_visited[mode], tally->triggering[mode], tally->occurring[mode], tally->kept[mode]);
     return all && tally->decisions[mode] > 0 && tally->cancelling[mode] > 0 && tally->most_accepted[mode] == ACTIONS
-        && tally->most_cancelled[mode] == ACTIONS
+        && tally->most_cancelled[mode] == ACTIONS && tally->triggering[mode] > 0 && tally->occurring[mode] > 0 && tally->kept[mode] > 0
         && tally->most_visited[mode] == (mode == CANCEL_ACTIONS ? (unsigned long)MOST_VISITED : (unsigned long)MOST_TRIED);
 }
 
@@ -1397,14 +1575,19 @@ static bool report(const struct tally *tally)
 {
     static const enum fault text[] = {FAULT_LONG, FAULT_SHAPE, FAULT_RANGE, FAULT_CROWD, FAULT_FULL, FAULT_REPEAT};
     static const enum fault dump[] = {FAULT_SIZE, FAULT_FORM, FAULT_COUNT, FAULT_SUM, FAULT_WEIGHTED_SUM, FAULT_BODY};
-    static const enum fault epoch[] = {
-        FAULT_LONG, FAULT_EPOCH_SHAPE, FAULT_EPOCH_RANGE, FAULT_TWICE, FAULT_UNAVOIDABLE}; /* the last in the second mode alone */
+    static const enum fault epoch[] = {FAULT_LONG, FAULT_EPOCH_SHAPE, FAULT_EPOCH_RANGE, FAULT_TWICE, FAULT_RESERVED,
+        FAULT_UNAVOIDABLE}; /* the last in the second mode alone */
     const size_t faults = sizeof epoch / sizeof *epoch;
     bool all = true;
+    int form;
     printf("texts accepted %lu, refused under", tally->text[FAULT_NONE]);
     all = print_counts(tally->text, text, sizeof text / sizeof *text) && all;
-    printf("; dumps written as texts of form 1 %lu, of form 2 %lu, with a line that is no word %lu, refused under",
-        tally->forms[FIRST_FORM], tally->forms[NEWEST_FORM], tally->no_words);
+    printf("; dumps written as texts");
+    for (form = FIRST_FORM; form <= LAST_FORM; form++) {
+        printf(" of form %d %lu,", form, tally->forms[form]);
+        all = all && tally->forms[form] > 0;
+    }
+    printf(" with a line that is no word %lu, refused under", tally->no_words);
     all = print_counts(tally->dump, dump, sizeof dump / sizeof *dump) && all;
     all = print_epochs(tally, CANCEL_ACTIONS, epoch, faults - 1) && all;
     all = print_epochs(tally, CANCEL_EVENTS, epoch, faults) && all;
@@ -1415,8 +1598,7 @@ static bool report(const struct tally *tally)
     printf("; %lu accepted with lines of both; questions", tally->both);
     all = print_questions(tally, epoch, faults - 1) && all;
     printf("\n");
-    return all && tally->text[FAULT_NONE] > 0 && tally->forms[FIRST_FORM] > 0 && tally->forms[NEWEST_FORM] > 0
-        && tally->no_words > 0 && tally->loaded > 0
+    return all && tally->text[FAULT_NONE] > 0 && tally->no_words > 0 && tally->loaded > 0
         && tally->bodies > 0 && tally->dropping > 0 && tally->most_epochs > 100000 && tally->most_questions > 100000
         && tally->both >= TEXTS_LEAST;
 }
@@ -1442,6 +1624,9 @@ int main(int argc, char **argv)
     write_runs(argv[1], &input, &tally);
     write_event_runs(argv[1], &input, &tally);
     write_clashes(argv[1], &input, &tally);
+    write_remembered(argv[1], &input, &tally);
+    write_rounds(argv[1], &input, &tally);
+    write_trigger_lines(argv[1], &input, &tally);
     write_digits(argv[1], &input, &tally);
     write_pattern_bytes(argv[1], &input, &tally);
     write_bits(argv[1], &input, &tally);

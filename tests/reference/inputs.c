@@ -105,14 +105,19 @@ bool chance(struct dice *dice, unsigned per_mille)
 struct taste make_taste(struct dice *dice)
 {
     static const unsigned universes[] = {2, 4, 6, 10, 64};
-    static const unsigned shares[] = {0, 0, 300, 1000};
-    struct taste taste = {0, 0, 0, 0, 0, 0, 0, 0, 0, 0};
+    static const unsigned shares[] = {0, 0, 300, 1000}, triggers[] = {0, 0, 0, 150, 400, 800};
+    struct taste taste = {0};
     taste.events = CHOOSE(dice, universes);
     taste.actions = CHOOSE(dice, universes);
     taste.readings = chance(dice, 300) ? READINGS : 1 + below(dice, 4);
     taste.loose = chance(dice, 300) ? 300 : 0;
     taste.limits = chance(dice, 300) ? 500 : 20;
     taste.hexadecimal = CHOOSE(dice, shares);
+    taste.triggers = CHOOSE(dice, triggers);
+    if (taste.triggers > 0) {
+        taste.triggered = 1 + below(dice, 4);
+        taste.events -= taste.events == EVENTS ? taste.triggered : 0;
+    }
     return taste;
 }
 
@@ -316,7 +321,7 @@ static void add_list(struct buffer *to, struct dice *dice, const struct taste *t
 {
     static const char *const joints[] = {"", "&&", ",", "& &", "and", "|", "& #", "causes"};
     char letter = events ? 'E' : 'A';
-    unsigned limit = events ? EVENTS : ACTIONS, used = events ? taste->events : taste->actions;
+    unsigned limit = events ? EVENTS : ACTIONS, used = events ? taste->events + taste->triggered : taste->actions;
     unsigned count = 1 + below(dice, chance(dice, 250) ? 8 : 3), i, number, first = 0;
     uint64_t seen = 0;
     bool repeat = chance(dice, taste->repeat);
@@ -362,7 +367,8 @@ static void add_list(struct buffer *to, struct dice *dice, const struct taste *t
 static void add_keyword(struct buffer *to, struct dice *dice, const struct taste *taste, const char *word)
 {
     static const char *const odd[] = {"", "Causes", "cause", "causess", "NEVER", "nevers", "IF", "iff", "when", "if if",
-        "causes causes", "never never", "#", "# if", "run", "causes", "if", "never", "caus\x80s"};
+        "causes causes", "never never", "#", "# if", "run", "causes", "if", "never", "caus\x80s", "triggers", "trigger", "Triggers",
+        "triggerss", "causes triggers"};
     add(to, chance(dice, taste->shape) ? CHOOSE(dice, odd) : word);
 }
 
@@ -378,14 +384,27 @@ static void add_option(struct buffer *to, struct dice *dice, const struct taste 
     add_edge(to, dice, taste);
 }
 
+/* The event that a rule triggers. */
+static void add_triggered(struct buffer *to, struct dice *dice, const struct taste *taste)
+{
+    if (chance(dice, 50 + taste->shape + taste->range))
+        add_name(to, dice, taste, 'E', taste->events + taste->triggered, EVENTS);
+    else
+        add_format(to, "E%u", taste->events + below(dice, taste->triggered));
+}
+
 static void add_rule(struct buffer *to, struct dice *dice, const struct taste *taste)
 {
+    bool triggers = chance(dice, taste->triggers);
     add_edge(to, dice, taste);
     add_list(to, dice, taste, true);
     add_gap(to, dice, taste);
-    add_keyword(to, dice, taste, "causes");
+    add_keyword(to, dice, taste, triggers ? "triggers" : "causes");
     add_gap(to, dice, taste);
-    add_name(to, dice, taste, 'A', taste->actions, ACTIONS);
+    if (triggers)
+        add_triggered(to, dice, taste);
+    else
+        add_name(to, dice, taste, 'A', taste->actions, ACTIONS);
     add_option(to, dice, taste, 400);
 }
 
@@ -448,7 +467,7 @@ void spoil(struct taste *taste, struct dice *dice)
 void damage(struct buffer *in, size_t from, struct dice *dice)
 {
     static const char *const tokens[] = {
-        "E1", "!E1", "A1", "R1", "E64", "A64", "R16", "&", ",", "causes", "never", "if", "=", "!=", "<", "<=", ">",
+        "E1", "!E1", "A1", "R1", "E64", "A64", "R16", "&", ",", "causes", "triggers", "never", "if", "=", "!=", "<", "<=", ">",
         ">=", "0", "-1", "-0", "2147483648", "#", "!", "-", "run", "E1&E2", "E1 & E1", "A1 & A1", "R0=1", "\n", "\n\n",
         "\r\n", "\nrun\n", "# \n", "&\n", "\t", "0x1", "0x", "R0=0x8040", "R1=0xffffffff", "R0=0x", "R0=0x000000001"};
     static const uint8_t signs[] = "&!,=<>-#EARear019xXfFgG \n\r\t\0";
@@ -538,6 +557,7 @@ void add_text(struct buffer *to, struct dice *dice, unsigned kind, bool closed)
         32000, 32700, 32765, 32766, 32767, 32768, 32768, 32769, 32769, 32770, 33000, 65535, 65536, 65537, 100000};
     static const char *const tails[] = {
         "E1 causes A1", "never A1", "E64 causes A1", "never A64", "E1 & E1 causes A1", "never A1 & A1", "E1 causes",
+        "E1 triggers E1", "E1 triggers E64", "E1 triggers A1", "E1 causes E1", "E1 & E1 triggers E2", "E1 triggers",
         "never", "never A1 & A2 & A3 & A4 & A5 & A6 & A7 & A8 & A1", "E1 & E1 & E64 causes A1",
         "never A1 & A1 if R0 = 0 , R0 = 0 , R0 = 0 , R0 = 0 , R0 = 0", "# E1 causes A1", ""};
     struct taste taste = make_taste(dice);
@@ -700,7 +720,7 @@ void add_epoch(struct buffer *to, struct dice *dice, const struct taste *taste)
             add(to, CHOOSE(dice, odd));
         } else if (chance(dice, 550)) {
             add_byte(to, 'E');
-            add_index(to, dice, taste, taste->events, EVENTS);
+            add_index(to, dice, taste, taste->events + (chance(dice, 10) ? taste->triggered : 0), EVENTS);
         } else {
             number = below(dice, taste->readings);
             if (in_set(given, number) && !chance(dice, taste->repeat))
@@ -748,14 +768,17 @@ static void add_brief_option(struct buffer *to, struct dice *dice)
     add(to, "\n");
 }
 
-void add_clashing_text(struct buffer *to, struct dice *dice, unsigned events)
+void add_clashing_text(struct buffer *to, struct dice *dice, unsigned events, unsigned triggered)
 {
     static const unsigned shares[] = {0, 200, 200, 500, 1000};
     unsigned negated = CHOOSE(dice, shares), actions = events < 16 ? 2 + below(dice, 7) : ACTIONS;
     unsigned rules = events + below(dice, events + 1), constraints = 1 + below(dice, events), i;
     for (i = 0; i < rules; i++) {
         add_distinct(to, dice, "E", events, chance(dice, 700) ? 2 : 4, negated);
-        add_format(to, " causes A%u", below(dice, actions));
+        if (triggered > 0 && chance(dice, 300))
+            add_format(to, " triggers E%u", events - 1 - below(dice, triggered));
+        else
+            add_format(to, " causes A%u", below(dice, actions));
         add_brief_option(to, dice);
     }
     for (i = 0; i < constraints; i++) {
@@ -779,10 +802,10 @@ void add_clashing_epoch(struct buffer *to, struct dice *dice, unsigned events)
 /* A text with clashes, or with lines of any kind, that is accepted. The events that its epochs are about are returned, 0 if any. */
 static unsigned add_good_text(struct buffer *to, struct dice *dice, const struct taste *taste, bool large)
 {
-    unsigned events = large ? EVENTS : 2 + below(dice, 9);
+    unsigned events = large ? EVENTS : 2 + below(dice, 9), triggered = taste->triggers > 0 ? 1 + below(dice, events / 2) : 0;
     if (chance(dice, 300)) {
-        add_clashing_text(to, dice, events);
-        return events;
+        add_clashing_text(to, dice, events, triggered);
+        return events - triggered;
     }
     if (large)
         add_lines(to, dice, taste, 60, RULES - 60, 0, CONSTRAINTS, true);
@@ -825,7 +848,7 @@ void add_engine_input(struct buffer *to, struct dice *dice, unsigned kind)
         if (chance(dice, 8))
             add(to, chance(dice, 500) ? "run" : "run events");
         else if (clashing > 0 && chance(dice, 800))
-            add_clashing_epoch(to, dice, clashing);
+            add_clashing_epoch(to, dice, clashing + (clashing < EVENTS && chance(dice, 30)));
         else
             add_epoch(to, dice, &taste);
         if (count > 0 || chance(dice, 600))
@@ -883,14 +906,52 @@ void add_texts(struct buffer *maker, struct buffer *site, struct dice *dice, uns
     add_text(site, dice, second, false);
 }
 
-void add_every_question(struct buffer *to, const uint8_t *line, size_t length)
+/* What stands behind the action of a question. */
+static void add_pending(struct buffer *to, event_set pending)
+{
+    unsigned event;
+    for (event = 0; event < EVENTS; event++)
+        if (in_set(pending, event))
+            add_format(to, ",E%u", event);
+}
+
+void add_every_question(struct buffer *to, event_set pending, const uint8_t *line, size_t length)
 {
     unsigned action;
     for (action = 0; action < ACTIONS; action++) {
-        add_format(to, "A%u ", action);
+        add_format(to, "A%u", action);
+        add_pending(to, pending);
+        add(to, " ");
         add_bytes(to, line, length);
         add(to, "\n");
     }
+}
+
+/* Events of small numbers mostly, as those that the texts are about. */
+static event_set few_events(struct dice *dice)
+{
+    event_set set = 0;
+    unsigned count = below(dice, 4);
+    while (count-- > 0)
+        set |= UINT64_C(1) << below(dice, chance(dice, 900) ? 12 : EVENTS);
+    return set;
+}
+
+/* Pending events, or something like that. */
+static void add_some_pending(struct buffer *to, struct dice *dice)
+{
+    static const char *const odd[] = {",", ",E", ",A1", ",,E1", ", E1", ",e1", ",E01", ",!E1", ",E1,", ",E1\t", ",E1,E2,E", ",R1", ",E-1",
+        ",E1 ,E2", ";E1", ",E1&E2", ",E1\xB1", ",\xC5" "1", ",E0x1", ",E1=1", "E1", ",E1.", ",E1A1"};
+    static const char *const outside[] = {",E64", ",E65", ",E1,E64", ",E64,E1", ",E64,E", ",E100", ",E128", ",E256", ",E257", ",E65537",
+        ",E4294967297", ",E18446744073709551617", ",E340282366920938463463374607431768211457"};
+    if (chance(dice, 60))
+        add(to, CHOOSE(dice, odd));
+    else if (chance(dice, 60))
+        add(to, CHOOSE(dice, outside));
+    else if (chance(dice, 60)) /* twice, and not by rising number */
+        add(to, ",E3,E1,E3,E3");
+    else
+        add_pending(to, few_events(dice));
 }
 
 /* A question, or something like one. */
@@ -908,6 +969,8 @@ static void add_question(struct buffer *to, struct dice *dice, const uint8_t *li
         add_format(to, "A%s", CHOOSE(dice, outside));
     else
         add_format(to, "A%u", below(dice, chance(dice, 900) ? 6 : ACTIONS));
+    if (chance(dice, 300))
+        add_some_pending(to, dice);
     if (chance(dice, 950)) {
         add(to, " ");
         add_bytes(to, line, length);
@@ -924,7 +987,7 @@ void add_questions(struct buffer *to, struct dice *dice, const uint8_t *lines, s
     unsigned number = 0, chosen = below(dice, 3), i;
     while (to->length < 100000 && next_line(lines, length, &at, &line, &line_length)) {
         if (number++ == chosen && line_length <= EPOCH_BYTES)
-            add_every_question(to, line, line_length);
+            add_every_question(to, few_events(dice), line, line_length);
         for (i = line_length > 2 * EPOCH_BYTES ? 1 : below(dice, 12); i > 0; i--)
             add_question(to, dice, line, line_length);
     }
@@ -1028,7 +1091,7 @@ void add_largest_input(struct buffer *to)
     add_epochs_of_largest(to);
 }
 
-void add_widest(struct buffer *to)
+void add_widest(struct buffer *to, uint64_t form)
 {
     static const char condition[] =
         " if R10 >= -2147483648 , R11 <= -2147483647 , R12 != -1000000000 , R15 >= -2000000000\n";
@@ -1038,7 +1101,7 @@ void add_widest(struct buffer *to)
         for (k = 0; k < 8; k++) /* of the 54 numbers with two digits */
             add_format(to, "%s%s%u", k == 0 ? "" : " & ", i < RULES ? "!E" : "A", 10 + (i + 7 * k) % 54);
         if (i < RULES)
-            add_format(to, " causes A%u", 10 + i % 54);
+            add_format(to, form < TRIGGER_FORM ? " causes A%u" : " triggers E%u", 10 + i % 54);
         add(to, condition);
     }
 }

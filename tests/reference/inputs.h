@@ -49,6 +49,8 @@ struct taste {
     unsigned loose; /* further spaces */
     unsigned limits; /* constants at the ends of the range */
     unsigned hexadecimal; /* constants in hexadecimal */
+    unsigned triggers; /* rules that trigger an event */
+    unsigned triggered; /* how many events they mostly trigger: those from `events` on, which epochs seldom name */
 };
 
 struct taste make_taste(struct dice *dice);
@@ -83,9 +85,10 @@ void add_dump(struct buffer *to, const uint8_t *image, size_t length);
 /* One epoch line, without its line end. */
 void add_epoch(struct buffer *to, struct dice *dice, const struct taste *taste);
 
-/* A text with many clashes and an epoch line for it, without its line end: rules that share events under `events`, present or absent,
-   and never lines on the actions they propose. */
-void add_clashing_text(struct buffer *to, struct dice *dice, unsigned events);
+/* A text with many clashes and an epoch line, without its line end: rules that share events under `events`, present or absent, and never
+   lines on the actions they propose. Some rules trigger one of the last `triggered` events; a line for the events before those names
+   none of them. */
+void add_clashing_text(struct buffer *to, struct dice *dice, unsigned events, unsigned triggered);
 void add_clashing_epoch(struct buffer *to, struct dice *dice, unsigned events);
 
 /* A whole input of the engine in either mode, of a kind from 0 to 15. */
@@ -97,8 +100,8 @@ void split_text(const uint8_t *text, size_t length, struct dice *dice, struct bu
 /* Two texts, of a kind from 0 to 9: one that was split, or two. */
 void add_texts(struct buffer *maker, struct buffer *site, struct dice *dice, unsigned kind);
 
-/* A question for every action about one epoch line. */
-void add_every_question(struct buffer *to, const uint8_t *line, size_t length);
+/* A question for every action about one epoch line where these events are pending. */
+void add_every_question(struct buffer *to, event_set pending, const uint8_t *line, size_t length);
 
 /* Questions about epoch lines: for one of the lines about every action, for all of them some by chance, with and without faults. */
 void add_questions(struct buffer *to, struct dice *dice, const uint8_t *lines, size_t length);
@@ -132,8 +135,8 @@ enum {
 void add_most_tried(struct buffer *to);
 void add_epoch_of_most_tried(struct buffer *to); /* without its line end */
 
-/* 128 rules and 64 constraints of 17 words each, every token as long as it can be. */
-void add_widest(struct buffer *to);
+/* 128 rules and 64 constraints of 17 words each, every token as long as it can be in a text for a form. */
+void add_widest(struct buffer *to, uint64_t form);
 
 /* One line, a list as long as a text may be. */
 void add_longest_line(struct buffer *to);

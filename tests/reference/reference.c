@@ -234,7 +234,19 @@ static bool read_option(struct tokens *tokens, struct condition *condition, stru
     return is(token, "if") && read_condition(tokens, condition, defects);
 }
 
-static bool read_rule(struct tokens tokens, struct rule *rule, struct defects *defects)
+/* What a rule causes, or triggers; `word` is one of both. */
+static bool read_yield(struct tokens *tokens, struct slice word, struct rule *rule, struct defects *defects)
+{
+    struct slice token;
+    uint64_t number;
+    rule->triggers = is(word, "triggers");
+    if (!take(tokens, &token) || !read_name(token, rule->triggers ? 'E' : 'A', &number))
+        return false;
+    rule->yield = ranged(number, rule->triggers ? EVENTS : ACTIONS, defects);
+    return true;
+}
+
+static bool read_rule(uint64_t form, struct tokens tokens, struct rule *rule, struct defects *defects)
 {
     struct slice token;
     struct literal literal;
@@ -254,15 +266,12 @@ static bool read_rule(struct tokens tokens, struct rule *rule, struct defects *d
             defects->crowd = true;
         if (!take(&tokens, &token))
             return false;
-        if (is(token, "causes"))
+        if (is(token, "causes") || (form >= TRIGGER_FORM && is(token, "triggers")))
             break;
         if (!is(token, "&"))
             return false;
     }
-    if (!take(&tokens, &token) || !read_name(token, 'A', &number))
-        return false;
-    rule->action = ranged(number, ACTIONS, defects);
-    return read_option(&tokens, &rule->condition, defects);
+    return read_yield(&tokens, token, rule, defects) && read_option(&tokens, &rule->condition, defects);
 }
 
 /* `tokens` begins behind the word `never`. */
@@ -289,8 +298,8 @@ static bool read_constraint(struct tokens tokens, struct constraint *constraint,
     }
 }
 
-/* Adds what one line of a text says to the policy; `shown` is where it stands. */
-static enum fault read_line(struct slice line, struct part shown, struct policy *policy)
+/* Adds what one line of a text for a form says to the policy; `shown` is where it stands. */
+static enum fault read_line(uint64_t form, struct slice line, struct part shown, struct policy *policy)
 {
     struct tokens tokens = {line, 0}, behind = tokens;
     struct slice first;
@@ -301,7 +310,7 @@ static enum fault read_line(struct slice line, struct part shown, struct policy 
     if (!take(&behind, &first) || first.bytes[0] == '#')
         return FAULT_NONE;
     is_rule = !is(first, "never");
-    if (is_rule ? !read_rule(tokens, &rule, &defects) : !read_constraint(behind, &constraint, &defects))
+    if (is_rule ? !read_rule(form, tokens, &rule, &defects) : !read_constraint(behind, &constraint, &defects))
         return FAULT_SHAPE;
     if (defects.range)
         return FAULT_RANGE;
@@ -336,7 +345,7 @@ static struct part trim(struct slice line, enum owner owner, struct slice text)
 }
 
 /* Adds what one text says to the policy. */
-static struct verdict read_lines(struct slice text, enum owner owner, struct policy *policy)
+static struct verdict read_lines(uint64_t form, struct slice text, enum owner owner, struct policy *policy)
 {
     struct slice line;
     size_t at = 0, number = 0;
@@ -345,21 +354,21 @@ static struct verdict read_lines(struct slice text, enum owner owner, struct pol
         return refuse_text(FAULT_LONG, owner, 0);
     while (next_line(text.bytes, text.length, &at, &line.bytes, &line.length)) {
         number++;
-        fault = read_line(line, trim(line, owner, text), policy);
+        fault = read_line(form, line, trim(line, owner, text), policy);
         if (fault != FAULT_NONE)
             return refuse_text(fault, owner, number);
     }
     return ACCEPTED;
 }
 
-struct verdict read_texts(struct texts texts, struct policy *policy)
+struct verdict read_texts(uint64_t form, struct texts texts, struct policy *policy)
 {
     struct policy result;
     struct verdict verdict;
     memset(&result, 0, sizeof result);
-    verdict = read_lines(texts.maker, MAKER, &result);
+    verdict = read_lines(form, texts.maker, MAKER, &result);
     if (verdict.fault == FAULT_NONE)
-        verdict = read_lines(texts.site, SITE, &result);
+        verdict = read_lines(form, texts.site, SITE, &result);
     if (verdict.fault == FAULT_NONE)
         *policy = result;
     return verdict;
@@ -371,9 +380,9 @@ static struct texts one_text(const uint8_t *text, size_t length)
     return texts;
 }
 
-struct verdict read_text(const uint8_t *text, size_t length, struct policy *policy)
+struct verdict read_text(uint64_t form, const uint8_t *text, size_t length, struct policy *policy)
 {
-    return read_texts(one_text(text, length), policy);
+    return read_texts(form, one_text(text, length), policy);
 }
 
 /* Images */
@@ -417,7 +426,7 @@ static size_t write_condition(const struct condition *condition, size_t at, size
 static size_t write_rule(const struct rule *rule, uint8_t *line)
 {
     size_t at, size = rule->count + condition_words(&rule->condition) + 1;
-    struct fields end = {.operation = PROPOSE, .first = rule->action};
+    struct fields end = {.operation = rule->triggers ? TRIGGER : PROPOSE, .first = rule->yield};
     for (at = 0; at < rule->count; at++) {
         struct fields fields = {.operation = rule->literals[at].negated ? ABSENT : PRESENT,
             .first = rule->literals[at].event,
@@ -474,7 +483,7 @@ struct verdict compile_texts(uint64_t form, struct texts texts, uint8_t *buffer,
 {
     struct policy policy;
     uint8_t image[IMAGE_BYTES];
-    struct verdict verdict = is_known_form(form) ? read_texts(texts, &policy) : refuse(FAULT_FORM, 0);
+    struct verdict verdict = is_known_form(form) ? read_texts(form, texts, &policy) : refuse(FAULT_FORM, 0);
     *written = 0;
     if (verdict.fault != FAULT_NONE)
         return verdict;
@@ -528,8 +537,8 @@ static bool same_words(const uint8_t *one, size_t one_count, const uint8_t *othe
     return one_count == other_count && memcmp(one, other, WORD_BYTES * one_count) == 0;
 }
 
-/* The number of words of the rule that begins at `at` and ends before `end`; 0 if there is none. */
-static size_t load_rule(const uint8_t *image, size_t at, size_t end, struct rule *rule)
+/* The number of words of the rule that begins at `at` of an image of a form and ends before `end`; 0 if there is none. */
+static size_t load_rule(unsigned form, const uint8_t *image, size_t at, size_t end, struct rule *rule)
 {
     uint8_t line[WORD_BYTES * LINE_WORDS];
     uint64_t seen = 0;
@@ -550,7 +559,8 @@ static size_t load_rule(const uint8_t *image, size_t at, size_t end, struct rule
     at = load_condition(image, at, end, &rule->condition);
     if (at == end || rule->count == 0 || defects.repeat)
         return 0;
-    rule->action = unpack(word_at(image, at)).first;
+    rule->triggers = form >= TRIGGER_FORM && operation_of(word_at(image, at)) == TRIGGER;
+    rule->yield = first_of(word_at(image, at));
     size = at + 1 - start;
     return same_words(line, write_rule(rule, line), image + WORD_BYTES * start, size) ? size : 0;
 }
@@ -611,7 +621,7 @@ struct verdict load_image(const uint8_t *image, size_t length, struct policy *po
     memset(&result, 0, sizeof result);
     for (end = at + header.rule_words; at < end; at += size) {
         struct rule rule;
-        size = result.rule_count < RULES ? load_rule(image, at, end, &rule) : 0;
+        size = result.rule_count < RULES ? load_rule(header.form, image, at, end, &rule) : 0;
         if (size == 0)
             return refuse(FAULT_BODY, at);
         result.rules[result.rule_count++] = rule;
@@ -686,8 +696,8 @@ static void put_rule(struct draft *draft, const struct rule *rule)
         put_string(draft, i == 0 ? "" : " & ");
         put_name(draft, rule->literals[i].negated ? "!E" : "E", rule->literals[i].event);
     }
-    put_string(draft, " causes ");
-    put_name(draft, "A", rule->action);
+    put_string(draft, rule->triggers ? " triggers " : " causes ");
+    put_name(draft, rule->triggers ? "E" : "A", rule->yield);
     put_option(draft, &rule->condition);
 }
 
@@ -767,6 +777,31 @@ struct verdict read_epoch(const uint8_t *line, size_t length, struct epoch *epoc
     return ACCEPTED;
 }
 
+event_set reserved(const struct policy *policy)
+{
+    event_set set = 0;
+    size_t i;
+    for (i = 0; i < policy->rule_count; i++)
+        if (policy->rules[i].triggers)
+            set |= UINT64_C(1) << policy->rules[i].yield;
+    return set;
+}
+
+struct verdict read_next_epoch(
+    const struct policy *policy, event_set pending, const uint8_t *line, size_t length, struct epoch *epoch)
+{
+    struct epoch result;
+    struct verdict verdict = read_epoch(line, length, &result);
+    if (verdict.fault != FAULT_NONE)
+        return verdict;
+    if ((result.present & reserved(policy)) != 0)
+        return refuse(FAULT_RESERVED, 0);
+    result.present |= pending;
+    result.absent = ~result.present;
+    *epoch = result;
+    return ACCEPTED;
+}
+
 /* Comparisons. A reading that the epoch does not give has no value. */
 
 /* Whether a comparison that names a reading without a value holds. */
@@ -813,14 +848,25 @@ static bool rule_holds(const struct rule *rule, const struct epoch *epoch)
     return condition_holds(&rule->condition, IN_RULE, epoch);
 }
 
-action_set proposed(const struct policy *policy, const struct epoch *epoch)
+/* What the rules that hold yield: the actions that they cause, or the events that they trigger. */
+static uint64_t yields(const struct policy *policy, const struct epoch *epoch, bool events)
 {
-    action_set set = 0;
+    uint64_t set = 0;
     size_t i;
     for (i = 0; i < policy->rule_count; i++)
-        if (rule_holds(&policy->rules[i], epoch))
-            set |= UINT64_C(1) << policy->rules[i].action;
+        if (policy->rules[i].triggers == events && rule_holds(&policy->rules[i], epoch))
+            set |= UINT64_C(1) << policy->rules[i].yield;
     return set;
+}
+
+action_set proposed(const struct policy *policy, const struct epoch *epoch)
+{
+    return yields(policy, epoch, false);
+}
+
+event_set triggered(const struct policy *policy, const struct epoch *epoch)
+{
+    return yields(policy, epoch, true);
 }
 
 static bool constraint_holds(const struct constraint *constraint, const struct epoch *epoch, action_set set)
@@ -888,13 +934,14 @@ bool kept_events(const struct policy *policy, const struct epoch *epoch, event_s
     return true;
 }
 
-struct decision decide_by_policy(const struct policy *policy, const uint8_t *line, size_t length, enum mode mode)
+struct decision decide_by_policy(
+    const struct policy *policy, event_set pending, const uint8_t *line, size_t length, enum mode mode)
 {
-    struct decision decision = {ACCEPTED, 0, 0, 0};
+    struct decision decision = {ACCEPTED, 0, 0, 0, 0};
     struct epoch epoch, reduced;
     action_set candidates;
     event_set kept;
-    decision.verdict = read_epoch(line, length, &epoch);
+    decision.verdict = read_next_epoch(policy, pending, line, length, &epoch);
     if (decision.verdict.fault == FAULT_NONE && mode == CANCEL_EVENTS && !kept_events(policy, &epoch, &kept))
         decision.verdict = refuse(FAULT_UNAVOIDABLE, 0);
     if (decision.verdict.fault != FAULT_NONE)
@@ -902,12 +949,19 @@ struct decision decide_by_policy(const struct policy *policy, const uint8_t *lin
     candidates = proposed(policy, &epoch);
     if (mode == CANCEL_ACTIONS) {
         decision.accepted = accepted(policy, &epoch, candidates);
+        decision.triggered = triggered(policy, &epoch); /* also where an action is cancelled */
     } else {
         reduced = reduction(&epoch, kept);
         decision.accepted = proposed(policy, &reduced);
+        decision.triggered = triggered(policy, &reduced);
     }
     decision.cancelled = candidates & ~decision.accepted;
     return decision;
+}
+
+event_set pending_after(event_set pending, struct decision decision)
+{
+    return decision.verdict.fault == FAULT_NONE ? decision.triggered : pending;
 }
 
 /* Why an action is accepted or not */
@@ -916,17 +970,18 @@ struct decision decide_by_policy(const struct policy *policy, const uint8_t *lin
 static const struct rule *proposer(const struct policy *policy, const struct epoch *epoch, uint64_t action)
 {
     const struct rule *rule = policy->rules;
-    while (rule->action != action || !rule_holds(rule, epoch))
+    while (rule->triggers || rule->yield != action || !rule_holds(rule, epoch))
         rule++;
     return rule;
 }
 
-struct explanation explain_by_policy(const struct policy *policy, const uint8_t *line, size_t length, uint64_t action)
+struct explanation explain_by_policy(
+    const struct policy *policy, event_set pending, const uint8_t *line, size_t length, uint64_t action)
 {
     struct explanation why = {ACCEPTED, OUTCOME_NONE, {NEITHER, 0, 0}};
     struct epoch epoch;
     action_set candidates, kept, one;
-    why.verdict = read_epoch(line, length, &epoch);
+    why.verdict = read_next_epoch(policy, pending, line, length, &epoch);
     if (why.verdict.fault == FAULT_NONE && action >= ACTIONS)
         why.verdict = refuse(FAULT_EPOCH_RANGE, 0);
     if (why.verdict.fault != FAULT_NONE)
@@ -946,31 +1001,58 @@ struct explanation explain_by_policy(const struct policy *policy, const uint8_t 
     return why;
 }
 
-struct explanation explain(struct texts texts, const uint8_t *line, size_t length, uint64_t action)
+struct explanation explain(struct texts texts, event_set pending, const uint8_t *line, size_t length, uint64_t action)
 {
     struct explanation why = {ACCEPTED, OUTCOME_NONE, {NEITHER, 0, 0}};
     struct policy policy;
-    why.verdict = read_texts(texts, &policy);
+    why.verdict = read_texts(NEWEST_FORM, texts, &policy);
     if (why.verdict.fault != FAULT_NONE)
         return why;
-    return explain_by_policy(&policy, line, length, action);
+    return explain_by_policy(&policy, pending, line, length, action);
 }
 
-/* The action is all before the first space, the epoch line all behind it. Its length is looked at first. */
-struct explanation answer_question(const struct policy *policy, const uint8_t *question, size_t length)
+/* The bytes of a question up to the first of these, from `at` on. */
+static struct slice up_to(struct slice whole, size_t at, char first)
+{
+    size_t to = at;
+    while (to < whole.length && whole.bytes[to] != (uint8_t)first)
+        to++;
+    return part(whole, at, to);
+}
+
+/* The action and the pending events are all before the first space, the epoch line all behind it. */
+bool read_question(const uint8_t *bytes, size_t length, struct question *question)
+{
+    struct slice whole = {bytes, length}, asked = up_to(whole, 0, ' '), name = up_to(asked, 0, ',');
+    struct defects defects = {false, false, false};
+    size_t at = name.length;
+    uint64_t number;
+    question->action = 0;
+    question->pending = 0;
+    question->line = part(whole, asked.length < length ? asked.length + 1 : length, length);
+    if (!read_name(name, 'A', &question->action))
+        return false;
+    for (; at < asked.length; at += 1 + name.length) { /* a comma stands at `at` */
+        name = up_to(asked, at + 1, ',');
+        if (!read_name(name, 'E', &number))
+            return false;
+        question->pending |= UINT64_C(1) << ranged(number, EVENTS, &defects);
+    }
+    if (defects.range)
+        question->action = ACTIONS;
+    return true;
+}
+
+/* The length of the line is looked at first, and last whether the action and the pending events are in their ranges. */
+struct explanation answer_question(const struct policy *policy, const uint8_t *bytes, size_t length)
 {
     struct explanation why = {ACCEPTED, OUTCOME_NONE, {NEITHER, 0, 0}};
-    struct slice whole = {question, length}, line;
-    size_t space = 0;
-    uint64_t action = 0;
-    while (space < length && question[space] != ' ')
-        space++;
-    line = part(whole, space < length ? space + 1 : length, length);
-    if (!read_name(part(whole, 0, space), 'A', &action) && line.length <= EPOCH_BYTES) {
+    struct question question;
+    if (!read_question(bytes, length, &question) && question.line.length <= EPOCH_BYTES) {
         why.verdict = refuse(FAULT_EPOCH_SHAPE, 0);
         return why;
     }
-    return explain_by_policy(policy, line.bytes, line.length, action);
+    return explain_by_policy(policy, question.pending, question.line.bytes, question.line.length, question.action);
 }
 
 /* The words that a decision visits, by the policy. In a line the parts are tested in the order of the text, up to and with
@@ -1108,10 +1190,16 @@ static uint32_t fetch(struct fetcher *words)
     return word_at(words->image, words->at++);
 }
 
-/* Runs the words up to `end`, which are of lines of one kind, on an epoch and a set of actions, and collects what they
-   propose. True if a constraint holds; the run ends there. */
+/* What rule words propose and trigger. */
+struct effects {
+    action_set actions;
+    event_set events;
+};
+
+/* Runs the words up to `end`, which are of lines of one kind, on an epoch and a set of actions, and collects what they propose and
+   trigger. True if a constraint holds; the run ends there. */
 static bool run_words(struct fetcher *words, size_t end, enum line_kind kind, const struct epoch *epoch, action_set set,
-    action_set *proposals)
+    struct effects *effects)
 {
     while (words->at < end) {
         struct fields fields = unpack(fetch(words));
@@ -1128,7 +1216,8 @@ static bool run_words(struct fetcher *words, size_t end, enum line_kind kind, co
             comparison = against_reading(fields);
             holds = comparison_holds(&comparison, kind, epoch);
             break;
-        case PROPOSE: *proposals |= UINT64_C(1) << fields.first; break;
+        case PROPOSE: effects->actions |= UINT64_C(1) << fields.first; break;
+        case TRIGGER: effects->events |= UINT64_C(1) << fields.first; break;
         case MEMBER: holds = in_set(set, fields.first); break;
         default: return true;
         }
@@ -1138,18 +1227,18 @@ static bool run_words(struct fetcher *words, size_t end, enum line_kind kind, co
     return false;
 }
 
-static action_set run_rules(struct fetcher *words, const struct epoch *epoch)
+static struct effects run_rules(struct fetcher *words, const struct epoch *epoch)
 {
-    action_set proposals = 0;
+    struct effects effects = {0, 0};
     words->at = 1;
-    run_words(words, words->rules_end, IN_RULE, epoch, 0, &proposals);
-    return proposals;
+    run_words(words, words->rules_end, IN_RULE, epoch, 0, &effects);
+    return effects;
 }
 
 /* True if a constraint holds on the set. */
 static bool run_constraints(struct fetcher *words, const struct epoch *epoch, action_set set)
 {
-    action_set none = 0;
+    struct effects none = {0, 0};
     words->at = words->rules_end;
     return run_words(words, words->end, IN_CONSTRAINT, epoch, set, &none);
 }
@@ -1157,56 +1246,59 @@ static bool run_constraints(struct fetcher *words, const struct epoch *epoch, ac
 static void run_by_actions(const uint8_t *image, const struct epoch *epoch, struct decision *decision)
 {
     struct fetcher words = words_of(image);
-    action_set candidates = run_rules(&words, epoch);
+    struct effects effects = run_rules(&words, epoch);
     unsigned action;
     for (action = 0; action < ACTIONS; action++) {
         action_set tried = decision->accepted | UINT64_C(1) << action;
-        if (in_set(candidates, action) && !run_constraints(&words, epoch, tried))
+        if (in_set(effects.actions, action) && !run_constraints(&words, epoch, tried))
             decision->accepted = tried;
     }
-    decision->cancelled = candidates & ~decision->accepted;
+    decision->cancelled = effects.actions & ~decision->accepted;
+    decision->triggered = effects.events;
     decision->visited = words.count;
 }
 
 /* The trial of some events of an epoch. True if what they propose makes no constraint hold. */
-static bool run_trial(struct fetcher *words, const struct epoch *epoch, event_set tried, action_set *proposals)
+static bool run_trial(struct fetcher *words, const struct epoch *epoch, event_set tried, struct effects *effects)
 {
     struct epoch reduced = reduction(epoch, tried);
-    *proposals = run_rules(words, &reduced);
-    return !run_constraints(words, &reduced, *proposals);
+    *effects = run_rules(words, &reduced);
+    return !run_constraints(words, &reduced, effects->actions);
 }
 
 /* The words of the full epoch, which say what is cancelled, do not count. */
 static void run_by_events(const uint8_t *image, const struct epoch *epoch, struct decision *decision)
 {
     struct fetcher words = words_of(image), full = words;
-    action_set proposals;
+    struct effects effects, issued;
     event_set kept = 0;
     unsigned event;
-    if (!run_trial(&words, epoch, kept, &proposals)) {
+    if (!run_trial(&words, epoch, kept, &issued)) {
         decision->verdict = refuse(FAULT_UNAVOIDABLE, 0);
         return;
     }
-    decision->accepted = proposals;
     for (event = 0; event < EVENTS; event++) {
         event_set tried = kept | UINT64_C(1) << event;
-        if (in_set(epoch->present, event) && run_trial(&words, epoch, tried, &proposals)) {
+        if (in_set(epoch->present, event) && run_trial(&words, epoch, tried, &effects)) {
             kept = tried;
-            decision->accepted = proposals;
+            issued = effects;
         }
     }
-    decision->cancelled = run_rules(&full, epoch) & ~decision->accepted;
+    decision->accepted = issued.actions;
+    decision->cancelled = run_rules(&full, epoch).actions & ~issued.actions;
+    decision->triggered = issued.events;
     decision->visited = words.count;
 }
 
-struct decision decide(const uint8_t *image, size_t image_length, const uint8_t *line, size_t length, enum mode mode)
+struct decision decide(
+    const uint8_t *image, size_t image_length, event_set pending, const uint8_t *line, size_t length, enum mode mode)
 {
-    struct decision decision = {ACCEPTED, 0, 0, 0};
+    struct decision decision = {ACCEPTED, 0, 0, 0, 0};
     struct policy policy;
     struct epoch epoch;
     decision.verdict = load_image(image, image_length, &policy);
     if (decision.verdict.fault == FAULT_NONE)
-        decision.verdict = read_epoch(line, length, &epoch);
+        decision.verdict = read_next_epoch(&policy, pending, line, length, &epoch);
     if (decision.verdict.fault != FAULT_NONE)
         return decision;
     if (mode == CANCEL_ACTIONS)
@@ -1341,6 +1433,7 @@ static void print_engine(const uint8_t *input, size_t length, FILE *out)
     size_t written, text_length, at, line_length;
     const uint8_t *line;
     unsigned long number = 0;
+    event_set pending = 0;
     struct verdict verdict;
     enum mode mode;
     find_run(input, length, &text_length, &at, &mode);
@@ -1349,8 +1442,11 @@ static void print_engine(const uint8_t *input, size_t length, FILE *out)
         print_refusal(verdict, "line", out);
         return;
     }
-    while (next_line(input, length, &at, &line, &line_length))
-        print_decision(++number, decide(image, written, line, line_length, mode), out);
+    while (next_line(input, length, &at, &line, &line_length)) {
+        struct decision decision = decide(image, written, pending, line, line_length, mode);
+        pending = pending_after(pending, decision);
+        print_decision(++number, decision, out);
+    }
 }
 
 bool print_program(const char *program, const uint8_t *input, size_t length, FILE *out)
@@ -1408,7 +1504,7 @@ static void print_explain(struct texts texts, const uint8_t *input, size_t lengt
     struct slice question;
     size_t at = 0;
     unsigned long number = 0;
-    struct verdict verdict = read_texts(texts, &policy);
+    struct verdict verdict = read_texts(NEWEST_FORM, texts, &policy);
     if (verdict.fault != FAULT_NONE) {
         print_refusal_of_text(verdict, out);
         return;

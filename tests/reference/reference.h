@@ -1,7 +1,7 @@
-/* Rule texts, images of both forms and epochs as docs/REFERENCE.md defines them, with the text of an image, readings that are not
-   given, the words that a decision visits, constants in hexadecimal, two texts as one with the reason for an action, and event
-   cancellation, in plain C, written from what is asked for and not from the Rattle code. The programs and the library are compared
-   with it. */
+/* Rule texts, images of all forms and epochs as docs/REFERENCE.md defines them, with the text of an image, readings that are not
+   given, the words that a decision visits, constants in hexadecimal, two texts as one with the reason for an action, event
+   cancellation, and events that are remembered until the next epoch, in plain C, written from what is asked for and not from the
+   Rattle code. The programs and the library are compared with it. */
 #ifndef REFERENCE_H
 #define REFERENCE_H
 
@@ -12,7 +12,7 @@
 enum {
     TEXT_BYTES = 32768,
     EPOCH_BYTES = 1024,
-    RULE_TEXT_BYTES = 150, /* of the longest rule that is written, its line end included; the longest never line has 137 */
+    RULE_TEXT_BYTES = 152, /* of the longest rule that is written, its line end included; the longest never line has 137 */
     CONSTRAINT_TEXT_BYTES = 137,
     WRITTEN_BYTES = RULES * RULE_TEXT_BYTES + CONSTRAINTS * CONSTRAINT_TEXT_BYTES,
     DUMP_BYTES = IMAGE_BYTES + WORD_BYTES /* what is kept of the words of a dump: if they are too many, one too many */
@@ -38,7 +38,8 @@ enum fault {
     FAULT_ROOM = 15,
     FAULT_WEIGHTED_SUM = 16,
     FAULT_UNAVOIDABLE = 17,
-    FAULTS = 18
+    FAULT_RESERVED = 18,
+    FAULTS = 19
 };
 
 /* Lent bytes. */
@@ -89,11 +90,12 @@ struct literal {
     bool negated;
 };
 
-/* E1 & !E2 causes A3 if ... */
+/* E1 & !E2 causes A3 if ..., or triggers E60 in its place */
 struct rule {
     size_t count;
     struct literal literals[LITERALS];
-    unsigned action;
+    bool triggers;
+    unsigned yield; /* the number of the event that it triggers, or of the action that it causes */
     struct condition condition;
     struct part shown; /* none if it was not read from a text */
 };
@@ -133,6 +135,7 @@ enum mode { CANCEL_ACTIONS, CANCEL_EVENTS, MODES };
 struct decision {
     struct verdict verdict;
     action_set accepted, cancelled;
+    event_set triggered; /* which occur in the next accepted epoch; none on a refusal */
     size_t visited; /* words of the image that were fetched; 0 on a refusal */
 };
 
@@ -145,11 +148,12 @@ struct explanation {
     struct part shown;    /* the line that says why; none on a refusal and for an action that is not proposed */
 };
 
-/* Reads a rule text, or two as one. Refused ones leave the policy as it was. */
-struct verdict read_text(const uint8_t *text, size_t length, struct policy *policy);
-struct verdict read_texts(struct texts texts, struct policy *policy);
+/* Reads a rule text, or two as one, for a known form: in a lower form than TRIGGER_FORM no line triggers an event. Refused ones leave
+   the policy as it was. */
+struct verdict read_text(uint64_t form, const uint8_t *text, size_t length, struct policy *policy);
+struct verdict read_texts(uint64_t form, struct texts texts, struct policy *policy);
 
-/* Writes the image of a policy in a known form; the number of its bytes is returned. */
+/* Writes the image of a policy in a known form, for which it was read; the number of its bytes is returned. */
 size_t write_image(unsigned form, const struct policy *policy, uint8_t image[IMAGE_BYTES]);
 
 /* Compiles a rule text, or two as one, in a form into a lent buffer; `written` is the number of image bytes. An unknown form and
@@ -171,11 +175,21 @@ struct verdict decompile(const uint8_t *image, size_t length, uint8_t *buffer, s
    returned, or 0. */
 size_t read_dump(const uint8_t *input, size_t length, uint8_t image[DUMP_BYTES], size_t *size);
 
-/* Reads an epoch line. A refused one leaves the epoch as it was. */
+/* Reads an epoch line: its events are those that it names. A refused one leaves the epoch as it was. */
 struct verdict read_epoch(const uint8_t *line, size_t length, struct epoch *epoch);
+
+/* The events that some line of a policy triggers. An epoch line may name none of them. */
+event_set reserved(const struct policy *policy);
+
+/* The epoch of a line where these events are pending, which are among its events. */
+struct verdict read_next_epoch(
+    const struct policy *policy, event_set pending, const uint8_t *line, size_t length, struct epoch *epoch);
 
 /* Whether no never line holds on a set of actions. */
 bool satisfies(const struct policy *policy, const struct epoch *epoch, action_set set);
+
+/* The events that the rules of a policy trigger. */
+event_set triggered(const struct policy *policy, const struct epoch *epoch);
 
 /* What the rules of a policy propose, and in the first mode which of it is accepted; the rest is cancelled. */
 action_set proposed(const struct policy *policy, const struct epoch *epoch);
@@ -190,17 +204,32 @@ bool is_consistent(const struct policy *policy, const struct epoch *epoch);
 /* The events that the second mode keeps. False if the epoch is unavoidable. */
 bool kept_events(const struct policy *policy, const struct epoch *epoch, event_set *kept);
 
-/* What the plain machine answers, which sees no image and visits no words. */
-struct decision decide_by_policy(const struct policy *policy, const uint8_t *line, size_t length, enum mode mode);
+/* What the plain machine answers where these events are pending. It sees no image and visits no words. */
+struct decision decide_by_policy(
+    const struct policy *policy, event_set pending, const uint8_t *line, size_t length, enum mode mode);
 
 /* What the engine answers: the image is loaded and its words are run. */
-struct decision decide(const uint8_t *image, size_t image_length, const uint8_t *line, size_t length, enum mode mode);
+struct decision decide(
+    const uint8_t *image, size_t image_length, event_set pending, const uint8_t *line, size_t length, enum mode mode);
 
-/* Why an action is accepted or not in an epoch, by two texts or by their policy. */
-struct explanation explain(struct texts texts, const uint8_t *line, size_t length, uint64_t action);
-struct explanation explain_by_policy(const struct policy *policy, const uint8_t *line, size_t length, uint64_t action);
+/* Which events are pending after a decision: those that it triggered, or after a refusal the same as before. */
+event_set pending_after(event_set pending, struct decision decision);
 
-/* The same for a question, such as `A4 E1 E3 R0=41`: an action, a space and an epoch line. */
+/* Why an action is accepted or not in an epoch where these events are pending, by two texts or by their policy. */
+struct explanation explain(struct texts texts, event_set pending, const uint8_t *line, size_t length, uint64_t action);
+struct explanation explain_by_policy(
+    const struct policy *policy, event_set pending, const uint8_t *line, size_t length, uint64_t action);
+
+/* The same for a question, such as `A4 E1 E3 R0=41`, or `A4,E60 E1` where E60 is pending: an action, after commas the pending events,
+   a space and an epoch line. */
+struct question {
+    uint64_t action; /* over 63 if one of the pending events is */
+    event_set pending;
+    struct slice line;
+};
+
+/* False if what stands before the space is of another shape; the line is that of the question all the same. */
+bool read_question(const uint8_t *bytes, size_t length, struct question *question);
 struct explanation answer_question(const struct policy *policy, const uint8_t *question, size_t length);
 
 /* The most words that a decision on an image may visit: P + 64 * N, or 65 * (P + N) in the second mode. */

@@ -21,8 +21,10 @@ enum {
     CONSTRAINT_WORDS = CONSTRAINTS * LINE_WORDS,
     WORD_BYTES = 4,
     FIRST_FORM = 1,
-    NEWEST_FORM = 2,
-    CHECK_WORDS = 2, /* of the newest form */
+    TRIGGER_FORM = 3, /* from this one on lines may trigger events */
+    NEWEST_FORM = 3, /* that the programs name */
+    LAST_FORM = 5, /* that is known; 4 and 5 are as 3 */
+    CHECK_WORDS = 2, /* of every form but the first */
     IMAGE_WORDS = 1 + RULE_WORDS + CONSTRAINT_WORDS + CHECK_WORDS,
     IMAGE_BYTES = IMAGE_WORDS * WORD_BYTES
 };
@@ -34,7 +36,8 @@ enum operation {
     AGAINST_READING = 4,
     PROPOSE = 5,
     MEMBER = 6,
-    FORBID = 7
+    FORBID = 7,
+    TRIGGER = 8
 };
 
 enum relation { EQUAL = 0, UNEQUAL = 1, LESS = 2, AT_MOST = 3, GREATER = 4, AT_LEAST = 5, RELATIONS = 6 };
@@ -51,7 +54,7 @@ static inline bool relation_holds(unsigned relation, int32_t left, int32_t right
     }
 }
 
-static inline bool is_known_form(uint64_t form) { return form >= FIRST_FORM && form <= NEWEST_FORM; }
+static inline bool is_known_form(uint64_t form) { return form >= FIRST_FORM && form <= LAST_FORM; }
 
 /* The weighted word and the last one; in form 1 the last one alone. */
 static inline unsigned check_words(unsigned form) { return form == FIRST_FORM ? 1 : CHECK_WORDS; }

@@ -22,27 +22,27 @@ whole_or_long text = go (leb (length text) over) refl
     go true e = inl (take_all over text (leb-true (length text) over e))
     go false e = inr (let k = leb-false (length text) over e in omega arith)
 
-pub long_stops : (p : Policy) (text : List ℕ) → text_limit < length text → read_text_behind p text ≡ Err (refusal Fault.TooLong 0)
+pub long_stops : (form : ℕ) (p : Policy) (text : List ℕ) → text_limit < length text → read_text_behind form p text ≡ Err (refusal Fault.TooLong 0)
 unfolding read_text_behind
-long_stops p text h = rw (lt-ltb text_limit (length text) h)
+long_stops form p text h = rw (lt-ltb text_limit (length text) h)
 
-behind_cut : (p : Policy) (text : List ℕ) → read_text_behind p (take over text) ≡ read_text_behind p text
-behind_cut p text = go (whole_or_long text)
+behind_cut : (form : ℕ) (p : Policy) (text : List ℕ) → read_text_behind form p (take over text) ≡ read_text_behind form p text
+behind_cut form p text = go (whole_or_long text)
   where
-    go : (take over text ≡ text) ⊎ (text_limit < length text) → read_text_behind p (take over text) ≡ read_text_behind p text
-    go (inl e) = ap (read_text_behind p) e
+    go : (take over text ≡ text) ⊎ (text_limit < length text) → read_text_behind form p (take over text) ≡ read_text_behind form p text
+    go (inl e) = ap (read_text_behind form p) e
     go (inr h) =
         let l : length (take over text) ≡ over = length-take over text ∙ omega arith in
-        long_stops p (take over text) (omega arith) ∙ sym (long_stops p text h)
+        long_stops form p (take over text) (omega arith) ∙ sym (long_stops form p text h)
 
-pub text_cut : (text : List ℕ) → read_text (take over text) ≡ read_text text
+pub text_cut : (form : ℕ) (text : List ℕ) → read_text form (take over text) ≡ read_text form text
 unfolding read_text
-text_cut text = ap (in_text Source.Maker) (behind_cut empty_policy text)
+text_cut form text = ap (in_text Source.Maker) (behind_cut form empty_policy text)
 
-pub texts_cut : (maker site : List ℕ) → read_texts (take over maker) (take over site) ≡ read_texts maker site
+pub texts_cut : (form : ℕ) (maker site : List ℕ) → read_texts form (take over maker) (take over site) ≡ read_texts form maker site
 unfolding read_texts
-texts_cut maker site = rw (text_cut maker) (go (read_text maker))
+texts_cut form maker site = rw (text_cut form maker) (go (read_text form maker))
   where
-    go : (r : Result Policy Refusal) → result_and_then (λ (p : Policy). in_text Source.Site (read_text_behind p (take over site))) r ≡ result_and_then (λ (p : Policy). in_text Source.Site (read_text_behind p site)) r
-    go (Ok p) = ap (in_text Source.Site) (behind_cut p site)
+    go : (r : Result Policy Refusal) → result_and_then (λ (p : Policy). in_text Source.Site (read_text_behind form p (take over site))) r ≡ result_and_then (λ (p : Policy). in_text Source.Site (read_text_behind form p site)) r
+    go (Ok p) = ap (in_text Source.Site) (behind_cut form p site)
     go (Err x) = refl

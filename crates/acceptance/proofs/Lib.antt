@@ -3,6 +3,7 @@ pub mod Alphabet
 pub mod Cut
 pub mod Examples
 pub mod FirstFault
+pub mod Forms
 pub mod Given
 pub mod Locations
 pub mod Named

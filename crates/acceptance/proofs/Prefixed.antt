@@ -7,7 +7,7 @@ use Rattle.std.proofs.lemmas.List.Elements.{Contains-append_cases}
 use Rattle.std.proofs.Math.Bool.{and-false}
 use Rattle.std.proofs.Math.Dec.{eqb, ltb}
 use Rattle.policy.proofs.ListLaws.{true_false, not_true_is, contains_first, contains_later, all_out}
-use Rattle.policy.specs.Limits.{in_range, test_number, comparison_in_range}
+use Rattle.policy.specs.Limits.{allowed, in_range, test_number, comparison_in_range}
 use Rattle.policy.specs.Line.{PolicyLine, rule, constraint, heads_of, comparisons_of}
 use Rattle.policy.specs.List.{all, any}
 use Rattle.policy.specs.Number.{set_limit}
@@ -16,12 +16,13 @@ use Rattle.policy.specs.declared.comparison.Comparison.{Comparison}
 use Rattle.policy.specs.declared.comparison.Operand.{Operand}
 use Rattle.policy.specs.declared.number.Reading.{Reading}
 use Rattle.policy.specs.declared.comparison.Relation.{Relation}
+use Rattle.policy.specs.declared.effect.Effect.{Effect}
 use Rattle.policy.specs.declared.fault.Fault.{Fault}
 use Rattle.policy.specs.declared.line.Test.{Test}
 use Rattle.lexer.specs.Byte.{bytes, bytes_equal, is, is_digit, is_hex_digit}
 use Rattle.lexer.specs.Lines.{tokens_of}
 use Rattle.lexer.specs.Number.{number_of, pattern_digits, constant_of}
-use Rattle.lexer.specs.Token.{Token, named, both, literal_of, action_of, reading_of, relation_of, operand_of, comparison_by, comparison_of}
+use Rattle.lexer.specs.Token.{Token, named, both, literal_of, action_of, event_of, reading_of, relation_of, operand_of, comparison_by, comparison_of}
 use Rattle.syntax.specs.Judge.{line_answer}
 use Rattle.epoch_line.specs.Epoch.{Item, Halves, value, with_left, at_equals, assignment_of, item_of, items_of, item_in_range, epoch_limit, read_epoch}
 use Rattle.acceptance.proofs.FirstFault.{epoch_refused_exactly}
@@ -30,7 +31,7 @@ use Rattle.acceptance.proofs.Patterns.{bare_prefix, other_byte, wide_comparison,
 use Rattle.acceptance.specs.FirstFault.{EpochFault}
 use Rattle.acceptance.specs.OneLine.{is_skipped, LineRefused}
 use Rattle.acceptance.specs.Patterns.{prefixed}
-use Rattle.acceptance.specs.Written.{AreJoined, AreComparisons, AreCondition, IsRule, IsConstraint, IsLine, IsWritten}
+use Rattle.acceptance.specs.Written.{AreJoined, AreComparisons, AreCondition, IsEffect, IsRule, IsConstraint, IsLine, IsWritten}
 
 none_some : {A B : Type 0} {x : A} → ◌≡◌ {A = Option A} None (Some x) → B
 none_some e = let w : ◌≡◌ {A = ℕ} 0 1 = cc in absurd (omega arith)
@@ -55,7 +56,7 @@ module _ {A : Type 0} (item : Token → Option A) (t : Token) (no_item : item t 
   not_joined (s ∷ u ∷ ts) (x ∷ xs) h (suc zero, l, e) = true_false h.1 (ap (is "&") e ∙ no_and)
   not_joined (s ∷ u ∷ ts) (x ∷ xs) h (suc (suc k), l, e) = not_joined ts xs h.2 (k, omega arith, e)
 
-module _ (ds : List ℕ) where
+module _ (form : ℕ) (ds : List ℕ) where
   abbrev token : Token
   token = prefixed ds
 
@@ -108,12 +109,20 @@ module _ (ds : List ℕ) where
   in_condition (t ∷ ts) cs h (suc k, l, e) = in_comparisons ts cs h.1 (k, omega arith, e)
 
   in_rule : (ts : List Token) (x : Rule) → IsRule ts x → Contains ts token → Stands x.comparisons
-  unfolding is bytes bytes_equal literal_of action_of named
-  in_rule ts x r m = elim (Contains-append_cases r.literals (r.keyword ∷ r.action ∷ r.condition) token (subst (λ (ts : List Token). Contains ts token) r.tokens m)) [ inl h ↦ absurd (not_joined literal_of token refl refl r.literals x.literals r.are_literals h) | inr h ↦ behind h ]
+  unfolding is bytes bytes_equal literal_of action_of event_of named IsEffect
+  in_rule ts x r m = elim (Contains-append_cases r.literals (r.keyword ∷ r.name ∷ r.condition) token (subst (λ (ts : List Token). Contains ts token) r.tokens m)) [ inl h ↦ absurd (not_joined literal_of token refl refl r.literals x.literals r.are_literals h) | inr h ↦ behind h ]
     where
-      behind : Contains (r.keyword ∷ r.action ∷ r.condition) token → Stands x.comparisons
-      behind (zero, l, e) = absurd (true_false r.causes (ap (is "causes") e))
-      behind (suc zero, l, e) = none_some (sym (ap action_of e) ∙ r.names)
+      no_keyword : (t : Effect) → IsEffect r.keyword r.name t → token ≡ r.keyword → ⊥
+      no_keyword (Effect.Causes a) h e = true_false h.0 (ap (is "causes") (sym e))
+      no_keyword (Effect.Triggers y) h e = true_false h.0 (ap (is "triggers") (sym e))
+
+      no_name : (t : Effect) → IsEffect r.keyword r.name t → token ≡ r.name → ⊥
+      no_name (Effect.Causes a) h e = none_some (ap action_of e ∙ h.1)
+      no_name (Effect.Triggers y) h e = none_some (ap event_of e ∙ h.1)
+
+      behind : Contains (r.keyword ∷ r.name ∷ r.condition) token → Stands x.comparisons
+      behind (zero, l, e) = absurd (no_keyword x.effect r.is_effect (sym e))
+      behind (suc zero, l, e) = absurd (no_name x.effect r.is_effect (sym e))
       behind (suc (suc k), l, e) = in_condition r.condition x.comparisons r.are_condition (k, omega arith, e)
 
   in_constraint : (ts : List Token) (x : Constraint) → IsConstraint ts x → Contains ts token → Stands x.comparisons
@@ -137,9 +146,9 @@ module _ (ds : List ℕ) where
     stands : (l : PolicyLine) → IsWritten line l → Stands (comparisons_of l)
     stands l w = in_line (w.first ∷ w.others) l w.written (subst (λ (ts : List Token). Contains ts token) w.tokens m)
 
-    pub bare_prefix_refused : (ds ≡ []) ⊎ (all is_hex_digit ds ≡ false) → is_skipped (tokens_of line) ≡ false → line_answer line ≡ Err Fault.Syntax
+    pub bare_prefix_refused : (ds ≡ []) ⊎ (all is_hex_digit ds ≡ false) → is_skipped (tokens_of line) ≡ false → line_answer form line ≡ Err Fault.Syntax
     unfolding operand_of reading_of named bytes comparison_of
-    bare_prefix_refused b h = refused_answer line Fault.Syntax (LineRefused.wrong_shape h (λ l w. nowhere (stands l w)))
+    bare_prefix_refused b h = refused_answer form line Fault.Syntax (LineRefused.wrong_shape h (λ l w. nowhere (stands l w)))
       where
         no_operand : operand_of token ≡ None
         no_operand = ap (option_map Operand.Constant) (broken ds b)
@@ -152,9 +161,9 @@ module _ (ds : List ℕ) where
             go (Some x) None k = none_some k
             go (Some x) (Some y) k = none_some k
 
-    pub wide_token_refused : all is_hex_digit ds ≡ true → pattern_digits < length ds → (l : PolicyLine) → IsWritten line l → line_answer line ≡ Err Fault.OutOfRange
+    pub wide_token_refused : all is_hex_digit ds ≡ true → pattern_digits < length ds → (l : PolicyLine) → IsWritten line l → allowed form l ≡ true → line_answer form line ≡ Err Fault.OutOfRange
     unfolding in_range
-    wide_token_refused h k l w = refused_answer line Fault.OutOfRange (LineRefused.out_of_range l w (out (stands l w)))
+    wide_token_refused h k l w a = refused_answer form line Fault.OutOfRange (LineRefused.out_of_range l w a (out (stands l w)))
       where
         out : Stands (comparisons_of l) → in_range l ≡ false
         out s =

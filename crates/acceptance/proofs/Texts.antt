@@ -29,70 +29,70 @@ unfolding with_line
 joint_line a b (rule r) = ap (λ (x : List Rule). record { rules = x; constraints = a.constraints ++ b.constraints }) (append_assoc a.rules b.rules (r ∷ []))
 joint_line a b (constraint c) = ap (λ (x : List Constraint). record { rules = a.rules ++ b.rules; constraints = x }) (append_assoc a.constraints b.constraints (c ∷ []))
 
-module _ (a : Policy) where
+module _ (form : ℕ) (a : Policy) where
   -- one line
-  line_apart : (b q : Policy) (line : List ℕ) → read_line (joint a b) line ≡ Ok q → (c : Policy) × (read_line b line ≡ Ok c) × (q ≡ joint a c)
-  line_apart b q line e = go (line_reads (joint a b) line)
+  line_apart : (b q : Policy) (line : List ℕ) → read_line form (joint a b) line ≡ Ok q → (c : Policy) × (read_line form b line ≡ Ok c) × (q ≡ joint a c)
+  line_apart b q line e = go (line_reads form (joint a b) line)
     where
-      go : LineRead (joint a b) line → (c : Policy) × (read_line b line ≡ Ok c) × (q ≡ joint a c)
-      go (LineRead.skips s r) = (b, read_skipped b line s, cc)
+      go : LineRead form (joint a b) line → (c : Policy) × (read_line form b line ≡ Ok c) × (q ≡ joint a c)
+      go (LineRead.skips s r) = (b, read_skipped form b line s, cc)
       go (LineRead.fails f s r) = let z : ⊥ = cc in absurd z
       go (LineRead.adds l s h r) =
           let part : Part = line_part l in
           let room : has_room b l ≡ true = lt-ltb _ _ (omega (arith, ltb-true _ _ h, joint_count a b part)) in
           let i = joint_line a b l in
-          (with_line b l, read_added b line l s room, cc)
+          (with_line b l, read_added form b line l s room, cc)
       go (LineRead.is_over l s h r) = let z : ⊥ = cc in absurd z
 
   line_joint : (b c d : Policy) (line : List ℕ) → ((part : Part) → line_count c part ≤ line_count d part) → ((part : Part) → line_count a part + line_count d part ≤ line_limit part)
-      → read_line b line ≡ Ok c → read_line (joint a b) line ≡ Ok (joint a c)
-  line_joint b c d line grown few e = go (line_reads b line)
+      → read_line form b line ≡ Ok c → read_line form (joint a b) line ≡ Ok (joint a c)
+  line_joint b c d line grown few e = go (line_reads form b line)
     where
-      go : LineRead b line → read_line (joint a b) line ≡ Ok (joint a c)
-      go (LineRead.skips s r) = let i : b ≡ c = cc in read_skipped (joint a b) line s ∙ ap (λ (x : Policy). Ok (joint a x)) i
+      go : LineRead form b line → read_line form (joint a b) line ≡ Ok (joint a c)
+      go (LineRead.skips s r) = let i : b ≡ c = cc in read_skipped form (joint a b) line s ∙ ap (λ (x : Policy). Ok (joint a x)) i
       go (LineRead.fails f s r) = let z : ⊥ = cc in absurd z
       go (LineRead.adds l s h r) =
           let part : Part = line_part l in
           let i : with_line b l ≡ c = cc in
           let k : line_count c part ≡ suc (line_count b part) = ap (λ (x : Policy). line_count x part) (sym i) ∙ count_more b l in
           let room : has_room (joint a b) l ≡ true = lt-ltb _ _ (omega (arith, joint_count a b part, grown part, few part)) in
-          read_added (joint a b) line l s room ∙ ap Ok (joint_line a b l ∙ ap (joint a) i)
+          read_added form (joint a b) line l s room ∙ ap Ok (joint_line a b l ∙ ap (joint a) i)
       go (LineRead.is_over l s h r) = let z : ⊥ = cc in absurd z
 
   -- all of them
-  lines_apart : (ls : List (List ℕ)) (n : ℕ) (b q : Policy) → read_lines n (joint a b) ls ≡ Ok q → (c : Policy) × (read_lines n b ls ≡ Ok c) × (q ≡ joint a c)
+  lines_apart : (ls : List (List ℕ)) (n : ℕ) (b q : Policy) → read_lines form n (joint a b) ls ≡ Ok q → (c : Policy) × (read_lines form n b ls ≡ Ok c) × (q ≡ joint a c)
   unfolding read_lines
   lines_apart [] n b q e = (b, refl, cc)
   lines_apart (l ∷ ls) n b q e =
-      let k = lines_read n (joint a b) l ls q e in
+      let k = lines_read form n (joint a b) l ls q e in
       let here = line_apart b k.0 l k.1 in
-      let later = lines_apart ls (suc n) here.0 q (sym (ap (λ (x : Policy). read_lines (suc n) x ls) here.2) ∙ k.2) in
-      (later.0, first_read n b l ls here.0 here.1 ∙ later.1, later.2)
+      let later = lines_apart ls (suc n) here.0 q (sym (ap (λ (x : Policy). read_lines form (suc n) x ls) here.2) ∙ k.2) in
+      (later.0, first_read form n b l ls here.0 here.1 ∙ later.1, later.2)
 
 -- no line is lost
-line_grows : (p q : Policy) (line : List ℕ) → read_line p line ≡ Ok q → (part : Part) → line_count p part ≤ line_count q part
-line_grows p q line e part = go (line_reads p line)
+line_grows : (form : ℕ) (p q : Policy) (line : List ℕ) → read_line form p line ≡ Ok q → (part : Part) → line_count p part ≤ line_count q part
+line_grows form p q line e part = go (line_reads form p line)
   where
-    go : LineRead p line → line_count p part ≤ line_count q part
+    go : LineRead form p line → line_count p part ≤ line_count q part
     go (LineRead.skips s r) = let i : p ≡ q = cc in rw i (omega arith)
     go (LineRead.fails f s r) = let z : ⊥ = cc in absurd z
     go (LineRead.adds l s h r) = let i : with_line p l ≡ q = cc in rw (← i) (count_kept p l part)
     go (LineRead.is_over l s h r) = let z : ⊥ = cc in absurd z
 
-grows : (ls : List (List ℕ)) (n : ℕ) (p q : Policy) → read_lines n p ls ≡ Ok q → (part : Part) → line_count p part ≤ line_count q part
+grows : (form : ℕ) (ls : List (List ℕ)) (n : ℕ) (p q : Policy) → read_lines form n p ls ≡ Ok q → (part : Part) → line_count p part ≤ line_count q part
 unfolding read_lines
-grows [] n p q e part = let i : p ≡ q = cc in rw i (omega arith)
-grows (l ∷ ls) n p q e part =
-    let k = lines_read n p l ls q e in
-    omega (arith, line_grows p k.0 l k.1 part, grows ls (suc n) k.0 q k.2 part)
+grows form [] n p q e part = let i : p ≡ q = cc in rw i (omega arith)
+grows form (l ∷ ls) n p q e part =
+    let k = lines_read form n p l ls q e in
+    omega (arith, line_grows form p k.0 l k.1 part, grows form ls (suc n) k.0 q k.2 part)
 
-lines_joint : (a : Policy) (ls : List (List ℕ)) (n : ℕ) (b d : Policy) → ((part : Part) → line_count a part + line_count d part ≤ line_limit part)
-    → read_lines n b ls ≡ Ok d → read_lines n (joint a b) ls ≡ Ok (joint a d)
+lines_joint : (form : ℕ) (a : Policy) (ls : List (List ℕ)) (n : ℕ) (b d : Policy) → ((part : Part) → line_count a part + line_count d part ≤ line_limit part)
+    → read_lines form n b ls ≡ Ok d → read_lines form n (joint a b) ls ≡ Ok (joint a d)
 unfolding read_lines
-lines_joint a [] n b d few e = let i : b ≡ d = cc in ap (λ (x : Policy). Ok (joint a x)) i
-lines_joint a (l ∷ ls) n b d few e =
-    let k = lines_read n b l ls d e in
-    first_read n (joint a b) l ls (joint a k.0) (line_joint a b k.0 d l (grows ls (suc n) k.0 d k.2) few k.1) ∙ lines_joint a ls (suc n) k.0 d few k.2
+lines_joint form a [] n b d few e = let i : b ≡ d = cc in ap (λ (x : Policy). Ok (joint a x)) i
+lines_joint form a (l ∷ ls) n b d few e =
+    let k = lines_read form n b l ls d e in
+    first_read form n (joint a b) l ls (joint a k.0) (line_joint form a b k.0 d l (grows form ls (suc n) k.0 d k.2) few k.1) ∙ lines_joint form a ls (suc n) k.0 d few k.2
 
 -- ---- the policy of two texts
 
@@ -100,38 +100,38 @@ lines_joint a (l ∷ ls) n b d few e =
 nothing_behind : (a : Policy) → joint a empty_policy ≡ a
 nothing_behind a = ap₂ (λ (x : List Rule) (y : List Constraint). record { rules = x; constraints = y }) (append-nil a.rules) (append-nil a.constraints)
 
-short_read : (source : Source) (p : Policy) (text : List ℕ) (q : Policy) → length text ≤ text_limit → read_lines 1 p (lines_of text) ≡ Ok q → in_text source (read_text_behind p text) ≡ Ok q
+short_read : (form : ℕ) (source : Source) (p : Policy) (text : List ℕ) (q : Policy) → length text ≤ text_limit → read_lines form 1 p (lines_of text) ≡ Ok q → in_text source (read_text_behind form p text) ≡ Ok q
 unfolding read_text_behind
-short_read source p text q h k = rw (le-ltb _ _ h, k)
+short_read form source p text q h k = rw (le-ltb _ _ h, k)
 
-pub texts_joint : (maker site : List ℕ) (p : Policy) → policy_of_texts maker site ≡ Some p → Joint maker site p
+pub texts_joint : (form : ℕ) (maker site : List ℕ) (p : Policy) → policy_of_texts form maker site ≡ Some p → Joint form maker site p
 unfolding read_texts read_text
-texts_joint maker site p e =
-    let read : read_texts maker site ≡ Ok p = known (read_texts maker site) p e in
-    let k = and_then_ok (λ (a : Policy). in_text Source.Site (read_text_behind a site)) (read_text maker) p read in
-    let t = behind_read k.0 site p (in_text_ok Source.Site (read_text_behind k.0 site) p k.2) in
-    let x = lines_apart k.0 (lines_of site) 1 empty_policy p (ap (λ (y : Policy). read_lines 1 y (lines_of site)) (nothing_behind k.0) ∙ t.1) in
-    let ok = texts_acceptable maker site p read in
+texts_joint form maker site p e =
+    let read : read_texts form maker site ≡ Ok p = known (read_texts form maker site) p e in
+    let k = and_then_ok (λ (a : Policy). in_text Source.Site (read_text_behind form a site)) (read_text form maker) p read in
+    let t = behind_read form k.0 site p (in_text_ok Source.Site (read_text_behind form k.0 site) p k.2) in
+    let x = lines_apart form k.0 (lines_of site) 1 empty_policy p (ap (λ (y : Policy). read_lines form 1 y (lines_of site)) (nothing_behind k.0) ∙ t.1) in
+    let ok = texts_acceptable form maker site p read in
     record {
       makers = k.0;
       sites = x.0;
       maker_read = ap result_ok k.1;
-      site_read = ap result_ok (short_read Source.Maker empty_policy site x.0 t.0 x.1);
+      site_read = ap result_ok (short_read form Source.Maker empty_policy site x.0 t.0 x.1);
       same = x.2;
       few_rules = ok.few_rules;
       few_constraints = ok.few_constraints;
     }
 
-pub joint_texts : (maker site : List ℕ) (p : Policy) → Joint maker site p → policy_of_texts maker site ≡ Some p
+pub joint_texts : (form : ℕ) (maker site : List ℕ) (p : Policy) → Joint form maker site p → policy_of_texts form maker site ≡ Some p
 unfolding read_texts read_text
-joint_texts maker site p j =
+joint_texts form maker site p j =
     let a : Policy = j.makers in
-    let m : read_text maker ≡ Ok a = known (read_text maker) a j.maker_read in
-    let t = behind_read empty_policy site j.sites (in_text_ok Source.Maker (read_text_behind empty_policy site) j.sites (known (read_text site) j.sites j.site_read)) in
-    let r = lines_joint a (lines_of site) 1 empty_policy j.sites few t.1 in
+    let m : read_text form maker ≡ Ok a = known (read_text form maker) a j.maker_read in
+    let t = behind_read form empty_policy site j.sites (in_text_ok Source.Maker (read_text_behind form empty_policy site) j.sites (known (read_text form site) j.sites j.site_read)) in
+    let r = lines_joint form a (lines_of site) 1 empty_policy j.sites few t.1 in
     ap result_ok
-    (ap (result_and_then (λ (x : Policy). in_text Source.Site (read_text_behind x site))) m
-    ∙ short_read Source.Site a site (joint a j.sites) t.0 (ap (λ (y : Policy). read_lines 1 y (lines_of site)) (sym (nothing_behind a)) ∙ r))
+    (ap (result_and_then (λ (x : Policy). in_text Source.Site (read_text_behind form x site))) m
+    ∙ short_read form Source.Site a site (joint a j.sites) t.0 (ap (λ (y : Policy). read_lines form 1 y (lines_of site)) (sym (nothing_behind a)) ∙ r))
     ∙ ap Some (sym j.same)
   where
     few : (part : Part) → line_count j.makers part + line_count j.sites part ≤ line_limit part
@@ -141,17 +141,17 @@ joint_texts maker site p j =
 -- ---- an empty site's text
 
 -- all is as for a single text: what is read, the policy, and what is answered
-pub site_empty : (text : List ℕ) → read_texts text [] ≡ read_text text
+pub site_empty : (form : ℕ) (text : List ℕ) → read_texts form text [] ≡ read_text form text
 unfolding read_texts read_text_behind read_lines lines_of pieces
-site_empty text = go (read_text text)
+site_empty form text = go (read_text form text)
   where
-    go : (r : Result Policy Refusal) → result_and_then (λ (p : Policy). in_text Source.Site (read_text_behind p [])) r ≡ r
+    go : (r : Result Policy Refusal) → result_and_then (λ (p : Policy). in_text Source.Site (read_text_behind form p [])) r ≡ r
     go (Ok p) = refl
     go (Err x) = refl
 
-pub policy_alone : (text : List ℕ) → policy_of_texts text [] ≡ policy_of text
-policy_alone text = ap result_ok (site_empty text)
+pub policy_alone : (form : ℕ) (text : List ℕ) → policy_of_texts form text [] ≡ policy_of form text
+policy_alone form text = ap result_ok (site_empty form text)
 
-pub read_alone : (text : List ℕ) → texts_read text [] ≡ text_read text
+pub read_alone : (form : ℕ) (text : List ℕ) → texts_read form text [] ≡ text_read form text
 unfolding texts_read text_read
-read_alone text = ap counted (site_empty text)
+read_alone form text = ap counted (site_empty form text)

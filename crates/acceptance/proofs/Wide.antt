@@ -5,7 +5,7 @@ use Rattle.std.specs.Prelude.{Err, Some}
 use Rattle.std.proofs.Common.{ℕ, ◌≤◌, ◌<◌, Bool, true, false, List, [], ◌∷◌, ◌++◌, ◌≡◌, refl, ap, ◌∙◌, le-ltb, length}
 use Rattle.std.proofs.Math.Bool.{and-false}
 use Rattle.std.proofs.Math.Dec.{eqb, ltb}
-use Rattle.policy.specs.Limits.{in_range, test_number, comparison_in_range}
+use Rattle.policy.specs.Limits.{allowed, in_range, test_number, comparison_in_range}
 use Rattle.policy.specs.Line.{PolicyLine, heads_of, comparisons_of}
 use Rattle.policy.specs.List.{all, any}
 use Rattle.policy.specs.Number.{set_limit}
@@ -30,16 +30,16 @@ module _ {A : Type 0} (p : A → Bool) (x : A) (fails : p x ≡ false) where
 
 -- ---- lines of a text
 
-module _ (line : List ℕ) (l : PolicyLine) (w : IsWritten line l) where
+module _ (form : ℕ) (line : List ℕ) (l : PolicyLine) (w : IsWritten line l) (a : allowed form l ≡ true) where
   pub comparison_refused : (before after : List Comparison) (c : Comparison) → comparisons_of l ≡ before ++ c ∷ after → comparison_in_range c ≡ false
-      → line_answer line ≡ Err Fault.OutOfRange
+      → line_answer form line ≡ Err Fault.OutOfRange
   unfolding judge_line in_range
   comparison_refused before after c e f =
-      written_answer line l w ∙ rw (ap (all comparison_in_range) e ∙ some_fails comparison_in_range c f before after, and-false (all (λ (t : Test). ltb (test_number t) set_limit) (heads_of l))) refl
+      written_answer form line l w a ∙ rw (ap (all comparison_in_range) e ∙ some_fails comparison_in_range c f before after, and-false (all (λ (t : Test). ltb (test_number t) set_limit) (heads_of l))) refl
 
   -- whatever its reading, its relation and the rest of the line
   pub wide_constant_refused : (ds : List ℕ) → all is_hex_digit ds ≡ true → pattern_digits < length ds → (r q : Token) (c : Comparison) → comparison_of r q (prefixed ds) ≡ Some c
-      → (before after : List Comparison) → comparisons_of l ≡ before ++ c ∷ after → line_answer line ≡ Err Fault.OutOfRange
+      → (before after : List Comparison) → comparisons_of l ≡ before ++ c ∷ after → line_answer form line ≡ Err Fault.OutOfRange
   wide_constant_refused ds h k r q c e before after s = comparison_refused before after c s (wide_comparison ds h k r q c e)
 
 -- ---- epoch lines

@@ -7,11 +7,13 @@ use Rattle.policy.specs.Line.{PolicyLine, rule, constraint}
 use Rattle.policy.specs.Policy.{Rule, Constraint}
 use Rattle.policy.specs.declared.comparison.Comparison.{Comparison}
 use Rattle.policy.specs.declared.comparison.Literal.{Literal}
+use Rattle.policy.specs.declared.effect.Effect.{Effect}
 use Rattle.policy.specs.declared.number.Action.{Action}
+use Rattle.policy.specs.declared.number.Event.{Event}
 use Rattle.lexer.specs.Byte.{bytes, bytes_equal, is}
-use Rattle.lexer.specs.Token.{Token, named, both, literal_of, action_of, comparison_of}
-use Rattle.syntax.specs.Grammar.{Joined, last, before, joined, comparisons_from, condition_from, causes, never, rule_after, constraint_after, after, line_from}
-use Rattle.acceptance.specs.Written.{AreJoined, AreComparisons, AreCondition, IsRule, IsConstraint, IsLine}
+use Rattle.lexer.specs.Token.{Token, named, both, literal_of, action_of, event_of, comparison_of}
+use Rattle.syntax.specs.Grammar.{Joined, last, before, joined, comparisons_from, condition_from, effect_from, yields, never, rule_after, constraint_after, after, line_from}
+use Rattle.acceptance.specs.Written.{AreJoined, AreComparisons, AreCondition, IsEffect, IsRule, IsConstraint, IsLine}
 
 module _ {A : Type 0} where
   some_same : {x y : A} → Some x ≡ Some y → x ≡ y
@@ -33,6 +35,14 @@ module _ (t : Token) where
   causes_apart : is "causes" t ≡ true → is "&" t ≡ false
   unfolding is bytes bytes_equal
   causes_apart h = ap (is "&") (same_bytes t (bytes "causes") h)
+
+  triggers_apart : is "triggers" t ≡ true → is "&" t ≡ false
+  unfolding is bytes bytes_equal
+  triggers_apart h = ap (is "&") (same_bytes t (bytes "triggers") h)
+
+  triggers_other : is "triggers" t ≡ true → is "causes" t ≡ false
+  unfolding is bytes bytes_equal
+  triggers_other h = ap (is "causes") (same_bytes t (bytes "triggers") h)
 
   if_apart : is "if" t ≡ true → is "&" t ≡ false
   unfolding is bytes bytes_equal
@@ -148,6 +158,31 @@ unfolding EndsItems AreCondition
 condition_ends [] cs h = refl
 condition_ends (t ∷ ts) cs h = if_apart t h.0
 
+-- ---- an effect
+
+module _ (keyword name : Token) where
+  effect_in : (x : Effect) → effect_from keyword name ≡ Some x → IsEffect keyword name x
+  unfolding effect_from IsEffect
+  effect_in x e = go (is "causes" keyword) refl (is "triggers" keyword) refl (action_of name) refl (event_of name) refl e
+    where
+      go : (b : Bool) → is "causes" keyword ≡ b → (c : Bool) → is "triggers" keyword ≡ c → (o : Option Action) → action_of name ≡ o → (p : Option Event) → event_of name ≡ p
+          → cond b (option_map Effect.Causes o) (cond c (option_map Effect.Triggers p) None) ≡ Some x → IsEffect keyword name x
+      go true v c w (Some a) m p n h = subst (IsEffect keyword name) (some_same h) (v, m)
+      go true v c w None m p n h = none_some h
+      go false v true w o m (Some y) n h = subst (IsEffect keyword name) (some_same h) (w, n)
+      go false v true w o m None n h = none_some h
+      go false v false w o m p n h = none_some h
+
+  effect_read : (x : Effect) → IsEffect keyword name x → effect_from keyword name ≡ Some x
+  unfolding effect_from IsEffect
+  effect_read (Effect.Causes a) h = rw (h.0, h.1)
+  effect_read (Effect.Triggers y) h = rw (triggers_other keyword h.0, h.0, h.1)
+
+  effect_apart : (x : Effect) → IsEffect keyword name x → is "&" keyword ≡ false
+  unfolding IsEffect
+  effect_apart (Effect.Causes a) h = causes_apart keyword h.0
+  effect_apart (Effect.Triggers y) h = triggers_apart keyword h.0
+
 -- ---- the two shapes
 
 rule_in : (ts : List Token) (l : PolicyLine) → after rule_after (joined literal_of ts) ≡ Some l → IsLine ts l
@@ -157,24 +192,21 @@ rule_in ts l h = go (joined literal_of ts) refl h
     behind : (j : Joined Literal) → Read literal_of ts j → (rest : List Token) → j.rest ≡ rest → rule_after j.items rest ≡ Some l → IsLine ts l
     behind j r [] q h = none_some h
     behind j r (c ∷ []) q h = none_some h
-    behind j r (c ∷ a ∷ us) q h = cause (is "causes" c) refl (action_of a) refl (condition_from us) refl h
+    behind j r (c ∷ a ∷ us) q h = whole (effect_from c a) refl (condition_from us) refl h
       where
-        cause : (b : Bool) → is "causes" c ≡ b → (o : Option Action) → action_of a ≡ o → (p : Option (List Comparison)) → condition_from us ≡ p
-            → cond b (both (causes j.items) o p) None ≡ Some l → IsLine ts l
-        cause false w o e p k h = none_some h
-        cause true w None e p k h = none_some h
-        cause true w (Some x) e None k h = none_some h
-        cause true w (Some x) e (Some cs) k h =
+        whole : (o : Option Effect) → effect_from c a ≡ o → (p : Option (List Comparison)) → condition_from us ≡ p → both (yields j.items) o p ≡ Some l → IsLine ts l
+        whole None e p k h = none_some h
+        whole (Some x) e None k h = none_some h
+        whole (Some x) e (Some cs) k h =
             subst (IsLine ts) (some_same h)
             (record {
               literals = r.front;
               keyword = c;
-              action = a;
+              name = a;
               condition = us;
               tokens = r.tokens ∙ ap (λ (vs : List Token). r.front ++ vs) q;
               are_literals = r.items;
-              causes = w;
-              names = e;
+              is_effect = effect_in c a x e;
               are_condition = condition_in us cs k;
             })
 
@@ -220,13 +252,13 @@ unfolding line_from after rule_after both EndsItems AreJoined
 rule_read ts x r = ap line_from r.tokens ∙ first r.literals r.are_literals refl
   where
     rest : List Token
-    rest = r.keyword ∷ r.action ∷ r.condition
+    rest = r.keyword ∷ r.name ∷ r.condition
 
     items : joined literal_of (r.literals ++ rest) ≡ Some (record { items = x.literals; rest = rest })
-    items = items_read literal_of r.literals rest x.literals r.are_literals (causes_apart r.keyword r.causes)
+    items = items_read literal_of r.literals rest x.literals r.are_literals (effect_apart r.keyword r.name x.effect r.is_effect)
 
     line : after rule_after (joined literal_of (r.literals ++ rest)) ≡ Some (rule x)
-    line = ap (after rule_after) items ∙ rw r.causes (ap₂ (both (causes x.literals)) r.names (condition_read r.condition x.comparisons r.are_condition))
+    line = ap (after rule_after) items ∙ ap₂ (both (yields x.literals)) (effect_read r.keyword r.name x.effect r.is_effect) (condition_read r.condition x.comparisons r.are_condition)
 
     head_apart : (t : Token) (us : List Token) (ls : List Literal) → AreJoined literal_of (t ∷ us) ls → is "never" t ≡ false
     head_apart t [] [] h = absurd h

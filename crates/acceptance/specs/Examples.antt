@@ -9,6 +9,7 @@ use Rattle.policy.specs.Set.{no_events, set_of}
 use Rattle.policy.specs.declared.comparison.Comparison.{Comparison}
 use Rattle.policy.specs.declared.comparison.Operand.{Operand}
 use Rattle.policy.specs.declared.comparison.Relation.{Relation}
+use Rattle.policy.specs.declared.effect.Effect.{Effect}
 use Rattle.policy.specs.declared.fault.Fault.{Fault}
 use Rattle.policy.specs.declared.fault.Source.{Source}
 use Rattle.lexer.specs.Byte.{bytes}
@@ -24,11 +25,25 @@ worked =
       rules =
           record {
             literals = literal_as false 1 ∷ literal_as true 2 ∷ [];
-            action = record { 0 = 3 };
+            effect = Effect.Causes (record { 0 = 3 });
             comparisons = record { reading = record { 0 = 0 }; relation = Relation.Greater; operand = Operand.Constant (pos 40) } ∷ [];
           }
-          ∷ record { literals = literal_as false 3 ∷ []; action = record { 0 = 4 }; comparisons = [] } ∷ [];
+          ∷ record { literals = literal_as false 3 ∷ []; effect = Effect.Causes (record { 0 = 4 }); comparisons = [] } ∷ [];
       constraints = record { actions = record { 0 = 3 } ∷ record { 0 = 4 } ∷ []; comparisons = [] } ∷ [];
+    }
+
+-- `E1 & E2 triggers E60 if R0 > 5`, `E1 triggers E1`
+abbrev triggering : Policy
+triggering =
+    record {
+      rules =
+          record {
+            literals = literal_as false 1 ∷ literal_as false 2 ∷ [];
+            effect = Effect.Triggers (record { 0 = 60 });
+            comparisons = record { reading = record { 0 = 0 }; relation = Relation.Greater; operand = Operand.Constant (pos 5) } ∷ [];
+          }
+          ∷ record { literals = literal_as false 1 ∷ []; effect = Effect.Triggers (record { 0 = 1 }); comparisons = [] } ∷ [];
+      constraints = [];
     }
 
 -- a reading compared with a constant
@@ -42,7 +57,7 @@ patterns =
       rules =
           record {
             literals = literal_as false 1 ∷ [];
-            action = record { 0 = 1 };
+            effect = Effect.Causes (record { 0 = 1 });
             comparisons = equals 0 (pos 32832) ∷ equals 1 (negsuc 0) ∷ equals 2 (negsuc 2147483647) ∷ equals 3 (pos 2147483647) ∷ [];
           }
           ∷ [];
@@ -51,11 +66,16 @@ patterns =
     }
 
 pub record TextExample : Type 0 where
+  pub form : ℕ
   pub text : String
   pub answer : Result Policy Refusal
 
+abbrev row_for : ℕ → String → Result Policy Refusal → TextExample
+row_for form text answer = record { form = form; text = text; answer = answer }
+
+-- for the first form, which has the fewest lines
 abbrev row : String → Result Policy Refusal → TextExample
-row text answer = record { text = text; answer = answer }
+row = row_for 1
 
 -- refused in that text, at that line
 abbrev refused_at : Source → Fault → ℕ → Result Policy Refusal
@@ -112,6 +132,17 @@ text_rows =
     ∷ row "never A1 if R0 = 1 , R0 = 1 , R0 = 1 , R0 = 1 , R0 = 1" (refused_at Source.Maker Fault.TooManyParts 1)
     ∷ row "# first\n\nE1 & !E1 causes A1" (refused_at Source.Maker Fault.Duplicate 3)
     ∷ row "never A1 & A2 & A1" (refused_at Source.Maker Fault.Duplicate 1)
+    -- rules that trigger, which texts for form 3 and later forms have
+    ∷ row_for 3 "E1 & E2 triggers E60 if R0 > 5\nE1 triggers E1" (Ok triggering)
+    ∷ row_for 5 "E1 & E2 triggers E60 if R0 > 5\nE1 triggers E1" (Ok triggering)
+    ∷ row_for 2 "E1 & E2 triggers E60 if R0 > 5" (refused_at Source.Maker Fault.Syntax 1)
+    ∷ row_for 1 "E1 & E1 triggers E64" (refused_at Source.Maker Fault.Syntax 1)
+    ∷ row_for 3 "E1 & E1 triggers E64" (refused_at Source.Maker Fault.OutOfRange 1)
+    ∷ row_for 3 "E1 & E1 triggers E60" (refused_at Source.Maker Fault.Duplicate 1)
+    ∷ row_for 3 "E1 triggers A1" (refused_at Source.Maker Fault.Syntax 1)
+    ∷ row_for 3 "E1 triggers !E2" (refused_at Source.Maker Fault.Syntax 1)
+    ∷ row_for 3 "E1 causes E2" (refused_at Source.Maker Fault.Syntax 1)
+    ∷ row_for 3 "E1 triggers E2 & E3" (refused_at Source.Maker Fault.Syntax 1)
     ∷ []
 
 -- ---- two texts as one
@@ -191,10 +222,10 @@ epoch_line_rows =
 -- ---- what the definitions say of each row
 
 unfoldable pub text_answer : TextExample → Result Policy Refusal
-text_answer x = read_text (bytes x.text)
+text_answer x = read_text x.form (bytes x.text)
 
 unfoldable pub pair_answer : PairExample → Result Policy Refusal
-pair_answer x = read_texts (bytes x.maker) (bytes x.site)
+pair_answer x = read_texts 1 (bytes x.maker) (bytes x.site)
 
 unfoldable pub epoch_answer : LineExample → Result Epoch Refusal
 epoch_answer x = read_epoch (bytes x.line)

@@ -15,9 +15,9 @@ pub data OfText (source : Source) (text : List ℕ) : Refusal → Type 0 where
   in_line_is : (f : Fault) (n : ℕ) → 2 ≤ fault_number f → fault_number f ≤ 6 → 1 ≤ n → n ≤ length (lines_of text) → OfText source text (within source (refusal f n))
 
 -- of two texts, one of the maker's, or, where the maker's text is accepted alone, one of the site's
-pub data OfTexts (maker site : List ℕ) (r : Refusal) : Type 0 where
-  of_maker : read_text maker ≡ Err r → OfText Source.Maker maker r → OfTexts maker site r
-  of_site : (p : Policy) → policy_of maker ≡ Some p → OfText Source.Site site r → OfTexts maker site r
+pub data OfTexts (form : ℕ) (maker site : List ℕ) (r : Refusal) : Type 0 where
+  of_maker : read_text form maker ≡ Err r → OfText Source.Maker maker r → OfTexts form maker site r
+  of_site : (p : Policy) → policy_of form maker ≡ Some p → OfText Source.Site site r → OfTexts form maker site r
 
 -- 1, 12, 13 or 14, at no line and in no text
 pub record OfEpoch (r : Refusal) : Type 0 where

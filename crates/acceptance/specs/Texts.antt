@@ -10,11 +10,11 @@ joint p q = record { rules = p.rules ++ q.rules; constraints = p.constraints ++ 
 
 -- each text is accepted alone, both together have no more lines than a text may have, and the policy has the maker's rules before the
 -- site's and the maker's constraints before the site's
-pub record Joint (maker site : List ℕ) (p : Policy) : Type 0 where
+pub record Joint (form : ℕ) (maker site : List ℕ) (p : Policy) : Type 0 where
   pub makers : Policy
   pub sites : Policy
-  pub maker_read : policy_of maker ≡ Some makers
-  pub site_read : policy_of site ≡ Some sites
+  pub maker_read : policy_of form maker ≡ Some makers
+  pub site_read : policy_of form site ≡ Some sites
   pub same : p ≡ joint makers sites
   pub few_rules : length p.rules ≤ rule_limit
   pub few_constraints : length p.constraints ≤ constraint_limit

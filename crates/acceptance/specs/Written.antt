@@ -4,8 +4,9 @@ use Rattle.std.specs.Prelude.{ℕ, true, false, List, [], ◌∷◌, ◌++◌, �
 use Rattle.policy.specs.Line.{PolicyLine, rule, constraint}
 use Rattle.policy.specs.Policy.{Rule, Constraint}
 use Rattle.policy.specs.declared.comparison.Comparison.{Comparison}
+use Rattle.policy.specs.declared.effect.Effect.{Effect}
 use Rattle.lexer.specs.Byte.{is}
-use Rattle.lexer.specs.Token.{Token, literal_of, action_of, comparison_of}
+use Rattle.lexer.specs.Token.{Token, literal_of, action_of, event_of, comparison_of}
 use Rattle.lexer.specs.Lines.{tokens_of}
 use Rattle.syntax.specs.Judge.{is_comment}
 
@@ -26,16 +27,20 @@ unfoldable pub AreCondition : List Token → List Comparison → Type 0
 AreCondition [] cs = cs ≡ []
 AreCondition (t ∷ ts) cs = (is "if" t ≡ true) × AreComparisons ts cs
 
--- literals, `causes`, an action, a condition
+-- `causes` and an action, or `triggers` and an event
+unfoldable pub IsEffect : (keyword name : Token) → Effect → Type 0
+IsEffect keyword name (Effect.Causes a) = (is "causes" keyword ≡ true) × (action_of name ≡ Some a)
+IsEffect keyword name (Effect.Triggers e) = (is "triggers" keyword ≡ true) × (event_of name ≡ Some e)
+
+-- literals, an effect, a condition
 pub record IsRule (ts : List Token) (r : Rule) : Type 0 where
   pub literals : List Token
   pub keyword : Token
-  pub action : Token
+  pub name : Token
   pub condition : List Token
-  pub tokens : ts ≡ literals ++ keyword ∷ action ∷ condition
+  pub tokens : ts ≡ literals ++ keyword ∷ name ∷ condition
   pub are_literals : AreJoined literal_of literals r.literals
-  pub causes : is "causes" keyword ≡ true
-  pub names : action_of action ≡ Some r.action
+  pub is_effect : IsEffect keyword name r.effect
   pub are_condition : AreCondition condition r.comparisons
 
 -- `never`, actions, a condition

@@ -40,18 +40,18 @@ unfolding with_line rules_in constraints_in
 extends_more p (rule r) ls q x = record { rules = x.rules ∙ append_assoc p.rules (r ∷ []) (rules_in ls); constraints = x.constraints }
 extends_more p (constraint c) ls q x = record { rules = x.rules; constraints = x.constraints ∙ append_assoc p.constraints (c ∷ []) (constraints_in ls) }
 
-extends : (ls : List (List ℕ)) (n : ℕ) (text : List ℕ) (p q : Policy) → read_lines n p ls ≡ Ok q → Extends p (accepted_lines (lines_from n text ls)) q
+extends : (form : ℕ) (ls : List (List ℕ)) (n : ℕ) (text : List ℕ) (p q : Policy) → read_lines form n p ls ≡ Ok q → Extends p (accepted_lines (lines_from form n text ls)) q
 unfolding read_lines accepted_lines lines_from before_later rules_in constraints_in
-extends [] n text p q e = let s : p ≡ q = cc in record { rules = ap (λ (x : Policy). x.rules) (sym s) ∙ sym (append-nil p.rules); constraints = ap (λ (x : Policy). x.constraints) (sym s) ∙ sym (append-nil p.constraints) }
-extends (l ∷ ls) n text p q e =
-    let k = lines_read n p l ls q e in
+extends form [] n text p q e = let s : p ≡ q = cc in record { rules = ap (λ (x : Policy). x.rules) (sym s) ∙ sym (append-nil p.rules); constraints = ap (λ (x : Policy). x.constraints) (sym s) ∙ sym (append-nil p.constraints) }
+extends form (l ∷ ls) n text p q e =
+    let k = lines_read form n p l ls q e in
     let one : n + 1 ≡ suc n = add-one n in
-    go k.0 k.1 (line_reads p l) (rw one (extends ls (suc n) (drop (suc (length l)) text) k.0 q k.2))
+    go k.0 k.1 (line_reads form p l) (rw one (extends form ls (suc n) (drop (suc (length l)) text) k.0 q k.2))
   where
     behind : List (Result TextLine Refusal)
-    behind = lines_from (n + 1) (drop (suc (length l)) text) ls
+    behind = lines_from form (n + 1) (drop (suc (length l)) text) ls
 
-    go : (m : Policy) → read_line p l ≡ Ok m → LineRead p l → Extends m (accepted_lines behind) q → Extends p (accepted_lines (before_later n text l (line_answer l) behind)) q
+    go : (m : Policy) → read_line form p l ≡ Ok m → LineRead form p l → Extends m (accepted_lines behind) q → Extends p (accepted_lines (before_later n text l (line_answer form l) behind)) q
     go m r (LineRead.skips a s) x = let i : m ≡ p = cc in rw a (rw i at x)
     go m r (LineRead.fails f a s) x = let z : ⊥ = cc in absurd z
     go m r (LineRead.adds d a h s) x = let i : m ≡ with_line p d = cc in rw a (extends_more p d (accepted_lines behind) q (rw i at x))
@@ -104,38 +104,38 @@ constraints_append (rule r ∷ ls) ms = constraints_append ls ms
 constraints_append (constraint c ∷ ls) ms = ap (λ (x : List Constraint). c ∷ x) (constraints_append ls ms)
 
 -- the lines of a text that was read
-record Lined (p : Policy) (text : List ℕ) (q : Policy) : Type 0 where
+record Lined (form : ℕ) (p : Policy) (text : List ℕ) (q : Policy) : Type 0 where
   short : length text ≤ text_limit
-  lines : Extends p (accepted_lines (lines_in text)) q
+  lines : Extends p (accepted_lines (lines_in form text)) q
 
-lined : (source : Source) (p : Policy) (text : List ℕ) (q : Policy) → in_text source (read_text_behind p text) ≡ Ok q → Lined p text q
-lined source p text q e =
-    let t = behind_read p text q (in_text_ok source (read_text_behind p text) q e) in
-    record { short = t.0; lines = extends (lines_of text) 1 text p q t.1 }
+lined : (form : ℕ) (source : Source) (p : Policy) (text : List ℕ) (q : Policy) → in_text source (read_text_behind form p text) ≡ Ok q → Lined form p text q
+lined form source p text q e =
+    let t = behind_read form p text q (in_text_ok source (read_text_behind form p text) q e) in
+    record { short = t.0; lines = extends form (lines_of text) 1 text p q t.1 }
 
 pub record AcceptedTexts (form : ℕ) (maker site : List ℕ) (counts : PerPart LineCounts) : Type 0 where
   pub known : known_form form ≡ true
   pub policy : Policy
-  pub read : read_texts maker site ≡ Ok policy
-  pub acceptable : Acceptable policy
+  pub read : read_texts form maker site ≡ Ok policy
+  pub acceptable : Acceptable form policy
   pub maker_short : length maker ≤ text_limit
   pub site_short : length site ≤ text_limit
   pub rule_count_is : word_count counts.rules ≡ length (rule_part_words policy)
   pub constraint_count_is : word_count counts.constraints ≡ length (constraint_part_words policy)
   pub rule_limit_is : length (rule_part_words policy) ≤ rule_word_limit form
   pub constraint_limit_is : length (constraint_part_words policy) ≤ constraint_word_limit form
-  pub rules : rules_in (lines_of_both maker site) ≡ policy.rules
-  pub constraints : constraints_in (lines_of_both maker site) ≡ policy.constraints
+  pub rules : rules_in (lines_of_both form maker site) ≡ policy.rules
+  pub constraints : constraints_in (lines_of_both form maker site) ≡ policy.constraints
 
-pub accepted_texts : (form : ℕ) (maker site : List ℕ) (counts : PerPart LineCounts) → known_form form ≡ true → texts_read maker site ≡ Ok counts → AcceptedTexts form maker site counts
+pub accepted_texts : (form : ℕ) (maker site : List ℕ) (counts : PerPart LineCounts) → known_form form ≡ true → texts_read form maker site ≡ Ok counts → AcceptedTexts form maker site counts
 unfolding texts_read read_texts read_text counts_of rule_part_words constraint_part_words
 accepted_texts form maker site counts known e =
-    let r = counted_ok (read_texts maker site) counts e in
+    let r = counted_ok (read_texts form maker site) counts e in
     let p : Policy = r.0 in
-    let k = and_then_ok (λ (a : Policy). in_text Source.Site (read_text_behind a site)) (read_text maker) p r.1 in
-    let ok = texts_acceptable maker site p r.1 in
-    let f = lined Source.Maker empty_policy maker k.0 k.1 in
-    let g = lined Source.Site k.0 site p k.2 in
+    let k = and_then_ok (λ (a : Policy). in_text Source.Site (read_text_behind form a site)) (read_text form maker) p r.1 in
+    let ok = texts_acceptable form maker site p r.1 in
+    let f = lined form Source.Maker empty_policy maker k.0 k.1 in
+    let g = lined form Source.Site k.0 site p k.2 in
     record {
       known = known;
       policy = p;
@@ -147,8 +147,8 @@ accepted_texts form maker site counts known e =
       constraint_count_is = ap (λ (x : PerPart LineCounts). word_count x.constraints) (sym r.2) ∙ lines_words_is (map constraint p.constraints);
       rule_limit_is = P_limit form known p ok;
       constraint_limit_is = N_limit form known p ok;
-      rules = rules_append (accepted_lines (lines_in maker)) (accepted_lines (lines_in site))
-          ∙ ap (λ (x : List Rule). x ++ rules_in (accepted_lines (lines_in site))) (sym f.lines.rules) ∙ sym g.lines.rules;
-      constraints = constraints_append (accepted_lines (lines_in maker)) (accepted_lines (lines_in site))
-          ∙ ap (λ (x : List Constraint). x ++ constraints_in (accepted_lines (lines_in site))) (sym f.lines.constraints) ∙ sym g.lines.constraints;
+      rules = rules_append (accepted_lines (lines_in form maker)) (accepted_lines (lines_in form site))
+          ∙ ap (λ (x : List Rule). x ++ rules_in (accepted_lines (lines_in form site))) (sym f.lines.rules) ∙ sym g.lines.rules;
+      constraints = constraints_append (accepted_lines (lines_in form maker)) (accepted_lines (lines_in form site))
+          ∙ ap (λ (x : List Constraint). x ++ constraints_in (accepted_lines (lines_in form site))) (sym f.lines.constraints) ∙ sym g.lines.constraints;
     }

@@ -29,7 +29,7 @@ module _ (form : ℕ) (s : Result Policy Refusal) (buffer : List ℕ) where
   abbrev made : Filled
   made = output_of form (in_form form s) buffer
 
-  module _ (keeps : (p : Policy) → s ≡ Ok p → Acceptable p) where
+  module _ (keeps : (p : Policy) → s ≡ Ok p → Acceptable form p) where
     written_by_is : (p : Policy) (size : ℕ) → known_form form ≡ true → s ≡ Ok p → Delivered (image_of form p) buffer made.buffer size → WrittenBy form (result_ok s) made buffer size
     unfolding well_sized
     written_by_is p size known r d =
@@ -93,67 +93,67 @@ module _ (form : ℕ) (text buffer : List ℕ) where
   -- where the compiler answers a size, it has written an image of that size
   pub image_written : (size : ℕ) → (compiled form text buffer).answer ≡ Ok size → ImageWritten form text buffer size
   unfolding compiled
-  image_written size e = output_written form (read_text text) buffer (accepted_acceptable text) size e
+  image_written size e = output_written form (read_text form text) buffer (accepted_acceptable form text) size e
 
   -- ---- when it is refused, and that a refusal changes no byte of the buffer
 
   -- 8 where the form is unknown, whatever the text and the room
   pub form_refused : known_form form ≡ false → compiled form text buffer ≡ refuse (refusal Fault.ImageForm 0) buffer
   unfolding compiled
-  form_refused e = output_unknown form (read_text text) buffer e
+  form_refused e = output_unknown form (read_text form text) buffer e
 
   module _ (known : known_form form ≡ true) where
     -- 1 to 6, at the line, whatever room there is
-    pub text_refused : (r : Refusal) → read_text text ≡ Err r → (compiled form text buffer).answer ≡ Err r
+    pub text_refused : (r : Refusal) → read_text form text ≡ Err r → (compiled form text buffer).answer ≡ Err r
     unfolding compiled
-    text_refused r e = output_refused form (read_text text) buffer known r e
+    text_refused r e = output_refused form (read_text form text) buffer known r e
 
-    module _ (p : Policy) (r : read_text text ≡ Ok p) where
+    module _ (p : Policy) (r : read_text form text ≡ Ok p) where
       -- 15 where the image has more bytes than the buffer
       pub room_refused : length buffer < length (image_of form p) → (compiled form text buffer).answer ≡ Err (refusal Fault.BufferTooSmall 0)
       unfolding compiled
-      room_refused h = output_short form (read_text text) buffer known p r h
+      room_refused h = output_short form (read_text form text) buffer known p r h
 
       -- every other text is accepted, and its image delivered
       pub text_delivered : length (image_of form p) ≤ length buffer → compiled form text buffer ≡ deliver (image_of form p) buffer
       unfolding compiled
-      text_delivered h = output_delivered form (read_text text) buffer known p r h
+      text_delivered h = output_delivered form (read_text form text) buffer known p r h
 
       pub text_compiled : length (image_of form p) ≤ length buffer → (compiled form text buffer).answer ≡ Ok (length (image_of form p))
       text_compiled h = ap (λ (o : Filled). o.answer) (text_delivered h)
 
   pub refused_unchanged : (r : Refusal) → (compiled form text buffer).answer ≡ Err r → (compiled form text buffer).buffer ≡ buffer
   unfolding compiled
-  refused_unchanged r e = output_unchanged form (read_text text) buffer r e
+  refused_unchanged r e = output_unchanged form (read_text form text) buffer r e
 
 -- ---- two texts as one
 
 module _ (form : ℕ) (maker site buffer : List ℕ) where
   pub texts_written : (size : ℕ) → (compiled_texts form maker site buffer).answer ≡ Ok size → TextsImageWritten form maker site buffer size
   unfolding compiled_texts
-  texts_written size e = output_written form (read_texts maker site) buffer (texts_acceptable maker site) size e
+  texts_written size e = output_written form (read_texts form maker site) buffer (texts_acceptable form maker site) size e
 
   pub texts_form_refused : known_form form ≡ false → compiled_texts form maker site buffer ≡ refuse (refusal Fault.ImageForm 0) buffer
   unfolding compiled_texts
-  texts_form_refused e = output_unknown form (read_texts maker site) buffer e
+  texts_form_refused e = output_unknown form (read_texts form maker site) buffer e
 
   module _ (known : known_form form ≡ true) where
-    pub texts_refused : (r : Refusal) → read_texts maker site ≡ Err r → (compiled_texts form maker site buffer).answer ≡ Err r
+    pub texts_refused : (r : Refusal) → read_texts form maker site ≡ Err r → (compiled_texts form maker site buffer).answer ≡ Err r
     unfolding compiled_texts
-    texts_refused r e = output_refused form (read_texts maker site) buffer known r e
+    texts_refused r e = output_refused form (read_texts form maker site) buffer known r e
 
-    module _ (p : Policy) (r : read_texts maker site ≡ Ok p) where
+    module _ (p : Policy) (r : read_texts form maker site ≡ Ok p) where
       pub texts_short : length buffer < length (image_of form p) → (compiled_texts form maker site buffer).answer ≡ Err (refusal Fault.BufferTooSmall 0)
       unfolding compiled_texts
-      texts_short h = output_short form (read_texts maker site) buffer known p r h
+      texts_short h = output_short form (read_texts form maker site) buffer known p r h
 
       pub texts_delivered : length (image_of form p) ≤ length buffer → compiled_texts form maker site buffer ≡ deliver (image_of form p) buffer
       unfolding compiled_texts
-      texts_delivered h = output_delivered form (read_texts maker site) buffer known p r h
+      texts_delivered h = output_delivered form (read_texts form maker site) buffer known p r h
 
   pub texts_unchanged : (r : Refusal) → (compiled_texts form maker site buffer).answer ≡ Err r → (compiled_texts form maker site buffer).buffer ≡ buffer
   unfolding compiled_texts
-  texts_unchanged r e = output_unchanged form (read_texts maker site) buffer r e
+  texts_unchanged r e = output_unchanged form (read_texts form maker site) buffer r e
 
 -- ---- what an image keeps of a text: its rules in their order and its constraints in theirs, and nothing else
 
@@ -171,14 +171,14 @@ same_written form known known' made made' out out' m n a b = (there, back)
         a.image ∙ ap (image_of form) p ∙ sym b.image
 
 pub same_images : (form : ℕ) (s t out out' : List ℕ) (m n : ℕ) → (compiled form s out).answer ≡ Ok m → (compiled form t out').answer ≡ Ok n
-    → (written_in form m s out ≡ written_in form n t out') ↔ (policy_of s ≡ policy_of t)
+    → (written_in form m s out ≡ written_in form n t out') ↔ (policy_of form s ≡ policy_of form t)
 same_images form s t out out' m n d e =
-    same_written form (policy_of s) (policy_of t) (compiled form s out) (compiled form t out') out out' m n (image_written form s out m d) (image_written form t out' n e)
+    same_written form (policy_of form s) (policy_of form t) (compiled form s out) (compiled form t out') out out' m n (image_written form s out m d) (image_written form t out' n e)
 
 pub pairs_same_images : (form : ℕ) (maker site maker' site' out out' : List ℕ) (m n : ℕ) → (compiled_texts form maker site out).answer ≡ Ok m → (compiled_texts form maker' site' out').answer ≡ Ok n
-    → (written_by m (compiled_texts form maker site out) ≡ written_by n (compiled_texts form maker' site' out')) ↔ (policy_of_texts maker site ≡ policy_of_texts maker' site')
+    → (written_by m (compiled_texts form maker site out) ≡ written_by n (compiled_texts form maker' site' out')) ↔ (policy_of_texts form maker site ≡ policy_of_texts form maker' site')
 pairs_same_images form maker site maker' site' out out' m n d e =
-    same_written form (policy_of_texts maker site) (policy_of_texts maker' site') (compiled_texts form maker site out) (compiled_texts form maker' site' out') out out' m n
+    same_written form (policy_of_texts form maker site) (policy_of_texts form maker' site') (compiled_texts form maker site out) (compiled_texts form maker' site' out') out out' m n
     (texts_written form maker site out m d) (texts_written form maker' site' out' n e)
 
 -- ---- forms that no byte holds

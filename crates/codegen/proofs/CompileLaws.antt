@@ -84,10 +84,10 @@ module _ (form : ℕ) (maker site : List ℕ) (counts : PerPart LineCounts) (t :
     words_room : 1 + P + N + check_count form ≤ length buffer / 4
     words_room = omega (arith, image_bytes)
 
-    content_put : put_content form (lines_of_both maker site) P N buffer ≡ put_words buffer 0 (content_words form p)
+    content_put : put_content form (lines_of_both form maker site) P N buffer ≡ put_words buffer 0 (content_words form p)
     unfolding put_content content_words header_word rule_part_words constraint_part_words
     content_put =
-        let ls : List PolicyLine = lines_of_both maker site in
+        let ls : List PolicyLine = lines_of_both form maker site in
         let h : ℕ = pack_header form P N in
         let r : rule_part ls ≡ rule_part_words p = ap (λ (x : List Rule). lines_words (map rule x)) t.rules in
         let c : constraint_part ls ≡ constraint_part_words p = ap (λ (x : List Constraint). lines_words (map constraint x)) t.constraints in
@@ -104,7 +104,7 @@ module _ (form : ℕ) (maker site : List ℕ) (counts : PerPart LineCounts) (t :
         ap (λ (b : List ℕ). take (1 + P + N) (words_of b)) (put_in buffer 0 w (omega (arith, content_length)))
         ∙ ap (take (1 + P + N)) (words_append w rest (content_below form t.known p t.acceptable)) ∙ take_at w (words_of rest) (1 + P + N) content_length
 
-    pub image_written : put_image form (lines_of_both maker site) P N buffer ≡ image ++ drop (length image) buffer
+    pub image_written : put_image form (lines_of_both form maker site) P N buffer ≡ image ++ drop (length image) buffer
     unfolding put_image image_words image_of put_bytes
     image_written =
         let w : List ℕ = content_words form p in
@@ -129,28 +129,28 @@ module _ (form : ℕ) (maker site : List ℕ) (counts : PerPart LineCounts) (t :
     unfolding compiled_texts output_of
     compiled_short x e h = rw (e, t.known, t.read, lt-leb (length image) (length buffer) (omega (arith, size_is))) (refl, refl)
 
-    pub compiled_image : size ≤ length buffer → (after : List ℕ) → after ≡ put_image form (lines_of_both maker site) rules constraints buffer
+    pub compiled_image : size ≤ length buffer → (after : List ℕ) → after ≡ put_image form (lines_of_both form maker site) rules constraints buffer
         → (Ok size ≡ (compiled_texts form maker site buffer).answer) × (after ≡ (compiled_texts form maker site buffer).buffer)
     unfolding compiled_texts output_of
     compiled_image h after e =
         let room : length image ≤ length buffer = omega (arith, size_is) in
-        let done : after ≡ image ++ drop (length image) buffer = e ∙ ap₂ (λ (m n : ℕ). put_image form (lines_of_both maker site) m n buffer) (r ∙ t.rule_count_is) (k ∙ t.constraint_count_is) ∙ image_written room in
+        let done : after ≡ image ++ drop (length image) buffer = e ∙ ap₂ (λ (m n : ℕ). put_image form (lines_of_both form maker site) m n buffer) (r ∙ t.rule_count_is) (k ∙ t.constraint_count_is) ∙ image_written room in
         rw (t.known, t.read, le-leb (length image) (length buffer) room) (ap Ok size_is, done)
 
 pub compiled_unknown : (form : ℕ) (maker site buffer : List ℕ) (r : Refusal) → r ≡ refusal Fault.ImageForm 0 → known_form form ≡ false → (Err r ≡ (compiled_texts form maker site buffer).answer) × (buffer ≡ (compiled_texts form maker site buffer).buffer)
 unfolding compiled_texts output_of
 compiled_unknown form maker site buffer r e k = rw (e, k) (refl, refl)
 
-pub compiled_refused : (form : ℕ) (maker site buffer : List ℕ) (r : Refusal) → known_form form ≡ true → texts_read maker site ≡ Err r → (Err r ≡ (compiled_texts form maker site buffer).answer) × (buffer ≡ (compiled_texts form maker site buffer).buffer)
+pub compiled_refused : (form : ℕ) (maker site buffer : List ℕ) (r : Refusal) → known_form form ≡ true → texts_read form maker site ≡ Err r → (Err r ≡ (compiled_texts form maker site buffer).answer) × (buffer ≡ (compiled_texts form maker site buffer).buffer)
 unfolding texts_read compiled_texts output_of
-compiled_refused form maker site buffer r k e = rw (k, counted_err (read_texts maker site) r e) (refl, refl)
+compiled_refused form maker site buffer r k e = rw (k, counted_err (read_texts form maker site) r e) (refl, refl)
 
 -- ---- a single text
 
 -- with an empty site's text all is as for the maker's alone
 pub compiled_alone : (form : ℕ) (text buffer : List ℕ) → compiled_texts form text [] buffer ≡ compiled form text buffer
 unfolding compiled_texts compiled
-compiled_alone form text buffer = ap (λ (s : Result Policy Refusal). output_of form (in_form form s) buffer) (site_empty text)
+compiled_alone form text buffer = ap (λ (s : Result Policy Refusal). output_of form (in_form form s) buffer) (site_empty form text)
 
 pub alone_answer : (form : ℕ) (text buffer : List ℕ) (x : Result ℕ Refusal) → x ≡ (compiled_texts form text [] buffer).answer → x ≡ (compiled form text buffer).answer
 alone_answer form text buffer x e = e ∙ ap (λ (o : Filled). o.answer) (compiled_alone form text buffer)

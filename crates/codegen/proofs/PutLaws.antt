@@ -30,27 +30,27 @@ after_near Part.Constraints p n h Part.Constraints = omega arith
 
 -- ---- what is left to put, of lines ahead
 
-pub record Putting (text buffer₀ : List ℕ) (start : PerPart ℕ) (buffer : List ℕ) (cursors : PerPart ℕ) (ahead : List (Result TextLine Refusal)) : Type 0 where
+pub record Putting (form : ℕ) (text buffer₀ : List ℕ) (start : PerPart ℕ) (buffer : List ℕ) (cursors : PerPart ℕ) (ahead : List (Result TextLine Refusal)) : Type 0 where
   pub long : length buffer ≡ length buffer₀
   pub near : (part : Part) → part_get cursors part + 17 * length ahead ≤ part_get start part + 17 * length text
-  pub ends : cursors_behind (accepted_lines ahead) cursors ≡ cursors_behind (accepted_lines (lines_in text)) start
-  pub same : put_lines (accepted_lines ahead) cursors buffer ≡ put_lines (accepted_lines (lines_in text)) start buffer₀
+  pub ends : cursors_behind (accepted_lines ahead) cursors ≡ cursors_behind (accepted_lines (lines_in form text)) start
+  pub same : put_lines (accepted_lines ahead) cursors buffer ≡ put_lines (accepted_lines (lines_in form text)) start buffer₀
 
-module _ (text buffer₀ : List ℕ) (start : PerPart ℕ) where
-  pub putting_none : (ahead : List (Result TextLine Refusal)) → ahead ≡ lines_in text → Putting text buffer₀ start buffer₀ start ahead
+module _ (form : ℕ) (text buffer₀ : List ℕ) (start : PerPart ℕ) where
+  pub putting_none : (ahead : List (Result TextLine Refusal)) → ahead ≡ lines_in form text → Putting form text buffer₀ start buffer₀ start ahead
   putting_none ahead e =
       record {
         long = refl;
-        near = λ part. omega (arith, ap length e, lines_few text);
+        near = λ part. omega (arith, ap length e, lines_few form text);
         ends = ap (λ (ls : List (Result TextLine Refusal)). cursors_behind (accepted_lines ls) start) e;
         same = ap (λ (ls : List (Result TextLine Refusal)). put_lines (accepted_lines ls) start buffer₀) e;
       }
 
   -- all is put: the cursors behind it, how far they went, and the buffer
   abbrev Put : PerPart ℕ → List ℕ → Type 0
-  Put cursors buffer = (cursors ≡ cursors_behind (accepted_lines (lines_in text)) start) × (Further start cursors × (buffer ≡ put_lines (accepted_lines (lines_in text)) start buffer₀))
+  Put cursors buffer = (cursors ≡ cursors_behind (accepted_lines (lines_in form text)) start) × (Further start cursors × (buffer ≡ put_lines (accepted_lines (lines_in form text)) start buffer₀))
 
-  module _ (buffer : List ℕ) (cursors : PerPart ℕ) (ahead : List (Result TextLine Refusal)) (p : Putting text buffer₀ start buffer cursors ahead) where
+  module _ (buffer : List ℕ) (cursors : PerPart ℕ) (ahead : List (Result TextLine Refusal)) (p : Putting form text buffer₀ start buffer cursors ahead) where
     pub putting_near : Near 600000 start → length text ≤ text_limit → Near 2000000 cursors
     putting_near n h part = omega (arith, n part, p.near part)
 
@@ -75,14 +75,14 @@ module _ (text buffer₀ : List ℕ) (start : PerPart ℕ) where
   pub record Taking (buffer : List ℕ) (cursors : PerPart ℕ) (later : List (Result TextLine Refusal)) (l : PolicyLine) : Type 0 where
     pub small : length (line_words l) ≤ 17
     pub next : (buffer' : List ℕ) (cursors' : PerPart ℕ) → cursors' ≡ cursors_after (line_part l) cursors (length (line_words l))
-        → buffer' ≡ put_words buffer (part_get cursors (line_part l)) (line_words l) → Putting text buffer₀ start buffer' cursors' later
+        → buffer' ≡ put_words buffer (part_get cursors (line_part l)) (line_words l) → Putting form text buffer₀ start buffer' cursors' later
 
-  pub putting_take : (buffer : List ℕ) (cursors : PerPart ℕ) (before after : Lines) (here : List ℕ) → Putting text buffer₀ start buffer cursors (lines_ahead before) → Advanced before after here
+  pub putting_take : (buffer : List ℕ) (cursors : PerPart ℕ) (before after : Lines) (here : List ℕ) → Putting form text buffer₀ start buffer cursors (lines_ahead before) → Advanced before after here
       → (l : PolicyLine) → l ≡ after.line → Taking buffer cursors (lines_ahead after) l
   unfolding put_lines cursors_behind accepted_lines
   putting_take buffer cursors before after here p w l same =
       let value : l ≡ w.line.line = same ∙ w.at.value in
-      let small : length (line_words l) ≤ 17 = line_limit_is l (accepted_valid w.line.bytes l (w.accepted ∙ ap (λ (x : PolicyLine). Ok (Some x)) (sym value))) in
+      let small : length (line_words l) ≤ 17 = line_limit_is l (accepted_valid before.form w.line.bytes l (w.accepted ∙ ap (λ (x : PolicyLine). Ok (Some x)) (sym value))) in
       let e : accepted_lines (lines_ahead before) ≡ l ∷ accepted_lines (lines_ahead after) = ap accepted_lines w.first ∙ ap₂ (λ (x : PolicyLine) (ls : List (Result TextLine Refusal)). x ∷ accepted_lines ls) (sym value) (sym w.ahead) in
       record {
         small = small;

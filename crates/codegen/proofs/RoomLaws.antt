@@ -22,21 +22,21 @@ pub record Read (form : ℕ) (s : Result Policy Refusal) (buffer : List ℕ) (si
   pub image : take size buffer ≡ image_of form policy
 
 module _ (form : ℕ) (known : known_form form ≡ true) where
-  pub image_small : (p : Policy) → Acceptable p → length (image_of form p) ≤ size_limit
+  pub image_small : (p : Policy) → Acceptable form p → length (image_of form p) ≤ size_limit
   unfolding well_sized
   image_small p ok =
       let size = length (image_of form p) in
       leb-true size size_limit (and_out (leb 8 size) (leb size size_limit) (and_out _ _ (image_size form known p ok)).0).1
 
-  pub text_output : (text buffer : List ℕ) → compiled form text buffer ≡ output_of form (read_text text) buffer
+  pub text_output : (text buffer : List ℕ) → compiled form text buffer ≡ output_of form (read_text form text) buffer
   unfolding compiled
   text_output text buffer = rw known
 
-  pub texts_output : (maker site buffer : List ℕ) → compiled_texts form maker site buffer ≡ output_of form (read_texts maker site) buffer
+  pub texts_output : (maker site buffer : List ℕ) → compiled_texts form maker site buffer ≡ output_of form (read_texts form maker site) buffer
   unfolding compiled_texts
   texts_output maker site buffer = rw known
 
-  module _ (s : Result Policy Refusal) (keeps : (p : Policy) → s ≡ Ok p → Acceptable p) (buffer : List ℕ) (room : length buffer ≡ size_limit) where
+  module _ (s : Result Policy Refusal) (keeps : (p : Policy) → s ≡ Ok p → Acceptable form p) (buffer : List ℕ) (room : length buffer ≡ size_limit) where
     delivered : (p : Policy) → s ≡ Ok p → output_of form s buffer ≡ deliver (image_of form p) buffer
     unfolding output_of
     delivered p r = rw (r, room, le-leb (length (image_of form p)) size_limit (image_small p (keeps p r)))
@@ -70,15 +70,15 @@ module _ (form : ℕ) (known : known_form form ≡ true) where
             record { policy = p; read = r; image = i }
 
   module _ (text buffer : List ℕ) (room : length buffer ≡ size_limit) where
-    pub compiled_refusal : (x : Refusal) → (compiled form text buffer).answer ≡ Err x → read_text text ≡ Err x
-    compiled_refusal = output_refusal (read_text text) (accepted_acceptable text) buffer room (compiled form text buffer) (text_output text buffer)
+    pub compiled_refusal : (x : Refusal) → (compiled form text buffer).answer ≡ Err x → read_text form text ≡ Err x
+    compiled_refusal = output_refusal (read_text form text) (accepted_acceptable form text) buffer room (compiled form text buffer) (text_output text buffer)
 
-    pub compiled_read : (size : ℕ) → (compiled form text buffer).answer ≡ Ok size → Read form (read_text text) (compiled form text buffer).buffer size
-    compiled_read = output_read (read_text text) (accepted_acceptable text) buffer room (compiled form text buffer) (text_output text buffer)
+    pub compiled_read : (size : ℕ) → (compiled form text buffer).answer ≡ Ok size → Read form (read_text form text) (compiled form text buffer).buffer size
+    compiled_read = output_read (read_text form text) (accepted_acceptable form text) buffer room (compiled form text buffer) (text_output text buffer)
 
   module _ (maker site buffer : List ℕ) (room : length buffer ≡ size_limit) where
-    pub texts_refusal : (x : Refusal) → (compiled_texts form maker site buffer).answer ≡ Err x → read_texts maker site ≡ Err x
-    texts_refusal = output_refusal (read_texts maker site) (texts_acceptable maker site) buffer room (compiled_texts form maker site buffer) (texts_output maker site buffer)
+    pub texts_refusal : (x : Refusal) → (compiled_texts form maker site buffer).answer ≡ Err x → read_texts form maker site ≡ Err x
+    texts_refusal = output_refusal (read_texts form maker site) (texts_acceptable form maker site) buffer room (compiled_texts form maker site buffer) (texts_output maker site buffer)
 
-    pub texts_read_is : (size : ℕ) → (compiled_texts form maker site buffer).answer ≡ Ok size → Read form (read_texts maker site) (compiled_texts form maker site buffer).buffer size
-    texts_read_is = output_read (read_texts maker site) (texts_acceptable maker site) buffer room (compiled_texts form maker site buffer) (texts_output maker site buffer)
+    pub texts_read_is : (size : ℕ) → (compiled_texts form maker site buffer).answer ≡ Ok size → Read form (read_texts form maker site) (compiled_texts form maker site buffer).buffer size
+    texts_read_is = output_read (read_texts form maker site) (texts_acceptable form maker site) buffer room (compiled_texts form maker site buffer) (texts_output maker site buffer)

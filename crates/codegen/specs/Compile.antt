@@ -11,7 +11,7 @@ use Rattle.rule_text.specs.Text.{read_text, read_texts}
 
 -- the form that the programs write
 abbrev pub newest_form : ℕ
-newest_form = 2
+newest_form = 3
 
 -- a form that is unknown is refused whatever was read
 abbrev pub in_form : ℕ → Result Policy Refusal → Result Policy Refusal
@@ -22,8 +22,8 @@ output_of form (Ok p) buffer = fill (image_of form p) buffer
 output_of form (Err r) buffer = refuse r buffer
 
 unfoldable pub compiled : ℕ → List ℕ → List ℕ → Filled
-compiled form text buffer = output_of form (in_form form (read_text text)) buffer
+compiled form text buffer = output_of form (in_form form (read_text form text)) buffer
 
 -- the same of the maker's and the site's text as one
 unfoldable pub compiled_texts : ℕ → List ℕ → List ℕ → List ℕ → Filled
-compiled_texts form maker site buffer = output_of form (in_form form (read_texts maker site)) buffer
+compiled_texts form maker site buffer = output_of form (in_form form (read_texts form maker site)) buffer

@@ -20,7 +20,7 @@ pub record WrittenBy (form : ℕ) (known : Option Policy) (made : Filled) (buffe
   -- the bytes are the policy's image, and as many as were answered
   pub policy : Policy
   pub read : known ≡ Some policy
-  pub acceptable : Acceptable policy
+  pub acceptable : Acceptable form policy
   pub image : written_by size made ≡ image_of form policy
   pub long : length (written_by size made) ≡ size
   -- what lies behind the image is as it was
@@ -36,8 +36,8 @@ abbrev pub written_in : ℕ → ℕ → List ℕ → List ℕ → List ℕ
 written_in form size text buffer = written_by size (compiled form text buffer)
 
 abbrev pub ImageWritten : ℕ → List ℕ → List ℕ → ℕ → Type 0
-ImageWritten form text buffer size = WrittenBy form (policy_of text) (compiled form text buffer) buffer size
+ImageWritten form text buffer size = WrittenBy form (policy_of form text) (compiled form text buffer) buffer size
 
 -- of two texts as one
 abbrev pub TextsImageWritten : ℕ → List ℕ → List ℕ → List ℕ → ℕ → Type 0
-TextsImageWritten form maker site buffer size = WrittenBy form (policy_of_texts maker site) (compiled_texts form maker site buffer) buffer size
+TextsImageWritten form maker site buffer size = WrittenBy form (policy_of_texts form maker site) (compiled_texts form maker site buffer) buffer size

@@ -18,7 +18,7 @@ use syntax::Lines;
 use word::put_word;
 
 /// The form that the programs write.
-pub const NEWEST_FORM: u8 = 2;
+pub const NEWEST_FORM: u8 = 3;
 
 /// How many words lines take.
 fn words(counts: LineCounts) -> usize
@@ -50,17 +50,17 @@ fn put_next(out: &mut [u8], cursors: PerPart<usize>, line: &Line) -> PerPart<usi
     cursors.with(part, at + words)
 }
 
-/// The lines of a text, up to the first that is refused, and the cursors behind them.
+/// The lines of a text for the form, up to the first that is refused, and the cursors behind them.
 #[inline(always)]
-fn put_lines(out: &mut [u8], text: &[u8], start: PerPart<usize>) -> PerPart<usize>
+fn put_lines(out: &mut [u8], form: u8, text: &[u8], start: PerPart<usize>) -> PerPart<usize>
     requires near { Near 600000 start }
     requires short { length text.now ≤ text_limit }
-    ensures answer { result ≡ cursors_behind (accepted_lines (lines_in text.now)) start }
+    ensures answer { result ≡ cursors_behind (accepted_lines (lines_in form text.now)) start }
     ensures near { Further start result }
-    ensures buffer { out.new ≡ put_lines (accepted_lines (lines_in text.now)) start out.old }
+    ensures buffer { out.new ≡ put_lines (accepted_lines (lines_in form text.now)) start out.old }
 {
     let mut cursors = start;
-    let mut lines = Lines::new(text);
+    let mut lines = Lines::new(form, text);
     while let Ok(Some(_)) = lines.advance() {
         cursors = put_next(out, cursors, lines.line());
     }
@@ -80,7 +80,7 @@ fn put_image(
     requires site { length site.now ≤ text_limit }
     requires rules { rule_words ≤ rule_word_limit form }
     requires constraints { constraint_words ≤ constraint_word_limit form }
-    ensures { out.new ≡ put_image form (lines_of_both maker.now site.now) rule_words constraint_words out.old }
+    ensures { out.new ≡ put_image form (lines_of_both form maker.now site.now) rule_words constraint_words out.old }
 {
     put_word(out, 0, header(form, rule_words, constraint_words));
     let middle = 1 + rule_words;
@@ -88,8 +88,8 @@ fn put_image(
         rules: 1,
         constraints: middle,
     };
-    let behind = put_lines(out, maker, start);
-    put_lines(out, site, behind);
+    let behind = put_lines(out, form, maker, start);
+    put_lines(out, form, site, behind);
     put_check_words(out, form, middle + constraint_words);
 }
 
@@ -104,7 +104,7 @@ pub fn compile_texts(form: u8, maker: &[u8], site: &[u8], out: &mut [u8]) -> Res
     if !is_known_form(form) {
         return Err(Fault::ImageForm.at(0));
     }
-    let counts = read_texts(maker, site)?;
+    let counts = read_texts(form, maker, site)?;
     let rule_words = words(counts.rules);
     let constraint_words = words(counts.constraints);
     let size = image_size(form, rule_words, constraint_words);

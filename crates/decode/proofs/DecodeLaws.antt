@@ -34,7 +34,7 @@ module _ {X : Type 0} (line : List X → List Comparison → PolicyLine) (wrap :
 made_again : (l : PolicyLine) (rest : List LinePart) → decode (line_parts (heads_of l) (comparisons_of l) (ending_of l) rest) ≡ Some l
 unfolding heads_of comparisons_of ending_of add_part
 made_again (rule r) rest =
-    parts_decoded (λ ls cs. rule (record { literals = ls; action = r.action; comparisons = cs })) Test.Occurs (Ending.Causes r.action) (λ c ls cs. refl) (λ l ls cs. refl) (λ d. refl) rest r.comparisons r.literals
+    parts_decoded (λ ls cs. rule (record { literals = ls; effect = r.effect; comparisons = cs })) Test.Occurs (Ending.Yields r.effect) (λ c ls cs. refl) (λ l ls cs. refl) (λ d. refl) rest r.comparisons r.literals
 made_again (constraint k) rest =
     parts_decoded (λ xs cs. constraint (record { actions = xs; comparisons = cs })) Test.Member Ending.Never (λ c xs cs. refl) (λ a xs cs. refl) (λ d. refl) rest k.comparisons k.actions
 
@@ -57,45 +57,45 @@ prefix_out (x ∷ xs) (y ∷ ys) e =
     ap₂ (λ (z : ℕ) (zs : List ℕ). z ∷ zs) (sym (eqb-true x y p.0)) (prefix_out xs ys p.1)
 
 -- a valid line of the part is found where its words stand
-pub line_in_is : (part : Part) (l : PolicyLine) (rest : List ℕ) → in_part part l ≡ true → valid l ≡ true → line_at part (line_words l ++ rest) ≡ Some l
+pub line_in_is : (form : ℕ) (part : Part) (l : PolicyLine) (rest : List ℕ) → in_part form part l ≡ true → valid l ≡ true → line_at form part (line_words l ++ rest) ≡ Some l
 unfolding line_at keep_if stands_at
-line_in_is part l rest i v =
-    ap (keep_if (stands_at part (line_words l ++ rest))) (decode_line l rest v)
+line_in_is form part l rest i v =
+    ap (keep_if (stands_at form part (line_words l ++ rest))) (decode_line l rest v)
     ∙ rw (i, v, prefix_in (line_words l) rest)
 
 -- what is found stands there
-pub line_out : (part : Part) (ws : List ℕ) (l : PolicyLine) → line_at part ws ≡ Some l → Stands part ws l
+pub line_out : (form : ℕ) (part : Part) (ws : List ℕ) (l : PolicyLine) → line_at form part ws ≡ Some l → Stands form part ws l
 unfolding line_at keep_if stands_at
-line_out part ws l e = go (decode (said_in 0 ws)) e
+line_out form part ws l e = go (decode (said_in 0 ws)) e
   where
-    facts : stands_at part ws l ≡ true → Stands part ws l
+    facts : stands_at form part ws l ≡ true → Stands form part ws l
     facts t =
-        let p = and_out (in_part part l && valid l) (is_prefix (line_words l) ws) t in
-        let q = and_out (in_part part l) (valid l) p.0 in
+        let p = and_out (in_part form part l && valid l) (is_prefix (line_words l) ws) t in
+        let q = and_out (in_part form part l) (valid l) p.0 in
         record { kind = q.0; sound = q.1; words = prefix_out (line_words l) ws p.1 }
 
-    kept : (m : PolicyLine) (b : Bool) → stands_at part ws m ≡ b → cond b (Some m) None ≡ Some l → Stands part ws l
-    kept m true q r = let n : m ≡ l = cc in facts (ap (stands_at part ws) (sym n) ∙ q)
+    kept : (m : PolicyLine) (b : Bool) → stands_at form part ws m ≡ b → cond b (Some m) None ≡ Some l → Stands form part ws l
+    kept m true q r = let n : m ≡ l = cc in facts (ap (stands_at form part ws) (sym n) ∙ q)
     kept m false q r = let z : ◌≡◌ {A = ℕ} 0 1 = cc in absurd (omega arith)
 
-    go : (d : Option PolicyLine) → keep_if (stands_at part ws) d ≡ Some l → Stands part ws l
+    go : (d : Option PolicyLine) → keep_if (stands_at form part ws) d ≡ Some l → Stands form part ws l
     go None r = let z : ◌≡◌ {A = ℕ} 0 1 = cc in absurd (omega arith)
-    go (Some m) r = kept m (stands_at part ws m) refl r
+    go (Some m) r = kept m (stands_at form part ws m) refl r
 
 -- where nothing is found, no valid line of the part stands
-pub line_none : (part : Part) (ws : List ℕ) → line_at part ws ≡ None → (l : PolicyLine) (rest : List ℕ) → in_part part l ≡ true → valid l ≡ true → ws ≡ line_words l ++ rest → ⊥
-line_none part ws e l rest i v q =
-    let f = line_in_is part l rest i v in
-    let g : line_at part ws ≡ Some l = ap (line_at part) q ∙ f in
+pub line_none : (form : ℕ) (part : Part) (ws : List ℕ) → line_at form part ws ≡ None → (l : PolicyLine) (rest : List ℕ) → in_part form part l ≡ true → valid l ≡ true → ws ≡ line_words l ++ rest → ⊥
+line_none form part ws e l rest i v q =
+    let f = line_in_is form part l rest i v in
+    let g : line_at form part ws ≡ Some l = ap (line_at form part) q ∙ f in
     let z : ◌≡◌ {A = ℕ} 0 1 = cc in
     omega arith
 
 -- what stands is found, so there is one line at most that does
-pub line_found_exactly : (part : Part) (ws : List ℕ) (l : PolicyLine) → (line_at part ws ≡ Some l) ↔ Stands part ws l
-line_found_exactly part ws l =
-    (line_out part ws l, λ s. ap (line_at part) s.words ∙ line_in_is part l (drop (length (line_words l)) ws) s.kind s.sound)
+pub line_found_exactly : (form : ℕ) (part : Part) (ws : List ℕ) (l : PolicyLine) → (line_at form part ws ≡ Some l) ↔ Stands form part ws l
+line_found_exactly form part ws l =
+    (line_out form part ws l, λ s. ap (line_at form part) s.words ∙ line_in_is form part l (drop (length (line_words l)) ws) s.kind s.sound)
 
-pub one_line_stands : (part : Part) (ws : List ℕ) (l m : PolicyLine) → Stands part ws l → Stands part ws m → l ≡ m
-one_line_stands part ws l m a b =
-    let e : Some l ≡ Some m = sym ((line_found_exactly part ws l).1 a) ∙ (line_found_exactly part ws m).1 b in
+pub one_line_stands : (form : ℕ) (part : Part) (ws : List ℕ) (l m : PolicyLine) → Stands form part ws l → Stands form part ws m → l ≡ m
+one_line_stands form part ws l m a b =
+    let e : Some l ≡ Some m = sym ((line_found_exactly form part ws l).1 a) ∙ (line_found_exactly form part ws m).1 b in
     cc

@@ -1,22 +1,25 @@
 -- One comparison of a word that was turned tests all of its fields but its numbers.
-use Rattle.std.proofs.Common.{ℕ, ◌+◌, ◌-◌, ◌*◌, ◌/◌, ◌%◌, ◌^◌, ◌≤◌, ◌<◌, Bool, true, false, cond, ◌≡◌, refl, sym, ap, ◌∙◌, arith, ltb-true, ltb-false, lt-ltb, eq-eqb, ne_eqb}
-use Rattle.std.proofs.Math.Dec.{ltb, eqb}
+use Rattle.std.proofs.Common.{ℕ, ◌+◌, ◌-◌, ◌*◌, ◌/◌, ◌%◌, ◌^◌, ◌≤◌, ◌<◌, Bool, true, false, cond, ◌&&◌, ◌||◌, ◌≡◌, refl, sym, ap, ◌∙◌, arith, add-zero, ltb-true, ltb-false, lt-ltb, le-ltb, eq-eqb, ne_eqb}
+use Rattle.std.proofs.Math.Bool.{or-true, or-false}
+use Rattle.std.proofs.Math.Dec.{ltb, leb, eqb}
 use Rattle.policy.proofs.ListLaws.{true_false}
 use Rattle.policy.specs.declared.line.Part.{Part}
 use Rattle.line_value.specs.Value.{fits}
 use Rattle.word.specs.Word.{word_limit}
 use Rattle.operation.proofs.OperationLaws.{operation_back, operation_number}
 use Rattle.operation.specs.Fields.{InFields, pack, operation_of, opcode_of, first_of, second_of, relation_code_of}
-use Rattle.operation.specs.Operation.{operation_from}
-use Rattle.operation.specs.Parts.{test_operation, action_from}
+use Rattle.operation.specs.Operation.{opcode, operation_from}
+use Rattle.operation.specs.Parts.{test_operation}
 use Rattle.operation.specs.Said.{says_by, says}
 use Rattle.operation.proofs.SaidLaws.{Said, said_head, said_constant, said_reading, said_ending, said_nothing, said, said_by}
 use Rattle.policy.specs.declared.line.Test.{Test}
-use Rattle.operation.specs.Parts.{ending_word}
+use Rattle.operation.specs.Parts.{effect_operation, ending_word}
 use Rattle.operation.specs.declared.operation.Operation.{Operation}
-use Rattle.decode.specs.Steps.Scan.{less, number_lowest, relation_lowest, first_head, head_operations, first_ending, ending_numbers, is_head, is_ending, head_sound, comparison_length}
+use Rattle.decode.specs.Steps.Scan.{less, number_lowest, relation_lowest, first_head, head_operations, first_ending, ending_numbers, is_head, is_trigger, is_ending, head_sound, comparison_length}
 use Rattle.operation.specs.Whole.{ends}
-use Rattle.policy.specs.Limits.{ending_in_range}
+use Rattle.policy.specs.Limits.{effect_in_range, ending_in_range, ending_allowed}
+use Rattle.policy.specs.Effect.{effect_number}
+use Rattle.policy.specs.declared.effect.Effect.{Effect}
 use Rattle.policy.specs.declared.line.Ending.{Ending}
 use Rattle.operation.proofs.FieldLaws.{opcode_pack, head_low, head_again}
 use Rattle.decode.proofs.ScanLaws.{ending_is, ending_there, head_in, head_out, Sized, sized_constant, sized_reading, sized_none, sized, size_constant, size_reading}
@@ -26,7 +29,7 @@ use Rattle.decode.proofs.ScanLaws.{ending_is, ending_there, head_in, head_out, S
 number_split : (r n : ℕ) → n ≤ 128 → r / 2 ^ 22 + r % 2 ^ 22 * 2 ^ 10 < n → (r % 2 ^ 22 ≡ 0) × (r / 2 ^ 22 < n)
 number_split r n l h = (omega arith, omega arith)
 
-whole_of : (w operation skip r : ℕ) → w < word_limit → r ≡ less w (operation * 2 ^ 28 + skip) → operation < 8 → skip < 32 → r < 2 ^ 29 → w ≡ r + operation * 2 ^ 28 + skip
+whole_of : (w operation skip r : ℕ) → w < word_limit → r ≡ less w (operation * 2 ^ 28 + skip) → operation < 9 → skip < 32 → r < 2 ^ 29 → w ≡ r + operation * 2 ^ 28 + skip
 whole_of w operation skip r h e o s l = omega arith
 
 pub record Numbered (w operation skip t : ℕ) : Type 0 where
@@ -34,7 +37,7 @@ pub record Numbered (w operation skip t : ℕ) : Type 0 where
   pub opcode : opcode_of w ≡ operation + t / 64
   pub number : first_of w ≡ t % 64
 
-module _ (w operation skip : ℕ) (h : w < word_limit) (o : operation < 8) (s : skip < 32) where
+module _ (w operation skip : ℕ) (h : w < word_limit) (o : operation < 9) (s : skip < 32) where
   pub numbered : (n t : ℕ) → n ≤ 128 → t ≡ number_lowest w (operation * 2 ^ 28 + skip) → t < n → Numbered w operation skip t
   numbered n t l e b = go (less w (operation * 2 ^ 28 + skip)) refl e
     where
@@ -58,7 +61,7 @@ module _ (w operation skip : ℕ) (h : w < word_limit) (o : operation < 8) (s : 
 -- the operations of heads are these
 record HeadRange (part : Part) (first count : ℕ) : Type 0 where
   word : first_head part ≡ first * 2 ^ 28
-  below : first < 8
+  below : first < 9
   count_is : head_operations part ≡ count
   few : count ≤ 2
   there : (w : ℕ) → first ≤ opcode_of w → opcode_of w < first + count → is_head part (says w 0) ≡ true
@@ -149,37 +152,71 @@ alike true c f g = sym (f refl)
 alike false true f g = g refl
 alike false false f g = refl
 
-pub ending_found : (part : Part) (w : ℕ) → w < word_limit → ltb (number_lowest w (first_ending part)) (ending_numbers part) ≡ is_ending part w
-unfolding ends ending_word pack operation_from ending_in_range
-ending_found Part.Rules w h = alike (ltb t 64) (is_ending Part.Rules w) there back
+-- the words of an effect's operation, with a number and nothing else
+module _ (form w operation : ℕ) (h : w < word_limit) (o : operation < 9) (make : ℕ → Effect) (numbered_so : (n : ℕ) → effect_number (make n) ≡ n)
+    (operates : (n : ℕ) → opcode (effect_operation (make n)) ≡ operation) where
+  abbrev t : ℕ
+  t = number_lowest w (operation * 2 ^ 28 + 0)
+
+  abbrev word : ℕ → ℕ
+  word n = ending_word (Ending.Yields (make n))
+
+  effect_there : 0 < operation → ltb t 64 ≡ true → word (first_of w) ≡ w
+  unfolding ending_word
+  effect_there p e =
+      let n = numbered w operation 0 h o (omega arith) 64 t (omega arith) refl (ltb-true t 64 e) in
+      let l = ltb-true t 64 e in
+      let c : opcode_of w ≡ operation + t / 64 = n.opcode in
+      let k : opcode_of w ≡ opcode (effect_operation (make (first_of w))) = omega (arith, operates (first_of w)) in
+      ap (λ (m : ℕ). pack (effect_operation (make (first_of w))) m 0 0 0) (numbered_so (first_of w))
+      ∙ head_again (effect_operation (make (first_of w))) w (omega (arith, operates (first_of w))) h (ap operation_from k ∙ operation_back (effect_operation (make (first_of w)))) 0 n.low
+
+  effect_back : (n : ℕ) → n < 64 → w ≡ word n → ltb t 64 ≡ true
+  unfolding ending_word
+  effect_back n l q =
+      let f : InFields (effect_number (make n)) 0 0 0 = record { first_below = omega (arith, numbered_so n); second_below = omega arith; relation_below = omega arith; skip_below = omega arith } in
+      let b = numbered_back w operation 0 h o (omega arith) 0 (omega arith) (ap (λ (x : ℕ). x % 2 ^ 22) q ∙ head_low (effect_operation (make n)) (effect_number (make n)) 0 (omega arith)) (ap opcode_of q ∙ opcode_pack (effect_operation (make n)) (effect_number (make n)) 0 0 0 f ∙ operates n ∙ sym (add-zero operation)) in
+      lt-ltb t 64 (omega (arith, b))
+
+abbrev causing : ℕ → Effect
+causing n = Effect.Causes (record { 0 = n })
+
+abbrev triggering : ℕ → Effect
+triggering n = Effect.Triggers (record { 0 = n })
+
+pub ending_found : (form : ℕ) (part : Part) (w : ℕ) → w < word_limit → ltb (number_lowest w (first_ending part)) (ending_numbers part) || is_trigger form part w ≡ is_ending form part w
+unfolding ends ending_word pack operation_from ending_in_range effect_in_range effect_number effect_operation ending_allowed is_trigger
+ending_found form Part.Rules w h = alike (ltb s 64 || leb 3 form && ltb t 64) (is_ending form Part.Rules w) (λ e. there (ltb s 64) refl (leb 3 form) refl (ltb t 64) refl e) back
   where
+    s : ℕ
+    s = number_lowest w (5 * 2 ^ 28 + 0)
+
     t : ℕ
-    t = number_lowest w (5 * 2 ^ 28 + 0)
+    t = number_lowest w (8 * 2 ^ 28 + 0)
 
-    there : ltb t 64 ≡ true → is_ending Part.Rules w ≡ true
-    there e =
-        let n = numbered w 5 0 h (omega arith) (omega arith) 64 t (omega arith) refl (ltb-true t 64 e) in
-        let l = ltb-true t 64 e in
-        let c : opcode_of w ≡ 5 + t / 64 = n.opcode in
-        let o : operation_of w ≡ Operation.Proposes = ap operation_from {x = opcode_of w} {y = 5} (omega arith) in
-        let word : ending_word (Ending.Causes (action_from w)) ≡ w = head_again Operation.Proposes w (omega arith) h o 0 n.low in
-        ap (is_ending Part.Rules) (sym word) ∙ ending_there Part.Rules (Ending.Causes (action_from w)) refl (lt-ltb (first_of w) 64 (omega arith))
+    is_word : (x : Effect) → ending_word (Ending.Yields x) ≡ w → ending_allowed form (Ending.Yields x) ≡ true → effect_number x < 64 → is_ending form Part.Rules w ≡ true
+    is_word x q a l = ap (is_ending form Part.Rules) (sym q) ∙ ending_there form Part.Rules (Ending.Yields x) refl a (lt-ltb (effect_number x) 64 l)
 
-    back : is_ending Part.Rules w ≡ true → ltb t 64 ≡ true
-    back e = let x = ending_is Part.Rules w e in ends_so x.ending x.kind x.sound x.word
+    there : (a : Bool) → ltb s 64 ≡ a → (b : Bool) → leb 3 form ≡ b → (c : Bool) → ltb t 64 ≡ c → a || b && c ≡ true → is_ending form Part.Rules w ≡ true
+    there true e b f c g k = is_word (causing (first_of w)) (effect_there form w 5 h (omega arith) causing (λ n. refl) (λ n. refl) (omega arith) e) refl (omega arith)
+    there false e true f true g k = is_word (triggering (first_of w)) (effect_there form w 8 h (omega arith) triggering (λ n. refl) (λ n. refl) (omega arith) g) f (omega arith)
+    there false e true f false g k = absurd (true_false k refl)
+    there false e false f c g k = absurd (true_false k refl)
+
+    back : is_ending form Part.Rules w ≡ true → ltb s 64 || leb 3 form && ltb t 64 ≡ true
+    back e = let x = ending_is form Part.Rules w e in ends_so x.ending x.kind x.allowed x.sound x.word
       where
-        ends_so : (y : Ending) → ends Part.Rules y ≡ true → ending_in_range y ≡ true → w ≡ ending_word y → ltb t 64 ≡ true
-        ends_so (Ending.Causes a) k r q =
-            let f : InFields a.0 0 0 0 = record { first_below = ltb-true a.0 64 r; second_below = omega arith; relation_below = omega arith; skip_below = omega arith } in
-            let n = numbered_back w 5 0 h (omega arith) (omega arith) 0 (omega arith) (ap (λ (x : ℕ). x % 2 ^ 22) q ∙ head_low Operation.Proposes a.0 0 (omega arith)) (ap opcode_of q ∙ opcode_pack Operation.Proposes a.0 0 0 0 f) in
-            lt-ltb t 64 (omega (arith, n))
-        ends_so Ending.Never k r q = absurd (true_false k refl)
-ending_found Part.Constraints w h = alike (ltb t 1) (is_ending Part.Constraints w) there back
+        ends_so : (y : Ending) → ends Part.Rules y ≡ true → ending_allowed form y ≡ true → ending_in_range y ≡ true → w ≡ ending_word y → ltb s 64 || leb 3 form && ltb t 64 ≡ true
+        ends_so (Ending.Yields (Effect.Causes a)) k l r q = rw (effect_back form w 5 h (omega arith) causing (λ n. refl) (λ n. refl) a.0 (ltb-true a.0 64 r) q)
+        ends_so (Ending.Yields (Effect.Triggers y)) k l r q =
+            rw (l, effect_back form w 8 h (omega arith) triggering (λ n. refl) (λ n. refl) y.0 (ltb-true y.0 64 r) q) (or-true (ltb s 64))
+        ends_so Ending.Never k l r q = absurd (true_false k refl)
+ending_found form Part.Constraints w h = or-false (ltb t 1) ∙ alike (ltb t 1) (is_ending form Part.Constraints w) there back
   where
     t : ℕ
     t = number_lowest w (7 * 2 ^ 28 + 0)
 
-    there : ltb t 1 ≡ true → is_ending Part.Constraints w ≡ true
+    there : ltb t 1 ≡ true → is_ending form Part.Constraints w ≡ true
     there e =
         let n = numbered w 7 0 h (omega arith) (omega arith) 1 t (omega arith) refl (ltb-true t 1 e) in
         let l = ltb-true t 1 e in
@@ -187,14 +224,21 @@ ending_found Part.Constraints w h = alike (ltb t 1) (is_ending Part.Constraints 
         let f : first_of w ≡ t % 64 = n.number in
         let z : w % 2 ^ 22 ≡ 0 = n.low in
         let word : ending_word Ending.Never ≡ w = omega arith in
-        ap (is_ending Part.Constraints) (sym word) ∙ ending_there Part.Constraints Ending.Never refl refl
+        ap (is_ending form Part.Constraints) (sym word) ∙ ending_there form Part.Constraints Ending.Never refl refl refl
 
-    back : is_ending Part.Constraints w ≡ true → ltb t 1 ≡ true
-    back e = let x = ending_is Part.Constraints w e in ends_so x.ending x.kind x.word
+    back : is_ending form Part.Constraints w ≡ true → ltb t 1 ≡ true
+    back e = let x = ending_is form Part.Constraints w e in ends_so x.ending x.kind x.word
       where
         ends_so : (y : Ending) → ends Part.Constraints y ≡ true → w ≡ ending_word y → ltb t 1 ≡ true
         ends_so Ending.Never k q = lt-ltb t 1 (omega arith)
-        ends_so (Ending.Causes a) k q = absurd (true_false k refl)
+        ends_so (Ending.Yields x) k q = absurd (true_false k refl)
+
+module _ (form : ℕ) (part : Part) (w : ℕ) (h : w < word_limit) where
+  pub ending_first : number_lowest w (first_ending part) < ending_numbers part → true ≡ is_ending form part w
+  ending_first l = sym (ap (λ (b : Bool). b || is_trigger form part w) (lt-ltb _ _ l)) ∙ ending_found form part w h
+
+  pub ending_other : ending_numbers part ≤ number_lowest w (first_ending part) → is_trigger form part w ≡ is_ending form part w
+  ending_other l = sym (ap (λ (b : Bool). b || is_trigger form part w) (le-ltb _ _ l)) ∙ ending_found form part w h
 
 -- ---- comparisons
 
@@ -217,12 +261,12 @@ record Fields (w operation low r : ℕ) : Type 0 where
   relation : relation_code_of w ≡ r / 2 ^ 13 % 8
   low_is : w % 2 ^ 13 ≡ low
 
-fields_of : (w operation low r : ℕ) → operation < 8 → low < 32 → w ≡ r + operation * 2 ^ 28 + low → r < 2 ^ 26 → r % 2 ^ 13 ≡ 0 → Fields w operation low r
+fields_of : (w operation low r : ℕ) → operation < 9 → low < 32 → w ≡ r + operation * 2 ^ 28 + low → r < 2 ^ 26 → r % 2 ^ 13 ≡ 0 → Fields w operation low r
 fields_of w operation low r o k e l z =
     record { opcode = omega arith; first = omega arith; second_is = omega arith; relation = omega arith; low_is = omega arith }
 
 -- what is left of a word with these fields
-left_of : (w operation low : ℕ) → w < word_limit → operation < 8 → opcode_of w ≡ operation → w % 2 ^ 13 ≡ low → less w (operation * 2 ^ 28 + low) ≡ first_of w * 2 ^ 22 + second_of w * 2 ^ 16 + relation_code_of w * 2 ^ 13
+left_of : (w operation low : ℕ) → w < word_limit → operation < 9 → opcode_of w ≡ operation → w % 2 ^ 13 ≡ low → less w (operation * 2 ^ 28 + low) ≡ first_of w * 2 ^ 22 + second_of w * 2 ^ 16 + relation_code_of w * 2 ^ 13
 left_of w operation low h o c l =
     let x : w ≡ operation * 2 ^ 28 + first_of w * 2 ^ 22 + second_of w * 2 ^ 16 + relation_code_of w * 2 ^ 13 + low = omega arith in
     omega (arith, x)

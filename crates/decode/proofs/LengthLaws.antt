@@ -179,13 +179,13 @@ pub rest_between : (from n : ℕ) (ws : List ℕ) → length ws ≤ n → betwee
 unfolding between
 rest_between from n ws h = ap (drop from) (take_all n ws h)
 
-module _ (part : Part) (ws : List ℕ) where
+module _ (form : ℕ) (part : Part) (ws : List ℕ) where
   -- past the last word
-  pub length_none : length ws ≡ 0 → 0 ≡ line_length (line_at part ws)
+  pub length_none : length ws ≡ 0 → 0 ≡ line_length (line_at form part ws)
   unfolding line_length line_at keep_if decode said_in
   length_none h = go ws h
     where
-      go : (xs : List ℕ) → length xs ≡ 0 → 0 ≡ line_length (line_at part xs)
+      go : (xs : List ℕ) → length xs ≡ 0 → 0 ≡ line_length (line_at form part xs)
       go [] e = refl
       go (x ∷ xs) e = absurd (omega arith)
 
@@ -193,12 +193,12 @@ module _ (part : Part) (ws : List ℕ) where
     abbrev count : ℕ
     count = count_heads part size ws
 
-    by_scan : line_length (line_at part ws)
-        ≡ cond (ltb size (length ws) && is_ending part (get_or ws size 0) && ltb 0 count && leb count 8 && not (repeats (head_numbers count ws)) && comparisons_fill 4 (size - count) (drop count ws)) (size + 1) 0
-    by_scan = sym (scan_line_is part ws bounded) ∙ scan_by part ws size (sym skips)
+    by_scan : line_length (line_at form part ws)
+        ≡ cond (ltb size (length ws) && is_ending form part (get_or ws size 0) && ltb 0 count && leb count 8 && not (repeats (head_numbers count ws)) && comparisons_fill 4 (size - count) (drop count ws)) (size + 1) 0
+    by_scan = sym (scan_line_is form part ws bounded) ∙ scan_by form part ws size (sym skips)
 
     -- the line does not fit
-    pub length_long : length ws ≤ size → 0 ≡ line_length (line_at part ws)
+    pub length_long : length ws ≤ size → 0 ≡ line_length (line_at form part ws)
     length_long h = sym (by_scan ∙ rw (le-ltb size (length ws) h))
 
     module _ (fits : size < length ws) where
@@ -206,25 +206,25 @@ module _ (part : Part) (ws : List ℕ) where
       within = lt-ltb size (length ws) fits
 
       -- no ending word
-      pub length_unended : is_ending part (get_or ws size 0) ≡ false → 0 ≡ line_length (line_at part ws)
+      pub length_unended : is_ending form part (get_or ws size 0) ≡ false → 0 ≡ line_length (line_at form part ws)
       length_unended e = sym (by_scan ∙ rw (within, e))
 
-      module _ (ended : is_ending part (get_or ws size 0) ≡ true) (line : List ℕ) (cut : line ≡ take size ws) (heads : ℕ) (counted : heads ≡ count_heads part size line) where
+      module _ (ended : is_ending form part (get_or ws size 0) ≡ true) (line : List ℕ) (cut : line ≡ take size ws) (heads : ℕ) (counted : heads ≡ count_heads part size line) where
         agree : Agree size (take size ws) ws
         agree j l = get_or-take size ws j 0 l
 
         heads_are : count ≡ heads
         heads_are = sym (counted ∙ ap (count_heads part size) cut ∙ head_count_agree part size (take size ws) ws agree)
 
-        by_heads : line_length (line_at part ws) ≡ cond (ltb 0 heads && leb heads 8 && not (repeats (head_numbers heads ws)) && comparisons_fill 4 (size - heads) (drop heads ws)) (size + 1) 0
+        by_heads : line_length (line_at form part ws) ≡ cond (ltb 0 heads && leb heads 8 && not (repeats (head_numbers heads ws)) && comparisons_fill 4 (size - heads) (drop heads ws)) (size + 1) 0
         by_heads =
-            by_scan ∙ ap (λ (h : ℕ). cond (ltb size (length ws) && is_ending part (get_or ws size 0) && ltb 0 h && leb h 8 && not (repeats (head_numbers h ws)) && comparisons_fill 4 (size - h) (drop h ws)) (size + 1) 0) heads_are
+            by_scan ∙ ap (λ (h : ℕ). cond (ltb size (length ws) && is_ending form part (get_or ws size 0) && ltb 0 h && leb h 8 && not (repeats (head_numbers h ws)) && comparisons_fill 4 (size - h) (drop h ws)) (size + 1) 0) heads_are
             ∙ rw (within, ended)
 
-        pub length_headless : heads ≡ 0 → 0 ≡ line_length (line_at part ws)
+        pub length_headless : heads ≡ 0 → 0 ≡ line_length (line_at form part ws)
         length_headless z = sym (by_heads ∙ rw z)
 
-        pub length_crowded : 8 < heads → 0 ≡ line_length (line_at part ws)
+        pub length_crowded : 8 < heads → 0 ≡ line_length (line_at form part ws)
         length_crowded z = sym (by_heads ∙ rw (lt-ltb 0 heads (omega arith), lt-leb heads 8 z))
 
         module _ (some : heads ≡ 0 → ⊥) (few : heads ≤ 8) (numbers : ℕ) (gathered : numbers ≡ numbers_of (head_numbers heads line)) where
@@ -244,14 +244,14 @@ module _ (part : Part) (ws : List ℕ) where
           as_many = omega (arith, length-map (take heads ws) first_of, length-take heads ws, all_fit)
 
           -- some number stands twice
-          pub length_repeated : (count_ones numbers ≡ heads → ⊥) → 0 ≡ line_length (line_at part ws)
+          pub length_repeated : (count_ones numbers ≡ heads → ⊥) → 0 ≡ line_length (line_at form part ws)
           length_repeated n =
               let twice : repeats (head_numbers heads ws) ≡ true =
               ones_twice (take heads ws) (λ q. n (ap count_ones (gathered ∙ ap numbers_of of_line) ∙ q ∙ as_many)) in
               sym (by_heads ∙ rw (lt-ltb 0 heads (omega arith), le-leb heads 8 few, twice))
 
           module _ (once : count_ones numbers ≡ heads) (filled : Bool) (fills : filled ≡ comparisons_fill 4 (size - heads) (drop heads line)) where
-            by_last : line_length (line_at part ws) ≡ cond filled (size + 1) 0
+            by_last : line_length (line_at form part ws) ≡ cond filled (size + 1) 0
             by_last =
                 let alone : repeats (head_numbers heads ws) ≡ false =
                 ones_once (take heads ws) (ap count_ones (ap numbers_of (sym of_line) ∙ sym gathered) ∙ once ∙ sym as_many) in
@@ -259,8 +259,8 @@ module _ (part : Part) (ws : List ℕ) where
                 sym (fills ∙ ap (λ (xs : List ℕ). comparisons_fill 4 (size - heads) (drop heads xs)) cut ∙ fill_agree 4 (size - heads) (drop heads (take size ws)) (drop heads ws) (agree_drop size heads (take size ws) ws agree)) in
                 by_heads ∙ rw (lt-ltb 0 heads (omega arith), le-leb heads 8 few, alone, d)
 
-            pub length_found : filled ≡ true → size + 1 ≡ line_length (line_at part ws)
+            pub length_found : filled ≡ true → size + 1 ≡ line_length (line_at form part ws)
             length_found s = sym (by_last ∙ rw s)
 
-            pub length_unsound : filled ≡ false → 0 ≡ line_length (line_at part ws)
+            pub length_unsound : filled ≡ false → 0 ≡ line_length (line_at form part ws)
             length_unsound s = sym (by_last ∙ rw s)

@@ -4,7 +4,7 @@ use Rattle.std.proofs.Math.Dec.{ltb, leb, eqb}
 use Rattle.std.proofs.Math.ListN.{get_or}
 use Rattle.std.proofs.Math.Seq.{get_or_at}
 use Rattle.policy.proofs.ListLaws.{true_false, and_in, and_out}
-use Rattle.policy.specs.Limits.{valid, repeats, test_number, comparison_in_range, ending_in_range}
+use Rattle.policy.specs.Limits.{valid, repeats, test_number, comparison_in_range, ending_in_range, ending_allowed}
 use Rattle.policy.specs.Line.{PolicyLine, rule, constraint, heads_of, comparisons_of, ending_of}
 use Rattle.policy.specs.List.{all}
 use Rattle.policy.specs.declared.comparison.Comparison.{Comparison}
@@ -242,40 +242,47 @@ last_word ts cs e rest m l =
 
 -- ---- the kinds of lines
 
-kind_heads : (part : Part) (l : PolicyLine) → in_part part l ≡ true → all (λ (t : Test). is_head part (LinePart.Head t)) (heads_of l) ≡ true
+kind_heads : (form : ℕ) (part : Part) (l : PolicyLine) → in_part form part l ≡ true → all (λ (t : Test). is_head part (LinePart.Head t)) (heads_of l) ≡ true
 unfolding in_part ending_of is_head
-kind_heads Part.Rules (rule r) k = heads_fit (rule r)
-kind_heads Part.Rules (constraint c) k = absurd (true_false k refl)
-kind_heads Part.Constraints (rule r) k = absurd (true_false k refl)
-kind_heads Part.Constraints (constraint c) k = heads_fit (constraint c)
+kind_heads form Part.Rules (rule r) k = heads_fit (rule r)
+kind_heads form Part.Rules (constraint c) k = absurd (true_false k refl)
+kind_heads form Part.Constraints (rule r) k = absurd (true_false k refl)
+kind_heads form Part.Constraints (constraint c) k = heads_fit (constraint c)
 
-pub ending_there : (part : Part) (e : Ending) → ends part e ≡ true → ending_in_range e ≡ true → is_ending part (ending_word e) ≡ true
+pub ending_there : (form : ℕ) (part : Part) (e : Ending) → ends part e ≡ true → ending_allowed form e ≡ true → ending_in_range e ≡ true → is_ending form part (ending_word e) ≡ true
 unfolding is_ending is_ending_of
-ending_there part e k h = ap (is_ending_of part (ending_word e)) (ending_said e 0 h) ∙ and_in k (eq-eqb (ending_word e) (ending_word e) refl)
+ending_there form part e k a h = ap (is_ending_of form part (ending_word e)) (ending_said e 0 h) ∙ and_in (and_in k a) (eq-eqb (ending_word e) (ending_word e) refl)
 
-pub kind_ends : (part : Part) (l : PolicyLine) → in_part part l ≡ true → ends part (ending_of l) ≡ true
+pub kind_ends : (form : ℕ) (part : Part) (l : PolicyLine) → in_part form part l ≡ true → ends part (ending_of l) ≡ true
 unfolding in_part ending_of ends
-kind_ends Part.Rules (rule r) k = refl
-kind_ends Part.Rules (constraint c) k = absurd (true_false k refl)
-kind_ends Part.Constraints (rule r) k = absurd (true_false k refl)
-kind_ends Part.Constraints (constraint c) k = refl
+kind_ends form Part.Rules (rule r) k = refl
+kind_ends form Part.Rules (constraint c) k = absurd (true_false k refl)
+kind_ends form Part.Constraints (rule r) k = absurd (true_false k refl)
+kind_ends form Part.Constraints (constraint c) k = refl
 
-kind_ending : (part : Part) (l : PolicyLine) → in_part part l ≡ true → ending_in_range (ending_of l) ≡ true → is_ending part (ending_word (ending_of l)) ≡ true
-kind_ending part l k e = ending_there part (ending_of l) (kind_ends part l k) e
+pub kind_allowed : (form : ℕ) (part : Part) (l : PolicyLine) → in_part form part l ≡ true → ending_allowed form (ending_of l) ≡ true
+unfolding in_part ending_of ending_allowed
+kind_allowed form Part.Rules (rule r) k = k
+kind_allowed form Part.Rules (constraint c) k = absurd (true_false k refl)
+kind_allowed form Part.Constraints (rule r) k = absurd (true_false k refl)
+kind_allowed form Part.Constraints (constraint c) k = refl
+
+kind_ending : (form : ℕ) (part : Part) (l : PolicyLine) → in_part form part l ≡ true → ending_in_range (ending_of l) ≡ true → is_ending form part (ending_word (ending_of l)) ≡ true
+kind_ending form part l k e = ending_there form part (ending_of l) (kind_ends form part l k) (kind_allowed form part l k) e
 
 -- ---- a valid line at the start is found
 
-pub scan_by : (part : Part) (ws : List ℕ) (n : ℕ) → skip_of (get_or ws 0 0) ≡ n
-    → scan_line part ws ≡ cond (ltb n (length ws) && is_ending part (get_or ws n 0) && ltb 0 (count_heads part n ws) && leb (count_heads part n ws) 8 && not (repeats (head_numbers (count_heads part n ws) ws)) && comparisons_fill 4 (n - count_heads part n ws) (drop (count_heads part n ws) ws)) (n + 1) 0
+pub scan_by : (form : ℕ) (part : Part) (ws : List ℕ) (n : ℕ) → skip_of (get_or ws 0 0) ≡ n
+    → scan_line form part ws ≡ cond (ltb n (length ws) && is_ending form part (get_or ws n 0) && ltb 0 (count_heads part n ws) && leb (count_heads part n ws) 8 && not (repeats (head_numbers (count_heads part n ws) ws)) && comparisons_fill 4 (n - count_heads part n ws) (drop (count_heads part n ws) ws)) (n + 1) 0
 unfolding scan_line
-scan_by part ws n e = ap (λ (k : ℕ). cond (ltb k (length ws) && is_ending part (get_or ws k 0) && ltb 0 (count_heads part k ws) && leb (count_heads part k ws) 8 && not (repeats (head_numbers (count_heads part k ws) ws)) && comparisons_fill 4 (k - count_heads part k ws) (drop (count_heads part k ws) ws)) (k + 1) 0) e
+scan_by form part ws n e = ap (λ (k : ℕ). cond (ltb k (length ws) && is_ending form part (get_or ws k 0) && ltb 0 (count_heads part k ws) && leb (count_heads part k ws) 8 && not (repeats (head_numbers (count_heads part k ws) ws)) && comparisons_fill 4 (k - count_heads part k ws) (drop (count_heads part k ws) ws)) (k + 1) 0) e
 
-parts_found : (part : Part) (ts : List Test) (cs : List Comparison) (e : Ending) (rest : List ℕ) → ValidParts ts cs e → all (λ (t : Test). is_head part (LinePart.Head t)) ts ≡ true → is_ending part (ending_word e) ≡ true
-    → scan_line part (part_words ts cs e ++ rest) ≡ length (part_words ts cs e)
+parts_found : (form : ℕ) (part : Part) (ts : List Test) (cs : List Comparison) (e : Ending) (rest : List ℕ) → ValidParts ts cs e → all (λ (t : Test). is_head part (LinePart.Head t)) ts ≡ true → is_ending form part (ending_word e) ≡ true
+    → scan_line form part (part_words ts cs e ++ rest) ≡ length (part_words ts cs e)
 unfolding part_words
-parts_found part [] cs e rest v k n = absurd (omega (arith, v.some))
-parts_found part (t ∷ ts) cs e rest v k n =
-    scan_by part ws m skip
+parts_found form part [] cs e rest v k n = absurd (omega (arith, v.some))
+parts_found form part (t ∷ ts) cs e rest v k n =
+    scan_by form part ws m skip
     ∙ rw (counted, lt-ltb m (length ws) within, ending ∙ n, lt-ltb 0 (suc (length ts)) (omega arith), le-leb (suc (length ts)) 8 v.few_tests, numbers, v.distinct, heads_dropped part e rest ts cs, condition_fills part e rest cs 4 (m - suc (length ts)) v.few_comparisons v.few_comparisons v.comparisons left) one
   where
     m : ℕ
@@ -296,8 +303,8 @@ parts_found part (t ∷ ts) cs e rest v k n =
     skip : skip_of (get_or ws 0 0) ≡ m
     skip = test_skip t m (ltb-true (test_number t) 64 (and_out (test_in_range t) (all test_in_range ts) v.tests).0) small
 
-    ending : is_ending part (get_or ws m 0) ≡ is_ending part (ending_word e)
-    ending = ap (is_ending part) (last_word (t ∷ ts) cs e rest m refl)
+    ending : is_ending form part (get_or ws m 0) ≡ is_ending form part (ending_word e)
+    ending = ap (is_ending form part) (last_word (t ∷ ts) cs e rest m refl)
 
     left : length (condition_words cs e) ≡ suc (m - suc (length ts))
     left = omega (arith, part_length ts cs e, condition_length cs e, condition_size_limit cs)
@@ -311,18 +318,18 @@ parts_found part (t ∷ ts) cs e rest v k n =
     numbers : head_numbers (suc (length ts)) ws ≡ map test_number (t ∷ ts)
     numbers = heads.1
 
-pub line_found : (part : Part) (l : PolicyLine) (rest : List ℕ) → in_part part l ≡ true → valid l ≡ true → scan_line part (line_words l ++ rest) ≡ length (line_words l)
+pub line_found : (form : ℕ) (part : Part) (l : PolicyLine) (rest : List ℕ) → in_part form part l ≡ true → valid l ≡ true → scan_line form part (line_words l ++ rest) ≡ length (line_words l)
 unfolding line_words
-line_found part l rest k v =
+line_found form part l rest k v =
     let h = valid_out l v in
-    parts_found part (heads_of l) (comparisons_of l) (ending_of l) rest h (kind_heads part l k) (kind_ending part l k h.ending)
+    parts_found form part (heads_of l) (comparisons_of l) (ending_of l) rest h (kind_heads form part l k) (kind_ending form part l k h.ending)
 
 -- ---- one part more in front of a line
 
-pub record HeadOn (part : Part) (w : ℕ) (l : PolicyLine) : Type 0 where
+pub record HeadOn (form : ℕ) (part : Part) (w : ℕ) (l : PolicyLine) : Type 0 where
   pub line : PolicyLine
   pub test : Test
-  pub kind : in_part part line ≡ true
+  pub kind : in_part form part line ≡ true
   pub words : (k : ℕ) → k ≡ length (line_words l) → line_words line ≡ test_word test k ∷ line_words l
   pub heads : heads_of line ≡ test ∷ heads_of l
   pub comparisons : comparisons_of line ≡ comparisons_of l
@@ -330,18 +337,18 @@ pub record HeadOn (part : Part) (w : ℕ) (l : PolicyLine) : Type 0 where
   pub operation : operation_of w ≡ test_operation test
   pub number : test_number test ≡ first_of w
 
-pub add_head : (part : Part) (w : ℕ) (l : PolicyLine) → is_head part (says w 0) ≡ true → in_part part l ≡ true → HeadOn part w l
+pub add_head : (form : ℕ) (part : Part) (w : ℕ) (l : PolicyLine) → is_head part (says w 0) ≡ true → in_part form part l ≡ true → HeadOn form part w l
 unfolding in_part line_words heads_of comparisons_of ending_of part_words is_head fits
-add_head part w l h k = go (said w 0)
+add_head form part w l h k = go (said w 0)
   where
-    other : (p : LinePart) → says w 0 ≡ p → is_head part p ≡ false → HeadOn part w l
+    other : (p : LinePart) → says w 0 ≡ p → is_head part p ≡ false → HeadOn form part w l
     other p e f = absurd (true_false h (ap (is_head part) e ∙ f))
 
-    on : (p : Part) (m : PolicyLine) (t : Test) → is_head p (LinePart.Head t) ≡ true → in_part p m ≡ true → operation_of w ≡ test_operation t → test_number t ≡ first_of w → HeadOn p w m
+    on : (p : Part) (m : PolicyLine) (t : Test) → is_head p (LinePart.Head t) ≡ true → in_part form p m ≡ true → operation_of w ≡ test_operation t → test_number t ≡ first_of w → HeadOn form p w m
     on Part.Rules (rule r) (Test.Occurs x) i j o n = record {
-      line = rule (record { literals = x ∷ r.literals; action = r.action; comparisons = r.comparisons });
+      line = rule (record { literals = x ∷ r.literals; effect = r.effect; comparisons = r.comparisons });
       test = Test.Occurs x;
-      kind = refl;
+      kind = j;
       words = λ n q. rw q;
       heads = refl;
       comparisons = refl;
@@ -365,78 +372,80 @@ add_head part w l h k = go (said w 0)
     on Part.Constraints (rule r) t i j o n = absurd (true_false j refl)
     on Part.Constraints (constraint c) (Test.Occurs x) i j o n = absurd (true_false i refl)
 
-    go : Said w 0 → HeadOn part w l
+    go : Said w 0 → HeadOn form part w l
     go (said_head t e o n) = on part l t (sym (ap (is_head part) e) ∙ h) k o n
     go (said_constant e o) = other (LinePart.Comparison (constant_comparison w 0)) e ((not_head part).0 (constant_comparison w 0))
     go (said_reading e o) = other (LinePart.Comparison (reading_comparison w)) e ((not_head part).0 (reading_comparison w))
     go (said_ending x e r) = other (LinePart.Ending x) e ((not_head part).1 x)
     go (said_nothing e) = other LinePart.Nothing e (not_head part).2
 
-pub record ComparisonOn (part : Part) (c : Comparison) (l : PolicyLine) : Type 0 where
+pub record ComparisonOn (form : ℕ) (part : Part) (c : Comparison) (l : PolicyLine) : Type 0 where
   pub line : PolicyLine
-  pub kind : in_part part line ≡ true
+  pub kind : in_part form part line ≡ true
   pub heads : heads_of line ≡ heads_of l
   pub comparisons : comparisons_of line ≡ c ∷ comparisons_of l
   pub ending : ending_of line ≡ ending_of l
 
-pub add_comparison_is : (part : Part) (c : Comparison) (l : PolicyLine) → in_part part l ≡ true → ComparisonOn part c l
+pub add_comparison_is : (form : ℕ) (part : Part) (c : Comparison) (l : PolicyLine) → in_part form part l ≡ true → ComparisonOn form part c l
 unfolding in_part heads_of comparisons_of ending_of
-add_comparison_is Part.Rules c (rule r) k = record { line = rule (record { literals = r.literals; action = r.action; comparisons = c ∷ r.comparisons }); kind = refl; heads = refl; comparisons = refl; ending = refl }
-add_comparison_is Part.Rules c (constraint x) k = absurd (true_false k refl)
-add_comparison_is Part.Constraints c (rule r) k = absurd (true_false k refl)
-add_comparison_is Part.Constraints c (constraint x) k = record { line = constraint (record { actions = x.actions; comparisons = c ∷ x.comparisons }); kind = refl; heads = refl; comparisons = refl; ending = refl }
+add_comparison_is form Part.Rules c (rule r) k = record { line = rule (record { literals = r.literals; effect = r.effect; comparisons = c ∷ r.comparisons }); kind = k; heads = refl; comparisons = refl; ending = refl }
+add_comparison_is form Part.Rules c (constraint x) k = absurd (true_false k refl)
+add_comparison_is form Part.Constraints c (rule r) k = absurd (true_false k refl)
+add_comparison_is form Part.Constraints c (constraint x) k = record { line = constraint (record { actions = x.actions; comparisons = c ∷ x.comparisons }); kind = refl; heads = refl; comparisons = refl; ending = refl }
 
 -- before a line with no head
-pub comparison_on_words : (part : Part) (c : Comparison) (l : PolicyLine) (on : ComparisonOn part c l) → heads_of l ≡ [] → line_words on.line ≡ comparison_words c (length (line_words l)) ++ line_words l
+pub comparison_on_words : (form : ℕ) (part : Part) (c : Comparison) (l : PolicyLine) (on : ComparisonOn form part c l) → heads_of l ≡ [] → line_words on.line ≡ comparison_words c (length (line_words l)) ++ line_words l
 unfolding line_words part_words condition_words
-comparison_on_words part c l on e = rw (on.heads, e, on.comparisons, on.ending)
+comparison_on_words form part c l on e = rw (on.heads, e, on.comparisons, on.ending)
 
-pub record EndOn (part : Part) (w : ℕ) : Type 0 where
+pub record EndOn (form : ℕ) (part : Part) (w : ℕ) : Type 0 where
   pub line : PolicyLine
-  pub kind : in_part part line ≡ true
+  pub kind : in_part form part line ≡ true
   pub words : line_words line ≡ w ∷ []
   pub heads : heads_of line ≡ []
   pub comparisons : comparisons_of line ≡ []
   pub ending : ending_in_range (ending_of line) ≡ true
 
 -- what a word is that ends a line
-pub record Ends (part : Part) (w : ℕ) : Type 0 where
+pub record Ends (form : ℕ) (part : Part) (w : ℕ) : Type 0 where
   pub ending : Ending
   pub kind : ends part ending ≡ true
+  pub allowed : ending_allowed form ending ≡ true
   pub sound : ending_in_range ending ≡ true
   pub word : w ≡ ending_word ending
 
-pub ending_is : (part : Part) (w : ℕ) → is_ending part w ≡ true → Ends part w
+pub ending_is : (form : ℕ) (part : Part) (w : ℕ) → is_ending form part w ≡ true → Ends form part w
 unfolding is_ending is_ending_of
-ending_is part w h = go (said w 0)
+ending_is form part w h = go (said w 0)
   where
-    other : (p : LinePart) → says w 0 ≡ p → is_ending_of part w p ≡ false → Ends part w
-    other p e f = absurd (true_false h (ap (is_ending_of part w) e ∙ f))
+    other : (p : LinePart) → says w 0 ≡ p → is_ending_of form part w p ≡ false → Ends form part w
+    other p e f = absurd (true_false h (ap (is_ending_of form part w) e ∙ f))
 
-    go : Said w 0 → Ends part w
+    go : Said w 0 → Ends form part w
     go (said_ending x e r) =
-        let p = and_out (ends part x) (eqb w (ending_word x)) (sym (ap (is_ending_of part w) e) ∙ h) in
-        record { ending = x; kind = p.0; sound = r; word = eqb-true w (ending_word x) p.1 }
+        let q = and_out (ends part x && ending_allowed form x) (eqb w (ending_word x)) (sym (ap (is_ending_of form part w) e) ∙ h) in
+        let p = and_out (ends part x) (ending_allowed form x) q.0 in
+        record { ending = x; kind = p.0; allowed = p.1; sound = r; word = eqb-true w (ending_word x) q.1 }
     go (said_head t e o n) = other (LinePart.Head t) e refl
     go (said_constant e o) = other _ e refl
     go (said_reading e o) = other _ e refl
     go (said_nothing e) = other LinePart.Nothing e refl
 
-pub end_line : (part : Part) (w : ℕ) → is_ending part w ≡ true → EndOn part w
+pub end_line : (form : ℕ) (part : Part) (w : ℕ) → is_ending form part w ≡ true → EndOn form part w
 unfolding in_part line_words heads_of comparisons_of ending_of part_words condition_words ends
-end_line part w h = go part (ending_is part w h).ending (ending_is part w h).kind (ending_is part w h).sound (ending_is part w h).word
+end_line form part w h = go part (ending_is form part w h).ending (ending_is form part w h).kind (ending_is form part w h).allowed (ending_is form part w h).sound (ending_is form part w h).word
   where
-    go : (p : Part) (e : Ending) → ends p e ≡ true → ending_in_range e ≡ true → w ≡ ending_word e → EndOn p w
-    go Part.Rules (Ending.Causes a) k r q =
+    go : (p : Part) (e : Ending) → ends p e ≡ true → ending_allowed form e ≡ true → ending_in_range e ≡ true → w ≡ ending_word e → EndOn form p w
+    go Part.Rules (Ending.Yields x) k a r q =
         record {
-          line = rule (record { literals = []; action = a; comparisons = [] });
-          kind = refl;
+          line = rule (record { literals = []; effect = x; comparisons = [] });
+          kind = a;
           words = ap (λ (x : ℕ). x ∷ []) (sym q);
           heads = refl;
           comparisons = refl;
           ending = r;
         }
-    go Part.Constraints Ending.Never k r q =
+    go Part.Constraints Ending.Never k a r q =
         record {
           line = constraint (record { actions = []; comparisons = [] });
           kind = refl;
@@ -445,5 +454,5 @@ end_line part w h = go part (ending_is part w h).ending (ending_is part w h).kin
           comparisons = refl;
           ending = r;
         }
-    go Part.Rules Ending.Never k r q = absurd (true_false k refl)
-    go Part.Constraints (Ending.Causes a) k r q = absurd (true_false k refl)
+    go Part.Rules Ending.Never k a r q = absurd (true_false k refl)
+    go Part.Constraints (Ending.Yields x) k a r q = absurd (true_false k refl)

@@ -7,9 +7,9 @@ use Rattle.layout.specs.Layout.{line_words}
 unfoldable pub use Rattle.decode.specs.Stands.{in_part}
 unfoldable pub use Rattle.decode.specs.Steps.Decoding.{said_in, add_part, decode, is_prefix, stands_at, keep_if}
 
--- the whole line of the part that the words begin with, if there is one
-unfoldable pub line_at : Part → List ℕ → Option PolicyLine
-line_at part ws = keep_if (stands_at part ws) (decode (said_in 0 ws))
+-- the whole line of the part that the words begin with, in an image of the form, if there is one
+unfoldable pub line_at : (form : ℕ) → Part → List ℕ → Option PolicyLine
+line_at form part ws = keep_if (stands_at form part ws) (decode (said_in 0 ws))
 
 -- how many words it has; 0 where there is none
 unfoldable pub line_length : Option PolicyLine → ℕ

@@ -1,16 +1,16 @@
 //! The lines of an image: whether words begin with a whole line that an accepted text may have, and the value of a line.
 #![tactic(auto)]
 
-ghost use Rattle.std.specs.Prelude.{◌≡◌, ◌+◌, ◌<◌, ◌==◌, false, true, MatchOption, length, slice_index_or};
+ghost use Rattle.std.specs.Prelude.{◌≡◌, ◌+◌, ◌<◌, ◌≤◌, ◌==◌, false, true, MatchOption, length, slice_index_or};
 ghost use Rattle.word.specs.Word.{word_limit, Below};
 ghost use Rattle.word.specs.Chunk.{words_in};
 ghost use Rattle.operation.specs.Fields.{first_of};
 ghost use Rattle.decode.specs.Decode.{line_at, line_length};
-ghost use Rattle.decode.specs.Steps.Scan.{first_head, head_operations, first_ending, ending_numbers, number_lowest, relation_lowest, is_ending, head_sound, count_heads, head_numbers, numbers_of, comparison_length, IsBehind, comparisons_fill, last_ending, with_part, line_from};
+ghost use Rattle.decode.specs.Steps.Scan.{first_head, head_operations, first_ending, ending_numbers, number_lowest, relation_lowest, is_trigger, is_ending, head_sound, count_heads, head_numbers, numbers_of, comparison_length, IsBehind, comparisons_fill, last_ending, with_part, line_from};
 
 use line_value::{Comparisons, Line, Tests, fits};
-use operation::{LinePart, Operation, part_at, skip};
-use policy::{COMPARISON_LIMIT, Ending, HEAD_LIMIT, Part, with_member};
+use operation::{LinePart, Operation, effect_of, part_at, skip};
+use policy::{COMPARISON_LIMIT, Ending, HEAD_LIMIT, Part, TRIGGER_FORM, with_member};
 use word::{nth_word, part as part_of};
 
 // Numbers that a field has.
@@ -27,6 +27,9 @@ const AGAINST_CONSTANT: u32 = 0x3000_0000;
 
 const AGAINST_READING: u32 = 0x4000_0000;
 
+// The word of an ending that triggers an event, all but the operation 0.
+const TRIGGERS: u32 = 0x8000_0000;
+
 // Bytes are below 256, and so words below 2 ^ 32, whether they are read or not: no code.
 fn bytes_fit(bytes: &[u8])
     ensures { Below 256 bytes.now }
@@ -41,7 +44,7 @@ fn words_fit(words: &[[u8; 4]])
 // A word less another, turned so that the number is lowest and the operation behind it. Above them stands what lies between the
 // number and the skip, and the skip: 0 where both words have the same. So one comparison tests all but the number.
 fn number_lowest(word: u32, other: u32) -> u32
-    requires { other < 2147483648 }
+    requires { other ≤ 2147483648 }
     ensures { result ≡ number_lowest word other }
 {
     let rest = word.wrapping_sub(other);
@@ -110,10 +113,24 @@ fn ending_numbers(part: Part) -> u32
     }
 }
 
-fn is_ending(part: Part, word: u32) -> bool
-    ensures { result ≡ is_ending part word }
+// Whether the word ends a rule that triggers an event, in a form that has such.
+#[tactic(auto, unfolding(crate::specs::Steps::Scan::is_trigger))]
+fn is_trigger(form: u8, part: Part, word: u32) -> bool
+    ensures { result ≡ is_trigger form part word }
 {
-    number_lowest(word, first_ending(part)) < ending_numbers(part)
+    match part {
+        Part::Rules => TRIGGER_FORM <= form && number_lowest(word, TRIGGERS) < NUMBERS,
+        Part::Constraints => false,
+    }
+}
+
+fn is_ending(form: u8, part: Part, word: u32) -> bool
+    ensures { result ≡ is_ending form part word }
+{
+    if number_lowest(word, first_ending(part)) < ending_numbers(part) {
+        return true;
+    }
+    is_trigger(form, part, word)
 }
 
 // Whether a comparison with a constant may stand here, with `left` words of the line behind its first: its constant, and at least
@@ -199,11 +216,12 @@ fn comparisons_sound(words: &[[u8; 4]]) -> bool
     rest.is_empty()
 }
 
-/// How many words the line of the part has with which the words begin: 0 where they begin with none that an accepted text may have.
+/// How many words the line of the part has with which the words begin, in an image of the form: 0 where they begin with none that an
+/// accepted text for it may have.
 // As many numbers as heads: none stands twice. Each test leaves at once.
 #[inline(always)]
-pub fn line_length(words: &[[u8; 4]], part: Part) -> usize
-    ensures { result ≡ line_length (line_at part (words_in words.now)) }
+pub fn line_length(words: &[[u8; 4]], form: u8, part: Part) -> usize
+    ensures { result ≡ line_length (line_at form part (words_in words.now)) }
 {
     if words.is_empty() {
         return 0;
@@ -213,7 +231,7 @@ pub fn line_length(words: &[[u8; 4]], part: Part) -> usize
     if words.len() <= size {
         return 0;
     }
-    if !is_ending(part, nth_word(words, size)) {
+    if !is_ending(form, part, nth_word(words, size)) {
         return 0;
     }
     let line = part_of(words, 0, size);
@@ -234,14 +252,14 @@ pub fn line_length(words: &[[u8; 4]], part: Part) -> usize
 }
 
 // What a line ends as whose last word says so.
-#[tactic(auto, unfolding(crate::specs::Steps::Scan::ending_said))]
+#[tactic(auto, unfolding(crate::specs::Steps::Scan::ending_said, operation::specs::Said::effect_said))]
 fn last_ending(words: &[[u8; 4]]) -> Ending
     requires { 0 < length words.now }
     ensures { result ≡ last_ending (words_in words.now) }
 {
-    match part_at(words, words.len() - 1) {
-        LinePart::Ending(ending) => ending,
-        LinePart::Head(_) | LinePart::Comparison(_) | LinePart::Nothing => Ending::Never,
+    match effect_of(nth_word(words, words.len() - 1)) {
+        Some(effect) => Ending::Yields(effect),
+        None => Ending::Never,
     }
 }
 

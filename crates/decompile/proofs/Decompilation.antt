@@ -1,6 +1,6 @@
--- What holds of every decompilation: what it has written, and when it is refused.
+-- What holds of every decompilation: what it has written, how that is read back, and when it is refused.
 use Rattle.std.specs.Prelude.{Ok, Err}
-use Rattle.std.proofs.Common.{ℕ, ◌≤◌, ◌<◌, List, ◌≡◌, refl, ap, ◌∙◌, arith, le-leb, length, Result}
+use Rattle.std.proofs.Common.{ℕ, ◌≤◌, ◌<◌, List, ◌≡◌, refl, sym, ap, ◌∙◌, arith, le-leb, length, Result}
 use Rattle.std.proofs.lemmas.Bool.{lt-leb}
 use Rattle.policy.proofs.FillLaws.{fill_delivered, fill_unchanged}
 use Rattle.policy.specs.Fault.{refusal}
@@ -9,9 +9,10 @@ use Rattle.policy.specs.declared.fault.Refusal.{Refusal}
 use Rattle.word.specs.Word.{Bytes}
 use Rattle.image.specs.Held.{policy_in}
 use Rattle.image.specs.Load.{load, Contents}
-use Rattle.exactness.proofs.Exact.{held_acceptable}
-use Rattle.printer.proofs.Printing.{text_length}
-use Rattle.printer.specs.Printed.{longest_text, text_of}
+use Rattle.rule_text.specs.Text.{read_text}
+use Rattle.printer.proofs.Printing.{text_length_for, text_read_is}
+use Rattle.printer.specs.Printed.{longest_text_for, text_of}
+use Rattle.decompile.proofs.TextLaws.{taken_text}
 use Rattle.decompile.specs.Decompile.{output_of, decompiled}
 use Rattle.decompile.specs.Written.{TextWritten}
 
@@ -30,7 +31,7 @@ module _ (image buffer : List ℕ) where
             text = rw q d.front;
             long = rw q (ap length d.front ∙ d.long);
             behind = rw q d.behind;
-            largest = omega (arith, d.long, text_length (policy_in image) (held_acceptable image bounded c q));
+            largest = omega (arith, d.long, text_length_for c.form (policy_in image) (taken_text image c (sym q)).acceptable);
           }
       go (Err r) q k = let w : ⊥ = cc in absurd w
 
@@ -52,9 +53,13 @@ module _ (image buffer : List ℕ) where
     unfolding decompiled output_of
     image_printed h = rw (taken, le-leb (length (text_of (policy_in image))) (length buffer) h)
 
-    -- and so is every image, where the buffer has room for the longest text
-    pub never_short : Bytes image → longest_text ≤ length buffer → (decompiled image buffer).answer ≡ Ok (length (text_of (policy_in image)))
-    never_short bounded h = image_printed (omega (arith, text_length (policy_in image) (held_acceptable image bounded contents taken)))
+    -- and so is every image, where the buffer has room for the longest text for its form
+    pub never_short : Bytes image → longest_text_for contents.form ≤ length buffer → (decompiled image buffer).answer ≡ Ok (length (text_of (policy_in image)))
+    never_short bounded h = image_printed (omega (arith, text_length_for contents.form (policy_in image) (taken_text image contents (sym taken)).acceptable))
+
+    -- the text, read for the form of the image, has the policy that the image holds
+    pub text_read_back : read_text contents.form (text_of (policy_in image)) ≡ Ok (policy_in image)
+    text_read_back = text_read_is contents.form (policy_in image) (taken_text image contents (sym taken)).acceptable
 
   pub refused_unchanged : (r : Refusal) → (decompiled image buffer).answer ≡ Err r → (decompiled image buffer).buffer ≡ buffer
   unfolding decompiled output_of

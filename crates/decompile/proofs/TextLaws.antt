@@ -5,6 +5,7 @@ use Rattle.policy.proofs.ListLaws.{and_out}
 use Rattle.policy.specs.Limits.{Acceptable, valid}
 use Rattle.policy.specs.Line.{PolicyLine, rule, constraint}
 use Rattle.policy.specs.List.{all}
+use Rattle.exactness.proofs.PartLines.{rules_allowed}
 use Rattle.image.proofs.HeldLaws.{held_parts, held_given}
 use Rattle.image.specs.Held.{policy_in}
 use Rattle.image.specs.Load.{Contents, load}
@@ -30,10 +31,11 @@ first_lines ws walker first = ap₂ (λ (xs : List ℕ) (at : ℕ). lines_behind
 
 -- ---- an image that is taken
 
--- its lines have the text of the policy
+-- its lines have the text of the policy, which is acceptable for its form
 pub record TakenText (bytes : List ℕ) (contents : Contents) : Type 0 where
   pub taken : load bytes ≡ Ok contents
   pub text : text_in contents ≡ text_of (policy_in bytes)
+  pub acceptable : Acceptable contents.form (policy_in bytes)
   pub short : length (text_in contents) ≤ longest_text
 
 pub taken_text : (bytes : List ℕ) (contents : Contents) → Ok contents ≡ load bytes → TakenText bytes contents
@@ -46,14 +48,16 @@ taken_text bytes contents e =
     let text : text_in contents ≡ lines_text (rs ++ cs) =
     ap₂ (λ (x y : List ℕ). x ++ y) (ap text_of_values (given Part.Rules) ∙ values_text rs h.rule_part_is.sound) (append-nil _ ∙ ap text_of_values (given Part.Constraints) ∙ values_text cs h.constraint_part_is.sound)
     ∙ sym (lines_append rs cs) in
-    let acceptable : Acceptable (policy_in bytes) = record {
+    let acceptable : Acceptable contents.form (policy_in bytes) = record {
       rules_valid = h.rule_part_is.sound;
       constraints_valid = h.constraint_part_is.sound;
+      rules_allowed = rules_allowed contents.form (policy_in bytes).rules h.rule_part_is.kind;
       few_rules = omega (arith, length-map (policy_in bytes).rules rule, h.rule_part_is.few);
       few_constraints = omega (arith, length-map (policy_in bytes).constraints constraint, h.constraint_part_is.few);
     } in
     record {
       taken = sym e;
       text = text;
-      short = omega (arith, ap length text, text_length (policy_in bytes) acceptable);
+      acceptable = acceptable;
+      short = omega (arith, ap length text, text_length contents.form (policy_in bytes) acceptable);
     }

@@ -1,5 +1,5 @@
 -- Images and what the decompiler makes of them, one row each: a worked example, a line with every kind of part,
--- patterns, and the order of the faults. A buffer is full of dots at first.
+-- patterns, a rule that triggers, and the order of the faults. A buffer is full of dots at first.
 use Rattle.std.specs.Prelude.{Result, Ok, Err}
 use Rattle.std.specs.Str.{byte}
 use Rattle.std.specs.Prelude.{ℕ, List, [], ◌∷◌, replicate, Option, Some, None}
@@ -28,12 +28,16 @@ unfoldable pub worked_with : ℕ → List ℕ
 worked_with last =
     bytes_of (16805891 ∷ 272629764 ∷ 545259523 ∷ 805339137 ∷ 40 ∷ 1354760192 ∷ 281018369 ∷ 1358954496 ∷ 1623195650 ∷ 1627389953 ∷ 1879048192 ∷ last ∷ [])
 
+-- 03005000, 10400004, 10800003, 30008001, 00000005, 8F000000, 6F02502E, AE3CDFC5: form 3, with a rule that triggers
+unfoldable pub boosting : List ℕ
+boosting = bytes_of (50352128 ∷ 272629764 ∷ 276824067 ∷ 805339137 ∷ 5 ∷ 2399141888 ∷ 1862422574 ∷ 2923225029 ∷ [])
+
 unfoldable pub image_in : Option Policy → List ℕ
 image_in None = []
 image_in (Some p) = image_of 1 p
 
 unfoldable pub image_from : String → List ℕ
-image_from text = image_in (policy_of (bytes text))
+image_from text = image_in (policy_of 1 (bytes text))
 
 unfoldable pub examples : List Example
 examples =
@@ -50,6 +54,7 @@ examples =
     -- a pattern is written in decimal
     ∷ row (image_from "E1 causes A1 if R0 = 0x8040 , R1 = 0xFFFFFFFF , R2 = 0x80000000 , R3 = 0x7fffffff") 75 (Ok 74)
     "E1 causes A1 if R0 = 32832 , R1 = -1 , R2 = -2147483648 , R3 = 2147483647\n."
+    ∷ row boosting 31 (Ok 31) "E1 & E2 triggers E60 if R0 > 5\n"
     -- the empty policy, 01000000 and FF000000, fits an empty buffer
     ∷ row (bytes_of (16777216 ∷ 4278190080 ∷ [])) 0 (Ok 0) ""
     ∷ []

@@ -2,7 +2,7 @@
 use Rattle.std.specs.Prelude.{ℕ, ◌≤◌, List, ◌≡◌, length, take, drop, Ok}
 use Rattle.image.specs.Held.{policy_in}
 use Rattle.image.specs.Load.{load, Contents}
-use Rattle.printer.specs.Printed.{longest_text, text_of}
+use Rattle.printer.specs.Printed.{longest_text_for, text_of}
 use Rattle.decompile.specs.Decompile.{decompiled}
 
 -- the bytes that a decompilation of so many bytes wrote
@@ -18,4 +18,5 @@ pub record TextWritten (image buffer : List ℕ) (size : ℕ) : Type 0 where
   pub long : length (text_written_in size image buffer) ≡ size
   -- what lies behind the text is as it was
   pub behind : drop size (decompiled image buffer).buffer ≡ drop size buffer
-  pub largest : size ≤ longest_text
+  -- no more than the longest text for the image's form
+  pub largest : size ≤ longest_text_for contents.form

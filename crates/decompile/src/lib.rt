@@ -17,8 +17,8 @@ use output::{Counter, Page, Sink};
 use policy::{Fault, Part, Refusal};
 use printer::put_line;
 
-/// Bytes of the longest text: 128 rules of 150 bytes, and 64 constraints of 137.
-pub const TEXT_SIZE: usize = 27968;
+/// Bytes of the longest text: 128 rules of 152 bytes, and 64 constraints of 137.
+pub const TEXT_SIZE: usize = 28224;
 
 /// The texts of the lines, one after another.
 #[inline(always)]

@@ -12,7 +12,7 @@ use Rattle.lined.specs.Lines.{ended_lines, open_line, last_line, cut_to}
 use Rattle.lined.proofs.InputLaws.{cut_lines}
 use Rattle.word.specs.Word.{Bytes, words_of, byte_list, bytes_of}
 use Rattle.word.proofs.WordLaws.{words_length, bytes_below}
-use Rattle.image.specs.Check.{well_sized}
+use Rattle.image.specs.Check.{well_sized, form_byte}
 use Rattle.image.specs.Held.{policy_in}
 use Rattle.image.specs.Load.{load, Contents}
 use Rattle.image.proofs.LoadLaws.{size_large, load_size}
@@ -106,7 +106,7 @@ image_short image bounded = go (load image) refl
   where
     go : (l : Result Contents Refusal) → load image ≡ l → length (loaded_answer l (text_of (policy_in image))) ≤ longest_text
     go (Err r) e = refusal_short r (refusal_small image r e)
-    go (Ok contents) e = text_length (policy_in image) (held_acceptable image bounded contents e)
+    go (Ok contents) e = text_length (form_byte (words_of image)) (policy_in image) (held_acceptable image bounded contents e)
 
 -- a line that is told has a number of 64 bits
 Small : Dump → Type 0

@@ -25,6 +25,8 @@ dumps =
     -- a wrong last digit
     ∷ row "01007003\n10400004\n20800003\n30008001\n00000028\n50C00000\n10C00001\n51000000\n60C00002\n61000001\n70000000\nB9FF0FC8\n"
     "refused 10 word 0\n"
+    -- a line that triggers an event
+    ∷ row "03005000\n10400004\n10800003\n30008001\n00000005\n8F000000\n6F02502E\nAE3CDFC5\n" "E1 & E2 triggers E60 if R0 > 5\n"
     -- the image of the empty text
     ∷ row "01000000\nFF000000\n" ""
     -- no words, one word

@@ -2,15 +2,14 @@
 //! number out of range and a reading given twice, and the line is judged at its end.
 #![tactic(auto)]
 
-ghost use Rattle.std.specs.Prelude.{◌≡◌, false, pos, replicate, Some};
-ghost use Rattle.policy.specs.Set.{no_events, no_readings};
+ghost use Rattle.std.specs.Prelude.{◌≡◌, false, Some};
+ghost use Rattle.std.specs.Result.{result_map_both};
+ghost use Rattle.policy.specs.Fault.{refusal};
 ghost use Rattle.epoch_line.specs.Steps.EpochScan.{found, event_with, value_with, assigned_in, value_in, item_in, scanned, finish_read, epoch_from};
-ghost use Rattle.epoch_line.specs.Epoch.{read_epoch};
+ghost use Rattle.epoch_line.specs.Epoch.{empty_epoch, read_epoch};
 
 use lexer::{digits, event, skip_spaces};
-use policy::{
-    Epoch, Event, EventSet, Fault, READING_LIMIT, Reading, ReadingSet, Readings, Refusal,
-};
+use policy::{Epoch, Event, Fault, Reading, Refusal};
 use token::constant;
 
 // What the token in front of a line gives, with what stands behind it.
@@ -89,36 +88,38 @@ fn item(line: &[u8]) -> Entry<'_>
     }
 }
 
-// The answer at the end of the line, from what was read. A number out of range comes before a reading given twice.
+// What is wrong with the line at its end. A number out of range comes before a reading given twice.
 #[inline(always)]
 #[tactic(auto, unfolding(crate::specs::Steps::EpochScan::finish_read))]
-fn finished(out_of_range: bool, twice: bool, epoch: Epoch) -> Result<Epoch, Refusal>
-    ensures { result ≡ finish_read (record { out_of_range = out_of_range; twice = twice; epoch = epoch }) }
+fn judged(out_of_range: bool, twice: bool) -> Result<(), Fault>
+    ensures { (epoch : Epoch) → result_map_both (λ _. epoch) (λ fault. refusal fault 0) result ≡ finish_read (record { out_of_range = out_of_range; twice = twice; epoch = epoch }) }
 {
     if out_of_range {
-        return Err(Fault::EpochRange.at(0));
+        return Err(Fault::EpochRange);
     }
     if twice {
-        return Err(Fault::DuplicateReading.at(0));
+        return Err(Fault::DuplicateReading);
     }
-    Ok(epoch)
+    Ok(())
 }
 
-// The tokens of the line, one after another. At a byte 10 no token stands: that is malformed too.
-fn read_items(line: &[u8]) -> Result<Epoch, Refusal>
-    ensures { result ≡ epoch_from (scanned false false no_events no_readings (replicate 16 (pos 0))) line.now }
+// The tokens of the line, one after another, added to an epoch. At a byte 10 no token stands: that is malformed too.
+// A function of its own: put into its callers, it keeps what they hold in memory.
+#[inline(never)]
+fn read_items(line: &[u8], epoch: &mut Epoch) -> Result<(), Fault>
+    ensures { result_map_both (λ _. epoch.new) (λ fault. refusal fault 0) result ≡ epoch_from (scanned false false epoch.old.events epoch.old.readings.given epoch.old.readings.values) line.now }
 {
     let mut out_of_range = false;
     let mut twice = false;
-    let mut events = EventSet::EMPTY;
-    let mut given = ReadingSet::EMPTY;
-    let mut values = [0; READING_LIMIT];
+    let mut events = epoch.events;
+    let mut given = epoch.readings.given;
     let mut rest = line;
     loop {
         let front = skip_spaces(rest);
         if front.is_empty() {
-            let readings = Readings { given, values };
-            return finished(out_of_range, twice, Epoch { events, readings });
+            epoch.events = events;
+            epoch.readings.given = given;
+            return judged(out_of_range, twice);
         }
         match item(front) {
             Entry::Event(event, behind) => {
@@ -128,14 +129,14 @@ fn read_items(line: &[u8]) -> Result<Epoch, Refusal>
             Entry::Value(reading, value, behind) => {
                 twice |= given.has(reading);
                 given = given.insert(reading);
-                values[reading.0 as usize] = value;
+                epoch.readings.values[reading.0 as usize] = value;
                 rest = behind;
             }
             Entry::OutOfRange(behind) => {
                 out_of_range = true;
                 rest = behind;
             }
-            Entry::Malformed => return Err(Fault::EpochSyntax.at(0)),
+            Entry::Malformed => return Err(Fault::EpochSyntax),
         }
     }
 }
@@ -143,14 +144,26 @@ fn read_items(line: &[u8]) -> Result<Epoch, Refusal>
 // Bytes of an epoch line.
 const EPOCH_LIMIT: usize = 1024;
 
-/// An epoch line, without its line end.
+/// An epoch line, without its line end, read into an empty epoch. Where it is refused, at line 0, what stands there is of no use.
 #[tactic(auto, using(crate::proofs::EpochLaws::read_all, crate::proofs::EpochLaws::read_long))]
+pub fn read_epoch_into(line: &[u8], epoch: &mut Epoch) -> Result<(), Fault>
+    requires { epoch.old ≡ empty_epoch }
+    ensures { result_map_both (λ _. epoch.new) (λ fault. refusal fault 0) result ≡ read_epoch line.now }
+{
+    if EPOCH_LIMIT < line.len() {
+        Err(Fault::TooLong)
+    } else {
+        read_items(line, epoch)
+    }
+}
+
+/// An epoch line, without its line end.
 pub fn read_epoch(line: &[u8]) -> Result<Epoch, Refusal>
     ensures { result ≡ read_epoch line.now }
 {
-    if EPOCH_LIMIT < line.len() {
-        Err(Fault::TooLong.at(0))
-    } else {
-        read_items(line)
+    let mut epoch = Epoch::EMPTY;
+    match read_epoch_into(line, &mut epoch) {
+        Ok(()) => Ok(epoch),
+        Err(fault) => Err(fault.at(0)),
     }
 }

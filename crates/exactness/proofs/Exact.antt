@@ -13,7 +13,7 @@ use Rattle.policy.specs.declared.fault.Refusal.{Refusal}
 use Rattle.policy.specs.declared.fault.Source.{Source}
 use Rattle.exactness.proofs.ImageLaws.{below_append, below_cons, lines_below, rules_between, constraints_between, rules_size, constraints_size, content_of}
 use Rattle.image.proofs.HeldLaws.{counted, HeldParts, held_parts, taken_parts}
-use Rattle.exactness.proofs.PartLines.{lines_limit, lines_found, part_whole_exactly, part_fault_exactly, rules_kind, constraints_kind, rules_back, constraints_back}
+use Rattle.exactness.proofs.PartLines.{lines_limit, lines_found, part_whole_exactly, part_fault_exactly, rules_kind, constraints_kind, rules_allowed, rules_back, constraints_back}
 use Rattle.decode.specs.Stands.{AreLines}
 use Rattle.layout.proofs.CheckLaws.{form_below, limits_small, checks_few, size_fits, checks_length, checks_below, checks_sum, checks_found, weighted_made}
 use Rattle.layout.proofs.SumLaws.{sum_set}
@@ -32,7 +32,7 @@ use Rattle.policy.specs.declared.line.Part.{Part}
 
 -- ---- the image of an acceptable policy
 
-module _ (form : ℕ) (known : known_form form ≡ true) (p : Policy) (ok : Acceptable p) where
+module _ (form : ℕ) (known : known_form form ≡ true) (p : Policy) (ok : Acceptable form p) where
   abbrev P : ℕ
   P = length (rule_part_words p)
 
@@ -121,24 +121,25 @@ module _ (form : ℕ) (known : known_form form ≡ true) (p : Policy) (ok : Acce
   unfolding image_words content_words
   image_constraints = constraints_between (header_word form (rule_part_words p) (constraint_part_words p)) (rule_part_words p) (constraint_part_words p) (check_words form (content_words form p)) P N refl refl
 
-  rules_found : lines_from Part.Rules 128 1 (rule_part_words p) ≡ Ok (map rule p.rules)
+  rules_found : lines_from form Part.Rules 128 1 (rule_part_words p) ≡ Ok (map rule p.rules)
   unfolding rule_part_words
-  rules_found = lines_found Part.Rules (map rule p.rules) 128 1 (rules_kind p.rules) ok.rules_valid (omega (arith, length-map p.rules rule, ok.few_rules))
+  rules_found = lines_found form Part.Rules (map rule p.rules) 128 1 (rules_kind form p.rules ok.rules_allowed) ok.rules_valid (omega (arith, length-map p.rules rule, ok.few_rules))
 
-  constraints_found : (at : ℕ) → lines_from Part.Constraints 64 at (constraint_part_words p) ≡ Ok (map constraint p.constraints)
+  constraints_found : (at : ℕ) → lines_from form Part.Constraints 64 at (constraint_part_words p) ≡ Ok (map constraint p.constraints)
   unfolding constraint_part_words
-  constraints_found at = lines_found Part.Constraints (map constraint p.constraints) 64 at (constraints_kind p.constraints) ok.constraints_valid (omega (arith, length-map p.constraints constraint, ok.few_constraints))
+  constraints_found at = lines_found form Part.Constraints (map constraint p.constraints) 64 at (constraints_kind form p.constraints) ok.constraints_valid (omega (arith, length-map p.constraints constraint, ok.few_constraints))
 
   rule_lines_is : rule_lines (image_words form p) ≡ Ok (map rule p.rules)
   unfolding part_lines
   rule_lines_is =
-      ap (λ (k : ℕ). lines_from Part.Rules 128 1 (between 1 (1 + k) (image_words form p))) rules_are ∙ ap (lines_from Part.Rules 128 1) image_rules ∙ rules_found
+      ap₂ (λ (f k : ℕ). lines_from f Part.Rules 128 1 (between 1 (1 + k) (image_words form p))) form_is rules_are ∙ ap (lines_from form Part.Rules 128 1) image_rules ∙ rules_found
 
   constraint_lines_is : constraint_lines (image_words form p) ≡ Ok (map constraint p.constraints)
   unfolding part_lines
   constraint_lines_is =
-      ap₂ (λ (k m : ℕ). lines_from Part.Constraints 64 (1 + k) (between (1 + k) (1 + k + m) (image_words form p))) rules_are constraints_are
-      ∙ ap (lines_from Part.Constraints 64 (1 + P)) image_constraints ∙ constraints_found (1 + P)
+      ap (λ (f : ℕ). lines_from f Part.Constraints 64 (1 + rule_words (image_words form p)) (constraint_part (image_words form p))) form_is
+      ∙ ap₂ (λ (k m : ℕ). lines_from form Part.Constraints 64 (1 + k) (between (1 + k) (1 + k + m) (image_words form p))) rules_are constraints_are
+      ∙ ap (lines_from form Part.Constraints 64 (1 + P)) image_constraints ∙ constraints_found (1 + P)
 
   -- the loader takes the image of every acceptable policy, and says how many words and lines it has
   pub image_taken : load (image_of form p) ≡ Ok (contents_of form p)
@@ -229,9 +230,10 @@ module _ (bytes : List ℕ) (bounded : Bytes bytes) (contents : Contents) (taken
   ws = words_of bytes
 
   -- its lines are valid, and not too many
-  pub held_acceptable : Acceptable (policy_in bytes)
+  pub held_acceptable : Acceptable (form_byte (words_of bytes)) (policy_in bytes)
   held_acceptable =
       record {
+        rules_allowed = rules_allowed (form_byte (words_of bytes)) (policy_in bytes).rules (rw h.form_is at h.rule_part_is.kind);
         rules_valid = h.rule_part_is.sound;
         constraints_valid = h.constraint_part_is.sound;
         few_rules = omega (arith, length-map (policy_in bytes).rules rule, h.rule_part_is.few);
@@ -328,17 +330,17 @@ exactly_images bytes bounded = (
 -- ---- why and where bytes are refused
 
 module _ (ws : List ℕ) where
-  rules_whole : (rs : List PolicyLine) → (rule_lines ws ≡ Ok rs) ↔ AreLines Part.Rules 128 (rule_part ws) rs
+  rules_whole : (rs : List PolicyLine) → (rule_lines ws ≡ Ok rs) ↔ AreLines (form_byte ws) Part.Rules 128 (rule_part ws) rs
   unfolding part_lines
-  rules_whole rs = part_whole_exactly Part.Rules 128 1 (rule_part ws) rs
+  rules_whole rs = part_whole_exactly (form_byte ws) Part.Rules 128 1 (rule_part ws) rs
 
-  rules_refused : (location : ℕ) → (rule_lines ws ≡ Err location) ↔ NoLineAt Part.Rules 128 1 (rule_part ws) location
+  rules_refused : (location : ℕ) → (rule_lines ws ≡ Err location) ↔ NoLineAt (form_byte ws) Part.Rules 128 1 (rule_part ws) location
   unfolding part_lines
-  rules_refused location = part_fault_exactly Part.Rules 128 1 (rule_part ws) location
+  rules_refused location = part_fault_exactly (form_byte ws) Part.Rules 128 1 (rule_part ws) location
 
-  constraints_refused : (location : ℕ) → (constraint_lines ws ≡ Err location) ↔ NoLineAt Part.Constraints 64 (1 + rule_words ws) (constraint_part ws) location
+  constraints_refused : (location : ℕ) → (constraint_lines ws ≡ Err location) ↔ NoLineAt (form_byte ws) Part.Constraints 64 (1 + rule_words ws) (constraint_part ws) location
   unfolding part_lines
-  constraints_refused location = part_fault_exactly Part.Constraints 64 (1 + rule_words ws) (constraint_part ws) location
+  constraints_refused location = part_fault_exactly (form_byte ws) Part.Constraints 64 (1 + rule_words ws) (constraint_part ws) location
 
 module _ (bytes : List ℕ) where
   -- each fault is told
@@ -434,8 +436,8 @@ refusals bytes r e = go (answered bytes)
     number x = fault_number x.fault
 
     -- a location in words that begin at the index `from` lies among them
-    among : (part : Part) (room from location : ℕ) (ws : List ℕ) → NoLineAt part room from ws location → (from ≤ location) × (location < from + length ws)
-    among part room from location ws h = (omega (arith, h.located), omega (arith, h.located, h.more, ap length h.words, length-append h.front h.rest))
+    among : (form : ℕ) (part : Part) (room from location : ℕ) (ws : List ℕ) → NoLineAt form part room from ws location → (from ≤ location) × (location < from + length ws)
+    among form part room from location ws h = (omega (arith, h.located), omega (arith, h.located, h.more, ap length h.words, length-append h.front h.rest))
 
     source_of : (n : ℕ) → refused_with (refusal Fault.ImageBody n) ≡ refused_with r → r.source ≡ Source.Neither
     source_of n q = let k : refusal Fault.ImageBody n ≡ r = cc in ap (λ (x : Refusal). x.source) (sym k)
@@ -448,11 +450,11 @@ refusals bytes r e = go (answered bytes)
     body : Weighed bytes → (x y : Result (List PolicyLine) ℕ) → rule_lines ws' ≡ x → constraint_lines ws' ≡ y → body_answer (form_byte ws') (rule_part ws') (constraint_part ws') x y ≡ Err r → RefusalOf (length ws') r
     body c (Err n) y p q s =
         let k = counted ws' c.checked.count in
-        let a = among Part.Rules 128 1 n (rule_part ws') ((rules_refused ws' n).0 p) in
+        let a = among _ Part.Rules 128 1 n (rule_part ws') ((rules_refused ws' n).0 p) in
         given n s a.0 (omega (arith, a.1, rules_size ws' (rule_words ws') (constraint_words ws') (omega (arith, k.all)), k.all, checks_few (form_byte ws')))
     body c (Ok rs) (Err n) p q s =
         let k = counted ws' c.checked.count in
-        let a = among Part.Constraints 64 (1 + rule_words ws') n (constraint_part ws') ((constraints_refused ws' n).0 q) in
+        let a = among _ Part.Constraints 64 (1 + rule_words ws') n (constraint_part ws') ((constraints_refused ws' n).0 q) in
         given n s (omega (arith, a.0)) (omega (arith, a.1, constraints_size ws' (rule_words ws') (constraint_words ws') (omega (arith, k.all)), k.all, checks_few (form_byte ws')))
     body c (Ok rs) (Ok cs) p q s = let z : ◌≡◌ {A = ℕ} 0 1 = cc in absurd (omega arith)
 

@@ -1,8 +1,10 @@
 -- An image in which two neighbours among the words before its check words were exchanged is refused, where it has a weighted word.
-use Rattle.std.proofs.Common.{ℕ, zero, suc, ◌+◌, ◌*◌, ◌%◌, ◌^◌, ◌≤◌, ◌<◌, true, false, cond, ◌==◌, List, [], ◌∷◌, ◌++◌, map, ◌≡◌, refl, sym, ap, ap₂, ◌∙◌, subst, arith, Bool, ◌&&◌, eqb-true, ne_eqb, length, take, length-append, append_assoc, Err}
+use Rattle.std.proofs.Common.{ℕ, zero, suc, ◌+◌, ◌*◌, ◌%◌, ◌^◌, ◌≤◌, ◌<◌, true, false, cond, ◌==◌, List, [], ◌∷◌, ◌++◌, map, ◌≡◌, refl, sym, ap, ap₂, ◌∙◌, subst, arith, Bool, ◌&&◌, eqb-true, length, take, length-append, append_assoc, Err}
 use Rattle.std.proofs.lemmas.List.Edits.{swap_is, length-swap}
 use Rattle.std.specs.List.{swap}
+use Rattle.std.proofs.Math.Bool.{and-false}
 use Rattle.std.proofs.Math.Dec.{leb, eqb}
+use Rattle.std.proofs.lemmas.Bool.{lt-leb}
 use Rattle.std.proofs.Math.ListN.{get_or, set}
 use Rattle.policy.proofs.ListLaws.{and_out}
 use Rattle.policy.specs.Fault.{refusal}
@@ -11,6 +13,7 @@ use Rattle.policy.specs.Line.{PolicyLine, rule, constraint, heads_of, comparison
 use Rattle.policy.specs.Policy.{Policy}
 use Rattle.policy.specs.declared.comparison.Comparison.{Comparison}
 use Rattle.policy.specs.declared.comparison.Operand.{Operand}
+use Rattle.policy.specs.declared.effect.Effect.{Effect}
 use Rattle.policy.specs.declared.fault.Fault.{Fault}
 use Rattle.policy.specs.declared.line.Ending.{Ending}
 use Rattle.policy.specs.declared.line.Test.{Test}
@@ -19,7 +22,7 @@ use Rattle.word.proofs.WordLaws.{bytes_below, words_length, words_below, words_o
 use Rattle.operation.specs.Fields.{pack}
 use Rattle.operation.specs.Operation.{opcode, relation_code}
 use Rattle.operation.specs.declared.operation.Operation.{Operation}
-use Rattle.operation.specs.Parts.{test_operation, test_word, operand_word, comparison_word, comparison_words, ending_word}
+use Rattle.operation.specs.Parts.{test_operation, test_word, operand_word, comparison_word, comparison_words, effect_operation, ending_word}
 use Rattle.layout.specs.Header.{form_of}
 use Rattle.layout.specs.Layout.{known_form, check_count, size_limit, weighted_word, condition_words, part_words, line_words, lines_words, check_words, rule_part_words, constraint_part_words, content_words, image_words, image_of}
 use Rattle.layout.proofs.CheckLaws.{weighted_is, weighted_is_not}
@@ -36,7 +39,7 @@ line_word_unknown : (w : ℕ) → 2 ^ 28 ≤ w → w < word_limit → known_form
 unfolding known_form
 line_word_unknown w h l =
     let large : 16 ≤ form_of w = omega arith in
-    rw (ne_eqb (form_of w) 1 (λ e. omega arith), ne_eqb (form_of w) 2 (λ e. omega arith))
+    ap (λ (b : Bool). leb 1 (form_of w) && b) (lt-leb (form_of w) 5 (omega arith)) ∙ and-false (leb 1 (form_of w))
 
 test_large : (t : Test) (skip : ℕ) → 2 ^ 28 ≤ test_word t skip
 unfolding test_word test_operation pack
@@ -56,8 +59,9 @@ comparison_large c skip = go c.operand
     go (Operand.Reading r) = omega arith
 
 ending_large : (e : Ending) → 2 ^ 28 ≤ ending_word e
-unfolding ending_word pack
-ending_large (Ending.Causes a) = omega arith
+unfolding ending_word effect_operation pack
+ending_large (Ending.Yields (Effect.Causes a)) = omega arith
+ending_large (Ending.Yields (Effect.Triggers y)) = omega arith
 ending_large Ending.Never = omega arith
 
 part_large : (ts : List Test) (cs : List Comparison) (e : Ending) (rest : List ℕ) → 2 ^ 28 ≤ get_or (part_words ts cs e ++ rest) 0 0
@@ -159,7 +163,7 @@ lines_join [] ms = refl
 lines_join (l ∷ ls) ms = ap (λ (ws : List ℕ). line_words l ++ ws) (lines_join ls ms) ∙ sym (append_assoc (line_words l) (lines_words ls) (lines_words ms))
 
 -- an image that was written: in a form with a weighted word, two neighbours that differ
-module _ (form : ℕ) (known : known_form form ≡ true) (newer : form ≡ 1 → ⊥) (p : Policy) (ok : Acceptable p) where
+module _ (form : ℕ) (known : known_form form ≡ true) (newer : form ≡ 1 → ⊥) (p : Policy) (ok : Acceptable form p) where
   abbrev held : List ℕ
   held = words_of (image_of form p)
 

@@ -19,7 +19,7 @@ pub record IsImage (bytes : List ℕ) : Type 0 where
   pub form : ℕ
   pub policy : Policy
   pub known : known_form form ≡ true
-  pub acceptable : Acceptable policy
+  pub acceptable : Acceptable form policy
   pub same : image_of form policy ≡ bytes
 
 -- what stands in the image of a policy, in a form

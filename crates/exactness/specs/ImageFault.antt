@@ -15,17 +15,17 @@ use Rattle.exactness.specs.Exact.{Checked, Weighed}
 
 -- a location in a part up to which there are whole lines, and at which none fits: `ws` are the words of the part, of which the first has
 -- the index `from`, and there is room for so many lines
-pub record NoLineAt (part : Part) (room from : ℕ) (ws : List ℕ) (location : ℕ) : Type 0 where
+pub record NoLineAt (form : ℕ) (part : Part) (room from : ℕ) (ws : List ℕ) (location : ℕ) : Type 0 where
   pub front : List ℕ
   pub before : List PolicyLine
-  pub lines : AreLines part room front before
+  pub lines : AreLines form part room front before
   pub rest : List ℕ
   pub words : ws ≡ front ++ rest
   pub located : location ≡ from + length front
   -- the part goes on
   pub more : 0 < length rest
   -- but there is no room for a line more, or none stands there
-  pub none_fits : (length before ≡ room) ⊎ ((l : PolicyLine) → ¬ Stands part rest l)
+  pub none_fits : (length before ≡ room) ⊎ ((l : PolicyLine) → ¬ Stands form part rest l)
 
 -- a refusal of the bytes
 pub data ImageFault (bytes : List ℕ) : Refusal → Type 0 where
@@ -36,8 +36,8 @@ pub data ImageFault (bytes : List ℕ) : Refusal → Type 0 where
   wrong_sum : well_sized (length bytes) ≡ true → known_form (form_byte (words_of bytes)) ≡ true → counts_fit (words_of bytes) ≡ true → sums_to_zero (words_of bytes) ≡ false
       → ImageFault bytes (refusal Fault.ImageSum 0)
   wrong_weights : Checked bytes → weights_right (words_of bytes) ≡ false → ImageFault bytes (refusal Fault.ImageWeightedSum 0)
-  no_rule : Weighed bytes → (location : ℕ) → NoLineAt Part.Rules rule_limit 1 (rule_part (words_of bytes)) location
+  no_rule : Weighed bytes → (location : ℕ) → NoLineAt (form_byte (words_of bytes)) Part.Rules rule_limit 1 (rule_part (words_of bytes)) location
       → ImageFault bytes (refusal Fault.ImageBody location)
-  no_constraint : Weighed bytes → (rules : List PolicyLine) → AreLines Part.Rules rule_limit (rule_part (words_of bytes)) rules
-      → (location : ℕ) → NoLineAt Part.Constraints constraint_limit (1 + rule_words (words_of bytes)) (constraint_part (words_of bytes)) location
+  no_constraint : Weighed bytes → (rules : List PolicyLine) → AreLines (form_byte (words_of bytes)) Part.Rules rule_limit (rule_part (words_of bytes)) rules
+      → (location : ℕ) → NoLineAt (form_byte (words_of bytes)) Part.Constraints constraint_limit (1 + rule_words (words_of bytes)) (constraint_part (words_of bytes)) location
       → ImageFault bytes (refusal Fault.ImageBody location)

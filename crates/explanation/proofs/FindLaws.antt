@@ -16,6 +16,7 @@ use Rattle.syntax.proofs.LinesLaws.{left, left_here}
 use Rattle.syntax.proofs.WalkLaws.{Advanced}
 use Rattle.syntax.specs.Answer.{next_line}
 use Rattle.syntax.specs.Judge.{line_answer}
+use Rattle.codegen.specs.Compile.{newest_form}
 use Rattle.syntax.specs.Lines.{TextLine, before_later, lines_from, lines_in}
 use Rattle.syntax.specs.Walk.{lines_ahead, from_first}
 use Rattle.syntax.specs.declared.text.Lines.{Lines}
@@ -90,26 +91,26 @@ module _ (test : PolicyLine → Bool) (size : ℕ) where
     same : first_ahead test size ls ≡ first_from test (size - length rest) (lines_of rest)
     inside : AllInside size ls
 
-  ahead : (k n : ℕ) (rest : List ℕ) → length rest ≤ k → length rest ≤ size → Ahead rest (left n rest)
+  ahead : (k n : ℕ) (rest : List ℕ) → length rest ≤ k → length rest ≤ size → Ahead rest (left newest_form n rest)
   unfolding first_ahead first_from or_later lines_from before_later lines_of pieces
   ahead k n [] i s = record { same = refl; inside = tt }
   ahead zero n (b ∷ t) i s = absurd (omega arith)
   ahead (suc k) n (b ∷ t) i s =
       let h : 0 < length (b ∷ t) = omega arith in
       let l = next_shorter (b ∷ t) h in
-      rw (left_here n (b ∷ t) h) (turn (b ∷ t) h s (ahead k (n + 1) (next_line (b ∷ t)) (omega (arith, l)) (omega (arith, l))))
+      rw (left_here newest_form n (b ∷ t) h) (turn (b ∷ t) h s (ahead k (n + 1) (next_line (b ∷ t)) (omega (arith, l)) (omega (arith, l))))
     where
-      turn : (rest : List ℕ) → 0 < length rest → length rest ≤ size → Ahead (next_line rest) (left (n + 1) (next_line rest))
-          → Ahead rest (before_later n rest (first_line rest) (line_answer (first_line rest)) (left (n + 1) (next_line rest)))
+      turn : (rest : List ℕ) → 0 < length rest → length rest ≤ size → Ahead (next_line rest) (left newest_form (n + 1) (next_line rest))
+          → Ahead rest (before_later n rest (first_line rest) (line_answer newest_form (first_line rest)) (left newest_form (n + 1) (next_line rest)))
       turn rest h s later =
-          let a : first_from test (size - length rest) (lines_of rest) ≡ or_later test (line_answer (first_line rest)) (size - length rest) (first_line rest) (first_from test (size - length (next_line rest)) (lines_of (next_line rest))) =
-          ap (first_from test (size - length rest)) (lines_here rest h) ∙ ap (or_later test (line_answer (first_line rest)) (size - length rest) (first_line rest)) (lines_behind test size rest s)
+          let a : first_from test (size - length rest) (lines_of rest) ≡ or_later test (line_answer newest_form (first_line rest)) (size - length rest) (first_line rest) (first_from test (size - length (next_line rest)) (lines_of (next_line rest))) =
+          ap (first_from test (size - length rest)) (lines_here rest h) ∙ ap (or_later test (line_answer newest_form (first_line rest)) (size - length rest) (first_line rest)) (lines_behind test size rest s)
           in
-          go (line_answer (first_line rest)) a
+          go (line_answer newest_form (first_line rest)) a
         where
           go : (x : Result (Option PolicyLine) Fault)
               → first_from test (size - length rest) (lines_of rest) ≡ or_later test x (size - length rest) (first_line rest) (first_from test (size - length (next_line rest)) (lines_of (next_line rest)))
-              → Ahead rest (before_later n rest (first_line rest) x (left (n + 1) (next_line rest)))
+              → Ahead rest (before_later n rest (first_line rest) x (left newest_form (n + 1) (next_line rest)))
           go (Ok None) a = record { same = later.same ∙ sym a; inside = later.inside }
           go (Err f) a = record { same = sym a; inside = tt }
           go (Ok (Some l)) a = record { same = ap (cond (test l) (Some (shown_at (size - length rest) (first_line rest)))) later.same ∙ sym a; inside = (record { short = s; bytes = refl }, later.inside) }
@@ -122,7 +123,7 @@ module _ (text : List ℕ) (q : Sought) (epoch : Epoch) where
     pub inside : AllInside (length text) lines
     pub same : first_ahead (sought_by q epoch) (length text) lines ≡ first_from (sought_by q epoch) 0 (lines_of text)
 
-  pub seeking_none : (lines : List (Result TextLine Refusal)) → lines ≡ lines_in text → Seeking lines
+  pub seeking_none : (lines : List (Result TextLine Refusal)) → lines ≡ lines_in newest_form text → Seeking lines
   seeking_none lines e =
       let a = ahead (sought_by q epoch) (length text) (length text) 1 text (omega arith) (omega arith) in
       let z : length text - length text ≡ 0 = omega arith in
@@ -149,7 +150,7 @@ module _ (text : List ℕ) (q : Sought) (epoch : Epoch) where
   unfolding first_ahead
   seeking_judge before after here s w l held =
       let k : PolicyLine = w.line.line in
-      let v : valid k ≡ true = accepted_valid w.line.bytes k w.accepted in
+      let v : valid k ≡ true = accepted_valid _ w.line.bytes k w.accepted in
       let value : l ≡ k = held ∙ w.at.value in
       let told : sought_by q epoch l ≡ sought_by q epoch k = ap (sought_by q epoch) value in
       let inside : Inside (length text) w.line × AllInside (length text) w.later = rw w.first at s.inside in

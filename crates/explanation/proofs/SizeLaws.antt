@@ -7,13 +7,15 @@ use Rattle.policy.specs.declared.epoch.Epoch.{Epoch}
 use Rattle.policy.specs.declared.fault.Fault.{Fault}
 use Rattle.policy.specs.Line.{PolicyLine}
 use Rattle.policy.specs.Number.{check_action}
-use Rattle.policy.specs.Set.{ActionSet, has_action}
+use Rattle.policy.specs.Set.{ActionSet, EventSet, has_action}
+use Rattle.pdl.specs.Yield.{with_pending}
 use Rattle.policy.specs.declared.fault.Refusal.{Refusal}
 use Rattle.policy.specs.declared.number.Action.{Action}
 use Rattle.lexer.proofs.LeadingLaws.{leading_length}
 use Rattle.lexer.specs.Byte.{is_space}
 use Rattle.lexer.specs.Lines.{prepend, pieces, lines_of}
 use Rattle.syntax.specs.Judge.{line_answer}
+use Rattle.codegen.specs.Compile.{newest_form}
 use Rattle.monitor.specs.Decision.{decision}
 use Rattle.monitor.specs.declared.decision.Actions.{Actions}
 use Rattle.epoch_line.specs.Epoch.{read_epoch}
@@ -63,7 +65,7 @@ stretch_size (Some x) = length x.bytes
 found_size : (test : PolicyLine → Bool) (at : ℕ) (lines : List (List ℕ)) → stretch_size (first_from test at lines) ≤ total lines
 unfolding first_from or_later shown_at total
 found_size test at [] = least 0
-found_size test at (line ∷ lines) = go (line_answer line) _ (found_size test (at + length line + 1) lines)
+found_size test at (line ∷ lines) = go (line_answer newest_form line) _ (found_size test (at + length line + 1) lines)
   where
     go : (a : Result (Option PolicyLine) Fault) (later : Option Stretch) → stretch_size later ≤ total lines → stretch_size (or_later test a at line later) ≤ length line + total lines
     go (Ok None) later h = omega (arith, h)
@@ -115,15 +117,15 @@ module _ (maker site : List ℕ) (m : ℕ) (makers : length maker ≤ m) (sites 
       go false true = told_within cancelled_by (λ q. refl) (is_cancelling_constraint e.readings accepts a)
       go false false = least m
 
-  pub said_size_on : (line : List ℕ) (n : ℕ) (image : List ℕ) → said_size (explained_on maker site line n image) ≤ m
+  pub said_size_on : (pending : EventSet) (line : List ℕ) (n : ℕ) (image : List ℕ) → said_size (explained_on maker site pending line n image) ≤ m
   unfolding explained_on on_decision on_action
-  said_size_on line n image = go (decision image line) (read_epoch line)
+  said_size_on pending line n image = go (decision image pending line) (read_epoch line)
     where
       asked : (accepts cancels : ActionSet) (e : Epoch) (c : Option Action) → said_size (on_action maker site accepts cancels e c) ≤ m
       asked accepts cancels e None = least m
       asked accepts cancels e (Some a) = said_within accepts cancels e a
 
-      go : (d : Result Actions Refusal) (a : Result Epoch Refusal) → said_size (on_decision maker site n d a) ≤ m
+      go : (d : Result Actions Refusal) (a : Result Epoch Refusal) → said_size (on_decision maker site pending n d a) ≤ m
       go (Err r) a = least m
       go (Ok actions) (Err r) = least m
-      go (Ok actions) (Ok e) = asked actions.accepted actions.cancelled e (check_action n)
+      go (Ok actions) (Ok e) = asked actions.accepted actions.cancelled (with_pending pending e) (check_action n)

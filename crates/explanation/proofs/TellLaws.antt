@@ -8,15 +8,18 @@ use Rattle.policy.proofs.SetLaws.{has_empty, has_insert_same, has_insert_other}
 use Rattle.policy.proofs.ValidLaws.{valid_out}
 use Rattle.policy.specs.declared.epoch.Epoch.{Epoch}
 use Rattle.policy.specs.declared.epoch.Readings.{Readings}
-use Rattle.policy.specs.Limits.{valid, ending_in_range}
+use Rattle.policy.specs.Effect.{effect_number, no_effects, with_effect}
+use Rattle.policy.specs.declared.effect.Effect.{Effect}
+use Rattle.policy.specs.declared.effect.Effects.{Effects}
+use Rattle.policy.specs.Limits.{valid, effect_in_range, ending_in_range}
 use Rattle.policy.specs.Line.{PolicyLine, rule, constraint, ending_of, ending_part}
 use Rattle.policy.specs.List.{all}
 use Rattle.policy.specs.Policy.{Policy, Rule, Constraint}
-use Rattle.policy.specs.Set.{ActionSet, has, insert, all_events, no_actions, has_action, insert_action, actions_below}
+use Rattle.policy.specs.Set.{ActionSet, has, insert, all_events, has_action, insert_action, actions_below}
 use Rattle.policy.specs.declared.line.Ending.{Ending}
 use Rattle.policy.specs.declared.number.Action.{Action}
 use Rattle.policy.specs.declared.set.Events.{Events}
-use Rattle.pdl.specs.Yield.{rule_holds, propose, proposals, constraint_holds, conflict}
+use Rattle.pdl.specs.Yield.{rule_holds, take_effect, effects_where, effects, constraint_holds, conflict}
 use Rattle.word.proofs.WordLaws.{words_append}
 use Rattle.word.proofs.WriteLaws.{put_in}
 use Rattle.word.specs.Steps.Write.{put_bytes, put_words}
@@ -26,7 +29,7 @@ use Rattle.layout.specs.Layout.{line_words, lines_words, rule_part_words, constr
 use Rattle.exactness.proofs.ImageLaws.{lines_below}
 use Rattle.run.specs.Run.{run_rules, run_constraints}
 use Rattle.meaning.proofs.Meaning.{rules_run, constraints_run}
-use Rattle.explanation.specs.Why.{is_proposing_rule, is_cancelling_constraint}
+use Rattle.explanation.specs.Why.{causes, is_proposing_rule, is_cancelling_constraint}
 use Rattle.explanation.specs.Steps.Sought.{tells, sought_by, Writable}
 use Rattle.explanation.specs.declared.find.Sought.{Sought}
 
@@ -49,11 +52,11 @@ back_whole l ws e w back q = ap₂ (λ (x : Ending) (y : List ℕ). whole_lines 
 -- ---- each way through the function that judges a line
 
 module _ (q : Sought) (e : Epoch) (ending : Ending) (ws : List ℕ) where
-  pub told_rule : (a b : Action) → q ≡ Sought.Proposing a → ending ≡ Ending.Causes b → (words : List ℕ) (events : Events) (set : ActionSet) (answer : Bool) → words ≡ ws
-      → events ≡ all_events e.events → set ≡ run_rules events e.readings words → answer ≡ has_action set a → answer ≡ tells q e ending ws
+  pub told_rule : (a : Action) (x : Effect) → q ≡ Sought.Proposing a → ending ≡ Ending.Yields x → (words : List ℕ) (events : Events) (effects : Effects) (answer : Bool) → words ≡ ws
+      → events ≡ all_events e.events → effects ≡ run_rules events e.readings words → answer ≡ has_action effects.actions a → answer ≡ tells q e ending ws
   unfolding tells
-  told_rule a b p d words events set answer w v r h =
-      rw (p, d) (h ∙ ap (λ (s : ActionSet). has_action s a) (r ∙ ap₂ (λ (x : Events) (y : List ℕ). run_rules x e.readings y) v w))
+  told_rule a x p d words events effects answer w v r h =
+      rw (p, d) (h ∙ ap (λ (s : Effects). has_action s.actions a) (r ∙ ap₂ (λ (x : Events) (y : List ℕ). run_rules x e.readings y) v w))
 
   pub told_constraint : (s : ActionSet) → q ≡ Sought.Violated s → ending ≡ Ending.Never → (words : List ℕ) (answer : Bool) → words ≡ ws
       → answer ≡ run_constraints e.readings s words → answer ≡ tells q e ending ws
@@ -73,8 +76,8 @@ module _ (l : PolicyLine) (v : valid l ≡ true) where
   pub line_below : Below word_limit (line_words l)
   line_below i = rw (← alone_words) (lines_below (l ∷ []) alone i)
 
-rule_alone : (r : Rule) → valid (rule r) ≡ true → (ev : Events) (rs : Readings) → run_rules ev rs (line_words (rule r)) ≡ propose ev rs no_actions r
-unfolding rule_part_words proposals
+rule_alone : (r : Rule) → valid (rule r) ≡ true → (ev : Events) (rs : Readings) → run_rules ev rs (line_words (rule r)) ≡ effects (r ∷ []) ev rs
+unfolding rule_part_words
 rule_alone r v ev rs =
     let p : Policy = record { rules = r ∷ []; constraints = [] } in
     ap (run_rules ev rs) (sym (alone_words (rule r) v)) ∙ rules_run p (alone (rule r) v) ev rs
@@ -91,23 +94,24 @@ constraint_alone c v rs s =
 
 -- ---- what is sought
 
+-- an effect alone proposes its action
+named : (a : Action) (n : ℕ) → n < 64 → (b : Bool) → eqb n a.0 ≡ b → has (insert 0 n) a.0 ≡ b
+named a n l true h = ap (has (insert 0 n)) (sym (eqb-true n a.0 h)) ∙ has_insert_same 0 n l
+named a n l false h = has_insert_other 0 n a.0 (λ (k : a.0 ≡ n). eqb-false n a.0 h (sym k)) ∙ has_empty a.0
+
+proposes : (a : Action) (b : Bool) (x : Effect) → effect_number x < 64 → has_action (cond b (with_effect no_effects x) no_effects).actions a ≡ b && causes a x
+unfolding causes with_effect effect_number
+proposes a true (Effect.Causes c) l = named a c.0 l (eqb c.0 a.0) refl
+proposes a true (Effect.Triggers d) l = has_empty a.0
+proposes a false x l = has_empty a.0
+
 -- the rules that propose an action
 pub rules_sought : (e : Epoch) (a : Action) (l : PolicyLine) → valid l ≡ true → sought_by (Sought.Proposing a) e l ≡ is_proposing_rule e a l
-unfolding sought_by tells is_proposing_rule ending_of propose ending_in_range
+unfolding sought_by tells is_proposing_rule ending_of effects_where take_effect ending_in_range effect_in_range effect_number
 rules_sought e a (constraint c) v = refl
 rules_sought e a (rule r) v =
-    ap (λ (s : ActionSet). has_action s a) (rule_alone r v (all_events e.events) e.readings) ∙ proposes (rule_holds (all_events e.events) e.readings r)
-  where
-    below : r.action.0 < 64
-    below = ltb-true r.action.0 64 (valid_out (rule r) v).ending
-
-    named : (b : Bool) → eqb r.action.0 a.0 ≡ b → has (insert 0 r.action.0) a.0 ≡ b
-    named true h = ap (has (insert 0 r.action.0)) (sym (eqb-true r.action.0 a.0 h)) ∙ has_insert_same 0 r.action.0 below
-    named false h = has_insert_other 0 r.action.0 a.0 (λ (k : a.0 ≡ r.action.0). eqb-false r.action.0 a.0 h (sym k)) ∙ has_empty a.0
-
-    proposes : (b : Bool) → has_action (cond b (insert_action no_actions r.action) no_actions) a ≡ b && eqb r.action.0 a.0
-    proposes true = named (eqb r.action.0 a.0) refl
-    proposes false = has_empty a.0
+    ap (λ (s : Effects). has_action s.actions a) (rule_alone r v (all_events e.events) e.readings)
+    ∙ proposes a (rule_holds (all_events e.events) e.readings r) r.effect (ltb-true (effect_number r.effect) 64 (valid_out (rule r) v).ending)
 
 -- the constraints that hold on a set
 pub constraints_sought : (e : Epoch) (accepts : ActionSet) (a : Action) (l : PolicyLine) → valid l ≡ true

@@ -1,8 +1,10 @@
--- What is said of an action, one row each: two texts, an epoch line and the action's number.
+-- What is said of an action, one row each: two texts, the events that are pending, an epoch line and the action's number.
 use Rattle.std.specs.Prelude.{ℕ, List, [], ◌∷◌, Result, Ok, Err}
 use Prim.Native.String.{String}
 use Rattle.policy.specs.Fault.{fault_number, source_number}
 use Rattle.policy.specs.declared.fault.Refusal.{Refusal}
+use Rattle.policy.specs.Set.{EventSet}
+use Rattle.pdl.specs.Examples.{events_from}
 use Rattle.lexer.specs.Byte.{bytes}
 use Rattle.explanation.specs.Part.{of_maker, of_site}
 use Rattle.explanation.specs.Why as Why
@@ -18,12 +20,18 @@ pub data Said : Type 0 where
 pub record Example : Type 0 where
   pub maker : String
   pub site : String
+  pub pending : EventSet
   pub line : String
   pub action : ℕ
   pub said : Said
 
+-- where events of these numbers are pending
+abbrev row_behind : String → String → List ℕ → String → ℕ → Said → Example
+row_behind maker site pending line action said = record { maker = maker; site = site; pending = events_from pending; line = line; action = action; said = said }
+
+-- where none is
 abbrev row : String → String → String → ℕ → Said → Example
-row maker site line action said = record { maker = maker; site = site; line = line; action = action; said = said }
+row maker site = row_behind maker site []
 
 abbrev accepted : ℕ → String → Said
 accepted text part = is_accepted text (bytes part)
@@ -43,6 +51,10 @@ worked = "E1 & !E2 causes A3 if R0 > 40\nnever A3 & A4\n"
 
 abbrev three : String
 three = "E1 causes A1\nE1 causes A2\nE1 causes A3\n"
+
+-- what is triggered proposes in the next epoch
+abbrev triggering : String
+triggering = "E1 triggers E60\nE60 causes A2\n"
 
 unfoldable pub explanations : List Example
 explanations =
@@ -72,6 +84,15 @@ explanations =
     ∷ row "E1 causes A1\n" "" "E" 64 (refused 12 0 0)
     ∷ row "E1 causes A1\n" "" "R0=1 R0=1" 64 (refused 14 0 0)
     ∷ row "E1 causes A1\n" "" "E1" 64 (refused 13 0 0)
+    -- an event that is pending, and one that the line names though some rule triggers it
+    ∷ row triggering "" "E1" 2 not_proposed
+    ∷ row_behind triggering "" (60 ∷ []) "" 2 (accepted 1 "E60 causes A2")
+    ∷ row_behind triggering "never A2 if R0 > 5" (1 ∷ 60 ∷ []) "R0=6" 2 (cancelled 2 "never A2 if R0 > 5")
+    ∷ row triggering "" "E1 E60" 64 (refused 18 0 0)
+    ∷ row_behind "E1 causes A1\n" "E2 triggers E60" (60 ∷ []) "E60 R0=1 R0=1" 1 (refused 14 0 0)
+    ∷ row_behind triggering "" (60 ∷ []) "E2" 64 (refused 13 0 0)
+    -- a rule that triggers an event proposes no action, though it has the number
+    ∷ row "E1 triggers E2\nE1 causes A2\n" "" "E1" 2 (accepted 1 "E1 causes A2")
     ∷ []
 
 -- ---- what the definitions say of a row
@@ -85,4 +106,4 @@ said_in (Ok (cancelled_by (of_maker x))) = is_cancelled 1 x.bytes
 said_in (Ok (cancelled_by (of_site x))) = is_cancelled 2 x.bytes
 
 unfoldable pub said_of : Example → Said
-said_of x = said_in (explained (bytes x.maker) (bytes x.site) (bytes x.line) x.action)
+said_of x = said_in (explained (bytes x.maker) (bytes x.site) x.pending (bytes x.line) x.action)

@@ -1,5 +1,5 @@
 -- The first line that passes a test, without its line end, trimmed of spaces at both ends, and straight out of the text that it
--- stands in.
+-- stands in. Texts are those of the newest form.
 use Rattle.std.specs.Prelude.{ℕ, ◌+◌, Bool, List, [], ◌∷◌, length, Option, Some, None, option_map, Result, Ok, Err, if◌then◌else◌}
 use Rattle.std.specs.Option.{option_or}
 use Rattle.policy.specs.Line.{PolicyLine}
@@ -7,6 +7,7 @@ use Rattle.policy.specs.declared.fault.Fault.{Fault}
 use Rattle.lexer.specs.Byte.{is_space}
 use Rattle.lexer.specs.Lines.{lines_of, take_leading, drop_leading}
 use Rattle.syntax.specs.Judge.{line_answer}
+use Rattle.codegen.specs.Compile.{newest_form}
 use Rattle.explanation.specs.declared.part.Excerpt.{Excerpt}
 use Rattle.explanation.specs.declared.part.Shown.{Shown}
 
@@ -53,7 +54,7 @@ module _ (test : PolicyLine → Bool) where
   -- of lines, the first of which starts at a position
   unfoldable pub first_from : ℕ → List (List ℕ) → Option Stretch
   first_from at [] = None
-  first_from at (line ∷ lines) = or_later (line_answer line) at line (first_from (at + length line + 1) lines)
+  first_from at (line ∷ lines) = or_later (line_answer newest_form line) at line (first_from (at + length line + 1) lines)
 
 -- a part of the maker's text, or one of the site's
 pub data Quote : Type 0 where

@@ -5,6 +5,7 @@ ghost use Rattle.explanation.specs.Part.{trim_end, stretch_of, shown_at, first_f
 ghost use Rattle.explanation.specs.Steps.Sought.{Writable, sought_by};
 
 use crate::part::Excerpt;
+use codegen::NEWEST_FORM;
 use layout::put_line;
 use lexer::skip_spaces;
 use line_value::Line;
@@ -32,9 +33,9 @@ fn told(line: &Line, sought: Sought, epoch: &Epoch) -> bool
     let count = put_line(&mut bytes, 0, line);
     let words = part(words(&bytes), 0, count);
     match (sought, line.ending()) {
-        (Sought::Proposing(action), Ending::Causes(_)) => {
+        (Sought::Proposing(action), Ending::Yields(_)) => {
             let run = run_rules(words, epoch.events.all(), &epoch.readings);
-            run.actions.has(action)
+            run.effects.actions.has(action)
         }
         (Sought::Violated(set), Ending::Never) => {
             let run = run_constraints(words, set, &epoch.readings);
@@ -81,7 +82,7 @@ fn excerpt_at<'t>(at: usize, text: &'t [u8]) -> Excerpt<'t>
 pub(crate) fn find<'t>(text: &'t [u8], sought: Sought, epoch: &Epoch) -> Option<Excerpt<'t>>
     ensures { option_map stretch_of result ≡ first_from (sought_by sought epoch.now) 0 (lines_of text.now) }
 {
-    let mut lines = Lines::new(text);
+    let mut lines = Lines::new(NEWEST_FORM, text);
     while let Ok(Some(here)) = lines.advance() {
         if told(lines.line(), sought, epoch) {
             return Some(excerpt_at(text.len() - here.len(), here));

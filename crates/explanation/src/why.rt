@@ -12,7 +12,7 @@ use codegen::{NEWEST_FORM, compile_texts};
 use epoch_line::read_epoch;
 use image::IMAGE_SIZE;
 use monitor::{Actions, decide};
-use policy::{Action, Epoch, Fault, Mode, Refusal};
+use policy::{Action, Epoch, EventSet, Fault, Mode, Refusal};
 
 /// What became of an action, and what is shown for it: of an accepted one the first rule that proposed it, of a cancelled one the first
 /// constraint that held on the accepted actions with lower numbers together with it.
@@ -74,34 +74,37 @@ pub fn explain_on<'m, 's>(
     image: &[u8],
     maker: &'m [u8],
     site: &'s [u8],
+    pending: EventSet,
     line: &[u8],
     number: u32,
 ) -> Result<Outcome<'m, 's>, Refusal>
-    ensures { result_map_both said_by (λ refusal. refusal) result ≡ explained_on maker.now site.now line.now number image.now }
+    ensures { result_map_both said_by (λ refusal. refusal) result ≡ explained_on maker.now site.now pending line.now number image.now }
 {
-    let decided = decide(image, line, Mode::Actions)?;
-    let epoch = read_epoch(line)?;
+    let decided = decide(image, pending, line, Mode::Actions)?;
+    let mut epoch = read_epoch(line)?;
+    epoch.events = epoch.events.union(pending);
     let Some(action) = Action::new(number) else {
         return Err(Fault::EpochRange.at(0));
     };
     Ok(outcome_for(maker, site, decided, &epoch, action))
 }
 
-/// The explanation of the action of a number on an epoch line, without its line end, by the maker's and the site's text. What is decided
-/// is decided in the first mode, by action cancellation. What is shown lives as long as the text that it is from, whatever becomes of the
+/// The explanation of the action of a number on an epoch line, without its line end, where these events are pending, by the maker's and the
+/// site's text. What is decided is decided in the first mode, by action cancellation. What is shown lives as long as the text that it is from, whatever becomes of the
 /// line and of the other text.
 ///
-/// Refused is a fault of the texts, 1 to 6, or, on an image, of the image, 7 to 11; then of the epoch line, 1 and 12 to 14; then 13 for a
-/// number over 63.
+/// Refused is a fault of the texts, 1 to 6, or, on an image, of the image, 7 to 11; then of the epoch line, 1, 12 to
+/// 14 and 18; then 13 for a number over 63.
 pub fn explain<'m, 's>(
     maker: &'m [u8],
     site: &'s [u8],
+    pending: EventSet,
     line: &[u8],
     number: u32,
 ) -> Result<Outcome<'m, 's>, Refusal>
-    ensures { result_map_both said_by (λ refusal. refusal) result ≡ explained maker.now site.now line.now number }
+    ensures { result_map_both said_by (λ refusal. refusal) result ≡ explained maker.now site.now pending line.now number }
 {
     let mut image = [0u8; IMAGE_SIZE];
     let size = compile_texts(NEWEST_FORM, maker, site, &mut image)?;
-    explain_on(&image[..size], maker, site, line, number)
+    explain_on(&image[..size], maker, site, pending, line, number)
 }

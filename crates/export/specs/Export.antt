@@ -6,5 +6,6 @@ use Rattle.monitor.specs.declared.decision.Actions.{Actions}
 use Rattle.export.specs.declared.EpochDecision.{EpochDecision}
 
 unfoldable pub decision_of : Result Actions Refusal → EpochDecision
-decision_of (Err r) = record { fault = fault_number r.fault; word = r.location; accepted = 0; cancelled = 0; visited = 0 }
-decision_of (Ok actions) = record { fault = 0; word = 0; accepted = actions.accepted.bits; cancelled = actions.cancelled.bits; visited = actions.visited }
+decision_of (Err r) = record { fault = fault_number r.fault; word = r.location; accepted = 0; cancelled = 0; triggered = 0; visited = 0 }
+decision_of (Ok actions) =
+    record { fault = 0; word = 0; accepted = actions.accepted.bits; cancelled = actions.cancelled.bits; triggered = actions.triggered.bits; visited = actions.visited }

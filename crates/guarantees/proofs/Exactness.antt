@@ -31,12 +31,12 @@ ascii_bytes (b ∷ s) h ℕ.zero = let l = ltb-true b 128 (and_out (ascii b) (al
 ascii_bytes (b ∷ s) h (ℕ.suc i) = ascii_bytes s (and_out (ascii b) (all ascii s) h).1 i
 
 -- the text printed from a policy compiles to the policy's image, in each form
-pub printed_compiles : (form : ℕ) → known_form form ≡ true → (p : Policy) → Acceptable p → CompilesTo form (text_of p) (image_of form p)
+pub printed_compiles : (form : ℕ) → known_form form ≡ true → (p : Policy) → Acceptable form p → CompilesTo form (text_of p) (image_of form p)
 printed_compiles form known p ok =
     let image : List ℕ = image_of form p in
-    let e = text_compiled form (text_of p) image known p (text_read_is p ok) (omega arith) in
+    let e = text_compiled form (text_of p) image known p (text_read_is form p ok) (omega arith) in
     let w = image_written form (text_of p) image (length image) e in
-    let q : Some p ≡ Some w.policy = sym (text_policy p ok) ∙ w.read in
+    let q : Some p ≡ Some w.policy = sym (text_policy form p ok) ∙ w.read in
     let same : p ≡ w.policy = cc in
     record { buffer = image; size = length image; accepted = e; written = w.image ∙ ap (image_of form) (sym same) }
 

@@ -4,9 +4,8 @@ use Rattle.std.specs.Result.{result_ok}
 use Rattle.std.specs.Prelude.{Option, Some, None, Ok, Err}
 use Rattle.std.specs.Option.{option_map_or}
 use Rattle.std.proofs.Math.Path.{subst⁻¹}
-use Rattle.std.proofs.Math.Dec.{ltb, eqb}
+use Rattle.std.proofs.Math.Dec.{ltb}
 use Rattle.policy.proofs.ListLaws.{true_false, and_in, and_out, contains_first, contains_one}
-use Rattle.policy.proofs.SetLaws.{has_insert_same}
 use Rattle.policy.specs.declared.epoch.Epoch.{Epoch}
 use Rattle.policy.specs.Fault.{refusal}
 use Rattle.policy.specs.Line.{PolicyLine, rule, constraint}
@@ -14,25 +13,30 @@ use Rattle.policy.specs.Number.{check_action}
 use Rattle.policy.proofs.ResultLaws.{known}
 use Rattle.policy.specs.Policy.{Policy, Rule}
 use Rattle.policy.specs.Result.{result_and_then}
-use Rattle.policy.specs.Set.{ActionSet, all_events, has_action, insert_action, actions_below}
+use Rattle.policy.specs.declared.effect.Effect.{Effect}
+use Rattle.policy.specs.Set.{ActionSet, EventSet, all_events, has_action, insert_action, actions_below}
 use Rattle.policy.specs.declared.fault.Fault.{Fault}
 use Rattle.policy.specs.declared.fault.Refusal.{Refusal}
 use Rattle.policy.specs.declared.number.Action.{Action}
 use Rattle.policy.specs.declared.set.Events.{Events}
 use Rattle.pdl.proofs.Monitor.{accepted_within, cancelled_apart, cancelled_trial}
-use Rattle.pdl.proofs.Proposals.{rule_holds_is, proposals_derived}
+use Rattle.pdl.proofs.Proposals.{rule_holds_is, rule_derives, proposals_derived}
 use Rattle.pdl.proofs.Resolution.{holds_in, holds_out}
 use Rattle.pdl.specs.Answer.{Answer}
 use Rattle.pdl.specs.Pdl.{Derives}
 use Rattle.pdl.specs.Yield as Yield
-use Rattle.pdl.specs.Yield.{rule_holds, propose, proposals}
+use Rattle.pdl.specs.Yield.{rule_holds}
 use Rattle.epoch_line.specs.Epoch.{read_epoch}
+use Rattle.acceptance.proofs.Forms.{texts_newer}
 use Rattle.acceptance.proofs.Texts.{site_empty}
+use Rattle.codegen.specs.Compile.{newest_form}
+use Rattle.guarantees.specs.Machine.{next_epoch}
+use Rattle.guarantees.proofs.NextLaws.{NoNext, no_epoch, is_reserved, next_out, next_refused}
 use Rattle.rule_text.specs.Text.{read_text, read_texts, policy_of_texts}
 use Rattle.codegen.specs.Steps.Put.{lines_of_both}
 use Rattle.monitor.specs.Decision.{decision, answer_of}
 use Rattle.explanation.specs.Part.{Stretch, Quote, of_maker, of_site, first_shown}
-use Rattle.explanation.specs.Why.{is_proposing_rule, is_cancelling_constraint, Explanation, not_proposed, accepted_by, cancelled_by, explanation_for, on_action, on_epoch, explained, quoted}
+use Rattle.explanation.specs.Why.{causes, is_proposing_rule, is_cancelling_constraint, Explanation, not_proposed, accepted_by, cancelled_by, explanation_for, on_action, on_events, on_epoch, explained, quoted}
 use Rattle.guarantees.proofs.Decisions.{written_yields}
 use Rattle.guarantees.proofs.Agreement.{image_of_texts, alone_writes}
 use Rattle.guarantees.proofs.FirstLaws.{Both, both, rule_line, constraint_line, FirstShown, first_line}
@@ -48,86 +52,107 @@ module _ (maker site : List ℕ) (p : Policy) (e : Epoch) (a : Action) where
 
 -- ---- when there is an explanation
 
-module _ (maker site line : List ℕ) (n : ℕ) where
+module _ (maker site : List ℕ) (pending : EventSet) (line : List ℕ) (n : ℕ) where
   abbrev by_texts : Result Policy Refusal → Result Explanation Refusal
-  by_texts read = result_and_then (λ (p : Policy). on_epoch maker site p n (read_epoch line)) read
+  by_texts read = result_and_then (λ (p : Policy). on_epoch maker site p pending n (read_epoch line)) read
 
   -- the answer, case by case
-  on_texts : (p : Policy) → policy_of_texts maker site ≡ Some p → explained maker site line n ≡ on_epoch maker site p n (read_epoch line)
+  on_texts : (p : Policy) → policy_of_texts newest_form maker site ≡ Some p → explained maker site pending line n ≡ on_epoch maker site p pending n (read_epoch line)
   unfolding explained
-  on_texts p e = ap by_texts (known (read_texts maker site) p e)
+  on_texts p e = ap by_texts (known (read_texts newest_form maker site) p e)
 
-  on_line : (p : Policy) → policy_of_texts maker site ≡ Some p → (e : Epoch) → read_epoch line ≡ Ok e
-      → explained maker site line n ≡ on_action maker site (Yield.accepted p e) (Yield.cancelled p e) e (check_action n)
+  -- of the epoch of the line, or for what there is none
+  on_next : (p : Policy) (a : Result Epoch Refusal) → next_epoch p pending line ≡ a → on_epoch maker site p pending n (read_epoch line) ≡ result_and_then (on_events maker site p n) a
   unfolding on_epoch
-  on_line p q e r = on_texts p q ∙ ap (on_epoch maker site p n) r
+  on_next p (Err r) h = go (next_refused p pending line r h)
+    where
+      go : NoNext p line r → on_epoch maker site p pending n (read_epoch line) ≡ Err r
+      go (no_epoch q) = ap (on_epoch maker site p pending n) q
+      go (is_reserved named q k w) = ap (on_epoch maker site p pending n) q ∙ rw k (ap Err (sym w))
+  on_next p (Ok e) h =
+      let x = next_out p pending line e h in
+      ap (on_epoch maker site p pending n) x.read ∙ rw x.free (ap (on_events maker site p n) x.whole)
 
-  explanation_is : (q : IsExplainable maker site line n) → explained maker site line n ≡ Ok (explanation maker site q.policy q.epoch (action n))
+  on_line : (p : Policy) → policy_of_texts newest_form maker site ≡ Some p → (e : Epoch) → next_epoch p pending line ≡ Ok e
+      → explained maker site pending line n ≡ on_action maker site (Yield.accepted p e) (Yield.cancelled p e) e (check_action n)
+  unfolding on_events
+  on_line p q e r = on_texts p q ∙ on_next p (Ok e) r
+
+  explanation_is : (q : IsExplainable maker site pending line n) → explained maker site pending line n ≡ Ok (explanation maker site q.policy q.epoch (action n))
   unfolding on_action
   explanation_is q = on_line q.policy q.both q.epoch q.read ∙ rw (lt-ltb n 64 q.number)
 
-  unexplained : (r : Refusal) → Unexplained maker site line n r → explained maker site line n ≡ Err r
-  unfolding explained on_epoch on_action
+  unexplained : (r : Refusal) → Unexplained maker site pending line n r → explained maker site pending line n ≡ Err r
+  unfolding explained on_action
   unexplained r (the_texts q) = ap by_texts q
-  unexplained r (the_line p q k) = on_texts p q ∙ ap (on_epoch maker site p n) k
+  unexplained r (the_line p q k) = on_texts p q ∙ on_next p (Err r) k
   unexplained r (the_action p q e k over w) = on_line p q e k ∙ rw (le-ltb n 64 over, w)
 
   data Explaining : Type 0 where
-    refuses : (r : Refusal) → Unexplained maker site line n r → Explaining
-    explains : IsExplainable maker site line n → Explaining
+    refuses : (r : Refusal) → Unexplained maker site pending line n r → Explaining
+    explains : IsExplainable maker site pending line n → Explaining
 
   explaining : Explaining
-  explaining = texts (read_texts maker site) refl
+  explaining = texts (read_texts newest_form maker site) refl
     where
-      number : (p : Policy) → policy_of_texts maker site ≡ Some p → (e : Epoch) → read_epoch line ≡ Ok e → (b : Bool) → ltb n 64 ≡ b → Explaining
+      number : (p : Policy) → policy_of_texts newest_form maker site ≡ Some p → (e : Epoch) → next_epoch p pending line ≡ Ok e → (b : Bool) → ltb n 64 ≡ b → Explaining
       number p q e k true l = explains (record { policy = p; both = q; epoch = e; read = k; number = ltb-true n 64 l })
       number p q e k false l = refuses (refusal Fault.EpochRange 0) (the_action p q e k (ltb-false n 64 l) refl)
 
-      epoch : (p : Policy) → policy_of_texts maker site ≡ Some p → (a : Result Epoch Refusal) → read_epoch line ≡ a → Explaining
+      epoch : (p : Policy) → policy_of_texts newest_form maker site ≡ Some p → (a : Result Epoch Refusal) → next_epoch p pending line ≡ a → Explaining
       epoch p q (Err r) k = refuses r (the_line p q k)
       epoch p q (Ok e) k = number p q e k (ltb n 64) refl
 
-      texts : (s : Result Policy Refusal) → read_texts maker site ≡ s → Explaining
+      texts : (s : Result Policy Refusal) → read_texts newest_form maker site ≡ s → Explaining
       texts (Err r) k = refuses r (the_texts k)
-      texts (Ok p) k = epoch p (ap result_ok k) (read_epoch line) refl
+      texts (Ok p) k = epoch p (ap result_ok k) (next_epoch p pending line) refl
 
   -- an explanation is refused exactly for these, in this order
-  pub explained_refused : (r : Refusal) → (explained maker site line n ≡ Err r) ↔ Unexplained maker site line n r
+  pub explained_refused : (r : Refusal) → (explained maker site pending line n ≡ Err r) ↔ Unexplained maker site pending line n r
   explained_refused r = (go explaining, unexplained r)
     where
-      go : Explaining → explained maker site line n ≡ Err r → Unexplained maker site line n r
-      go (refuses x u) e = let w : x ≡ r = cc (unexplained x u) in subst (Unexplained maker site line n) w u
+      go : Explaining → explained maker site pending line n ≡ Err r → Unexplained maker site pending line n r
+      go (refuses x u) e = let w : x ≡ r = cc (unexplained x u) in subst (Unexplained maker site pending line n) w u
       go (explains q) e = let w : ◌≡◌ {A = ℕ} 0 1 = cc (explanation_is q) in absurd (omega arith)
 
   -- and there is one exactly where the texts, the line and the number pass
-  pub explained_exactly : ((why : Explanation) × (explained maker site line n ≡ Ok why)) ↔ IsExplainable maker site line n
+  pub explained_exactly : ((why : Explanation) × (explained maker site pending line n ≡ Ok why)) ↔ IsExplainable maker site pending line n
   explained_exactly = (λ e. go explaining e.0 e.1, λ q. (_, explanation_is q))
     where
-      go : Explaining → (why : Explanation) → explained maker site line n ≡ Ok why → IsExplainable maker site line n
+      go : Explaining → (why : Explanation) → explained maker site pending line n ≡ Ok why → IsExplainable maker site pending line n
       go (refuses x u) why e = let w : ◌≡◌ {A = ℕ} 0 1 = cc (unexplained x u) in absurd (omega arith)
       go (explains q) why e = q
 
 -- ---- which lines say so
 
+causes_is : (a : Action) (x : Effect) → causes a x ≡ true → x ≡ Effect.Causes a
+unfolding causes
+causes_is a (Effect.Causes b) h = ap (λ (n : ℕ). Effect.Causes (record { 0 = n })) (eqb-true b.0 a.0 h)
+causes_is a (Effect.Triggers e) h = absurd (true_false h refl)
+
+causes_own : (a : Action) → causes a (Effect.Causes a) ≡ true
+unfolding causes
+causes_own a = eq-eqb a.0 a.0 refl
+
 -- a line passes a test of the definitions exactly where it says so in the terms of specs/Pdl of `pdl`
 proposed_means : (e : Epoch) (a : Action) → a.0 < 64 → (l : PolicyLine) → (is_proposing_rule e a l ≡ true) ↔ Proposes e a l
-unfolding is_proposing_rule proposals propose
+unfolding is_proposing_rule
 proposed_means e a small (constraint c) = (λ h. true_false h refl, λ h. absurd h)
 proposed_means e a small (rule r) = (there, back)
   where
     ev : Events
     ev = all_events e.events
 
-    there : rule_holds ev e.readings r && eqb r.action.0 a.0 ≡ true → Derives (r ∷ []) ev e.readings a
+    there : rule_holds ev e.readings r && causes a r.effect ≡ true → Derives (r ∷ []) ev e.readings (Effect.Causes a)
     there h =
-        let x = and_out (rule_holds ev e.readings r) (eqb r.action.0 a.0) h in
-        (proposals_derived (r ∷ []) ev e.readings a small).0 (rw (x.0, eqb-true r.action.0 a.0 x.1) (has_insert_same 0 a.0 small))
+        let x = and_out (rule_holds ev e.readings r) (causes a r.effect) h in
+        subst (Derives (r ∷ []) ev e.readings) (causes_is a r.effect x.1) (rule_derives (r ∷ []) ev e.readings r (contains_first r []) x.0)
 
-    back : Derives (r ∷ []) ev e.readings a → rule_holds ev e.readings r && eqb r.action.0 a.0 ≡ true
+    back : Derives (r ∷ []) ev e.readings (Effect.Causes a) → rule_holds ev e.readings r && causes a r.effect ≡ true
     back d =
         let w : r ≡ d.rule = contains_one r d.rule d.listed in
         and_in (ap (rule_holds ev e.readings) w ∙ rule_holds_is ev e.readings d.rule d.event d.condition)
-        (eq-eqb r.action.0 a.0 (ap (λ (x : Rule). x.action.0) w ∙ ap (λ (x : Action). x.0) d.causes))
+        (ap (λ (x : Rule). causes a x.effect) w ∙ ap (causes a) d.effect ∙ causes_own a)
 
 cancelled_means : (e : Epoch) (accepts : ActionSet) (a : Action) (l : PolicyLine) → (is_cancelling_constraint e.readings accepts a l ≡ true) ↔ Cancels e accepts a l
 unfolding is_cancelling_constraint
@@ -141,8 +166,8 @@ module _ (maker site : List ℕ) (p : Policy) (e : Epoch) (a : Action) (small : 
   by_rule : has_action (Yield.accepted p e) a ≡ true → FirstShown (is_proposing_rule e a) (Proposes e a) p maker site
   by_rule k =
       let d = (proposals_derived p.rules (all_events e.events) e.readings a small).0 (accepted_within p e a k) in
-      let m : Contains (lines_of_both maker site) (rule d.rule) = rule_line (lines_of_both maker site) d.rule (rw b.rules d.listed) in
-      let alone : Derives (d.rule ∷ []) (all_events e.events) e.readings a = record { rule = d.rule; listed = contains_first d.rule []; causes = d.causes; event = d.event; condition = d.condition } in
+      let m : Contains (lines_of_both newest_form maker site) (rule d.rule) = rule_line (lines_of_both newest_form maker site) d.rule (rw b.rules d.listed) in
+      let alone : Derives (d.rule ∷ []) (all_events e.events) e.readings (Effect.Causes a) = record { rule = d.rule; listed = contains_first d.rule []; effect = d.effect; event = d.event; condition = d.condition } in
       let means = proposed_means e a small in
       first_line (is_proposing_rule e a) (Proposes e a) means maker site p b (rule d.rule) m ((means (rule d.rule)).1 alone)
 
@@ -150,7 +175,7 @@ module _ (maker site : List ℕ) (p : Policy) (e : Epoch) (a : Action) (small : 
   by_constraint : has_action (Yield.cancelled p e) a ≡ true → FirstShown (is_cancelling_constraint e.readings (Yield.accepted p e) a) (Cancels e (Yield.accepted p e) a) p maker site
   by_constraint k =
       let v = cancelled_trial p e a k in
-      let m : Contains (lines_of_both maker site) (constraint v.constraint) = constraint_line (lines_of_both maker site) v.constraint (rw b.constraints v.listed) in
+      let m : Contains (lines_of_both newest_form maker site) (constraint v.constraint) = constraint_line (lines_of_both newest_form maker site) v.constraint (rw b.constraints v.listed) in
       let means = cancelled_means e (Yield.accepted p e) a in
       first_line (is_cancelling_constraint e.readings (Yield.accepted p e) a) (Cancels e (Yield.accepted p e) a) means maker site p b (constraint v.constraint) m
       ((means (constraint v.constraint)).1 v.holds)
@@ -211,18 +236,20 @@ module _ (maker site : List ℕ) (p : Policy) (e : Epoch) (a : Action) (small : 
       let w : ◌≡◌ {A = ℕ} 0 1 = cc in
       absurd (omega arith)
 
-module _ (maker site line : List ℕ) (n : ℕ) (q : IsExplainable maker site line n) where
+module _ (maker site : List ℕ) (pending : EventSet) (line : List ℕ) (n : ℕ) (q : IsExplainable maker site pending line n) where
   -- the sets that the policy of both texts yields are those of the decision on the image of both
-  pub asked_decided : (form : ℕ) (image : List ℕ) → TextsCompileTo form maker site image → answer_of (decision image line) ≡ yield_of q.policy q.epoch
+  pub asked_decided : (form : ℕ) (image : List ℕ) → TextsCompileTo form maker site image → answer_of (decision image pending line) ≡ yield_of q.policy q.epoch
   asked_decided form image c =
       let t = image_of_texts form maker site image c in
-      let k : Some q.policy ≡ Some t.policy = sym q.both ∙ t.read in
+      let newer = texts_newer form newest_form refl maker site t.policy (known (read_texts form maker site) t.policy t.read) in
+      let k : Some q.policy ≡ Some t.policy = sym q.both ∙ ap result_ok newer in
       let same : t.policy ≡ q.policy = cc in
-      ap (λ (x : List ℕ). answer_of (decision x line)) t.same ∙ written_yields form t.form_known t.policy t.acceptable line q.epoch q.read
+      ap (λ (x : List ℕ). answer_of (decision x pending line)) t.same
+      ∙ written_yields form t.form_known t.policy t.acceptable pending line q.epoch (ap (λ (p : Policy). next_epoch p pending line) same ∙ q.read)
       ∙ ap (λ (p : Policy). yield_of p q.epoch) same
 
   lines : Both maker site q.policy
-  lines = both maker site q.policy (known (read_texts maker site) q.policy q.both)
+  lines = both maker site q.policy (known (read_texts newest_form maker site) q.policy q.both)
 
   abbrev said : Explanation
   said = explanation maker site q.policy q.epoch (action n)
@@ -230,32 +257,32 @@ module _ (maker site line : List ℕ) (n : ℕ) (q : IsExplainable maker site li
   how : Explains maker site q.policy q.epoch (action n) q.number lines said
   how = case_of maker site q.policy q.epoch (action n) q.number lines
 
-  said_is : (why : Explanation) → explained maker site line n ≡ Ok why → said ≡ why
-  said_is why h = let k = explanation_is maker site line n q in cc
+  said_is : (why : Explanation) → explained maker site pending line n ≡ Ok why → said ≡ why
+  said_is why h = let k = explanation_is maker site pending line n q in cc
 
-  asked_told : (why : Explanation) → explained maker site line n ≡ Ok why → TellsOutcome (yield_of q.policy q.epoch) (action n) why
+  asked_told : (why : Explanation) → explained maker site pending line n ≡ Ok why → TellsOutcome (yield_of q.policy q.epoch) (action n) why
   asked_told why h = subst (TellsOutcome (yield_of q.policy q.epoch) (action n)) (said_is why h) (tells maker site q.policy q.epoch (action n) q.number lines said how)
 
-  pub accepted_shown : (shown : Quote) → explained maker site line n ≡ Ok (accepted_by shown) → FirstLine (Proposes q.epoch (action n)) q.policy maker site shown
+  pub accepted_shown : (shown : Quote) → explained maker site pending line n ≡ Ok (accepted_by shown) → FirstLine (Proposes q.epoch (action n)) q.policy maker site shown
   accepted_shown shown h = shows_rule maker site q.policy q.epoch (action n) q.number lines said how shown (said_is (accepted_by shown) h)
 
-  pub cancelled_shown : (shown : Quote) → explained maker site line n ≡ Ok (cancelled_by shown)
+  pub cancelled_shown : (shown : Quote) → explained maker site pending line n ≡ Ok (cancelled_by shown)
       → FirstLine (Cancels q.epoch (Yield.accepted q.policy q.epoch) (action n)) q.policy maker site shown
   cancelled_shown shown h = shows_constraint maker site q.policy q.epoch (action n) q.number lines said how shown (said_is (cancelled_by shown) h)
 
 -- what is shown stands in the text that it is from, with no space at either end and no line end
-pub shown_straight : (maker site line : List ℕ) (n : ℕ) (why : Explanation) (shown : Quote) → explained maker site line n ≡ Ok why → quoted why ≡ Some shown → QuotedStraight maker site shown
-shown_straight maker site line n why shown h k =
-    let q = (explained_exactly maker site line n).0 (why, h) in
-    shows_straight maker site q.policy q.epoch (action n) q.number (lines maker site line n q) (said maker site line n q) (how maker site line n q) shown
-    (ap quoted (said_is maker site line n q why h) ∙ k)
+pub shown_straight : (maker site : List ℕ) (pending : EventSet) (line : List ℕ) (n : ℕ) (why : Explanation) (shown : Quote) → explained maker site pending line n ≡ Ok why → quoted why ≡ Some shown → QuotedStraight maker site shown
+shown_straight maker site pending line n why shown h k =
+    let q = (explained_exactly maker site pending line n).0 (why, h) in
+    shows_straight maker site q.policy q.epoch (action n) q.number (lines maker site pending line n q) (said maker site pending line n q) (how maker site pending line n q) shown
+    (ap quoted (said_is maker site pending line n q why h) ∙ k)
 
 -- what is told is membership in the accepted and the cancelled set of the decision on the image of both texts
-pub outcome_told : (maker site line : List ℕ) (n : ℕ) (why : Explanation) → explained maker site line n ≡ Ok why
-    → (form : ℕ) (image : List ℕ) → TextsCompileTo form maker site image → TellsOutcome (answer_of (decision image line)) (action n) why
-outcome_told maker site line n why h form image c =
-    let q = (explained_exactly maker site line n).0 (why, h) in
-    subst⁻¹ (λ (x : Answer). TellsOutcome x (action n) why) (asked_decided maker site line n q form image c) (asked_told maker site line n q why h)
+pub outcome_told : (maker site : List ℕ) (pending : EventSet) (line : List ℕ) (n : ℕ) (why : Explanation) → explained maker site pending line n ≡ Ok why
+    → (form : ℕ) (image : List ℕ) → TextsCompileTo form maker site image → TellsOutcome (answer_of (decision image pending line)) (action n) why
+outcome_told maker site pending line n why h form image c =
+    let q = (explained_exactly maker site pending line n).0 (why, h) in
+    subst⁻¹ (λ (x : Answer). TellsOutcome x (action n) why) (asked_decided maker site pending line n q form image c) (asked_told maker site pending line n q why h)
 
 -- ---- where the site's text is empty
 
@@ -264,19 +291,19 @@ no_part [] [] behind e = refl
 no_part [] (b ∷ part) behind e = let w : ◌≡◌ {A = ℕ} 0 1 = cc in absurd (omega arith)
 no_part (b ∷ before) part behind e = let w : ◌≡◌ {A = ℕ} 0 1 = cc in absurd (omega arith)
 
-module _ (maker line : List ℕ) (n : ℕ) where
+module _ (maker : List ℕ) (pending : EventSet) (line : List ℕ) (n : ℕ) where
   -- the answer, refused or not, is by what was read of the maker's text alone
-  pub explained_alone : explained maker [] line n ≡ by_texts maker [] line n (read_text maker)
+  pub explained_alone : explained maker [] pending line n ≡ by_texts maker [] pending line n (read_text newest_form maker)
   unfolding explained
-  explained_alone = ap (by_texts maker [] line n) (site_empty maker)
+  explained_alone = ap (by_texts maker [] pending line n) (site_empty newest_form maker)
 
   -- what is told is the decision's on the image of the maker's text
-  pub alone_told : (why : Explanation) → explained maker [] line n ≡ Ok why → (form : ℕ) (image : List ℕ) → CompilesTo form maker image → TellsOutcome (answer_of (decision image line)) (action n) why
-  alone_told why h form image c = outcome_told maker [] line n why h form image ((alone_writes form maker image).0 c)
+  pub alone_told : (why : Explanation) → explained maker [] pending line n ≡ Ok why → (form : ℕ) (image : List ℕ) → CompilesTo form maker image → TellsOutcome (answer_of (decision image pending line)) (action n) why
+  alone_told why h form image c = outcome_told maker [] pending line n why h form image ((alone_writes form maker image).0 c)
 
   -- and what is shown is the maker's
-  pub alone_shown : (why : Explanation) (shown : Quote) → explained maker [] line n ≡ Ok why → quoted why ≡ Some shown → (x : Stretch) × (shown ≡ of_maker x)
-  alone_shown why shown h k = go shown (shown_straight maker [] line n why shown h k)
+  pub alone_shown : (why : Explanation) (shown : Quote) → explained maker [] pending line n ≡ Ok why → quoted why ≡ Some shown → (x : Stretch) × (shown ≡ of_maker x)
+  alone_shown why shown h k = go shown (shown_straight maker [] pending line n why shown h k)
     where
       go : (s : Quote) → QuotedStraight maker [] s → (x : Stretch) × (s ≡ of_maker x)
       go (of_maker x) f = (x, refl)

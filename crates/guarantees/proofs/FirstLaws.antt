@@ -57,25 +57,25 @@ line_listed (constraint k ∷ ls) (constraint c) (suc n, i, q) = contains_later 
 
 -- none was refused: a line that is accepted is one of the policy's
 abbrev pub Held : List (List ℕ) → List (Result TextLine Refusal) → Type 0
-Held ls read = (line : List ℕ) → Contains ls line → (l : PolicyLine) → line_answer line ≡ Ok (Some l) → Contains (accepted_lines read) l
+Held ls read = (line : List ℕ) → Contains ls line → (l : PolicyLine) → line_answer newest_form line ≡ Ok (Some l) → Contains (accepted_lines read) l
 
-held : (ls : List (List ℕ)) (n : ℕ) (text : List ℕ) (p q : Policy) → read_lines n p ls ≡ Ok q → Held ls (lines_from n text ls)
+held : (ls : List (List ℕ)) (n : ℕ) (text : List ℕ) (p q : Policy) → read_lines newest_form n p ls ≡ Ok q → Held ls (lines_from newest_form n text ls)
 unfolding accepted_lines lines_from before_later
 held [] n text p q e line i l k = absurd (omega (arith, i.1))
 held (x ∷ ls) n text p q e line i l k =
-    let r = lines_read n p x ls q e in
+    let r = lines_read newest_form n p x ls q e in
     let one : n + 1 ≡ suc n = add-one n in
-    go r.0 r.1 (line_reads p x) (contains_cases x ls line i) (rw one (held ls (suc n) (drop (suc (length x)) text) r.0 q r.2))
+    go r.0 r.1 (line_reads newest_form p x) (contains_cases x ls line i) (rw one (held ls (suc n) (drop (suc (length x)) text) r.0 q r.2))
   where
     behind : List (Result TextLine Refusal)
-    behind = lines_from (n + 1) (drop (suc (length x)) text) ls
+    behind = lines_from newest_form (n + 1) (drop (suc (length x)) text) ls
 
-    go : (m : Policy) → read_line p x ≡ Ok m → LineRead p x → (x ≡ line) ⊎ Contains ls line → Held ls behind → Contains (accepted_lines (before_later n text x (line_answer x) behind)) l
-    go m r (LineRead.skips a s) (inl w) later = let v : line_answer x ≡ line_answer line = ap line_answer w in let z : ⊥ = cc in absurd z
+    go : (m : Policy) → read_line newest_form p x ≡ Ok m → LineRead newest_form p x → (x ≡ line) ⊎ Contains ls line → Held ls behind → Contains (accepted_lines (before_later n text x (line_answer newest_form x) behind)) l
+    go m r (LineRead.skips a s) (inl w) later = let v : line_answer newest_form x ≡ line_answer newest_form line = ap (line_answer newest_form) w in let z : ⊥ = cc in absurd z
     go m r (LineRead.skips a s) (inr j) later = rw a (later line j l k)
     go m r (LineRead.fails f a s) c later = let z : ⊥ = cc in absurd z
     go m r (LineRead.adds y a h s) (inl w) later =
-        let v : line_answer x ≡ line_answer line = ap line_answer w in
+        let v : line_answer newest_form x ≡ line_answer newest_form line = ap (line_answer newest_form) w in
         let i : y ≡ l = cc in
         rw a (0, omega arith, i)
     go m r (LineRead.adds y a h s) (inr j) later = rw a (contains_later y (accepted_lines behind) l (later line j l k))
@@ -90,13 +90,13 @@ module _ (test : PolicyLine → Bool) where
     behind : List (List ℕ)
     stands : lines ≡ before ++ line ∷ behind
     is : PolicyLine
-    read : line_answer line ≡ Ok (Some is)
+    read : line_answer newest_form line ≡ Ok (Some is)
     passes : test is ≡ true
-    first : (x : List ℕ) → Contains before x → (l : PolicyLine) → line_answer x ≡ Ok (Some l) → test l ≡ true → ⊥
+    first : (x : List ℕ) → Contains before x → (l : PolicyLine) → line_answer newest_form x ≡ Ok (Some l) → test l ≡ true → ⊥
     shows : shown ≡ shown_at (at + ended_length before) line
 
   module _ (at : ℕ) (line : List ℕ) (lines : List (List ℕ)) (shown : Stretch) where
-    found_here : (l : PolicyLine) → line_answer line ≡ Ok (Some l) → test l ≡ true → shown_at at line ≡ shown → Found at (line ∷ lines) shown
+    found_here : (l : PolicyLine) → line_answer newest_form line ≡ Ok (Some l) → test l ≡ true → shown_at at line ≡ shown → Found at (line ∷ lines) shown
     unfolding ended_length
     found_here l k t e =
         let z : at + 0 ≡ at = omega arith in
@@ -112,7 +112,7 @@ module _ (test : PolicyLine → Bool) where
           shows = sym e ∙ ap (λ (n : ℕ). shown_at n line) (sym z);
         }
 
-    found_later : ((l : PolicyLine) → line_answer line ≡ Ok (Some l) → test l ≡ true → ⊥) → Found (at + length line + 1) lines shown → Found at (line ∷ lines) shown
+    found_later : ((l : PolicyLine) → line_answer newest_form line ≡ Ok (Some l) → test l ≡ true → ⊥) → Found (at + length line + 1) lines shown → Found at (line ∷ lines) shown
     unfolding ended_length
     found_later fails f =
         let n : at + length line + 1 + ended_length f.before ≡ at + (length line + 1 + ended_length f.before) = omega arith in
@@ -124,19 +124,19 @@ module _ (test : PolicyLine → Bool) where
           is = f.is;
           read = f.read;
           passes = f.passes;
-          first = λ x m l k. ⊎_elim (λ w. fails l (ap line_answer w ∙ k)) (λ i. f.first x i l k) (contains_cases line f.before x m);
+          first = λ x m l k. ⊎_elim (λ w. fails l (ap (line_answer newest_form) w ∙ k)) (λ i. f.first x i l k) (contains_cases line f.before x m);
           shows = f.shows ∙ ap (λ (n : ℕ). shown_at n f.line) n;
         }
 
   found : (lines : List (List ℕ)) (at : ℕ) (shown : Stretch) → first_from test at lines ≡ Some shown → Found at lines shown
   unfolding first_from or_later
   found [] at shown e = let w : ◌≡◌ {A = ℕ} 0 1 = cc in absurd (omega arith)
-  found (line ∷ lines) at shown e = go (line_answer line) refl (found lines (at + length line + 1) shown) e
+  found (line ∷ lines) at shown e = go (line_answer newest_form line) refl (found lines (at + length line + 1) shown) e
     where
       next : Option Stretch
       next = first_from test (at + length line + 1) lines
 
-      go : (a : Result (Option PolicyLine) Fault) → line_answer line ≡ a → (next ≡ Some shown → Found (at + length line + 1) lines shown) → or_later test a at line next ≡ Some shown → Found at (line ∷ lines) shown
+      go : (a : Result (Option PolicyLine) Fault) → line_answer newest_form line ≡ a → (next ≡ Some shown → Found (at + length line + 1) lines shown) → or_later test a at line next ≡ Some shown → Found at (line ∷ lines) shown
       go (Ok None) k rec h = found_later at line lines shown (λ l j t. let w : ◌≡◌ {A = ℕ} 0 1 = cc in omega arith) (rec h)
       go (Err f) k rec h = let w : ◌≡◌ {A = ℕ} 0 1 = cc in absurd (omega arith)
       go (Ok (Some l)) k rec h = passing (test l) refl h
@@ -146,13 +146,13 @@ module _ (test : PolicyLine → Bool) where
           passing false t v = found_later at line lines shown (λ m j u. let w : l ≡ m = cc in true_false (ap test w ∙ u) t) (rec v)
 
   -- where none is found, no line of the policy passes
-  none_found : (lines : List (List ℕ)) (n at : ℕ) (text : List ℕ) → first_from test at lines ≡ None → (l : PolicyLine) → Contains (accepted_lines (lines_from n text lines)) l → test l ≡ true → ⊥
+  none_found : (lines : List (List ℕ)) (n at : ℕ) (text : List ℕ) → first_from test at lines ≡ None → (l : PolicyLine) → Contains (accepted_lines (lines_from newest_form n text lines)) l → test l ≡ true → ⊥
   unfolding first_from or_later accepted_lines lines_from before_later
   none_found [] n at text e l m t = omega (arith, m.1)
-  none_found (line ∷ lines) n at text e l m t = go (line_answer line) (none_found lines (n + 1) (at + length line + 1) (drop (suc (length line)) text)) e m
+  none_found (line ∷ lines) n at text e l m t = go (line_answer newest_form line) (none_found lines (n + 1) (at + length line + 1) (drop (suc (length line)) text)) e m
     where
       behind : List (Result TextLine Refusal)
-      behind = lines_from (n + 1) (drop (suc (length line)) text) lines
+      behind = lines_from newest_form (n + 1) (drop (suc (length line)) text) lines
 
       next : Option Stretch
       next = first_from test (at + length line + 1) lines
@@ -172,20 +172,20 @@ module _ (test : PolicyLine → Bool) where
 
 -- both texts were read, and their lines are the policy's
 pub record Both (maker site : List ℕ) (p : Policy) : Type 0 where
-  pub makers : Held (lines_of maker) (lines_in maker)
-  pub sites : Held (lines_of site) (lines_in site)
-  pub rules : rules_in (lines_of_both maker site) ≡ p.rules
-  pub constraints : constraints_in (lines_of_both maker site) ≡ p.constraints
+  pub makers : Held (lines_of maker) (lines_in newest_form maker)
+  pub sites : Held (lines_of site) (lines_in newest_form site)
+  pub rules : rules_in (lines_of_both newest_form maker site) ≡ p.rules
+  pub constraints : constraints_in (lines_of_both newest_form maker site) ≡ p.constraints
 
-text_held : (source : Source) (q : Policy) (text : List ℕ) (p : Policy) → in_text source (read_text_behind q text) ≡ Ok p → Held (lines_of text) (lines_in text)
-text_held source q text p e = held (lines_of text) 1 text q p (behind_read q text p (in_text_ok source (read_text_behind q text) p e)).1
+text_held : (source : Source) (q : Policy) (text : List ℕ) (p : Policy) → in_text source (read_text_behind newest_form q text) ≡ Ok p → Held (lines_of text) (lines_in newest_form text)
+text_held source q text p e = held (lines_of text) 1 text q p (behind_read newest_form q text p (in_text_ok source (read_text_behind newest_form q text) p e)).1
 
-pub both : (maker site : List ℕ) (p : Policy) → read_texts maker site ≡ Ok p → Both maker site p
+pub both : (maker site : List ℕ) (p : Policy) → read_texts newest_form maker site ≡ Ok p → Both maker site p
 unfolding read_texts read_text texts_read
 both maker site p e =
-    let k = and_then_ok (λ (q : Policy). in_text Source.Site (read_text_behind q site)) (read_text maker) p e in
+    let k = and_then_ok (λ (q : Policy). in_text Source.Site (read_text_behind newest_form q site)) (read_text newest_form maker) p e in
     let a = accepted_texts newest_form maker site (counts_of p) newest_known (ap counted e) in
-    let read : read_texts maker site ≡ Ok p = e in
+    let read : read_texts newest_form maker site ≡ Ok p = e in
     let same : a.policy ≡ p = cc (a.read) in
     record {
       makers = text_held Source.Maker empty_policy maker k.0 k.1;
@@ -201,12 +201,12 @@ pub record FirstShown (test : PolicyLine → Bool) (Says : PolicyLine → Type 0
   pub line : FirstLine Says p maker site shown
 
 module _ (test : PolicyLine → Bool) (Says : PolicyLine → Type 0) (means : (l : PolicyLine) → (test l ≡ true) ↔ Says l) (maker site : List ℕ) (p : Policy) (b : Both maker site p) where
-  both_listed : (l : PolicyLine) → Contains (lines_of_both maker site) l → Listed p l
+  both_listed : (l : PolicyLine) → Contains (lines_of_both newest_form maker site) l → Listed p l
   both_listed l m =
       subst (λ (q : Policy). Listed q l) (ap₂ (λ (x : List Rule) (y : List Constraint). record { rules = x; constraints = y }) b.rules b.constraints)
-      (line_listed (lines_of_both maker site) l m)
+      (line_listed (lines_of_both newest_form maker site) l m)
 
-  first_in : (text : List ℕ) → ((l : PolicyLine) → Contains (accepted_lines (lines_in text)) l → Listed p l) → Held (lines_of text) (lines_in text) → (shown : Stretch) → Found test 0 (lines_of text) shown → FirstOf Says p text shown
+  first_in : (text : List ℕ) → ((l : PolicyLine) → Contains (accepted_lines (lines_in newest_form text)) l → Listed p l) → Held (lines_of text) (lines_in newest_form text) → (shown : Stretch) → Found test 0 (lines_of text) shown → FirstOf Says p text shown
   unfolding shown_at trimming
   first_in text listed holds shown f =
       let n : 0 + ended_length f.before ≡ ended_length f.before = omega arith in
@@ -236,7 +236,7 @@ module _ (test : PolicyLine → Bool) (Says : PolicyLine → Type 0) (means : (l
           }
 
   -- where a line of the policy passes, there is one
-  pub first_line : (l : PolicyLine) → Contains (lines_of_both maker site) l → test l ≡ true → FirstShown test Says p maker site
+  pub first_line : (l : PolicyLine) → Contains (lines_of_both newest_form maker site) l → test l ≡ true → FirstShown test Says p maker site
   unfolding first_shown
   first_line l m t = go (first_from test 0 (lines_of maker)) (first_from test 0 (lines_of site)) refl refl
     where
@@ -245,7 +245,7 @@ module _ (test : PolicyLine → Bool) (Says : PolicyLine → Type 0) (means : (l
           record {
             shown = of_maker x;
             found = rw e;
-            line = first_in maker (λ l i. both_listed l (Contains-append_left (accepted_lines (lines_in maker)) (accepted_lines (lines_in site)) l i)) b.makers x (found test (lines_of maker) 0 x e);
+            line = first_in maker (λ l i. both_listed l (Contains-append_left (accepted_lines (lines_in newest_form maker)) (accepted_lines (lines_in newest_form site)) l i)) b.makers x (found test (lines_of maker) 0 x e);
           }
       go None (Some y) e k =
           record {
@@ -253,9 +253,9 @@ module _ (test : PolicyLine → Bool) (Says : PolicyLine → Type 0) (means : (l
             found = rw (e, k);
             line = (
               λ line i l j s. none_found test (lines_of maker) 1 0 maker e l (b.makers line i l j) ((means l).1 s),
-              first_in site (λ l i. both_listed l (Contains-append_right (accepted_lines (lines_in maker)) (accepted_lines (lines_in site)) l i)) b.sites y (found test (lines_of site) 0 y k),
+              first_in site (λ l i. both_listed l (Contains-append_right (accepted_lines (lines_in newest_form maker)) (accepted_lines (lines_in newest_form site)) l i)) b.sites y (found test (lines_of site) 0 y k),
             );
           }
       go None None e k =
           absurd (⊎_elim (λ i. none_found test (lines_of maker) 1 0 maker e l i t) (λ i. none_found test (lines_of site) 1 0 site k l i t)
-          (Contains-append_cases (accepted_lines (lines_in maker)) (accepted_lines (lines_in site)) l m))
+          (Contains-append_cases (accepted_lines (lines_in newest_form maker)) (accepted_lines (lines_in newest_form site)) l m))

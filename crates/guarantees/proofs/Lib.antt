@@ -2,6 +2,7 @@ pub mod Decisions
 pub mod Determined
 pub mod Agreement
 pub mod Lone
+pub mod NextLaws
 pub mod Exactness
 pub mod Words
 pub mod Output

@@ -7,7 +7,7 @@ use Rattle.policy.proofs.SetLaws.{has_empty}
 use Rattle.policy.specs.declared.epoch.Epoch.{Epoch}
 use Rattle.policy.specs.Fault.{refusal}
 use Rattle.policy.specs.Policy.{Policy}
-use Rattle.policy.specs.Set.{ActionSet, has_action}
+use Rattle.policy.specs.Set.{ActionSet, EventSet, has_action}
 use Rattle.policy.specs.declared.fault.Fault.{Fault}
 use Rattle.policy.specs.declared.mode.Mode.{Mode}
 use Rattle.policy.specs.declared.number.Action.{Action}
@@ -17,14 +17,13 @@ use Rattle.pdl.specs.Answer.{refuses, issues}
 use Rattle.pdl.specs.Pdl.{Satisfies, lone}
 use Rattle.pdl.specs.Reduction.{issued, withheld, unavoidable}
 use Rattle.pdl.specs.Yield.{proposed}
-use Rattle.epoch_line.specs.Epoch.{read_epoch}
 use Rattle.rule_text.specs.Text.{policy_of_texts}
 use Rattle.monitor.specs.Decision.{decision_in, answer_of}
 use Rattle.guarantees.proofs.Agreement.{image_of_texts, same_answer}
 use Rattle.guarantees.proofs.Determined.{other_in}
 use Rattle.guarantees.specs.Claims.{TextsCompileTo}
 use Rattle.guarantees.specs.Decisions.{KeptOut}
-use Rattle.guarantees.specs.Machine.{yield_in, answer, step}
+use Rattle.guarantees.specs.Machine.{next_epoch, yield_in, answer, step}
 
 module _ (p : Policy) (e : Epoch) (a : Action) (listed : Contains p.constraints (lone a)) where
   rejects : (s : ActionSet) → Satisfies p.constraints e.readings s → has_action s a ≡ false
@@ -46,14 +45,14 @@ module _ (p : Policy) (e : Epoch) (a : Action) (listed : Contains p.constraints 
             cancelled = λ r h. other_in (proposed p.rules e) (issued p e) (withheld p e) (record { rest = issued_with_withheld p e; apart = withheld_apart p e }) a h out;
           }
 
-pub lone_constraint_cancels : (form : ℕ) (maker site image : List ℕ) → TextsCompileTo form maker site image → (p : Policy) → policy_of_texts maker site ≡ Some p
-    → (x : Action) → Contains p.constraints (lone x) → (mode : Mode) (line : List ℕ) (e : Epoch) → read_epoch line ≡ Ok e
-    → KeptOut p e x (answer_of (decision_in mode image line))
+pub lone_constraint_cancels : (form : ℕ) (maker site image : List ℕ) → TextsCompileTo form maker site image → (p : Policy) → policy_of_texts form maker site ≡ Some p
+    → (x : Action) → Contains p.constraints (lone x) → (mode : Mode) (pending : EventSet) (line : List ℕ) (e : Epoch) → next_epoch p pending line ≡ Ok e
+    → KeptOut p e x (answer_of (decision_in mode image pending line))
 unfolding step answer
-lone_constraint_cancels form maker site image c p q x listed mode line e r =
+lone_constraint_cancels form maker site image c p q x listed mode pending line e r =
     let t = image_of_texts form maker site image c in
     let k : Some p ≡ Some t.policy = sym q ∙ t.read in
     let same : t.policy ≡ p = cc in
     subst⁻¹ (KeptOut p e x)
-    (ap (λ (i : List ℕ). answer_of (decision_in mode i line)) t.same ∙ same_answer form t.form_known t.policy t.acceptable mode line ∙ ap (λ (y : Policy). step mode y line) same ∙ ap (answer mode p) r)
+    (ap (λ (i : List ℕ). answer_of (decision_in mode i pending line)) t.same ∙ same_answer form t.form_known t.policy t.acceptable mode pending line ∙ ap (λ (y : Policy). step mode y pending line) same ∙ ap (answer mode p) r)
     (kept_out p e x listed mode)

@@ -1,21 +1,21 @@
 -- What holds of every decision in the second mode, that of event cancellation. It is what the image's policy yields, the kept events
 -- are a maximal reduction free of conflict, and it is refused for a conflict exactly where there is none.
-use Rattle.std.proofs.Common.{ℕ, Bool, true, false, cond, List, ◌↔◌, ⊎_elim, ◌≡◌, refl, sym, ap, ◌∙◌, subst, arith, length, Ok, Err}
+use Rattle.std.proofs.Common.{ℕ, ◌<◌, ◌^◌, Bool, true, false, cond, List, ◌↔◌, ⊎_elim, ◌≡◌, refl, sym, ap, ◌∙◌, subst, arith, length, Ok, Err}
 use Rattle.policy.specs.declared.epoch.Epoch.{Epoch}
 use Rattle.policy.specs.Fault.{refusal}
 use Rattle.policy.specs.Limits.{Acceptable}
 use Rattle.policy.specs.Policy.{Policy}
-use Rattle.policy.specs.Set.{actions_without}
+use Rattle.policy.specs.Epoch.{InAlphabet}
+use Rattle.policy.specs.Set.{EventSet, actions_without}
 use Rattle.policy.specs.declared.fault.Fault.{Fault}
 use Rattle.policy.specs.declared.fault.Refusal.{Refusal}
 use Rattle.policy.specs.declared.mode.Mode.{Mode}
 use Rattle.pdl.proofs.Reduction.{unavoidable_exactly, reducible_avoids, kept_maximal, issued_within, issued_satisfies, issued_with_withheld, withheld_apart, giving_back_clashes, dropped_trial, all_kept, nothing_withheld}
 use Rattle.pdl.specs.Answer.{refuses, issues}
 use Rattle.pdl.specs.Pdl.{Reducible}
-use Rattle.pdl.specs.Reduction.{proposed_with, kept_events, issued, withheld, unavoidable}
-use Rattle.pdl.specs.Yield.{proposed}
+use Rattle.pdl.specs.Reduction.{proposed_with, kept_events, issued, withheld, kept_triggers, unavoidable}
+use Rattle.pdl.specs.Yield.{proposed, with_pending}
 use Rattle.acceptance.proofs.Alphabet.{line_inside}
-use Rattle.epoch_line.specs.Epoch.{read_epoch}
 use Rattle.word.specs.Word.{Bytes, words_of}
 use Rattle.image.specs.Held.{policy_in}
 use Rattle.image.specs.Load.{load, Contents}
@@ -23,9 +23,11 @@ use Rattle.layout.specs.Layout.{known_form, image_of}
 use Rattle.exactness.specs.Exact.{contents_of}
 use Rattle.meaning.proofs.Decided.{reduction_of, events_decided_are}
 use Rattle.meaning.proofs.Taken.{Implements, written_implements, taken_implements}
-use Rattle.monitor.specs.Decision.{actions_of, tried_event_words, decided_by, decision_in, answer_of}
-use Rattle.guarantees.proofs.Decisions.{refused_for, refused_cases, either_faults, not_refused}
-use Rattle.guarantees.specs.Machine.{yield_in}
+use Rattle.monitor.specs.Decision.{actions_of, tried_event_words, decided_by, decision_in, pending_after, answer_of}
+use Rattle.guarantees.proofs.Decisions.{OfEpochAlone, refused_for, refused_cases, either_faults, not_refused}
+use Rattle.guarantees.proofs.NextLaws.{Next, next_out, next_in}
+use Rattle.policy.proofs.SetLaws.{union_limit}
+use Rattle.guarantees.specs.Machine.{next_epoch, yield_in, triggered_in, set_after}
 use Rattle.guarantees.specs.Decisions.{RefusedIn, as_first, for_conflict, OfDecisionIn, of_either, of_conflict, ObeysEvents}
 
 -- ---- what a policy decides in this mode
@@ -36,7 +38,7 @@ module _ (p : Policy) (e : Epoch) (words : ℕ) where
   answer_is = go (unavoidable p e)
     where
       go : (b : Bool)
-          → answer_of (cond b (Err (refusal Fault.Unavoidable 0)) (Ok (actions_of (proposed p.rules e) (issued p e) words)))
+          → answer_of (cond b (Err (refusal Fault.Unavoidable 0)) (Ok (actions_of (proposed p.rules e) (issued p e) (kept_triggers p e) words)))
           ≡ cond b (refuses (refusal Fault.Unavoidable 0)) (issues (issued p e) (actions_without (proposed p.rules e) (issued p e)))
       go true = refl
       go false = refl
@@ -44,7 +46,7 @@ module _ (p : Policy) (e : Epoch) (words : ℕ) where
   refuses_out : (r : Refusal) → reduction_of p e words ≡ Err r → (unavoidable p e ≡ true) × (r ≡ refusal Fault.Unavoidable 0)
   refuses_out r = go (unavoidable p e)
     where
-      go : (b : Bool) → cond b (Err (refusal Fault.Unavoidable 0)) (Ok (actions_of (proposed p.rules e) (issued p e) words)) ≡ Err r
+      go : (b : Bool) → cond b (Err (refusal Fault.Unavoidable 0)) (Ok (actions_of (proposed p.rules e) (issued p e) (kept_triggers p e) words)) ≡ Err r
           → (b ≡ true) × (r ≡ refusal Fault.Unavoidable 0)
       go true h = let w : r ≡ refusal Fault.Unavoidable 0 = cc in (refl, w)
       go false h = let z : ◌≡◌ {A = ℕ} 0 1 = cc in absurd (omega arith)
@@ -59,30 +61,35 @@ module _ (p : Policy) (e : Epoch) (words : ℕ) where
 -- ---- an image that is taken
 
 module _ (image : List ℕ) (contents : Contents) (p : Policy) (does : Implements image contents p) where
-  module _ (line : List ℕ) (e : Epoch) (read : read_epoch line ≡ Ok e) where
+  module _ (pending : EventSet) (line : List ℕ) (e : Epoch) (next : next_epoch p pending line ≡ Ok e) where
+    n : Next p pending line e
+    n = next_out p pending line e next
+
     abbrev words : ℕ
     words = tried_event_words contents.parts.rules contents.parts.constraints e
 
-    decided : decision_in Mode.Events image line ≡ reduction_of p e words
-    decided = events_decided_are image contents p does line e read
+    pub decided : decision_in Mode.Events image pending line ≡ reduction_of p e words
+    decided =
+        events_decided_are image contents p does pending line n.named n.read n.free
+        ∙ ap (λ (x : Epoch). reduction_of p x (tried_event_words contents.parts.rules contents.parts.constraints x)) n.whole
 
     -- the decision is what the policy yields
-    pub reduces_policy : answer_of (decision_in Mode.Events image line) ≡ yield_in Mode.Events p e
+    pub reduces_policy : answer_of (decision_in Mode.Events image pending line) ≡ yield_in Mode.Events p e
     reduces_policy = ap answer_of decided ∙ answer_is p e words
 
     -- it is refused for a conflict exactly if no reduction of the epoch is free of conflict
-    pub conflict_exactly : (decision_in Mode.Events image line ≡ Err (refusal Fault.Unavoidable 0)) ↔ ¬ Reducible p.constraints (proposed_with p.rules) e
+    pub conflict_exactly : (decision_in Mode.Events image pending line ≡ Err (refusal Fault.Unavoidable 0)) ↔ ¬ Reducible p.constraints (proposed_with p.rules) e
     conflict_exactly = (
       (λ h. (unavoidable_exactly p e).0 (refuses_out p e words (refusal Fault.Unavoidable 0) (sym decided ∙ h)).0),
       λ h. decided ∙ refuses_in_is p e words ((unavoidable_exactly p e).1 h),
     )
 
     -- otherwise the kept events are a maximal such reduction, and what they propose is issued
-    pub obeys_events : Reducible p.constraints (proposed_with p.rules) e → ObeysEvents p e (kept_events p e) (answer_of (decision_in Mode.Events image line))
+    pub obeys_events : pending.bits < 2 ^ 64 → Reducible p.constraints (proposed_with p.rules) e → ObeysEvents p e (kept_events p e) (answer_of (decision_in Mode.Events image pending line))
     unfolding issued
-    obeys_events r =
+    obeys_events small r =
         let avoidable = reducible_avoids p e r in
-        let inside = line_inside line e read in
+        let inside : InAlphabet e = subst InAlphabet n.whole (union_limit n.named.events.bits pending.bits (line_inside line n.named n.read) small) in
         subst (ObeysEvents p e (kept_events p e)) (sym (reduces_policy ∙ issued_is p e words avoidable)) (record {
           issued = not_refused;
           maximal = kept_maximal p e inside avoidable;
@@ -99,47 +106,65 @@ module _ (image : List ℕ) (contents : Contents) (p : Policy) (does : Implement
 -- ---- refusals in either mode
 
 -- a decision is refused exactly for what it is refused for in the first mode or, in the second, where no reduction is free of conflict
-pub refused_exactly : (mode : Mode) (image line : List ℕ) → Bytes image → (r : Refusal) → (decision_in mode image line ≡ Err r) ↔ RefusedIn mode image line r
+pub refused_exactly : (mode : Mode) (image : List ℕ) (pending : EventSet) (line : List ℕ) → Bytes image → (r : Refusal) → (decision_in mode image pending line ≡ Err r) ↔ RefusedIn mode image pending line r
 unfolding decided_by
-refused_exactly mode image line bounded r = (λ h. ⊎_elim as_first (λ x. epoch_case mode h x.0 x.1 x.2 x.3 x.4) (refused_cases mode image line r h), back)
+refused_exactly mode image pending line bounded r = (λ h. ⊎_elim as_first (epoch_case mode h) (refused_cases mode image bounded pending line r h), back)
   where
-    does : (contents : Contents) → load image ≡ Ok contents → Implements image contents (policy_in image)
+    p : Policy
+    p = policy_in image
+
+    does : (contents : Contents) → load image ≡ Ok contents → Implements image contents p
     does contents t = taken_implements image bounded contents t
 
-    epoch_case : (m : Mode) → decision_in m image line ≡ Err r → (contents : Contents) → load image ≡ Ok contents → (e : Epoch) → read_epoch line ≡ Ok e
-        → decided_by m contents e ≡ Err r → RefusedIn m image line r
-    epoch_case Mode.Actions h contents t e q d = let z : ◌≡◌ {A = ℕ} 0 1 = cc in absurd (omega arith)
-    epoch_case Mode.Events h contents t e q d =
-        let w = refuses_out (policy_in image) e (words image contents (policy_in image) (does contents t) line e q) r (sym (decided image contents (policy_in image) (does contents t) line e q) ∙ h) in
-        for_conflict refl contents t e q ((unavoidable_exactly (policy_in image) e).0 w.0) w.1
+    epoch_case : (m : Mode) → decision_in m image pending line ≡ Err r → OfEpochAlone m image bounded pending line r → RefusedIn m image pending line r
+    epoch_case Mode.Actions h a = let d = a.refused in let z : ⊥ = cc in absurd z
+    epoch_case Mode.Events h a =
+        let next = next_in p pending line a.named a.read a.free in
+        let w = refuses_out p (with_pending pending a.named) _ r (sym (decided image a.contents p (does a.contents a.taken) pending line _ next) ∙ h) in
+        for_conflict refl a.contents a.taken (with_pending pending a.named) next ((unavoidable_exactly p (with_pending pending a.named)).0 w.0) w.1
 
-    back : RefusedIn mode image line r → decision_in mode image line ≡ Err r
-    back (as_first f) = refused_for mode image line r f
+    back : RefusedIn mode image pending line r → decision_in mode image pending line ≡ Err r
+    back (as_first f) = refused_for mode image bounded pending line r f
     back (for_conflict m contents t e q none w) =
-        ap (λ (x : Mode). decision_in x image line) m ∙ (conflict_exactly image contents (policy_in image) (does contents t) line e q).1 none ∙ ap Err (sym w)
+        ap (λ (x : Mode). decision_in x image pending line) m ∙ (conflict_exactly image contents p (does contents t) pending line e q).1 none ∙ ap Err (sym w)
 
 -- and under which faults, at which locations
-pub decision_faults : (mode : Mode) (image line : List ℕ) → Bytes image → (r : Refusal) → decision_in mode image line ≡ Err r → OfDecisionIn mode (length (words_of image)) r
-decision_faults mode image line bounded r h = go ((refused_exactly mode image line bounded r).0 h)
+pub decision_faults : (mode : Mode) (image : List ℕ) (pending : EventSet) (line : List ℕ) → Bytes image → (r : Refusal) → decision_in mode image pending line ≡ Err r
+    → OfDecisionIn mode (length (words_of image)) r
+decision_faults mode image pending line bounded r h = go ((refused_exactly mode image pending line bounded r).0 h)
   where
-    go : RefusedIn mode image line r → OfDecisionIn mode (length (words_of image)) r
+    go : RefusedIn mode image pending line r → OfDecisionIn mode (length (words_of image)) r
     go (as_first f) = of_either (either_faults image line r f)
     go (for_conflict m contents t e q none w) = of_conflict m w
 
 -- ---- the image of a policy that an accepted text may have
 
-module _ (form : ℕ) (known : known_form form ≡ true) (p : Policy) (ok : Acceptable p) (line : List ℕ) (e : Epoch) (read : read_epoch line ≡ Ok e) where
+module _ (form : ℕ) (known : known_form form ≡ true) (p : Policy) (ok : Acceptable form p) (pending : EventSet) (line : List ℕ) (e : Epoch) (next : next_epoch p pending line ≡ Ok e) where
   abbrev image : List ℕ
   image = image_of form p
 
   written : Implements image (contents_of form p) p
   written = written_implements form known p ok
 
-  pub written_reduces : answer_of (decision_in Mode.Events image line) ≡ yield_in Mode.Events p e
-  written_reduces = reduces_policy image (contents_of form p) p written line e read
+  pub written_reduces : answer_of (decision_in Mode.Events image pending line) ≡ yield_in Mode.Events p e
+  written_reduces = reduces_policy image (contents_of form p) p written pending line e next
 
-  pub written_conflict : (decision_in Mode.Events image line ≡ Err (refusal Fault.Unavoidable 0)) ↔ ¬ Reducible p.constraints (proposed_with p.rules) e
-  written_conflict = conflict_exactly image (contents_of form p) p written line e read
+  -- the events are pending that the kept ones trigger, and those before where the epoch is refused
+  pub written_events_trigger : pending_after pending (decision_in Mode.Events image pending line) ≡ set_after pending Mode.Events p (Ok e)
+  unfolding pending_after set_after yield_in triggered_in
+  written_events_trigger = ap (pending_after pending) (decided image (contents_of form p) p written pending line e next) ∙ go (unavoidable p e)
+    where
+      words : ℕ
+      words = tried_event_words (contents_of form p).parts.rules (contents_of form p).parts.constraints e
 
-  pub written_obeys_events : Reducible p.constraints (proposed_with p.rules) e → ObeysEvents p e (kept_events p e) (answer_of (decision_in Mode.Events image line))
-  written_obeys_events = obeys_events image (contents_of form p) p written line e read
+      go : (b : Bool)
+          → pending_after pending (cond b (Err (refusal Fault.Unavoidable 0)) (Ok (actions_of (proposed p.rules e) (issued p e) (kept_triggers p e) words)))
+          ≡ cond (cond b (refuses (refusal Fault.Unavoidable 0)) (issues (issued p e) (withheld p e))).is_refused pending (kept_triggers p e)
+      go true = refl
+      go false = refl
+
+  pub written_conflict : (decision_in Mode.Events image pending line ≡ Err (refusal Fault.Unavoidable 0)) ↔ ¬ Reducible p.constraints (proposed_with p.rules) e
+  written_conflict = conflict_exactly image (contents_of form p) p written pending line e next
+
+  pub written_obeys_events : pending.bits < 2 ^ 64 → Reducible p.constraints (proposed_with p.rules) e → ObeysEvents p e (kept_events p e) (answer_of (decision_in Mode.Events image pending line))
+  written_obeys_events = obeys_events image (contents_of form p) p written pending line e next

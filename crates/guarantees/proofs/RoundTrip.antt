@@ -13,7 +13,7 @@ use Rattle.image.specs.Held.{policy_in}
 use Rattle.exactness.proofs.Exact.{held_acceptable, held_image, held_form, image_taken, image_holds}
 use Rattle.printer.proofs.Longest.{longest_reached}
 use Rattle.printer.proofs.Printing.{text_read_is, text_injective}
-use Rattle.printer.specs.Printed.{longest_text, text_of}
+use Rattle.printer.specs.Printed.{longest_text_for, text_of}
 use Rattle.codegen.proofs.Compilation.{text_delivered}
 use Rattle.codegen.specs.Compile.{compiled}
 use Rattle.decompile.proofs.Decompilation.{text_written, never_short}
@@ -24,7 +24,7 @@ use Rattle.guarantees.specs.Claims.{CompilesTo, TextsCompileTo, DecompilesTo}
 -- the text is that of the policy which the image holds, an acceptable one whose image it is
 record TextOfImage (image text : List ℕ) : Type 0 where
   pub same : text ≡ text_of (policy_in image)
-  pub acceptable : Acceptable (policy_in image)
+  pub acceptable : Acceptable (form_byte (words_of image)) (policy_in image)
   pub form_known : known_form (form_byte (words_of image)) ≡ true
   pub again : image_of (form_byte (words_of image)) (policy_in image) ≡ image
 
@@ -46,7 +46,7 @@ text_recompiles image text bounded d buffer room =
     let p : Policy = policy_in image in
     let form : ℕ = form_byte (words_of image) in
     let e : compiled form (text_of p) buffer ≡ deliver (image_of form p) buffer =
-    text_delivered form (text_of p) buffer t.form_known p (text_read_is p t.acceptable) (rw t.again room) in
+    text_delivered form (text_of p) buffer t.form_known p (text_read_is form p t.acceptable) (rw t.again room) in
     let k : compiled form text buffer ≡ deliver image buffer = rw t.same (e ∙ ap (λ (i : List ℕ). deliver i buffer) t.again) in
     (ap (λ (o : Filled). o.answer) k, ap (λ (o : Filled). o.buffer) k)
 
@@ -54,7 +54,8 @@ text_recompiles image text bounded d buffer room =
 record TextOf (known : Option Policy) (written : List ℕ) : Type 0 where
   pub policy : Policy
   pub read : known ≡ Some policy
-  pub acceptable : Acceptable policy
+  pub form : ℕ
+  pub acceptable : Acceptable form policy
   pub same : written ≡ text_of policy
 
 pub image_bytes : (form : ℕ) (p : Policy) → Bytes (image_of form p)
@@ -65,13 +66,13 @@ text_of_known : (form : ℕ) (known : Option Policy) (image written : List ℕ) 
 text_of_known form known image written i d =
     let bounded : Bytes image = rw i.same (image_bytes form i.policy) in
     let holds : policy_in image ≡ i.policy = ap policy_in i.same ∙ image_holds form i.form_known i.policy i.acceptable in
-    record { policy = i.policy; read = i.read; acceptable = i.acceptable; same = (text_of_image image written bounded d).same ∙ ap text_of holds }
+    record { policy = i.policy; read = i.read; form = form; acceptable = i.acceptable; same = (text_of_image image written bounded d).same ∙ ap text_of holds }
 
 same_restored : (known known' : Option Policy) (u v : List ℕ) → TextOf known u → TextOf known' v → (u ≡ v) ↔ (known ≡ known')
 same_restored known known' u v a b = (there, back)
   where
     there : u ≡ v → known ≡ known'
-    there e = a.read ∙ ap Some (text_injective a.policy b.policy a.acceptable b.acceptable (sym a.same ∙ e ∙ b.same)) ∙ sym b.read
+    there e = a.read ∙ ap Some (text_injective a.form b.form a.policy b.policy a.acceptable b.acceptable (sym a.same ∙ e ∙ b.same)) ∙ sym b.read
 
     back : known ≡ known' → u ≡ v
     back e =
@@ -81,24 +82,24 @@ same_restored known known' u v a b = (there, back)
 
 -- two accepted texts give equal written texts exactly if they have the same rules in the same order and the same constraints in
 -- theirs, in whichever forms they were compiled
-pub same_texts : (form form' : ℕ) (s t i j u v : List ℕ) → CompilesTo form s i → CompilesTo form' t j → DecompilesTo i u → DecompilesTo j v → (u ≡ v) ↔ (policy_of s ≡ policy_of t)
+pub same_texts : (form form' : ℕ) (s t i j u v : List ℕ) → CompilesTo form s i → CompilesTo form' t j → DecompilesTo i u → DecompilesTo j v → (u ≡ v) ↔ (policy_of form s ≡ policy_of form' t)
 same_texts form form' s t i j u v c d f g =
-    same_restored (policy_of s) (policy_of t) u v (text_of_known form (policy_of s) i u (image_of_text form s i c) f) (text_of_known form' (policy_of t) j v (image_of_text form' t j d) g)
+    same_restored (policy_of form s) (policy_of form' t) u v (text_of_known form (policy_of form s) i u (image_of_text form s i c) f) (text_of_known form' (policy_of form' t) j v (image_of_text form' t j d) g)
 
 -- the same of two pairs of texts
 pub pairs_same_texts : (form form' : ℕ) (maker site maker' site' i j u v : List ℕ) → TextsCompileTo form maker site i → TextsCompileTo form' maker' site' j → DecompilesTo i u → DecompilesTo j v
-    → (u ≡ v) ↔ (policy_of_texts maker site ≡ policy_of_texts maker' site')
+    → (u ≡ v) ↔ (policy_of_texts form maker site ≡ policy_of_texts form' maker' site')
 pairs_same_texts form form' maker site maker' site' i j u v c d f g =
-    same_restored (policy_of_texts maker site) (policy_of_texts maker' site') u v
-    (text_of_known form (policy_of_texts maker site) i u (image_of_texts form maker site i c) f)
-    (text_of_known form' (policy_of_texts maker' site') j v (image_of_texts form' maker' site' j d) g)
+    same_restored (policy_of_texts form maker site) (policy_of_texts form' maker' site') u v
+    (text_of_known form (policy_of_texts form maker site) i u (image_of_texts form maker site i c) f)
+    (text_of_known form' (policy_of_texts form' maker' site') j v (image_of_texts form' maker' site' j d) g)
 
--- in each form some accepted text compiles to an image whose written text has 27,968 bytes
-pub bound_reached : (form : ℕ) → known_form form ≡ true → (text : List ℕ) × ((image : List ℕ) × ((written : List ℕ) × (CompilesTo form text image × (DecompilesTo image written × (length written ≡ longest_text)))))
+-- in each form some accepted text compiles to an image whose written text has the most bytes
+pub bound_reached : (form : ℕ) → known_form form ≡ true → (text : List ℕ) × ((image : List ℕ) × ((written : List ℕ) × (CompilesTo form text image × (DecompilesTo image written × (length written ≡ longest_text_for form)))))
 bound_reached form known =
-    let p : Policy = longest_reached.0 in
-    let ok : Acceptable p = longest_reached.1.0 in
-    let long : length (text_of p) ≡ longest_text = longest_reached.1.1 in
+    let p : Policy = (longest_reached form).0 in
+    let ok : Acceptable form p = (longest_reached form).1.0 in
+    let long : length (text_of p) ≡ longest_text_for form = (longest_reached form).1.1 in
     let image : List ℕ = image_of form p in
     let holds : policy_in image ≡ p = image_holds form known p ok in
     let printed = never_short image (text_of p) _ (image_taken form known p ok) (image_bytes form p) (omega arith) in

@@ -11,6 +11,7 @@ use Rattle.lexer.proofs.LeadingLaws.{leading_joined, leading_pass, leading_ends}
 use Rattle.lexer.specs.Byte.{is_space}
 use Rattle.lexer.specs.Lines.{prepend, pieces, lines_of, non_empty, tokens_of, take_leading}
 use Rattle.syntax.specs.Judge.{tokens_answer, line_answer}
+use Rattle.codegen.specs.Compile.{newest_form}
 use Rattle.explanation.specs.Part.{trim_start, add_to_trimmed, trim_end, trim}
 use Rattle.guarantees.specs.Explanations.{ended_length, Spaces, Trimmed, Straight}
 
@@ -88,12 +89,12 @@ unfolding tokens_of pieces non_empty
 spaces_skipped [] h = refl
 spaces_skipped (b ∷ s) h = rw (eq-eqb b 32 (h b (contains_first b s))) (spaces_skipped s (λ c m. h c (contains_later b s c m)))
 
-pub not_empty : (line part : List ℕ) (l : PolicyLine) → line_answer line ≡ Ok (Some l) → Trimmed line part → part ≡ [] → ⊥
+pub not_empty : (line part : List ℕ) (l : PolicyLine) → line_answer newest_form line ≡ Ok (Some l) → Trimmed line part → part ≡ [] → ⊥
 unfolding line_answer tokens_answer
 not_empty line part l e t z =
     let same : line ≡ t.ahead ++ t.behind = t.whole ∙ ap (λ (p : List ℕ). t.ahead ++ (p ++ t.behind)) z in
     let none : tokens_of line ≡ [] = spaces_skipped line (λ b m. ⊎_elim (t.spaces_ahead b) (t.spaces_behind b) (Contains-append_cases t.ahead t.behind b (rw same at m))) in
-    let k : line_answer line ≡ Ok None = ap tokens_answer none in
+    let k : line_answer newest_form line ≡ Ok None = ap (tokens_answer newest_form) none in
     cc
 
 -- ---- where a line stands

@@ -8,6 +8,7 @@ use Rattle.acceptance.proofs.Accepted.{texts_acceptable}
 use Rattle.codegen.proofs.Compilation.{texts_form_refused, texts_written}
 use Rattle.codegen.specs.Compile.{in_form, compiled_texts}
 use Rattle.codegen.proofs.RoomLaws.{texts_refusal, texts_read_is}
+use Rattle.policy.specs.Set.{no_events}
 use Rattle.rule_text.specs.Text.{read_texts}
 use Rattle.monitor.specs.declared.decision.Actions.{Actions}
 use Rattle.guarantees.specs.Together.{decided_lines, DecidedBy}
@@ -17,19 +18,19 @@ use Rattle.layout.specs.Layout.{known_form, size_limit}
 
 module _ (form : ℕ) (maker site buffer written : List ℕ) (size : ℕ) (made : Ok size ≡ (compiled_texts form maker site buffer).answer)
     (wrote : written ≡ (compiled_texts form maker site buffer).buffer) (long : length buffer ≡ size_limit) where
-  pub together_decided : (lines : List Told) (old new : List (Result Actions Refusal)) → new ≡ decided_lines (take size written) lines old → DecidedBy form maker site lines old new
+  pub together_decided : (lines : List Told) (old new : List (Result Actions Refusal)) → new ≡ decided_lines (take size written) no_events lines old → DecidedBy form maker site lines old new
   together_decided lines old new q =
       let known = (texts_written form maker site buffer size (sym made)).form_known in
       let t = texts_read_is form known maker site buffer long size (sym made) in
-      let d = q ∙ ap (λ (i : List ℕ). decided_lines i lines old) (ap (take size) wrote ∙ t.image) in
-      record { known = known; policy = t.policy; read = t.read; decided = d; agreed = rw d (decided_agree form known t.policy (texts_acceptable maker site t.policy t.read) lines old) }
+      let d = q ∙ ap (λ (i : List ℕ). decided_lines i no_events lines old) (ap (take size) wrote ∙ t.image) in
+      record { known = known; policy = t.policy; read = t.read; decided = d; agreed = rw d (decided_agree form known t.policy (texts_acceptable form maker site t.policy t.read) lines old) }
 
 -- a compilation for which there is room is refused for the form or for the texts
 module _ (form : ℕ) (maker site buffer : List ℕ) (long : length buffer ≡ size_limit) where
-  pub together_refused : (r : Refusal) → (compiled_texts form maker site buffer).answer ≡ Err r → in_form form (read_texts maker site) ≡ Err r
+  pub together_refused : (r : Refusal) → (compiled_texts form maker site buffer).answer ≡ Err r → in_form form (read_texts form maker site) ≡ Err r
   together_refused r e = go (known_form form) refl
     where
-      go : (b : Bool) → known_form form ≡ b → in_form form (read_texts maker site) ≡ Err r
+      go : (b : Bool) → known_form form ≡ b → in_form form (read_texts form maker site) ≡ Err r
       go true k = rw k (texts_refusal form k maker site buffer long r e)
       go false k =
           let q = sym (ap (λ f. f.answer) (texts_form_refused form maker site buffer k)) ∙ e in

@@ -1,10 +1,12 @@
 -- What the claims about the whole speak of, in terms of what the contracts of `compile`, `compile_texts`, `load_image`,
 -- `decide` and `decompile` say.
-use Rattle.std.specs.Prelude.{ℕ, List, map, ◌≡◌, take, Ok}
+use Rattle.std.specs.Prelude.{ℕ, List, [], ◌∷◌, ◌≡◌, take, Ok}
 use Rattle.policy.specs.Fill.{Filled}
 use Rattle.codegen.specs.Compile.{compiled, compiled_texts}
 use Rattle.decompile.specs.Decompile.{decompiled}
-use Rattle.monitor.specs.Decision.{decision_in, answer_of}
+use Rattle.policy.specs.Set.{EventSet, no_events}
+use Rattle.monitor.specs.Decision.{advanced, answer_of}
+use Rattle.monitor.specs.declared.state.Decided.{Decided}
 use Rattle.pdl.specs.Answer.{Answer}
 use Rattle.word.specs.Word.{Bytes}
 use Rattle.guarantees.specs.Machine.{ToldLine}
@@ -31,9 +33,25 @@ pub record DecompilesTo (image text : List ℕ) : Type 0 where
   pub accepted : (decompiled image buffer).answer ≡ Ok size
   pub written : take size (decompiled image buffer).buffer ≡ text
 
--- the decisions on an image, line after line, each in its own mode and as an `Answer`
-unfoldable pub answers : List ℕ → List ToldLine → List Answer
-answers image lines = map (λ (x : ToldLine). answer_of (decision_in x.mode image x.line)) lines
+-- the decisions on an image, line after line, each in its own mode and as an `Answer`: the first where these events are pending, each other
+-- one where those are that the one before it left
+unfoldable pub answers_from : List ℕ → EventSet → List ToldLine → List Answer
+answers_from image pending [] = []
+answers_from image pending (x ∷ lines) =
+    let next : Decided = advanced x.mode image pending x.line in
+    answer_of next.answer ∷ answers_from image next.pending lines
+
+-- the events that are pending behind them
+unfoldable pub pending_from : List ℕ → EventSet → List ToldLine → EventSet
+pending_from image pending [] = pending
+pending_from image pending (x ∷ lines) = pending_from image (advanced x.mode image pending x.line).pending lines
+
+-- at the start none is pending
+abbrev pub answers : List ℕ → List ToldLine → List Answer
+answers image lines = answers_from image no_events lines
+
+abbrev pub pending_behind : List ℕ → List ToldLine → EventSet
+pending_behind image lines = pending_from image no_events lines
 
 -- some accepted text compiles to the image, in some form
 pub record SomeText (image : List ℕ) : Type 0 where

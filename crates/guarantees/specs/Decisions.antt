@@ -1,9 +1,10 @@
 -- What is claimed of decisions: for what one is refused, and what a policy asks of one.
-use Rattle.std.specs.Prelude.{ℕ, ◌≤◌, true, false, List, ◌≡◌, Ok, Err}
+use Rattle.std.specs.Prelude.{ℕ, ◌≤◌, true, false, List, Contains, ◌≡◌, Ok, Err}
+use Rattle.policy.specs.declared.effect.Effect.{Effect}
 use Rattle.policy.specs.declared.epoch.Epoch.{Epoch}
 use Rattle.policy.specs.Fault.{refusal}
-use Rattle.policy.specs.Policy.{Policy}
-use Rattle.policy.specs.Set.{ActionSet, EventSet, has_event, insert_event, events_below, no_actions, has_action, insert_action, union_actions, actions_below}
+use Rattle.policy.specs.Policy.{Policy, Rule}
+use Rattle.policy.specs.Set.{ActionSet, EventSet, all_events, keeping, has_event, insert_event, events_below, no_actions, has_action, insert_action, union_actions, actions_below}
 use Rattle.policy.specs.declared.fault.Fault.{Fault}
 use Rattle.policy.specs.declared.fault.Refusal.{Refusal}
 use Rattle.policy.specs.declared.mode.Mode.{Mode}
@@ -11,34 +12,39 @@ use Rattle.policy.specs.declared.number.Action.{Action}
 use Rattle.policy.specs.declared.number.Event.{Event}
 use Rattle.pdl.specs.Answer.{Answer, issues}
 use Rattle.pdl.specs.Best.{LowestDifference, BestIn}
-use Rattle.pdl.specs.Pdl.{Satisfies, Violated, MaximalIn, MaximalReduction, Reducible, ◌⊆◌, ◌⊑◌}
-use Rattle.pdl.specs.Reduction.{proposed_with}
+use Rattle.pdl.specs.Pdl.{Derives, Satisfies, Violated, MaximalIn, MaximalReduction, Reducible, ◌⊆◌, ◌⊑◌}
+use Rattle.pdl.specs.Reduction.{kept_events, proposed_with}
 use Rattle.pdl.specs.Yield as Yield
-use Rattle.pdl.specs.Yield.{proposed}
+use Rattle.pdl.specs.Yield.{proposed, names_reserved}
 use Rattle.epoch_line.specs.Epoch.{read_epoch}
 use Rattle.acceptance.specs.Refusals.{OfEpoch}
 use Rattle.image.specs.Held.{policy_in}
 use Rattle.image.specs.Load.{load, Contents}
 use Rattle.exactness.specs.Exact.{RefusalOf}
+use Rattle.guarantees.specs.Machine.{next_epoch}
 
 -- ---- when a decision is refused
 
--- for what a decision is refused: the image's fault comes first, and nothing else counts
+-- for what a decision is refused: the image's fault comes first, then those of the line, and then 18, where it names an event that some
+-- rule of the image's policy triggers
 pub data RefusedFor (image line : List ℕ) (r : Refusal) : Type 0 where
   the_image : load image ≡ Err r → RefusedFor image line r
   the_line : (contents : Contents) → load image ≡ Ok contents → read_epoch line ≡ Err r → RefusedFor image line r
+  the_reserved : (contents : Contents) → load image ≡ Ok contents → (e : Epoch) → read_epoch line ≡ Ok e → names_reserved (policy_in image).rules e ≡ true
+      → r ≡ refusal Fault.ReservedEvent 0 → RefusedFor image line r
 
 -- the same in either mode: in the second also where no reduction of the epoch is free of conflict
-pub data RefusedIn (mode : Mode) (image line : List ℕ) (r : Refusal) : Type 0 where
-  as_first : RefusedFor image line r → RefusedIn mode image line r
-  for_conflict : mode ≡ Mode.Events → (contents : Contents) → load image ≡ Ok contents → (e : Epoch) → read_epoch line ≡ Ok e
+pub data RefusedIn (mode : Mode) (image : List ℕ) (pending : EventSet) (line : List ℕ) (r : Refusal) : Type 0 where
+  as_first : RefusedFor image line r → RefusedIn mode image pending line r
+  for_conflict : mode ≡ Mode.Events → (contents : Contents) → load image ≡ Ok contents → (e : Epoch) → next_epoch (policy_in image) pending line ≡ Ok e
       → ¬ Reducible (policy_in image).constraints (proposed_with (policy_in image).rules) e → r ≡ refusal Fault.Unavoidable 0
-      → RefusedIn mode image line r
+      → RefusedIn mode image pending line r
 
--- which refusals a decision has: those of an image of so many words, and those of an epoch line
+-- which refusals a decision has: those of an image of so many words, those of an epoch line, and 18
 pub data OfDecision (words : ℕ) (r : Refusal) : Type 0 where
   of_image : RefusalOf words r → OfDecision words r
   of_line : OfEpoch r → OfDecision words r
+  of_reserved : r ≡ refusal Fault.ReservedEvent 0 → OfDecision words r
 
 -- in either mode, the second of which has one more
 pub data OfDecisionIn (mode : Mode) (words : ℕ) (r : Refusal) : Type 0 where
@@ -70,6 +76,25 @@ pub record NotRefused (a : Answer) : Type 0 where
   pub number : a.number ≡ 0
   pub text : a.text ≡ 0
   pub location : a.location ≡ 0
+
+-- ---- triggered events
+
+-- some rule triggers the event where all events of the epoch count, or by events where the kept ones do
+abbrev pub IsTriggered : Mode → Policy → Epoch → Event → Type 0
+IsTriggered Mode.Actions p e x = Derives p.rules (all_events e.events) e.readings (Effect.Triggers x)
+IsTriggered Mode.Events p e x = Derives p.rules (keeping e.events (kept_events p e)) e.readings (Effect.Triggers x)
+
+-- the image is taken, and the line is an epoch line and names an event that some rule triggers of the policy that the image holds
+pub record NamesTriggered (image line : List ℕ) : Type 0 where
+  pub contents : Contents
+  pub taken : load image ≡ Ok contents
+  pub epoch : Epoch
+  pub read : read_epoch line ≡ Ok epoch
+  pub event : Event
+  pub named : has_event epoch.events event ≡ true
+  pub rule : Rule
+  pub listed : Contains (policy_in image).rules rule
+  pub triggers : rule.effect ≡ Effect.Triggers event
 
 -- ---- what the first mode decides, that of action cancellation
 

@@ -1,12 +1,13 @@
 -- Worked examples as rows of one table: a text and epoch lines, with their modes, and the answers, or a text with the words of its
 -- image.
-use Rattle.std.specs.Prelude.{ℕ, true, List, [], ◌∷◌, map, Option, Some, option_map}
+use Rattle.std.specs.Prelude.{ℕ, true, List, [], ◌∷◌, map, Option, Some, None, option_map}
 use Prim.Native.String.{String}
 use Rattle.policy.specs.Set.{no_actions, actions_from}
 use Rattle.policy.specs.declared.mode.Mode.{Mode}
 use Rattle.pdl.specs.Answer.{Answer, issues}
 use Rattle.lexer.specs.Byte.{bytes}
 use Rattle.rule_text.specs.Text.{policy_of}
+use Rattle.codegen.specs.Compile.{newest_form}
 use Rattle.layout.specs.Layout.{image_words}
 use Rattle.guarantees.specs.Machine.{ToldLine, machine}
 
@@ -97,6 +98,19 @@ examples =
     -- a clash of rules with negated literals alone
     ∷ told "!E0 causes A0\n!E0 causes A1\nnever A0 & A1\n" (by_events "" ∷ by_actions "" ∷ by_events "E0" ∷ [])
     (Some (refused_under 17 ∷ decided (0 ∷ []) (1 ∷ []) ∷ decided [] [] ∷ []))
+    -- a line that triggers an event, in the forms that have it and in one that has not
+    ∷ words 3 "E1 & E2 triggers E60 if R0 > 5" (Some (50352128 ∷ 272629764 ∷ 276824067 ∷ 805339137 ∷ 5 ∷ 2399141888 ∷ 1862422574 ∷ 2923225029 ∷ []))
+    ∷ words 5 "E1 & E2 triggers E60 if R0 > 5" (Some (83906560 ∷ 272629764 ∷ 276824067 ∷ 805339137 ∷ 5 ∷ 2399141888 ∷ 1895977006 ∷ 2856116165 ∷ []))
+    ∷ words 2 "E1 & E2 triggers E60 if R0 > 5" None
+    -- what it triggers occurs in the next epoch that is accepted, once; a line may not name it
+    ∷ answers "E1 triggers E60\nE60 causes A2\nE2 causes A1\nnever A1 & A2\n" ("E1" ∷ "" ∷ "" ∷ "E1" ∷ "E64" ∷ "E1 E2" ∷ "E2" ∷ "E60" ∷ "E2" ∷ [])
+    (Some (
+    decided [] [] ∷ decided (2 ∷ []) [] ∷ decided [] [] ∷ decided [] [] ∷ refused_under 13 ∷ decided (1 ∷ []) (2 ∷ []) ∷ decided (1 ∷ []) (2 ∷ []) ∷ refused_under 18
+    ∷ decided (1 ∷ []) [] ∷ []))
+    -- by events a pending event is tried like a named one, what is dropped triggers nothing, and a refused epoch leaves what is pending
+    ∷ told "E1 triggers E60\nE60 triggers E61\nE60 causes A2\nE61 causes A3\nE0 causes A1\nnever A1 & A2\nnever A4\n!E9 causes A4\n"
+    (by_events "E1 E9" ∷ by_events "E0" ∷ by_events "E0 E9" ∷ by_actions "E9" ∷ [])
+    (Some (decided [] [] ∷ refused_under 17 ∷ decided (1 ∷ []) (2 ∷ []) ∷ decided [] [] ∷ []))
     ∷ []
 
 abbrev line_of : ModeLine → ToldLine
@@ -104,6 +118,6 @@ line_of x = record { mode = x.mode; line = bytes x.line }
 
 -- what the definitions say of a row
 unfoldable pub computed : Example → Example
-computed (answers text lines expected) = answers text lines (machine (bytes text) (map (λ (line : String). line_of (by_actions line)) lines))
-computed (words form text expected) = words form text (option_map (image_words form) (policy_of (bytes text)))
-computed (told text lines expected) = told text lines (machine (bytes text) (map line_of lines))
+computed (answers text lines expected) = answers text lines (machine newest_form (bytes text) (map (λ (line : String). line_of (by_actions line)) lines))
+computed (words form text expected) = words form text (option_map (image_words form) (policy_of form (bytes text)))
+computed (told text lines expected) = told text lines (machine newest_form (bytes text) (map line_of lines))

@@ -1,12 +1,13 @@
 -- What is claimed of explanations: when there is one, what it says became of an action, which line it shows, and that
 -- what it shows stands in the text.
 use Rattle.std.specs.Prelude.{ℕ, ◌+◌, ◌<◌, ◌≤◌, true, false, ◌≡◌, length, List, [], ◌∷◌, ◌++◌, Contains, Ok, Err, Some}
+use Rattle.policy.specs.declared.effect.Effect.{Effect}
 use Rattle.policy.specs.declared.epoch.Epoch.{Epoch}
 use Rattle.policy.specs.Fault.{refusal}
 use Rattle.policy.specs.Line.{PolicyLine, rule, constraint}
 use Rattle.policy.specs.Number.{set_limit}
 use Rattle.policy.specs.Policy.{Policy}
-use Rattle.policy.specs.Set.{ActionSet, all_events, has_action, insert_action, actions_below}
+use Rattle.policy.specs.Set.{ActionSet, EventSet, all_events, has_action, insert_action, actions_below}
 use Rattle.policy.specs.declared.fault.Fault.{Fault}
 use Rattle.policy.specs.declared.fault.Refusal.{Refusal}
 use Rattle.policy.specs.declared.number.Action.{Action}
@@ -15,7 +16,8 @@ use Rattle.pdl.specs.Pdl.{Derives, HoldsOn}
 use Rattle.lexer.specs.Lines.{lines_of}
 use Rattle.syntax.specs.Judge.{line_answer}
 use Rattle.rule_text.specs.Text.{read_texts, policy_of_texts}
-use Rattle.epoch_line.specs.Epoch.{read_epoch}
+use Rattle.codegen.specs.Compile.{newest_form}
+use Rattle.guarantees.specs.Machine.{next_epoch}
 use Rattle.explanation.specs.Part.{Stretch, Quote, of_maker, of_site}
 use Rattle.explanation.specs.Why.{Explanation, not_proposed, accepted_by, cancelled_by}
 
@@ -25,20 +27,20 @@ action n = record { 0 = n }
 -- ---- when there is an explanation
 
 -- the texts, the epoch line and the action's number pass all checks
-pub record IsExplainable (maker site line : List ℕ) (n : ℕ) : Type 0 where
+pub record IsExplainable (maker site : List ℕ) (pending : EventSet) (line : List ℕ) (n : ℕ) : Type 0 where
   pub policy : Policy
-  pub both : policy_of_texts maker site ≡ Some policy
+  pub both : policy_of_texts newest_form maker site ≡ Some policy
   pub epoch : Epoch
-  pub read : read_epoch line ≡ Ok epoch
+  pub read : next_epoch policy pending line ≡ Ok epoch
   pub number : n < set_limit
 
--- for what one is refused: each only where those before it pass
-pub data Unexplained (maker site line : List ℕ) (n : ℕ) (r : Refusal) : Type 0 where
-  the_texts : read_texts maker site ≡ Err r → Unexplained maker site line n r
-  the_line : (p : Policy) → policy_of_texts maker site ≡ Some p → read_epoch line ≡ Err r
-      → Unexplained maker site line n r
-  the_action : (p : Policy) → policy_of_texts maker site ≡ Some p → (e : Epoch) → read_epoch line ≡ Ok e → set_limit ≤ n
-      → r ≡ refusal Fault.EpochRange 0 → Unexplained maker site line n r
+-- for what one is refused: each only where those before it pass. Of the line it is a fault of its own, or 18
+pub data Unexplained (maker site : List ℕ) (pending : EventSet) (line : List ℕ) (n : ℕ) (r : Refusal) : Type 0 where
+  the_texts : read_texts newest_form maker site ≡ Err r → Unexplained maker site pending line n r
+  the_line : (p : Policy) → policy_of_texts newest_form maker site ≡ Some p → next_epoch p pending line ≡ Err r
+      → Unexplained maker site pending line n r
+  the_action : (p : Policy) → policy_of_texts newest_form maker site ≡ Some p → (e : Epoch) → next_epoch p pending line ≡ Ok e → set_limit ≤ n
+      → r ≡ refusal Fault.EpochRange 0 → Unexplained maker site pending line n r
 
 -- ---- what became of an action
 
@@ -52,7 +54,7 @@ TellsOutcome answer a not_proposed = (has_action answer.accepted a ≡ false) ×
 
 -- of an accepted action: a rule that by itself derives it
 abbrev pub Proposes : Epoch → Action → PolicyLine → Type 0
-Proposes e a (rule r) = Derives (r ∷ []) (all_events e.events) e.readings a
+Proposes e a (rule r) = Derives (r ∷ []) (all_events e.events) e.readings (Effect.Causes a)
 Proposes e a (constraint c) = ⊥
 
 -- of a cancelled one: a constraint that holds on the accepted actions under it together with it
@@ -67,7 +69,7 @@ Listed p (constraint c) = Contains p.constraints c
 
 -- no line of a text that is read as a line of a policy says so
 abbrev pub NoneSays : (PolicyLine → Type 0) → List (List ℕ) → Type 0
-NoneSays Says lines = (line : List ℕ) → Contains lines line → (l : PolicyLine) → line_answer line ≡ Ok (Some l) → ¬ Says l
+NoneSays Says lines = (line : List ℕ) → Contains lines line → (l : PolicyLine) → line_answer newest_form line ≡ Ok (Some l) → ¬ Says l
 
 -- how many bytes lines have, with their line ends
 unfoldable pub ended_length : List (List ℕ) → ℕ
@@ -114,7 +116,7 @@ pub record FirstOf (Says : PolicyLine → Type 0) (p : Policy) (text : List ℕ)
   pub behind : List (List ℕ)
   pub stands : lines_of text ≡ before ++ line ∷ behind
   pub is : PolicyLine
-  pub read : line_answer line ≡ Ok (Some is)
+  pub read : line_answer newest_form line ≡ Ok (Some is)
   pub listed : Listed p is
   pub says : Says is
   -- no earlier line does

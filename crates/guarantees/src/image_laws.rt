@@ -43,7 +43,7 @@ pub fn image_written()
 
 /// In each form two texts give the same image exactly if they have the same rules in the same order and the same constraints in theirs.
 pub fn same_images()
-    ensures { (form : ℕ) (s t out out' : List ℕ) (m n : ℕ) → (compiled form s out).answer ≡ Ok m → (compiled form t out').answer ≡ Ok n → (written_in form m s out ≡ written_in form n t out') ↔ (policy_of s ≡ policy_of t) }
+    ensures { (form : ℕ) (s t out out' : List ℕ) (m n : ℕ) → (compiled form s out).answer ≡ Ok m → (compiled form t out').answer ≡ Ok n → (written_in form m s out ≡ written_in form n t out') ↔ (policy_of form s ≡ policy_of form t) }
 {}
 
 /// The same of a pair of texts compiled as one: a compilation that answers a size has written just the image of their policy.
@@ -53,7 +53,7 @@ pub fn texts_written()
 
 /// Two pairs of texts give the same image exactly if each pair as one has the same rules in the same order and the same constraints in theirs.
 pub fn pairs_same_images()
-    ensures { (form : ℕ) (maker site maker' site' out out' : List ℕ) (m n : ℕ) → (compiled_texts form maker site out).answer ≡ Ok m → (compiled_texts form maker' site' out').answer ≡ Ok n → (written_by m (compiled_texts form maker site out) ≡ written_by n (compiled_texts form maker' site' out')) ↔ (policy_of_texts maker site ≡ policy_of_texts maker' site') }
+    ensures { (form : ℕ) (maker site maker' site' out out' : List ℕ) (m n : ℕ) → (compiled_texts form maker site out).answer ≡ Ok m → (compiled_texts form maker' site' out').answer ≡ Ok n → (written_by m (compiled_texts form maker site out) ≡ written_by n (compiled_texts form maker' site' out')) ↔ (policy_of_texts form maker site ≡ policy_of_texts form maker' site') }
 {}
 
 /// Compiling the text of what was loaded to the form that the loader answers yields the bytes that were loaded.
@@ -68,10 +68,10 @@ pub fn text_recompiles()
 
 /// In whichever forms, two texts are written back as the same text exactly if they have the same rules in the same order and the same constraints in theirs.
 pub fn same_texts()
-    ensures { (form form' : ℕ) (s t i j u v : List ℕ) → CompilesTo form s i → CompilesTo form' t j → DecompilesTo i u → DecompilesTo j v → (u ≡ v) ↔ (policy_of s ≡ policy_of t) }
+    ensures { (form form' : ℕ) (s t i j u v : List ℕ) → CompilesTo form s i → CompilesTo form' t j → DecompilesTo i u → DecompilesTo j v → (u ≡ v) ↔ (policy_of form s ≡ policy_of form' t) }
 {}
 
 /// Two pairs of texts are written back as the same text exactly if each pair as one has the same rules in the same order and the same constraints in theirs.
 pub fn pairs_same_texts()
-    ensures { (form form' : ℕ) (maker site maker' site' i j u v : List ℕ) → TextsCompileTo form maker site i → TextsCompileTo form' maker' site' j → DecompilesTo i u → DecompilesTo j v → (u ≡ v) ↔ (policy_of_texts maker site ≡ policy_of_texts maker' site') }
+    ensures { (form form' : ℕ) (maker site maker' site' i j u v : List ℕ) → TextsCompileTo form maker site i → TextsCompileTo form' maker' site' j → DecompilesTo i u → DecompilesTo j v → (u ≡ v) ↔ (policy_of_texts form maker site ≡ policy_of_texts form' maker' site') }
 {}

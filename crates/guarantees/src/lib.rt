@@ -15,11 +15,12 @@ pub mod writing_laws;
 
 ghost use Rattle.std.specs.Prelude.{◌≡◌, IfOk, IfErr};
 ghost use Rattle.codegen.specs.Compile.{in_form};
+ghost use Rattle.policy.specs.Set.{no_events};
 ghost use Rattle.rule_text.specs.Text.{read_texts};
 ghost use Rattle.guarantees.specs.Together.{decided_lines, DecidedBy};
 
 use image::IMAGE_SIZE;
-use monitor::{Actions, decide};
+use monitor::{Actions, State, step};
 use policy::{Mode, Refusal};
 
 /// An epoch line, without its line end, and the mode in which it is decided.
@@ -29,13 +30,13 @@ pub struct Told<'a> {
     pub line: &'a [u8],
 }
 
-/// Decides the lines on an image, one after another, as many as there is room for.
-#[tactic(auto, using(crate::proofs::LineLaws::one_more, crate::proofs::LineLaws::all_done), unfolding(crate::specs::Together::decided_lines))]
+/// Decides the lines on an image, one after another, as many as there is room for. At the start no event is pending.
 pub fn decide_lines(image: &[u8], lines: &[Told], decisions: &mut [Result<Actions, Refusal>])
-    ensures { decisions.new ≡ decided_lines image.now lines.now decisions.old }
+    ensures { decisions.new ≡ decided_lines image.now no_events lines.now decisions.old }
 {
+    let mut state = State::START;
     for i in 0..lines.len().min(decisions.len()) {
-        decisions[i] = decide(image, lines[i].line, lines[i].mode);
+        decisions[i] = step(image, &mut state, lines[i].line, lines[i].mode);
     }
 }
 
@@ -49,7 +50,7 @@ pub fn compile_and_decide(
     decisions: &mut [Result<Actions, Refusal>],
 ) -> Result<(), Refusal>
     ensures ok { IfOk result (λ u. DecidedBy form maker.now site.now lines.now decisions.old decisions.new) }
-    ensures err { IfErr result (λ refusal. (in_form form (read_texts maker.now site.now) ≡ Err refusal) × (decisions.new ≡ decisions.old)) }
+    ensures err { IfErr result (λ refusal. (in_form form (read_texts form maker.now site.now) ≡ Err refusal) × (decisions.new ≡ decisions.old)) }
 {
     let mut image = [0u8; IMAGE_SIZE];
     let size = codegen::compile_texts(form, maker, site, &mut image)?;

@@ -33,27 +33,27 @@ pub fn faulty_exactly()
 
 /// A line is found at the start of words exactly if it stands there.
 pub fn line_found_exactly()
-    ensures { (part : Part) (words : List ℕ) (line : PolicyLine) → (line_at part words ≡ Some line) ↔ Stands part words line }
+    ensures { (form : ℕ) (part : Part) (words : List ℕ) (line : PolicyLine) → (line_at form part words ≡ Some line) ↔ Stands form part words line }
 {}
 
 /// At most one line of a part stands at the start of words.
 pub fn one_line_stands()
-    ensures { (part : Part) (words : List ℕ) (one other : PolicyLine) → Stands part words one → Stands part words other → one ≡ other }
+    ensures { (form : ℕ) (part : Part) (words : List ℕ) (one other : PolicyLine) → Stands form part words one → Stands form part words other → one ≡ other }
 {}
 
 /// The lines of a part are found exactly if its words are theirs, from end to end, and there is room for so many.
 pub fn part_whole_exactly()
-    ensures { (part : Part) (room from : ℕ) (words : List ℕ) (lines : List PolicyLine) → (lines_from part room from words ≡ Ok lines) ↔ AreLines part room words lines }
+    ensures { (form : ℕ) (part : Part) (room from : ℕ) (words : List ℕ) (lines : List PolicyLine) → (lines_from form part room from words ≡ Ok lines) ↔ AreLines form part room words lines }
 {}
 
 /// A location in a part is told exactly if there are whole lines up to it and none fits there.
 pub fn part_fault_exactly()
-    ensures { (part : Part) (room from : ℕ) (words : List ℕ) (location : ℕ) → (lines_from part room from words ≡ Err location) ↔ NoLineAt part room from words location }
+    ensures { (form : ℕ) (part : Part) (room from : ℕ) (words : List ℕ) (location : ℕ) → (lines_from form part room from words ≡ Err location) ↔ NoLineAt form part room from words location }
 {}
 
 /// Going over words, where a line of either part stands it comes first, and then what comes from behind its words on.
 pub fn standing_given()
-    ensures { (part : Part) (words : List ℕ) (at : ℕ) (line : PolicyLine) → Stands part (drop at words) line → lines_left words at ≡ line ∷ lines_left words (at + length (line_words line)) }
+    ensures { (form : ℕ) (part : Part) (words : List ℕ) (at : ℕ) (line : PolicyLine) → Stands form part (drop at words) line → lines_left words at ≡ line ∷ lines_left words (at + length (line_words line)) }
 {}
 
 /// Going over the words of a part of an image that the loader takes, exactly the lines of that part of the policy that it holds come, in order.

@@ -2,6 +2,7 @@
 
 ghost use Rattle.std.specs.Prelude.{List, ℕ, ◌≡◌, Some};
 ghost use Rattle.policy.specs.Policy.{Policy};
+ghost use Rattle.codegen.specs.Compile.{newest_form};
 ghost use Rattle.rule_text.specs.Text.{policy_of, policy_of_texts};
 ghost use Rattle.printer.specs.Printed.{text_of};
 ghost use Rattle.session.specs.Listed.{listed, listed_texts};
@@ -16,20 +17,20 @@ pub fn output_agrees()
 
 /// Of what the compiler prints for an accepted text, the decompiler prints the text of the text's policy.
 pub fn listing_restored()
-    ensures { (text : List ℕ) (p : Policy) → policy_of text ≡ Some p → restored (listed text) ≡ text_of p }
+    ensures { (text : List ℕ) (p : Policy) → policy_of newest_form text ≡ Some p → restored (listed text) ≡ text_of p }
 {}
 
 /// The same of what the compiler prints for a pair of texts.
 pub fn texts_listing_restored()
-    ensures { (maker site : List ℕ) (p : Policy) → policy_of_texts maker site ≡ Some p → restored (listed_texts maker site) ≡ text_of p }
+    ensures { (maker site : List ℕ) (p : Policy) → policy_of_texts newest_form maker site ≡ Some p → restored (listed_texts maker site) ≡ text_of p }
 {}
 
 /// For what the decompiler prints of an accepted text's listing, the compiler prints that listing again.
 pub fn listed_again()
-    ensures { (text : List ℕ) (p : Policy) → policy_of text ≡ Some p → listed (restored (listed text)) ≡ listed text }
+    ensures { (text : List ℕ) (p : Policy) → policy_of newest_form text ≡ Some p → listed (restored (listed text)) ≡ listed text }
 {}
 
 /// The same of the listing of a pair of texts.
 pub fn texts_listed_again()
-    ensures { (maker site : List ℕ) (p : Policy) → policy_of_texts maker site ≡ Some p → listed (restored (listed_texts maker site)) ≡ listed_texts maker site }
+    ensures { (maker site : List ℕ) (p : Policy) → policy_of_texts newest_form maker site ≡ Some p → listed (restored (listed_texts maker site)) ≡ listed_texts maker site }
 {}

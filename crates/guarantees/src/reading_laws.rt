@@ -7,6 +7,7 @@ ghost use Rattle.policy.specs.declared.fault.Refusal.{Refusal};
 ghost use Rattle.policy.specs.Epoch.{reading_value};
 ghost use Rattle.policy.specs.declared.epoch.Epoch.{Epoch};
 ghost use Rattle.std.specs.List.{list_all, list_any};
+ghost use Rattle.policy.specs.Limits.{allowed};
 ghost use Rattle.policy.specs.Policy.{Policy};
 ghost use Rattle.policy.specs.Set.{has_event, has_reading};
 ghost use Rattle.policy.specs.Line.{PolicyLine, comparisons_of};
@@ -34,33 +35,33 @@ pub fn grammar_exact()
 
 /// A line is refused exactly for the first of these: its shape, a number out of range, too many parts, an event or an action twice.
 pub fn line_refused_exactly()
-    ensures { (line : List ℕ) (f : Fault) → (line_answer line ≡ Err f) ↔ LineRefused line f }
+    ensures { (form : ℕ) (line : List ℕ) (f : Fault) → (line_answer form line ≡ Err f) ↔ LineRefused form line f }
 {}
 
 /// A line is accepted as a rule or a constraint exactly if it is written as that one, in range, within the counts and with no repeat.
 pub fn line_accepted_exactly()
-    ensures { (line : List ℕ) (l : PolicyLine) → (line_answer line ≡ Ok (Some l)) ↔ LineAccepted line l }
+    ensures { (form : ℕ) (line : List ℕ) (l : PolicyLine) → (line_answer form line ≡ Ok (Some l)) ↔ LineAccepted form line l }
 {}
 
 /// A line is skipped exactly if it has no token, or its first token begins with `#`.
 pub fn line_skipped_exactly()
-    ensures { (line : List ℕ) → (line_answer line ≡ Ok None) ↔ LineSkipped line }
+    ensures { (form : ℕ) (line : List ℕ) → (line_answer form line ≡ Ok None) ↔ LineSkipped line }
 {}
 
 /// A line that is written right, with a comparison with a constant of more than eight hexadecimal digits, is refused for a number out of range, whatever else
 /// it has.
 pub fn wide_constant_refused()
-    ensures { (line : List ℕ) (l : PolicyLine) → IsWritten line l → (ds : List ℕ) → list_all is_hex_digit ds ≡ true → pattern_digits < length ds → (r q : Token) (c : Comparison) → comparison_of r q (prefixed ds) ≡ Some c → (before after : List Comparison) → comparisons_of l ≡ before ++ c ∷ after → line_answer line ≡ Err Fault.OutOfRange }
+    ensures { (form : ℕ) (line : List ℕ) (l : PolicyLine) → IsWritten line l → allowed form l ≡ true → (ds : List ℕ) → list_all is_hex_digit ds ≡ true → pattern_digits < length ds → (r q : Token) (c : Comparison) → comparison_of r q (prefixed ds) ≡ Some c → (before after : List Comparison) → comparisons_of l ≡ before ++ c ∷ after → line_answer form line ≡ Err Fault.OutOfRange }
 {}
 
 /// The same by the token alone: a line that is written right and has, at any place, a token of `0x` and more than eight digits.
 pub fn wide_token_refused()
-    ensures { (ds line : List ℕ) → Contains (tokens_of line) (prefixed ds) → list_all is_hex_digit ds ≡ true → pattern_digits < length ds → (l : PolicyLine) → IsWritten line l → line_answer line ≡ Err Fault.OutOfRange }
+    ensures { (form : ℕ) (ds line : List ℕ) → Contains (tokens_of line) (prefixed ds) → list_all is_hex_digit ds ≡ true → pattern_digits < length ds → (l : PolicyLine) → IsWritten line l → allowed form l ≡ true → line_answer form line ≡ Err Fault.OutOfRange }
 {}
 
 /// A line that has, at any place, the token `0x`, or one of `0x` and bytes of which some one is no hexadecimal digit, has a wrong shape, unless it is skipped.
 pub fn bare_prefix_refused()
-    ensures { (ds line : List ℕ) → Contains (tokens_of line) (prefixed ds) → (ds ≡ []) ⊎ (list_all is_hex_digit ds ≡ false) → is_skipped (tokens_of line) ≡ false → line_answer line ≡ Err Fault.Syntax }
+    ensures { (form : ℕ) (ds line : List ℕ) → Contains (tokens_of line) (prefixed ds) → (ds ≡ []) ⊎ (list_all is_hex_digit ds ≡ false) → is_skipped (tokens_of line) ≡ false → line_answer form line ≡ Err Fault.Syntax }
 {}
 
 /// One to eight hexadecimal digits behind `0x` are the constant whose word of 32 bits in two's complement they are.
@@ -80,13 +81,13 @@ pub fn lines_go_on()
 
 /// A text has a policy exactly if it is short enough and each of its lines is skipped, or accepted while there is room for one more of its kind.
 pub fn text_accepted_exactly()
-    ensures { (text : List ℕ) (p : Policy) → (policy_of text ≡ Some p) ↔ TextAccepted text p }
+    ensures { (form : ℕ) (text : List ℕ) (p : Policy) → (policy_of form text ≡ Some p) ↔ TextAccepted form text p }
 {}
 
 /// Two texts are refused exactly for their first fault: the maker's text before the site's, each for its length before its lines, and the first line that
 /// is neither skipped nor accepted within the limits, which are counted over both texts.
 pub fn texts_refused_exactly()
-    ensures { (maker site : List ℕ) (r : Refusal) → (read_texts maker site ≡ Err r) ↔ TextsFault maker site r }
+    ensures { (form : ℕ) (maker site : List ℕ) (r : Refusal) → (read_texts form maker site ≡ Err r) ↔ TextsFault form maker site r }
 {}
 
 /// An epoch line is refused exactly for the first test that it fails: its length, its shape, its ranges, a reading that is given twice.
@@ -107,12 +108,12 @@ pub fn epoch_wide_constant_refused()
 
 /// With an empty site's text two texts have the answer of the maker's alone.
 pub fn read_alone()
-    ensures { (text : List ℕ) → texts_read text [] ≡ text_read text }
+    ensures { (form : ℕ) (text : List ℕ) → texts_read form text [] ≡ text_read form text }
 {}
 
 /// Two texts have a policy exactly if each has one alone and both together are within the limits: the maker's lines, then the site's.
 pub fn texts_joint()
-    ensures { (maker site : List ℕ) (p : Policy) → (policy_of_texts maker site ≡ Some p) ↔ Joint maker site p }
+    ensures { (form : ℕ) (maker site : List ℕ) (p : Policy) → (policy_of_texts form maker site ≡ Some p) ↔ Joint form maker site p }
 {}
 
 /// On an accepted line an event has occurred exactly if the line names it.

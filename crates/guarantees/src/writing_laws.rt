@@ -6,7 +6,7 @@ ghost use Rattle.policy.specs.Line.{PolicyLine};
 ghost use Rattle.policy.specs.Policy.{Policy};
 ghost use Rattle.lexer.specs.Lines.{lines_of, tokens_of};
 ghost use Rattle.rule_text.specs.Text.{read_text, policy_of};
-ghost use Rattle.printer.specs.Printed.{joined_by, line_bytes, lines_text, longest_text, text_of};
+ghost use Rattle.printer.specs.Printed.{joined_by, line_bytes, lines_text, longest_text_for, text_of};
 ghost use Rattle.word.specs.Word.{Bytes};
 ghost use Rattle.layout.specs.Layout.{known_form};
 ghost use Rattle.image.specs.Held.{policy_in};
@@ -26,25 +26,25 @@ pub fn text_lines()
 
 /// What is written from a policy within the limits is accepted and has that policy.
 pub fn text_policy()
-    ensures { (p : Policy) → Acceptable p → policy_of (text_of p) ≡ Some p }
+    ensures { (form : ℕ) (p : Policy) → Acceptable form p → policy_of form (text_of p) ≡ Some p }
 {}
 
-/// No two policies within the limits are written as the same text.
+/// No two policies within the limits, of whichever forms, are written as the same text.
 pub fn text_injective()
-    ensures { (p q : Policy) → Acceptable p → Acceptable q → text_of p ≡ text_of q → p ≡ q }
+    ensures { (form form' : ℕ) (p q : Policy) → Acceptable form p → Acceptable form' q → text_of p ≡ text_of q → p ≡ q }
 {}
 
-/// The policies within the limits are exactly those of accepted texts.
+/// The policies within the limits of a form are exactly those of texts that are accepted for it.
 pub fn acceptable_texts()
-    ensures { (p : Policy) → Acceptable p ↔ ((text : List ℕ) × (read_text text ≡ Ok p)) }
+    ensures { (form : ℕ) (p : Policy) → Acceptable form p ↔ ((text : List ℕ) × (read_text form text ≡ Ok p)) }
 {}
 
-/// An image that the loader takes is never refused a buffer of 27,968 bytes or more.
+/// An image that the loader takes is never refused a buffer of 28,224 bytes or more, or in the forms 1 and 2 of 27,968.
 pub fn never_short()
-    ensures { (image buffer : List ℕ) → Bytes image → (contents : Contents) → load image ≡ Ok contents → longest_text ≤ length buffer → (decompiled image buffer).answer ≡ Ok (length (text_of (policy_in image))) }
+    ensures { (image buffer : List ℕ) → Bytes image → (contents : Contents) → load image ≡ Ok contents → longest_text_for contents.form ≤ length buffer → (decompiled image buffer).answer ≡ Ok (length (text_of (policy_in image))) }
 {}
 
-/// In each form some accepted text compiles to an image whose written text has 27,968 bytes: no smaller buffer is enough for all.
+/// In each form some accepted text compiles to an image whose written text has so many bytes: no smaller buffer is enough for all.
 pub fn bound_reached()
-    ensures { (form : ℕ) → known_form form ≡ true → (text : List ℕ) × ((image : List ℕ) × ((written : List ℕ) × (CompilesTo form text image × (DecompilesTo image written × (length written ≡ longest_text))))) }
+    ensures { (form : ℕ) → known_form form ≡ true → (text : List ℕ) × ((image : List ℕ) × ((written : List ℕ) × (CompilesTo form text image × (DecompilesTo image written × (length written ≡ longest_text_for form))))) }
 {}

@@ -56,8 +56,8 @@ line_given ws at l rest e v =
     (ap (λ (xs : List ℕ). lines_behind 0 (drop (length (line_words l)) xs)) (sym e) ∙ ap (lines_behind 0) (drop-drop (length (line_words l)) at ws))
 
 -- the same of a line that stands there
-pub standing_given : (part : Part) (ws : List ℕ) (at : ℕ) (l : PolicyLine) → Stands part (drop at ws) l → lines_left ws at ≡ l ∷ lines_left ws (at + length (line_words l))
-standing_given part ws at l s = line_given ws at l (drop (length (line_words l)) (drop at ws)) s.words s.sound
+pub standing_given : (form : ℕ) (part : Part) (ws : List ℕ) (at : ℕ) (l : PolicyLine) → Stands form part (drop at ws) l → lines_left ws at ≡ l ∷ lines_left ws (at + length (line_words l))
+standing_given form part ws at l s = line_given ws at l (drop (length (line_words l)) (drop at ws)) s.words s.sound
 
 pub lines_given : (ls : List PolicyLine) → all valid ls ≡ true → lines_behind 0 (lines_words ls) ≡ ls
 unfolding lines_words lines_behind

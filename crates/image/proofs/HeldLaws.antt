@@ -2,7 +2,7 @@
 use Rattle.std.proofs.Common.{ℕ, zero, suc, ◌+◌, ◌<◌, ◌≤◌, Bool, true, false, List, [], ◌∷◌, ◌++◌, map, ◌≡◌, refl, sym, ap, ap₂, ◌∙◌, subst, arith, eqb-true, leb-true, length, take, drop, length-take, length-drop, Result, Ok, Err}
 use Rattle.std.specs.Prelude.{Option, Some, None}
 use Rattle.policy.proofs.ListLaws.{true_false, and_in, and_out}
-use Rattle.policy.specs.Limits.{valid}
+use Rattle.policy.specs.Limits.{allowed, valid}
 use Rattle.policy.specs.Line.{PolicyLine, rule, constraint, part_get}
 use Rattle.policy.specs.List.{all}
 use Rattle.policy.specs.declared.fault.Fault.{Fault}
@@ -26,66 +26,66 @@ use Rattle.image.specs.Walk.{lines_behind}
 
 -- ---- what is found was written
 
-pub same_lines : (part : Part) (room : ℕ) {a b : List ℕ} {xs ys : List PolicyLine} → a ≡ b → xs ≡ ys → AreLines part room a xs → AreLines part room b ys
-same_lines part room {a} {b} {xs} {ys} p q h = subst (λ (z : List ℕ). AreLines part room z ys) p (subst (λ (z : List PolicyLine). AreLines part room a z) q h)
+pub same_lines : (form : ℕ) (part : Part) (room : ℕ) {a b : List ℕ} {xs ys : List PolicyLine} → a ≡ b → xs ≡ ys → AreLines form part room a xs → AreLines form part room b ys
+same_lines form part room {a} {b} {xs} {ys} p q h = subst (λ (z : List ℕ). AreLines form part room z ys) p (subst (λ (z : List PolicyLine). AreLines form part room a z) q h)
 
-are_none : (part : Part) (room : ℕ) (ls : List PolicyLine) → ◌≡◌ {A = Result (List PolicyLine) ℕ} (Ok []) (Ok ls) → AreLines part room [] ls
+are_none : (form : ℕ) (part : Part) (room : ℕ) (ls : List PolicyLine) → ◌≡◌ {A = Result (List PolicyLine) ℕ} (Ok []) (Ok ls) → AreLines form part room [] ls
 unfolding lines_words
-are_none part room [] e = record { kind = refl; sound = refl; few = omega arith; words = refl }
-are_none part room (l ∷ ls) e = let z : ◌≡◌ {A = ℕ} 0 1 = cc in absurd (omega arith)
+are_none form part room [] e = record { kind = refl; sound = refl; few = omega arith; words = refl }
+are_none form part room (l ∷ ls) e = let z : ◌≡◌ {A = ℕ} 0 1 = cc in absurd (omega arith)
 
-are_more : (part : Part) (room : ℕ) (ws : List ℕ) (l : PolicyLine) (rest : Result (List PolicyLine) ℕ) (ls : List PolicyLine) → Stands part ws l → ((ms : List PolicyLine) → rest ≡ Ok ms → AreLines part room (drop (length (line_words l)) ws) ms) → add_line l rest ≡ Ok ls → AreLines part (suc room) ws ls
+are_more : (form : ℕ) (part : Part) (room : ℕ) (ws : List ℕ) (l : PolicyLine) (rest : Result (List PolicyLine) ℕ) (ls : List PolicyLine) → Stands form part ws l → ((ms : List PolicyLine) → rest ≡ Ok ms → AreLines form part room (drop (length (line_words l)) ws) ms) → add_line l rest ≡ Ok ls → AreLines form part (suc room) ws ls
 unfolding add_line lines_words
-are_more part room ws l (Err n) ls s later e = let z : ◌≡◌ {A = ℕ} 0 1 = cc in absurd (omega arith)
-are_more part room ws l (Ok ms) [] s later e = let z : ◌≡◌ {A = ℕ} 0 1 = cc in absurd (omega arith)
-are_more part room ws l (Ok ms) (x ∷ xs) s later e =
+are_more form part room ws l (Err n) ls s later e = let z : ◌≡◌ {A = ℕ} 0 1 = cc in absurd (omega arith)
+are_more form part room ws l (Ok ms) [] s later e = let z : ◌≡◌ {A = ℕ} 0 1 = cc in absurd (omega arith)
+are_more form part room ws l (Ok ms) (x ∷ xs) s later e =
     let p : l ≡ x = cc in
     let q : ms ≡ xs = cc in
     let h = later xs (ap Ok q) in
     record {
-      kind = and_in (ap (in_part part) (sym p) ∙ s.kind) h.kind;
+      kind = and_in (ap (in_part form part) (sym p) ∙ s.kind) h.kind;
       sound = and_in (ap valid (sym p) ∙ s.sound) h.sound;
       few = omega (arith, h.few);
       words = s.words ∙ ap₂ (λ (a : PolicyLine) (b : List ℕ). line_words a ++ b) p h.words;
     }
 
-line_written : (part : Part) (room at : ℕ) (ws : List ℕ) (ls : List PolicyLine)
-    → ((l : PolicyLine) (ms : List PolicyLine) → lines_from part room (at + length (line_words l)) (drop (length (line_words l)) ws) ≡ Ok ms → AreLines part room (drop (length (line_words l)) ws) ms)
-    → (o : Option PolicyLine) → line_at part ws ≡ o → after_line at o (λ (l : PolicyLine). lines_from part room (at + length (line_words l)) (drop (length (line_words l)) ws)) ≡ Ok ls → AreLines part (suc room) ws ls
+line_written : (form : ℕ) (part : Part) (room at : ℕ) (ws : List ℕ) (ls : List PolicyLine)
+    → ((l : PolicyLine) (ms : List PolicyLine) → lines_from form part room (at + length (line_words l)) (drop (length (line_words l)) ws) ≡ Ok ms → AreLines form part room (drop (length (line_words l)) ws) ms)
+    → (o : Option PolicyLine) → line_at form part ws ≡ o → after_line at o (λ (l : PolicyLine). lines_from form part room (at + length (line_words l)) (drop (length (line_words l)) ws)) ≡ Ok ls → AreLines form part (suc room) ws ls
 unfolding after_line
-line_written part room at ws ls later None q e = let z : ◌≡◌ {A = ℕ} 0 1 = cc in absurd (omega arith)
-line_written part room at ws ls later (Some l) q e = are_more part room ws l (lines_from part room (at + length (line_words l)) (drop (length (line_words l)) ws)) ls (line_out part ws l q) (later l) e
+line_written form part room at ws ls later None q e = let z : ◌≡◌ {A = ℕ} 0 1 = cc in absurd (omega arith)
+line_written form part room at ws ls later (Some l) q e = are_more form part room ws l (lines_from form part room (at + length (line_words l)) (drop (length (line_words l)) ws)) ls (line_out form part ws l q) (later l) e
 
-pub lines_written : (part : Part) (room at : ℕ) (ws : List ℕ) (ls : List PolicyLine) → lines_from part room at ws ≡ Ok ls → AreLines part room ws ls
+pub lines_written : (form : ℕ) (part : Part) (room at : ℕ) (ws : List ℕ) (ls : List PolicyLine) → lines_from form part room at ws ≡ Ok ls → AreLines form part room ws ls
 unfolding lines_from
-lines_written part zero at [] ls e = are_none part zero ls e
-lines_written part zero at (w ∷ ws) ls e = let z : ◌≡◌ {A = ℕ} 0 1 = cc in absurd (omega arith)
-lines_written part (suc room) at [] ls e = are_none part (suc room) ls e
-lines_written part (suc room) at (w ∷ ws) ls e =
-    line_written part room at (w ∷ ws) ls (λ l ms q. lines_written part room (at + length (line_words l)) (drop (length (line_words l)) (w ∷ ws)) ms q) (line_at part (w ∷ ws)) refl e
+lines_written form part zero at [] ls e = are_none form part zero ls e
+lines_written form part zero at (w ∷ ws) ls e = let z : ◌≡◌ {A = ℕ} 0 1 = cc in absurd (omega arith)
+lines_written form part (suc room) at [] ls e = are_none form part (suc room) ls e
+lines_written form part (suc room) at (w ∷ ws) ls e =
+    line_written form part room at (w ∷ ws) ls (λ l ms q. lines_written form part room (at + length (line_words l)) (drop (length (line_words l)) (w ∷ ws)) ms q) (line_at form part (w ∷ ws)) refl e
 
 -- what was counted to its end is whole lines
-pub counted_whole : (part : Part) (room at : ℕ) (ws : List ℕ) (n : ℕ) → part_answer 0 (lines_from part room at ws) ≡ Ok n → whole_lines part ws ≡ true
+pub counted_whole : (form : ℕ) (part : Part) (room at : ℕ) (ws : List ℕ) (n : ℕ) → part_answer 0 (lines_from form part room at ws) ≡ Ok n → whole_lines part ws ≡ true
 unfolding part_answer
-counted_whole part room at ws n e = go (lines_from part room at ws) refl e
+counted_whole form part room at ws n e = go (lines_from form part room at ws) refl e
   where
-    go : (x : Result (List PolicyLine) ℕ) → lines_from part room at ws ≡ x → part_answer 0 x ≡ Ok n → whole_lines part ws ≡ true
-    go (Ok ls) q e = are_whole part room ws ls (lines_written part room at ws ls q)
+    go : (x : Result (List PolicyLine) ℕ) → lines_from form part room at ws ≡ x → part_answer 0 x ≡ Ok n → whole_lines part ws ≡ true
+    go (Ok ls) q e = are_whole form part room ws ls (lines_written form part room at ws ls q)
     go (Err k) q e = absurd (ok_err (sym e))
 
 -- ---- rules and constraints as lines
 
-pub rules_there : (ls : List PolicyLine) → all (in_part Part.Rules) ls ≡ true → map rule (rules_in ls) ≡ ls
+pub rules_there : (form : ℕ) (ls : List PolicyLine) → all (in_part form Part.Rules) ls ≡ true → map rule (rules_in ls) ≡ ls
 unfolding rules_in in_part
-rules_there [] k = refl
-rules_there (rule r ∷ ls) k = ap (λ (xs : List PolicyLine). rule r ∷ xs) (rules_there ls k)
-rules_there (constraint c ∷ ls) k = absurd (true_false k refl)
+rules_there form [] k = refl
+rules_there form (rule r ∷ ls) k = ap (λ (xs : List PolicyLine). rule r ∷ xs) (rules_there form ls (and_out (allowed form (rule r)) (all (in_part form Part.Rules) ls) k).1)
+rules_there form (constraint c ∷ ls) k = absurd (true_false k refl)
 
-pub constraints_there : (ls : List PolicyLine) → all (in_part Part.Constraints) ls ≡ true → map constraint (constraints_in ls) ≡ ls
+pub constraints_there : (form : ℕ) (ls : List PolicyLine) → all (in_part form Part.Constraints) ls ≡ true → map constraint (constraints_in ls) ≡ ls
 unfolding constraints_in in_part
-constraints_there [] k = refl
-constraints_there (rule r ∷ ls) k = absurd (true_false k refl)
-constraints_there (constraint c ∷ ls) k = ap (λ (xs : List PolicyLine). constraint c ∷ xs) (constraints_there ls k)
+constraints_there form [] k = refl
+constraints_there form (rule r ∷ ls) k = absurd (true_false k refl)
+constraints_there form (constraint c ∷ ls) k = ap (λ (xs : List PolicyLine). constraint c ∷ xs) (constraints_there form ls k)
 
 -- ---- what is taken
 
@@ -163,10 +163,11 @@ counted ws c =
 -- the words of its parts are those of the lines of its policy
 pub record HeldParts (bytes : List ℕ) (contents : Contents) : Type 0 where
   pub size : length (words_of bytes) ≡ 1 + rule_words (words_of bytes) + constraint_words (words_of bytes) + check_count (form_byte (words_of bytes))
+  pub form_is : contents.form ≡ form_byte (words_of bytes)
   pub rules_are : contents.parts.rules ≡ rule_part (words_of bytes)
   pub constraints_are : contents.parts.constraints ≡ constraint_part (words_of bytes)
-  pub rule_part_is : AreLines Part.Rules 128 contents.parts.rules (map rule (policy_in bytes).rules)
-  pub constraint_part_is : AreLines Part.Constraints 64 contents.parts.constraints (map constraint (policy_in bytes).constraints)
+  pub rule_part_is : AreLines contents.form Part.Rules 128 contents.parts.rules (map rule (policy_in bytes).rules)
+  pub constraint_part_is : AreLines contents.form Part.Constraints 64 contents.parts.constraints (map constraint (policy_in bytes).constraints)
   pub rule_count_is : contents.counts.rules ≡ length (map rule (policy_in bytes).rules)
   pub constraint_count_is : contents.counts.constraints ≡ length (map constraint (policy_in bytes).constraints)
 
@@ -174,16 +175,18 @@ pub held_parts : (bytes : List ℕ) (contents : Contents) → load bytes ≡ Ok 
 unfolding part_lines policy_in lines_in
 held_parts bytes contents taken =
     let t = taken_parts bytes contents taken in
-    let r = lines_written Part.Rules 128 1 (rule_part (words_of bytes)) t.rules t.rules_whole in
-    let c = lines_written Part.Constraints 64 (1 + rule_words (words_of bytes)) (constraint_part (words_of bytes)) t.constraints t.constraints_whole in
-    let rs : t.rules ≡ map rule (policy_in bytes).rules = sym (rw t.rules_whole (rules_there t.rules r.kind)) in
-    let cs : t.constraints ≡ map constraint (policy_in bytes).constraints = sym (rw t.constraints_whole (constraints_there t.constraints c.kind)) in
+    let f : contents.form ≡ form_byte (words_of bytes) = ap (λ (p : Contents). p.form) t.same in
+    let r = lines_written (form_byte (words_of bytes)) Part.Rules 128 1 (rule_part (words_of bytes)) t.rules t.rules_whole in
+    let c = lines_written (form_byte (words_of bytes)) Part.Constraints 64 (1 + rule_words (words_of bytes)) (constraint_part (words_of bytes)) t.constraints t.constraints_whole in
+    let rs : t.rules ≡ map rule (policy_in bytes).rules = sym (rw t.rules_whole (rules_there (form_byte (words_of bytes)) t.rules r.kind)) in
+    let cs : t.constraints ≡ map constraint (policy_in bytes).constraints = sym (rw t.constraints_whole (constraints_there (form_byte (words_of bytes)) t.constraints c.kind)) in
     record {
       size = (counted (words_of bytes) t.counted).all;
+      form_is = f;
       rules_are = ap (λ (p : Contents). p.parts.rules) t.same;
       constraints_are = ap (λ (p : Contents). p.parts.constraints) t.same;
-      rule_part_is = same_lines Part.Rules 128 (sym (ap (λ (p : Contents). p.parts.rules) t.same)) rs r;
-      constraint_part_is = same_lines Part.Constraints 64 (sym (ap (λ (p : Contents). p.parts.constraints) t.same)) cs c;
+      rule_part_is = rw f (same_lines (form_byte (words_of bytes)) Part.Rules 128 (sym (ap (λ (p : Contents). p.parts.rules) t.same)) rs r);
+      constraint_part_is = rw f (same_lines (form_byte (words_of bytes)) Part.Constraints 64 (sym (ap (λ (p : Contents). p.parts.constraints) t.same)) cs c);
       rule_count_is = ap (λ (p : Contents). p.counts.rules) t.same ∙ ap length rs;
       constraint_count_is = ap (λ (p : Contents). p.counts.constraints) t.same ∙ ap length cs;
     }

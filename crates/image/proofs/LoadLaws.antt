@@ -128,7 +128,7 @@ module _ (bytes : List ℕ) where
   -- of what word 0 tells: the faults of word 0 and of the check words, and then what both parts answer
   module _ (sized : well_sized (length bytes) ≡ true) (header : ℕ) (is-header : header ≡ word_at bytes 0) (form rules constraints : ℕ) (is-form : form ≡ form_of header) (is-rules : rules ≡ rule_count_of header) (is-constraints : constraints ≡ constraint_count_of header) where
     abbrev body : ℕ → ℕ → ℕ → Result Contents Refusal
-    body f r c = body_answer f (between 1 (1 + r) (words_of bytes)) (between (1 + r) (1 + r + c) (words_of bytes)) (part_lines Part.Rules 1 (1 + r) (words_of bytes)) (part_lines Part.Constraints (1 + r) (1 + r + c) (words_of bytes))
+    body f r c = body_answer f (between 1 (1 + r) (words_of bytes)) (between (1 + r) (1 + r + c) (words_of bytes)) (part_lines f Part.Rules 1 (1 + r) (words_of bytes)) (part_lines f Part.Constraints (1 + r) (1 + r + c) (words_of bytes))
 
     abbrev answer : ℕ → ℕ → ℕ → Result Contents Refusal
     answer f r c = result_and_then (λ (t : Unit {0}). body f r c) (checks_answer f r c (words_of bytes))

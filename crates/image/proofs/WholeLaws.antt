@@ -1,11 +1,12 @@
 -- The words of lines that an accepted text may have are whole lines.
-use Rattle.std.proofs.Common.{ℕ, suc, ◌+◌, ◌-◌, ◌<◌, ◌≤◌, true, List, [], ◌∷◌, ◌++◌, append_assoc, append-nil, ◌≡◌, refl, sym, ap, ap₂, ◌∙◌, arith, ltb-true, get_or, length, length-append}
+use Rattle.std.proofs.Common.{ℕ, suc, ◌+◌, ◌-◌, ◌<◌, ◌≤◌, true, ◌&&◌, List, [], ◌∷◌, ◌++◌, append_assoc, append-nil, ◌≡◌, refl, sym, ap, ap₂, ◌∙◌, arith, ltb-true, get_or, length, length-append}
 use Rattle.policy.proofs.ListLaws.{and_in, and_out}
 use Rattle.policy.proofs.ValidLaws.{valid_out, test_in_range}
-use Rattle.policy.specs.Limits.{valid, test_number, comparison_in_range, ending_in_range}
+use Rattle.policy.specs.Limits.{valid, trigger_form, ending_allowed, test_number, comparison_in_range, ending_in_range}
 use Rattle.policy.specs.Line.{PolicyLine, rule, constraint, heads_of, comparisons_of, ending_of, line_part}
 use Rattle.policy.specs.List.{all}
 use Rattle.policy.specs.declared.comparison.Comparison.{Comparison}
+use Rattle.policy.specs.declared.effect.Effect.{Effect}
 use Rattle.policy.specs.declared.line.Ending.{Ending}
 use Rattle.policy.specs.declared.line.Part.{Part}
 use Rattle.policy.specs.declared.line.Test.{Test}
@@ -63,29 +64,32 @@ module _ (part : Part) (e : Ending) (kind : ends part e ≡ true) (sound : endin
       test_whole part (test_word x (length tail)) (tail ++ rest) (LinePart.Head x) (test_said x (length tail) (get_or (tail ++ rest) 0 0) n k) refl
       (omega (arith, skip, size, (condition_size_limit cs).0)) (length tail) (omega (arith, skip)) (part_whole cs r few xs p.1 (omega arith))
 
-pub lines_whole : (part : Part) (ls : List PolicyLine) → all (in_part part) ls ≡ true → all valid ls ≡ true → whole_lines part (lines_words ls) ≡ true
+pub lines_whole : (form : ℕ) (part : Part) (ls : List PolicyLine) → all (in_part form part) ls ≡ true → all valid ls ≡ true → whole_lines part (lines_words ls) ≡ true
 unfolding lines_words line_words whole_from
-lines_whole part [] k v = refl
-lines_whole part (l ∷ ls) k v =
-    let p = and_out (in_part part l) (all (in_part part) ls) k in
+lines_whole form part [] k v = refl
+lines_whole form part (l ∷ ls) k v =
+    let p = and_out (in_part form part l) (all (in_part form part) ls) k in
     let q = and_out (valid l) (all valid ls) v in
     let h = valid_out l q.0 in
     let size = part_length (heads_of l) (comparisons_of l) (ending_of l) in
     let one : length (line_words l) ≡ suc (length (line_words l) - 1) = omega (arith, size, (condition_size_limit (comparisons_of l)).0) in
     whole_begins part (length (line_words l) - 1) (line_words l ++ lines_words ls)
     (ap (λ (n : ℕ). whole_from part 0 n (line_words l ++ lines_words ls)) (sym one)
-    ∙ part_whole part (ending_of l) (kind_ends part l p.0) h.ending (lines_words ls) (lines_whole part ls p.1 q.1) (comparisons_of l) h.comparisons h.few_comparisons (heads_of l) h.tests h.few_tests)
+    ∙ part_whole part (ending_of l) (kind_ends form part l p.0) h.ending (lines_words ls) (lines_whole form part ls p.1 q.1) (comparisons_of l) h.comparisons h.few_comparisons (heads_of l) h.tests h.few_tests)
 
 -- words that are lines of a part
-pub are_whole : (part : Part) (room : ℕ) (ws : List ℕ) (ls : List PolicyLine) → AreLines part room ws ls → whole_lines part ws ≡ true
-are_whole part room ws ls h = ap (whole_lines part) h.words ∙ lines_whole part ls h.kind h.sound
+pub are_whole : (form : ℕ) (part : Part) (room : ℕ) (ws : List ℕ) (ls : List PolicyLine) → AreLines form part room ws ls → whole_lines part ws ≡ true
+are_whole form part room ws ls h = ap (whole_lines part) h.words ∙ lines_whole form part ls h.kind h.sound
 
-own_part : (l : PolicyLine) → all (in_part (line_part l)) (l ∷ []) ≡ true
-unfolding in_part ending_of
-own_part (rule r) = refl
+own_part : (l : PolicyLine) → all (in_part trigger_form (line_part l)) (l ∷ []) ≡ true
+unfolding in_part ending_of ending_allowed
+own_part (rule r) = go r.effect
+  where
+    go : (x : Effect) → ending_allowed trigger_form (Ending.Yields x) && true ≡ true
+    go (Effect.Causes a) = refl
+    go (Effect.Triggers y) = refl
 own_part (constraint c) = refl
 
--- one such line alone
 pub own_line_whole : (l : PolicyLine) → valid l ≡ true → whole_lines (line_part l) (line_words l) ≡ true
 unfolding lines_words
-own_line_whole l v = ap (whole_lines (line_part l)) (sym (append-nil (line_words l))) ∙ lines_whole (line_part l) (l ∷ []) (own_part l) (and_in v refl)
+own_line_whole l v = ap (whole_lines (line_part l)) (sym (append-nil (line_words l))) ∙ lines_whole trigger_form (line_part l) (l ∷ []) (own_part l) (and_in v refl)

@@ -40,16 +40,22 @@ fn well_sized(size: usize) -> bool
 // How many lines of a part the words are, at most `limit` of them; or the refusal where none fits, at an index in the image, in which
 // the first word has the index `first`.
 #[inline(always)]
-fn part_lines(words: &[[u8; 4]], kind: Part, limit: usize, first: usize) -> Result<usize, Refusal>
+fn part_lines(
+    words: &[[u8; 4]],
+    form: u8,
+    kind: Part,
+    limit: usize,
+    first: usize,
+) -> Result<usize, Refusal>
     requires { first + length words.now < 2 ^ 32 }
-    ensures { result ≡ part_answer 0 (lines_from kind limit first (words_in words.now)) }
+    ensures { result ≡ part_answer 0 (lines_from form kind limit first (words_in words.now)) }
 {
     let mut rest = words;
     for count in 0..limit {
         if rest.is_empty() {
             return Ok(count);
         }
-        let size = line_length(rest, kind);
+        let size = line_length(rest, form, kind);
         if size == 0 {
             return Err(Fault::ImageBody.at(first + (words.len() - rest.len())));
         }
@@ -115,14 +121,20 @@ fn load_body(
 ) -> Result<Image<'_>, Refusal>
     requires inside { 1 + rule_words + constraint_words ≤ length words.now }
     requires few { length words.now < 4096 }
-    ensures { result_map_both image_contents (λ refusal. refusal) result ≡ body_answer form (between 1 (1 + rule_words) (words_in words.now)) (between (1 + rule_words) (1 + rule_words + constraint_words) (words_in words.now)) (part_lines Part.Rules 1 (1 + rule_words) (words_in words.now)) (part_lines Part.Constraints (1 + rule_words) (1 + rule_words + constraint_words) (words_in words.now)) }
+    ensures { result_map_both image_contents (λ refusal. refusal) result ≡ body_answer form (between 1 (1 + rule_words) (words_in words.now)) (between (1 + rule_words) (1 + rule_words + constraint_words) (words_in words.now)) (part_lines form Part.Rules 1 (1 + rule_words) (words_in words.now)) (part_lines form Part.Constraints (1 + rule_words) (1 + rule_words + constraint_words) (words_in words.now)) }
 {
     let middle = 1 + rule_words;
     let end = middle + constraint_words;
     let rules = part(words, 1, middle);
     let constraints = part(words, middle, end);
-    let rule_count = part_lines(rules, Part::Rules, RULE_LIMIT, 1)?;
-    let constraint_count = part_lines(constraints, Part::Constraints, CONSTRAINT_LIMIT, middle)?;
+    let rule_count = part_lines(rules, form, Part::Rules, RULE_LIMIT, 1)?;
+    let constraint_count = part_lines(
+        constraints,
+        form,
+        Part::Constraints,
+        CONSTRAINT_LIMIT,
+        middle,
+    )?;
     Ok(Image {
         form,
         parts: PerPart { rules, constraints },

@@ -1,4 +1,5 @@
-//! The functions for C: compile a text or two, write the text of an image, check an image, decide an epoch. Each answers a struct of
+//! The functions for C: compile a text or two, write the text of an image, check an image, decide an epoch, alone
+//! or as the next one. Each answers a struct of
 //! numbers. Start with specs/Export.antt; include/kinohazel.h is the C side. A slice is never null, not even an empty one: the functions of
 //! the header take null pointers and call these. What a controller has no use for stands in kinohazel_tools.
 #![tactic(auto)]
@@ -8,12 +9,14 @@ ghost use Rattle.policy.specs.Fault.{fault_number, source_number};
 ghost use Rattle.codegen.specs.Compile.{compiled, compiled_texts};
 ghost use Rattle.decompile.specs.Decompile.{decompiled};
 ghost use Rattle.image.specs.Load.{load};
-ghost use Rattle.monitor.specs.Decision.{decision};
+ghost use Rattle.policy.specs.Set.{set_of};
+ghost use Rattle.policy.specs.declared.mode.Mode.{Mode};
+ghost use Rattle.monitor.specs.Decision.{decision, advanced};
 ghost use Rattle.export.specs.Export.{decision_of};
 ghost use Rattle.kinohazel.specs.Export.{compilation_of, texts_compilation_of, text_written_of, check_of};
 
-use export::{EpochDecision, epoch_decision, fault_number};
-use policy::{Mode, Source};
+use export::{EpochDecision, State, epoch_decision, fault_number};
+use policy::{EventSet, Mode, Source};
 
 /// What came of a text: the fault's number, or 0; its line, counted from 1; how many bytes of an image were written.
 #[repr(C)]
@@ -143,7 +146,7 @@ pub extern "C" fn kinohazel_check_nonnull(image: &[u8]) -> ImageCheck
     }
 }
 
-/// Writes the text of an image from the start of `out` on. A refusal leaves `out` as it is; 27,968 bytes are enough for every text.
+/// Writes the text of an image from the start of `out` on. A refusal leaves `out` as it is; 28,224 bytes are enough for every text.
 #[tactic(auto, unfolding(crate::specs::Export::text_written_of))]
 #[unsafe(no_mangle)]
 pub extern "C" fn kinohazel_text_nonnull(image: &[u8], out: &mut [u8]) -> TextWritten
@@ -164,10 +167,27 @@ pub extern "C" fn kinohazel_text_nonnull(image: &[u8], out: &mut [u8]) -> TextWr
     }
 }
 
-/// Decides an epoch line, without its line end, on an image, in the first mode, by action cancellation.
+/// Decides an epoch line alone, without its line end, where these events are pending, event n as bit n, on an image, in the first mode,
+/// by action cancellation.
 #[unsafe(no_mangle)]
-pub extern "C" fn kinohazel_decide_nonnull(image: &[u8], line: &[u8]) -> EpochDecision
-    ensures { result ≡ decision_of (decision image.now line.now) }
+pub extern "C" fn kinohazel_decide_nonnull(image: &[u8], pending: u64, line: &[u8]) -> EpochDecision
+    ensures { result ≡ decision_of (decision image.now (set_of pending) line.now) }
 {
-    epoch_decision(monitor::decide(image, line, Mode::Actions))
+    epoch_decision(monitor::decide(image, EventSet::of(pending), line, Mode::Actions))
+}
+
+/// Decides the next epoch line. Pending behind it are the events that the epoch triggered, or where it was refused those before.
+#[tactic(auto, unfolding(monitor::specs::Decision::advanced))]
+#[unsafe(no_mangle)]
+pub extern "C" fn kinohazel_step_nonnull(
+    image: &[u8],
+    state: &mut State,
+    line: &[u8],
+) -> EpochDecision
+    ensures answer { result ≡ decision_of (advanced Mode.Actions image.now (set_of state.old.pending) line.now).answer }
+    ensures state { state.new.pending ≡ (advanced Mode.Actions image.now (set_of state.old.pending) line.now).pending.bits }
+{
+    let decision = kinohazel_decide_nonnull(image, state.pending, line);
+    *state = state.after(decision);
+    decision
 }

@@ -5,11 +5,13 @@
 
 ghost use Rattle.std.specs.Prelude.{◌≡◌};
 ghost use Rattle.policy.specs.Number.{check_action};
+ghost use Rattle.policy.specs.Set.{set_of};
 ghost use Rattle.explanation.specs.Part.{quote_of};
 ghost use Rattle.explanation.specs.Why.{explained};
 ghost use Rattle.kinohazel_tools.specs.Export.{quoting, explanation_of};
 
 use explanation::{Outcome, Shown};
+use policy::EventSet;
 
 /// The fault's number, or 0; its text, 1 the maker's, 2 the site's, 0 neither alone, and its line, counted from 1; what became of the
 /// action: 1 not proposed, 2 accepted, 3 cancelled, 0 on a refusal; and where the part stands that says why: in which text, from which
@@ -69,19 +71,20 @@ fn action_number(action: u64) -> u32
     if action < 64 { action as u32 } else { 64 }
 }
 
-/// What became of the action of a number on an epoch line, without its line end, by the maker's and the site's text, and why. What is
-/// decided is decided in the first mode, by action cancellation.
+/// What became of the action of a number on an epoch line, without its line end, where these events are pending, event n as bit n, by the
+/// maker's and the site's text, and why. What is decided is decided in the first mode, by action cancellation.
 #[unsafe(no_mangle)]
 pub extern "C" fn kinohazel_explain_nonnull(
     maker: &[u8],
     site: &[u8],
+    pending: u64,
     line: &[u8],
     action: u64,
 ) -> ActionExplanation
-    ensures { result ≡ explanation_of (explained maker.now site.now line.now action) }
+    ensures { result ≡ explanation_of (explained maker.now site.now (set_of pending) line.now action) }
 {
     let number = action_number(action);
-    match explanation::explain(maker, site, line, number) {
+    match explanation::explain(maker, site, EventSet::of(pending), line, number) {
         Err(refusal) => {
             let fault = refusal.fault;
             let source = refusal.source;

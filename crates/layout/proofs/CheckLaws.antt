@@ -1,7 +1,8 @@
 -- Laws of the check words of every form, which hold whatever they are made of.
-use Rattle.std.proofs.Common.{◌≡◌, ℕ, zero, suc, ◌+◌, ◌*◌, ◌%◌, ◌<◌, ◌≤◌, Bool, true, false, if◌then◌else◌, ◌==◌, ◌||◌, List, [], ◌∷◌, ◌++◌, length, get_or, take, drop, refl, sym, ap, ◌∙◌, arith, eqb-true, eq-eqb, ne_eqb, add-zero, take_at, get_or-append-add, take-append-drop, drop-cons, drop_of_length-le, append_assoc}
+use Rattle.std.proofs.Common.{◌≡◌, ℕ, zero, suc, ◌+◌, ◌*◌, ◌%◌, ◌<◌, ◌≤◌, Bool, true, false, if◌then◌else◌, ◌==◌, ◌||◌, List, [], ◌∷◌, ◌++◌, length, get_or, take, drop, refl, sym, ap, ◌∙◌, arith, leb-true, eqb-true, eq-eqb, ne_eqb, add-zero, take_at, get_or-append-add, take-append-drop, drop-cons, drop_of_length-le, append_assoc}
 use Rattle.std.proofs.lemmas.List.{take_more}
-use Rattle.policy.proofs.ListLaws.{true_false}
+use Rattle.std.proofs.Math.Dec.{leb}
+use Rattle.policy.proofs.ListLaws.{and_out}
 use Rattle.word.specs.Word.{word_limit, Below}
 use Rattle.layout.specs.Layout.{known_form, check_count, rule_word_limit, constraint_word_limit, size_limit, sum, check_word, weighted_word, weighted_right, check_words}
 use Rattle.layout.proofs.SumLaws.{check_word_is, check_sum, check_below, sum_append}
@@ -11,12 +12,7 @@ use Rattle.layout.proofs.SumLaws.{check_word_is, check_sum, check_below, sum_app
 module _ (form : ℕ) where
   pub form_below : known_form form ≡ true → form < 256
   unfolding known_form
-  form_below known = go (form == 1) (form == 2) (eqb-true form 1) (eqb-true form 2) known
-    where
-      go : (a b : Bool) → (a ≡ true → form ≡ 1) → (b ≡ true → form ≡ 2) → (a || b) ≡ true → form < 256
-      go true b one two k = omega (arith, one refl)
-      go false true one two k = omega (arith, two refl)
-      go false false one two k = absurd (true_false refl (sym k))
+  form_below known = let l = leb-true form 5 (and_out (leb 1 form) (leb form 5) known).1 in omega arith
 
   pub checks_few : (1 ≤ check_count form) × (check_count form ≤ 2)
   unfolding check_count

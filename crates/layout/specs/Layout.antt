@@ -1,5 +1,5 @@
 -- The words of a line, and the image of a policy. The form is an argument, and word 0 holds it; of all else it tells the check words.
-use Rattle.std.specs.Prelude.{ℕ, ◌+◌, ◌*◌, ◌-◌, ◌%◌, Bool, ◌||◌, if◌then◌else◌, List, [], ◌∷◌, ◌++◌, map, length, take, slice_index_or, ◌==◌}
+use Rattle.std.specs.Prelude.{ℕ, ◌+◌, ◌*◌, ◌-◌, ◌%◌, Bool, ◌&&◌, ◌||◌, if◌then◌else◌, List, [], ◌∷◌, ◌++◌, map, length, take, slice_index_or, ◌==◌, nat_le}
 use Rattle.std.specs.List.{sum as sum_of}
 use Rattle.policy.specs.Line.{PolicyLine, rule, constraint, heads_of, comparisons_of, ending_of}
 use Rattle.policy.specs.Policy.{Policy}
@@ -30,10 +30,11 @@ lines_words (l ∷ ls) = line_words l ++ lines_words ls
 
 -- ---- forms
 
+-- forms 1 to 5; those from 3 on are alike
 unfoldable pub known_form : ℕ → Bool
-known_form form = form == 1 || form == 2
+known_form form = nat_le 1 form && nat_le form 5
 
--- form 1 has the last word alone, form 2 a weighted one before it
+-- form 1 has the last word alone, each other a weighted one before it
 unfoldable pub check_count : ℕ → ℕ
 check_count form = if form == 1 then 1 else 2
 

@@ -2,12 +2,15 @@
 ghost use Rattle.std.specs.Prelude.{◌≡◌, ◌≤◌};
 ghost use Rattle.layout.specs.Layout.{known_form, check_count};
 
+// The last form that there is.
+const NEWEST_FORM: u8 = 5;
+
 /// Whether there are images of this form.
 #[tactic(auto, unfolding(crate::specs::Layout::known_form))]
 pub fn is_known_form(form: u8) -> bool
     ensures { result ≡ known_form form }
 {
-    form == 1 || form == 2
+    1 <= form && form <= NEWEST_FORM
 }
 
 /// How many check words an image of this form has.

@@ -8,6 +8,7 @@ use Rattle.policy.specs.declared.comparison.Literal.{Literal}
 use Rattle.policy.specs.declared.comparison.Operand.{Operand}
 use Rattle.policy.specs.declared.comparison.Relation.{Relation}
 use Rattle.policy.specs.declared.number.Action.{Action}
+use Rattle.policy.specs.declared.number.Event.{Event}
 use Rattle.policy.specs.declared.number.Reading.{Reading}
 use Rattle.lexer.specs.Byte.{is}
 use Rattle.lexer.specs.Number.{number_of, constant_of}
@@ -33,6 +34,12 @@ action_as n = record { 0 = n }
 
 unfoldable pub action_of : Token → Option Action
 action_of t = option_map action_as (named (byte "A") t)
+
+abbrev event_as : ℕ → Event
+event_as n = record { 0 = n }
+
+unfoldable pub event_of : Token → Option Event
+event_of t = option_map event_as (named (byte "E") t)
 
 abbrev reading_as : ℕ → Reading
 reading_as n = record { 0 = n }

@@ -46,23 +46,23 @@ actions_back (Test.Member a ∷ ts) h = ap (λ (xs : List Test). Test.Member a �
 module _ (ts : List Test) (cs : List Comparison) where
   pub heads_back : (e : Ending) → all (fits (ending_part e)) ts ≡ true → heads_of (line_of ts cs e) ≡ ts
   unfolding line_of heads_of
-  heads_back (Ending.Causes a) h = literals_back ts h
+  heads_back (Ending.Yields x) h = literals_back ts h
   heads_back Ending.Never h = actions_back ts h
 
   pub comparisons_back : (e : Ending) → comparisons_of (line_of ts cs e) ≡ cs
   unfolding line_of comparisons_of
-  comparisons_back (Ending.Causes a) = refl
+  comparisons_back (Ending.Yields x) = refl
   comparisons_back Ending.Never = refl
 
   pub ending_back : (e : Ending) → ending_of (line_of ts cs e) ≡ e
   unfolding line_of ending_of
-  ending_back (Ending.Causes a) = refl
+  ending_back (Ending.Yields x) = refl
   ending_back Ending.Never = refl
 
 -- a line is the line of its parts, and its heads fit it
 pub line_again : (l : PolicyLine) → line_of (heads_of l) (comparisons_of l) (ending_of l) ≡ l
 unfolding line_of heads_of comparisons_of ending_of
-line_again (rule r) = ap (λ (ls : List Literal). rule (record { literals = ls; action = r.action; comparisons = r.comparisons })) (literals_there r.literals)
+line_again (rule r) = ap (λ (ls : List Literal). rule (record { literals = ls; effect = r.effect; comparisons = r.comparisons })) (literals_there r.literals)
 line_again (constraint c) = ap (λ (xs : List Action). constraint (record { actions = xs; comparisons = c.comparisons })) (actions_there c.actions)
 
 pub heads_fit : (l : PolicyLine) → all (fits (line_part l)) (heads_of l) ≡ true

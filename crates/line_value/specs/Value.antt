@@ -27,5 +27,5 @@ actions_among (Test.Member a ∷ ts) = a ∷ actions_among ts
 
 -- the line that ends so. Of its heads those count that fit it.
 unfoldable pub line_of : List Test → List Comparison → Ending → PolicyLine
-line_of ts cs (Ending.Causes a) = rule (record { literals = literals_among ts; action = a; comparisons = cs })
+line_of ts cs (Ending.Yields x) = rule (record { literals = literals_among ts; effect = x; comparisons = cs })
 line_of ts cs Ending.Never = constraint (record { actions = actions_among ts; comparisons = cs })

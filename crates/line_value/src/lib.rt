@@ -59,6 +59,16 @@ impl Line {
         }
     }
 
+    /// The same of other parts, put in the place of this line.
+    pub fn fill(&mut self, heads: Tests, comparisons: Comparisons, ending: Ending)
+        requires { list_all (fits (ending_part ending)) heads ≡ true }
+        ensures { self.new ≡ line_of heads comparisons ending }
+    {
+        self.heads = heads;
+        self.comparisons = comparisons;
+        self.ending = ending;
+    }
+
     /// Its literals or its actions.
     #[tactic(auto, using(crate::proofs::LineLaws::heads_back))]
     pub fn heads(&self) -> &[Test]

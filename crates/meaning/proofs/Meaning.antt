@@ -9,8 +9,11 @@ use Rattle.policy.specs.Limits.{valid, test_number, comparison_in_range, ending_
 use Rattle.policy.specs.Line.{rule, constraint, heads_of, comparisons_of, ending_of}
 use Rattle.policy.specs.List.{all, any}
 use Rattle.policy.specs.Policy.{Policy, Rule, Constraint}
-use Rattle.policy.specs.Set.{ActionSet, has_action, insert_action, no_actions}
-use Rattle.pdl.specs.Yield.{literal_holds, rule_holds, propose, proposals, constraint_holds, conflict}
+use Rattle.policy.specs.Effect.{no_effects, with_effect}
+use Rattle.policy.specs.Set.{ActionSet, has_action}
+use Rattle.policy.specs.declared.comparison.Literal.{Literal}
+use Rattle.policy.specs.declared.effect.Effects.{Effects}
+use Rattle.pdl.specs.Yield.{literal_holds, rule_holds, take_effect, effects_where, effects, reserved, constraint_holds, conflict}
 use Rattle.policy.specs.declared.comparison.Comparison.{Comparison}
 use Rattle.policy.specs.declared.line.Ending.{Ending}
 use Rattle.policy.specs.declared.line.Part.{Part}
@@ -26,7 +29,7 @@ use Rattle.layout.specs.Steps.Size.{comparisons_size, condition_size}
 use Rattle.operation.specs.Parts.{test_word, comparison_words, ending_word}
 use Rattle.operation.specs.Said.{says, constants_of}
 use Rattle.operation.specs.declared.said.LinePart.{LinePart}
-use Rattle.run.specs.Run.{passes, ran, rule_test, constraint_test, proposing, run_rules, ends_constraint, run_constraints}
+use Rattle.run.specs.Run.{passes, ran, rule_test, constraint_test, taking, run_rules, reserved_by, ends_constraint, run_constraints}
 use Rattle.operation.specs.Fields.{skip_of}
 
 one_more : (n : ℕ) → 1 + n ≡ suc n
@@ -112,36 +115,47 @@ module _ {A : Type 0} (test : LinePart → Bool) (together : List LinePart → A
 
 -- ---- rules
 
-module _ (ev : Events) (rs : Readings) where
-  -- what is proposed in the end, with what is proposed so far
-  abbrev more : ActionSet → List ℕ → ActionSet
-  more s ws = fold proposing s (ran (rule_test ev rs) 0 ws)
+-- for any test of what words say, and of rules, which agree
+module _ (test : LinePart → Bool) (untested : (e : Ending) → test (LinePart.Ending e) ≡ true) (holds : Rule → Bool)
+    (same : (r : Rule) → all (λ (l : Literal). test (LinePart.Head (Test.Occurs l))) r.literals && all (λ (c : Comparison). test (LinePart.Comparison c)) r.comparisons ≡ holds r) where
+  -- the effects in the end, with those so far
+  abbrev more : Effects → List ℕ → Effects
+  more s ws = fold taking s (ran test 0 ws)
 
-  rule_run : (s : ActionSet) (r : Rule) (rest : List ℕ) → valid (rule r) ≡ true → more s (line_words (rule r) ++ rest) ≡ more (propose ev rs s r) rest
-  unfolding line_words heads_of comparisons_of ending_of propose rule_holds literal_holds rule_test proposing
+  rule_run : (s : Effects) (r : Rule) (rest : List ℕ) → valid (rule r) ≡ true → more s (line_words (rule r) ++ rest) ≡ more (take_effect holds s r) rest
+  unfolding line_words heads_of comparisons_of ending_of take_effect taking
   rule_run s r rest v =
       let h = valid_out (rule r) v in
       let c = condition_size_limit r.comparisons in
-      heads_run (rule_test ev rs) (fold proposing s) (λ t ps. refl) (λ c ps. refl) (Ending.Causes r.action) h.ending refl
-      (fold proposing (insert_action s r.action)) (λ ps. refl) Test.Occurs r.comparisons r.literals rest h.tests h.comparisons
+      heads_run test (fold taking s) (λ t ps. refl) (λ c ps. refl) (Ending.Yields r.effect) h.ending (untested (Ending.Yields r.effect))
+      (fold taking (with_effect s r.effect)) (λ ps. refl) Test.Occurs r.comparisons r.literals rest h.tests h.comparisons
       (omega (arith, h.few_tests, h.few_comparisons, length-map r.literals Test.Occurs))
-      ∙ go (all (literal_holds ev) r.literals && all (comparison_holds Part.Rules rs) r.comparisons)
+      ∙ ap (λ (b : Bool). cond b (more (with_effect s r.effect) rest) (more s rest)) (same r) ∙ go (holds r)
     where
-      go : (b : Bool) → cond b (more (insert_action s r.action) rest) (more s rest) ≡ more (cond b (insert_action s r.action) s) rest
+      go : (b : Bool) → cond b (more (with_effect s r.effect) rest) (more s rest) ≡ more (cond b (with_effect s r.effect) s) rest
       go true = refl
       go false = refl
 
-  rules_run_from : (rules : List Rule) (s : ActionSet) → all valid (map rule rules) ≡ true → more s (lines_words (map rule rules)) ≡ fold (propose ev rs) s rules
+  rules_run_from : (rules : List Rule) (s : Effects) → all valid (map rule rules) ≡ true → more s (lines_words (map rule rules)) ≡ fold (take_effect holds) s rules
   unfolding lines_words ran
   rules_run_from [] s v = refl
   rules_run_from (r ∷ rest) s v =
       let p = and_out (valid (rule r)) (all valid (map rule rest)) v in
-      rule_run s r (lines_words (map rule rest)) p.0 ∙ rules_run_from rest (propose ev rs s r) p.1
+      rule_run s r (lines_words (map rule rest)) p.0 ∙ rules_run_from rest (take_effect holds s r) p.1
 
--- running a policy's rule words yields what its rules propose, on any events and readings
-pub rules_run : (p : Policy) → all valid (map rule p.rules) ≡ true → (ev : Events) (rs : Readings) → run_rules ev rs (rule_part_words p) ≡ proposals p.rules ev rs
-unfolding rule_part_words proposals run_rules
-rules_run p v ev rs = rules_run_from ev rs p.rules no_actions v
+-- running a policy's rule words yields the effects of its rules, on any events and readings
+pub rules_run : (p : Policy) → all valid (map rule p.rules) ≡ true → (ev : Events) (rs : Readings) → run_rules ev rs (rule_part_words p) ≡ effects p.rules ev rs
+unfolding rule_part_words effects_where run_rules rule_test rule_holds literal_holds
+rules_run p v ev rs = rules_run_from (rule_test ev rs) (λ e. refl) (rule_holds ev rs) (λ r. refl) p.rules no_effects v
+
+-- and the events that they trigger where each test holds are those that its rules trigger
+pub reserved_run : (p : Policy) → all valid (map rule p.rules) ≡ true → reserved_by (rule_part_words p) ≡ reserved p.rules
+unfolding rule_part_words effects_where reserved_by
+reserved_run p v = ap (λ (x : Effects). x.events) (rules_run_from (λ said. true) (λ e. refl) (λ r. true) (λ r. ap₂ ◌&&◌ (all_hold r.literals) (all_hold r.comparisons)) p.rules no_effects v)
+  where
+    all_hold : {A : Type 0} (xs : List A) → all (λ (x : A). true) xs ≡ true
+    all_hold [] = refl
+    all_hold (x ∷ xs) = all_hold xs
 
 -- ---- constraints
 

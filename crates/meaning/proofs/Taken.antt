@@ -1,35 +1,54 @@
 -- What the words of an image do is what a policy yields: of the image that was written for it, and of one that the loader took by the policy that it holds.
-use Rattle.std.proofs.Common.{ℕ, true, List, ◌≡◌, ap, ◌∙◌, Ok}
-use Rattle.policy.specs.Limits.{Acceptable}
+use Rattle.std.proofs.Common.{ℕ, Bool, true, false, cond, List, ◌≡◌, refl, sym, ap, ◌∙◌, Ok}
+use Rattle.std.proofs.Math.Dec.{leb}
+use Rattle.policy.specs.Limits.{trigger_form, Acceptable}
 use Rattle.policy.specs.Policy.{Policy}
-use Rattle.policy.specs.Set.{ActionSet}
+use Rattle.policy.specs.Set.{ActionSet, no_events}
 use Rattle.policy.specs.declared.epoch.Readings.{Readings}
 use Rattle.policy.specs.declared.set.Events.{Events}
-use Rattle.pdl.specs.Yield.{proposals, conflict}
+use Rattle.pdl.specs.Yield.{effects, reserved, conflict}
+use Rattle.pdl.proofs.Reserved.{none_reserved}
 use Rattle.word.specs.Word.{Bytes}
-use Rattle.layout.specs.Layout.{known_form, image_of}
+use Rattle.layout.specs.Layout.{known_form, rule_part_words, image_of}
 use Rattle.image.specs.Held.{policy_in}
 use Rattle.image.specs.Load.{Contents, load}
-use Rattle.exactness.proofs.Exact.{image_taken, held_acceptable, taken_rules, taken_constraints}
+use Rattle.exactness.proofs.Exact.{image_taken, took, held_acceptable, taken_rules, taken_constraints}
 use Rattle.exactness.specs.Exact.{contents_of}
-use Rattle.run.specs.Run.{run_rules, run_constraints}
-use Rattle.meaning.proofs.Meaning.{rules_run, constraints_run}
+use Rattle.run.specs.Run.{run_rules, run_constraints, reserved_by}
+use Rattle.monitor.specs.Decision.{reserved_in}
+use Rattle.meaning.proofs.Meaning.{rules_run, reserved_run, constraints_run}
 
 -- an image whose words do what a policy yields
 pub record Implements (image : List ℕ) (contents : Contents) (p : Policy) : Type 0 where
   pub taken : load image ≡ Ok contents
-  pub acceptable : Acceptable p
-  pub rules : (ev : Events) (rs : Readings) → run_rules ev rs contents.parts.rules ≡ proposals p.rules ev rs
+  pub acceptable : Acceptable contents.form p
+  pub rules : (ev : Events) (rs : Readings) → run_rules ev rs contents.parts.rules ≡ effects p.rules ev rs
+  pub reserves : reserved_in contents ≡ reserved p.rules
   pub constraints : (rs : Readings) (s : ActionSet) → run_constraints rs s contents.parts.constraints ≡ conflict p.constraints rs s
 
+-- what its words reserve, by its form
+reserved_is : (contents : Contents) (p : Policy) → Acceptable contents.form p → contents.parts.rules ≡ rule_part_words p → reserved_in contents ≡ reserved p.rules
+unfolding reserved_in
+reserved_is contents p ok same = go (leb trigger_form contents.form) refl
+  where
+    go : (b : Bool) → leb trigger_form contents.form ≡ b → cond b (reserved_by contents.parts.rules) no_events ≡ reserved p.rules
+    go true h = ap reserved_by same ∙ reserved_run p ok.rules_valid
+    go false h = sym (none_reserved contents.form h p.rules ok.rules_allowed)
+
 -- what was written for a policy
-pub written_implements : (form : ℕ) → known_form form ≡ true → (p : Policy) → Acceptable p → Implements (image_of form p) (contents_of form p) p
+pub written_implements : (form : ℕ) → known_form form ≡ true → (p : Policy) → Acceptable form p → Implements (image_of form p) (contents_of form p) p
 written_implements form known p ok =
-    record { taken = image_taken form known p ok; acceptable = ok; rules = rules_run p ok.rules_valid; constraints = constraints_run p ok.constraints_valid }
+    record {
+      taken = image_taken form known p ok;
+      acceptable = ok;
+      rules = rules_run p ok.rules_valid;
+      reserves = reserved_is (contents_of form p) p ok refl;
+      constraints = constraints_run p ok.constraints_valid;
+    }
 
 module _ (bytes : List ℕ) (bounded : Bytes bytes) (contents : Contents) (taken : load bytes ≡ Ok contents) where
-  -- its rule words yield what its policy's rules propose, on any events and readings
-  pub taken_rules_run : (ev : Events) (rs : Readings) → run_rules ev rs contents.parts.rules ≡ proposals (policy_in bytes).rules ev rs
+  -- its rule words yield the effects of its policy's rules, on any events and readings
+  pub taken_rules_run : (ev : Events) (rs : Readings) → run_rules ev rs contents.parts.rules ≡ effects (policy_in bytes).rules ev rs
   taken_rules_run ev rs = ap (run_rules ev rs) (taken_rules bytes bounded contents taken) ∙ rules_run (policy_in bytes) (held_acceptable bytes bounded contents taken).rules_valid ev rs
 
   -- its constraint words, run on a set, say whether a constraint of its policy holds on the set
@@ -37,6 +56,13 @@ module _ (bytes : List ℕ) (bounded : Bytes bytes) (contents : Contents) (taken
       → run_constraints rs s contents.parts.constraints ≡ conflict (policy_in bytes).constraints rs s
   taken_constraints_run rs s = ap (run_constraints rs s) (taken_constraints bytes bounded contents taken) ∙ constraints_run (policy_in bytes) (held_acceptable bytes bounded contents taken).constraints_valid rs s
 
+  acceptable_in : Acceptable contents.form (policy_in bytes)
+  acceptable_in = rw (took bytes contents taken).form_is (held_acceptable bytes bounded contents taken)
+
+  -- it reserves the events that its policy's rules trigger
+  pub taken_reserves : reserved_in contents ≡ reserved (policy_in bytes).rules
+  taken_reserves = reserved_is contents (policy_in bytes) acceptable_in (taken_rules bytes bounded contents taken)
+
   pub taken_implements : Implements bytes contents (policy_in bytes)
   taken_implements =
-      record { taken = taken; acceptable = held_acceptable bytes bounded contents taken; rules = taken_rules_run; constraints = taken_constraints_run }
+      record { taken = taken; acceptable = acceptable_in; rules = taken_rules_run; reserves = taken_reserves; constraints = taken_constraints_run }

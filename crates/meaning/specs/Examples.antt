@@ -23,7 +23,7 @@ runs =
     ∷ record { events = 14; reading = pos 41; proposed = 16; conflict = false } ∷ record { events = 0; reading = pos 0; proposed = 0; conflict = false } ∷ []
 
 abbrev proposed_on : Epoch → ActionSet
-proposed_on e = run_rules (all_events e.events) e.readings (rule_part_words worked)
+proposed_on e = (run_rules (all_events e.events) e.readings (rule_part_words worked)).actions
 
 unfoldable pub computed : Run → Run
 computed x =

@@ -3,10 +3,11 @@ use Rattle.std.proofs.Common.{map, ◌≡◌, refl}
 use Rattle.policy.specs.Set.{has, insert, below}
 use Rattle.policy.specs.Epoch.{reading_value}
 use Rattle.policy.specs.Comparison.{eq_z, relation_holds, operand_value, comparison_holds, missing_holds, values_relate}
+use Rattle.policy.specs.Effect.{effect_number, with_effect}
 use Rattle.policy.specs.Line.{heads_of, comparisons_of, ending_of, constant_count}
-use Rattle.policy.specs.Limits.{is_reading_value, test_number, operand_in_range, comparison_in_range, ending_in_range, in_range, crowded, repeats, repeated, valid}
+use Rattle.policy.specs.Limits.{is_reading_value, test_number, operand_in_range, comparison_in_range, effect_in_range, ending_in_range, ending_allowed, in_range, crowded, repeats, repeated, valid}
 use Rattle.pdl.specs.Greedy.{try_next, kept_below, greedy, cost_below, trials_cost}
-use Rattle.pdl.specs.Yield.{literal_holds, rule_holds, propose, proposals, constraint_holds, conflict, resolve, accepted, cancelled}
+use Rattle.pdl.specs.Yield.{literal_holds, rule_holds, take_effect, effects_where, constraint_holds, conflict, resolve, accepted, cancelled}
 use Rattle.lexer.specs.Byte.{bytes, bytes_equal, is, class_of, hex_value}
 use Rattle.lexer.specs.Number.{decimal_from, number_of, negative, decimal_of, pattern_of, hexadecimal_of, constant_of}
 use Rattle.lexer.specs.Lines.{prepend, pieces, lines_of, non_empty, tokens_of}
@@ -17,17 +18,17 @@ use Rattle.operation.specs.Said.{says_by, says, constants_of}
 use Rattle.word.specs.Word.{words_of, bytes_of, between}
 use Rattle.operation.specs.Fields.{pack}
 use Rattle.layout.specs.Header.{pack_header}
-use Rattle.operation.specs.Parts.{test_operation, test_word, operand_word, constant_words, comparison_word, comparison_words, constant_comparison, reading_comparison, ending_word}
+use Rattle.operation.specs.Parts.{test_operation, test_word, operand_word, constant_words, comparison_word, comparison_words, constant_comparison, reading_comparison, effect_operation, ending_word}
 use Rattle.layout.specs.Layout.{condition_words, part_words, line_words, lines_words, known_form, check_count, sum, check_word, weighted_from, weighted_word, weighted_right, check_words, header_word, rule_part_words, constraint_part_words, content_words, image_words, image_of}
 use Rattle.image.specs.Check.{well_sized, counts_fit, sums_to_zero, weights_right}
 use Rattle.decode.specs.Decode.{said_in, add_part, decode, is_prefix, in_part, stands_at, keep_if, line_at, line_length}
 use Rattle.image.specs.Lines.{add_line, after_line, lines_from, part_lines}
 use Rattle.image.specs.Load.{body_answer, load_words, load}
-use Rattle.run.specs.Run.{ran, rule_test, constraint_test, proposing, run_rules, ends_constraint, run_constraints, fetches, up_to, rule_fetches, trial_fetches}
-use Rattle.monitor.specs.Decision.{kept_by, tried_words, yielded_by, kept_events_by, tried_event_words, reduced_by, reduction_by, decided_by, on_image, decision_in}
+use Rattle.run.specs.Run.{ran, rule_test, constraint_test, taking, run_rules, reserved_by, ends_constraint, run_constraints, fetches, up_to, rule_fetches, trial_fetches}
+use Rattle.monitor.specs.Decision.{kept_by, tried_words, yielded_by, kept_events_by, tried_event_words, reduced_by, reduction_by, decided_by, reserved_in, on_image, decision_in, pending_after, advanced}
 use Rattle.exactness.specs.Examples.{worked, empty_policy}
 use Rattle.monitor.specs.Examples.{decisions, decided}
 
 pub decisions_hold : map decided decisions ≡ decisions
-unfolding has insert below reading_value missing_holds values_relate eq_z relation_holds operand_value comparison_holds heads_of comparisons_of ending_of constant_count is_reading_value test_number operand_in_range comparison_in_range ending_in_range in_range crowded repeats repeated valid try_next kept_below greedy cost_below trials_cost literal_holds rule_holds propose proposals constraint_holds conflict resolve accepted cancelled bytes bytes_equal is class_of decimal_from number_of negative hex_value decimal_of pattern_of hexadecimal_of constant_of prepend pieces lines_of non_empty tokens_of named literal_of action_of reading_of relation_of operand_of both comparison_of at_equals assignment_of item_of items_of item_in_range given_by add_item judge_epoch read_epoch operation_from says says_by constants_of relation_from words_of bytes_of between pack pack_header test_operation test_word operand_word constant_words comparison_word comparison_words constant_comparison reading_comparison ending_word condition_words part_words line_words lines_words known_form check_count sum check_word check_words header_word rule_part_words constraint_part_words content_words image_words image_of well_sized counts_fit sums_to_zero weights_right weighted_right weighted_word weighted_from said_in add_part decode is_prefix in_part stands_at keep_if line_at line_length add_line after_line lines_from part_lines body_answer load_words load ran rule_test constraint_test proposing run_rules ends_constraint run_constraints fetches up_to rule_fetches trial_fetches kept_by tried_words yielded_by kept_events_by tried_event_words reduced_by reduction_by decided_by on_image decision_in worked empty_policy decisions decided
+unfolding has insert below reading_value missing_holds values_relate eq_z relation_holds operand_value comparison_holds heads_of comparisons_of ending_of constant_count is_reading_value test_number effect_number operand_in_range comparison_in_range effect_in_range ending_in_range ending_allowed in_range crowded repeats repeated valid try_next kept_below greedy cost_below trials_cost literal_holds rule_holds take_effect effects_where with_effect constraint_holds conflict resolve accepted cancelled bytes bytes_equal is class_of decimal_from number_of negative hex_value decimal_of pattern_of hexadecimal_of constant_of prepend pieces lines_of non_empty tokens_of named literal_of action_of reading_of relation_of operand_of both comparison_of at_equals assignment_of item_of items_of item_in_range given_by add_item judge_epoch read_epoch operation_from says says_by constants_of relation_from words_of bytes_of between pack pack_header test_operation test_word operand_word constant_words comparison_word comparison_words constant_comparison reading_comparison effect_operation ending_word condition_words part_words line_words lines_words known_form check_count sum check_word check_words header_word rule_part_words constraint_part_words content_words image_words image_of well_sized counts_fit sums_to_zero weights_right weighted_right weighted_word weighted_from said_in add_part decode is_prefix in_part stands_at keep_if line_at line_length add_line after_line lines_from part_lines body_answer load_words load ran rule_test constraint_test taking run_rules reserved_by ends_constraint run_constraints fetches up_to rule_fetches trial_fetches kept_by tried_words yielded_by kept_events_by tried_event_words reduced_by reduction_by decided_by reserved_in on_image decision_in pending_after advanced worked empty_policy decisions decided
 decisions_hold = refl

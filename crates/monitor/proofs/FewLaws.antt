@@ -3,18 +3,19 @@ use Rattle.std.proofs.Common.{ℕ, ◌*◌, ◌≤◌, ◌<◌, Bool, true, fals
 use Rattle.policy.specs.declared.epoch.Epoch.{Epoch}
 use Rattle.policy.specs.declared.epoch.Readings.{Readings}
 use Rattle.policy.specs.Fault.{refusal}
-use Rattle.policy.specs.Set.{ActionSet, all_events, keeping, set_of}
+use Rattle.policy.specs.Set.{ActionSet, EventSet, meets, all_events, keeping, set_of}
 use Rattle.policy.specs.declared.fault.Fault.{Fault}
 use Rattle.policy.specs.declared.mode.Mode.{Mode}
 use Rattle.policy.specs.declared.set.Events.{Events}
 use Rattle.pdl.proofs.CostLaws.{trials_limit}
+use Rattle.pdl.specs.Yield.{with_pending}
 use Rattle.epoch_line.specs.Epoch.{read_epoch}
 use Rattle.image.specs.Load.{Contents, load}
 use Rattle.run.proofs.FetchLaws.{rule_fetches_few, trial_fetches_few}
 use Rattle.run.specs.Run.{run_rules}
 use Rattle.image.proofs.HeldLaws.{taken_small}
 use Rattle.policy.specs.declared.fault.Refusal.{Refusal}
-use Rattle.monitor.specs.Decision.{proposed_by, conflict_by, trial_words, tried_words, clash_by, clash_words, tried_event_words, yielded_by, reduced_by, reduction_by, decided_by, on_image, decision_in, visited_in}
+use Rattle.monitor.specs.Decision.{proposed_by, conflict_by, trial_words, tried_words, clash_by, clash_words, tried_event_words, yielded_by, reduced_by, reduction_by, decided_by, reserved_in, on_image, decision_in, visited_in}
 
 module _ (constraints : List ℕ) (few : length constraints < 8192) (rs : Readings) where
   pub trial_few : (s : ℕ) → trial_words constraints rs s ≤ 8192
@@ -28,7 +29,7 @@ module _ (rules constraints : List ℕ) (p : length rules < 4096) (n : length co
   pub clash_few : (kept : ℕ) → clash_words rules constraints e kept ≤ 8192
   clash_few kept =
       let ev : Events = keeping e.events (set_of kept) in
-      omega (arith, rule_fetches_few e.readings rules ev, trial_fetches_few e.readings constraints (run_rules ev e.readings rules))
+      omega (arith, rule_fetches_few e.readings rules ev, trial_fetches_few e.readings constraints (run_rules ev e.readings rules).actions)
 
   yielded_few : (yielded_by rules constraints e).visited ≤ 65 * 8192
   unfolding yielded_by
@@ -45,15 +46,20 @@ module _ (rules constraints : List ℕ) (p : length rules < 4096) (n : length co
 -- ---- the words of an image
 
 -- the words that a decision fetches are a number of 64 bits
-pub visited_few : (mode : Mode) (image line : List ℕ) → visited_in (decision_in mode image line) ≤ 65 * 8192
+pub visited_few : (mode : Mode) (image : List ℕ) (pending : EventSet) (line : List ℕ) → visited_in (decision_in mode image pending line) ≤ 65 * 8192
 unfolding decision_in on_image decided_by
-visited_few mode image line = go (load image) refl (read_epoch line)
+visited_few mode image pending line = go (load image) refl (read_epoch line)
   where
-    go : (l : Result Contents Refusal) → load image ≡ l → (a : Result Epoch Refusal) → visited_in (on_image mode l a) ≤ 65 * 8192
+    decided : (contents : Contents) (e : Epoch) (m : Mode) → (length contents.parts.rules < 4096) × (length contents.parts.constraints < 4096) → visited_in (decided_by m contents e) ≤ 65 * 8192
+    decided contents e Mode.Actions small = yielded_few contents.parts.rules contents.parts.constraints small.0 small.1 e
+    decided contents e Mode.Events small = reduced_few contents.parts.rules contents.parts.constraints small.0 small.1 e
+
+    unreserved : (b : Bool) (contents : Contents) (e : Epoch) → (length contents.parts.rules < 4096) × (length contents.parts.constraints < 4096)
+        → visited_in (cond b (Err (refusal Fault.ReservedEvent 0)) (decided_by mode contents e)) ≤ 65 * 8192
+    unreserved true contents e small = omega arith
+    unreserved false contents e small = decided contents e mode small
+
+    go : (l : Result Contents Refusal) → load image ≡ l → (a : Result Epoch Refusal) → visited_in (on_image mode pending l a) ≤ 65 * 8192
     go (Err r) q a = omega arith
     go (Ok contents) q (Err r) = omega arith
-    go (Ok contents) q (Ok e) = decided mode (taken_small image contents q)
-      where
-        decided : (m : Mode) → (length contents.parts.rules < 4096) × (length contents.parts.constraints < 4096) → visited_in (decided_by m contents e) ≤ 65 * 8192
-        decided Mode.Actions small = yielded_few contents.parts.rules contents.parts.constraints small.0 small.1 e
-        decided Mode.Events small = reduced_few contents.parts.rules contents.parts.constraints small.0 small.1 e
+    go (Ok contents) q (Ok e) = unreserved (meets (reserved_in contents) e.events) contents (with_pending pending e) (taken_small image contents q)

@@ -51,16 +51,18 @@ fn resolve(constraints: &[[u8; 4]], proposed: ActionSet, readings: &Readings) ->
 }
 
 // The words of an image, run on an epoch.
+#[tactic(auto, using(crate::proofs::DecideLaws::issues))]
 pub(crate) fn issue(image: &Image<'_>, epoch: &Epoch) -> Actions
     ensures { result ≡ yielded_by (words_in image.now.parts.rules.now) (words_in image.now.parts.constraints.now) epoch.now }
 {
     let run = run_rules(image.parts.rules, epoch.events.all(), &epoch.readings);
-    let proposed = run.actions;
+    let proposed = run.effects.actions;
     let kept = resolve(image.parts.constraints, proposed, &epoch.readings);
     let accepted = kept.actions;
     Actions {
         accepted,
         cancelled: proposed.without(accepted),
+        triggered: run.effects.events,
         visited: run.words + kept.words,
     }
 }

@@ -7,14 +7,14 @@ ghost use Rattle.monitor.specs.Steps.Trial.{trial_of, kept_of};
 
 use crate::decision::Actions;
 use image::Image;
-use policy::{ActionSet, Epoch, Event, EventSet, Events, Fault, Readings, Refusal};
+use policy::{ActionSet, Effects, Epoch, Event, EventSet, Events, Fault, Readings, Refusal};
 use run::{run_constraints, run_rules};
 
-/// What the trial of events answers: the actions that they propose, whether a constraint holds on these, and how many words were
+/// What the trial of events answers: what they propose and trigger, whether a constraint holds on the actions, and how many words were
 /// fetched.
 #[derive(Clone, Copy)]
 pub struct EventTrial {
-    pub actions: ActionSet,
+    pub effects: Effects,
     pub conflict: bool,
     pub words: usize,
 }
@@ -24,31 +24,31 @@ fn try_events(image: &Image<'_>, events: Events, readings: &Readings) -> EventTr
     ensures { result ≡ trial_of (words_in image.now.parts.rules.now) (words_in image.now.parts.constraints.now) events readings.now }
 {
     let run = run_rules(image.parts.rules, events, readings);
-    let actions = run.actions;
-    let trial = run_constraints(image.parts.constraints, actions, readings);
+    let effects = run.effects;
+    let trial = run_constraints(image.parts.constraints, effects.actions, readings);
     EventTrial {
-        actions,
+        effects,
         conflict: trial.conflict,
         words: run.words + trial.words,
     }
 }
 
-/// The events that are kept, what they propose, and how many words all trials fetched.
+/// The events that are kept, what they propose and trigger, and how many words all trials fetched.
 #[derive(Clone, Copy)]
 pub struct KeptEvents {
     pub events: EventSet,
-    pub actions: ActionSet,
+    pub effects: Effects,
     pub words: usize,
 }
 
 // What is kept of an epoch's events: by rising number, each unless a constraint holds on what those kept so far together with it
-// propose. `none` is the trial with no event. What the last trial that was kept proposed is not run again.
+// propose. `none` is the trial with no event. What the last trial that was kept yielded is not run again.
 fn keep_events(image: &Image<'_>, none: EventTrial, epoch: &Epoch) -> KeptEvents
     requires first { none ≡ trial_of (words_in image.now.parts.rules.now) (words_in image.now.parts.constraints.now) (keeping epoch.now.events no_events) epoch.now.readings }
     ensures { result ≡ kept_of (words_in image.now.parts.rules.now) (words_in image.now.parts.constraints.now) epoch.now }
 {
     let mut kept = EventSet::EMPTY;
-    let mut actions = none.actions;
+    let mut effects = none.effects;
     let mut words = 0;
     // The events from n on: bit 0 is n.
     let mut left = epoch.events.bits;
@@ -62,28 +62,28 @@ fn keep_events(image: &Image<'_>, none: EventTrial, epoch: &Epoch) -> KeptEvents
         words += trial.words;
         if !trial.conflict {
             kept = more;
-            actions = trial.actions;
+            effects = trial.effects;
         }
         left /= 2;
         n += 1;
     }
     KeptEvents {
         events: kept,
-        actions,
+        effects,
         words: none.words + words,
     }
 }
 
 // What all events of an epoch propose. Where none was dropped, the last trial has shown it.
 fn propose_all(image: &Image<'_>, kept: KeptEvents, epoch: &Epoch) -> ActionSet
-    requires { kept.actions ≡ proposed_with_by (words_in image.now.parts.rules.now) epoch.now kept.events }
+    requires { kept.effects.actions ≡ proposed_with_by (words_in image.now.parts.rules.now) epoch.now kept.events }
     ensures { result ≡ proposed_by (words_in image.now.parts.rules.now) epoch.now }
 {
     if kept.events.bits == epoch.events.bits {
-        return kept.actions;
+        return kept.effects.actions;
     }
     let run = run_rules(image.parts.rules, epoch.events.all(), &epoch.readings);
-    run.actions
+    run.effects.actions
 }
 
 // The words of the rules and of the constraints of an image that the loader took, run on an epoch. It is refused where a constraint holds already with no event.
@@ -100,10 +100,11 @@ pub(crate) fn issue_events(image: &Image<'_>, epoch: &Epoch) -> Result<Actions, 
     }
     let kept = keep_events(image, none, epoch);
     let all = propose_all(image, kept, epoch);
-    let accepted = kept.actions;
+    let accepted = kept.effects.actions;
     Ok(Actions {
         accepted,
         cancelled: all.without(accepted),
+        triggered: kept.effects.events,
         visited: kept.words,
     })
 }

@@ -4,5 +4,7 @@
 mod actions;
 mod decision;
 mod events;
+mod state;
 
 pub use decision::{Actions, decide};
+pub use state::{Decided, State, advance, step};

@@ -47,6 +47,7 @@ opcode_below Operation.AgainstReading = omega arith
 opcode_below Operation.Proposes = omega arith
 opcode_below Operation.Member = omega arith
 opcode_below Operation.Never = omega arith
+opcode_below Operation.Triggers = omega arith
 
 -- the numbers of operations, both ways: 0 stands for no operation
 pub operation_back : (o : Operation) → operation_from (opcode o) ≡ o
@@ -59,8 +60,9 @@ operation_back Operation.AgainstReading = refl
 operation_back Operation.Proposes = refl
 operation_back Operation.Member = refl
 operation_back Operation.Never = refl
+operation_back Operation.Triggers = refl
 
-pub operation_there : (n : ℕ) → n < 8 → opcode (operation_from n) ≡ n
+pub operation_there : (n : ℕ) → n < 9 → opcode (operation_from n) ≡ n
 unfolding operation_from
 operation_there zero h = refl
 operation_there (suc zero) h = refl
@@ -70,22 +72,23 @@ operation_there (suc (suc (suc (suc zero)))) h = refl
 operation_there (suc (suc (suc (suc (suc zero))))) h = refl
 operation_there (suc (suc (suc (suc (suc (suc zero)))))) h = refl
 operation_there (suc (suc (suc (suc (suc (suc (suc zero))))))) h = refl
-operation_there (suc (suc (suc (suc (suc (suc (suc (suc n)))))))) h = absurd (omega arith)
+operation_there (suc (suc (suc (suc (suc (suc (suc (suc zero)))))))) h = refl
+operation_there (suc (suc (suc (suc (suc (suc (suc (suc (suc n))))))))) h = absurd (omega arith)
 
-pub operation_high : (n : ℕ) → 8 ≤ n → operation_from n ≡ Operation.Unknown
+pub operation_high : (n : ℕ) → 9 ≤ n → operation_from n ≡ Operation.Unknown
 unfolding operation_from
 operation_high n h = get_or_past operations n Operation.Unknown h
 
 -- what has a number has no other
 pub operation_number : (n : ℕ) (o : Operation) → 0 < opcode o → operation_from n ≡ o → n ≡ opcode o
-operation_number n o h q = go (ltb n 8) refl
+operation_number n o h q = go (ltb n 9) refl
   where
-    go : (b : Bool) → ltb n 8 ≡ b → n ≡ opcode o
-    go true e = sym (operation_there n (ltb-true n 8 e)) ∙ ap opcode q
-    go false e = absurd (omega (arith, ap opcode (sym (operation_high n (ltb-false n 8 e)) ∙ q)))
+    go : (b : Bool) → ltb n 9 ≡ b → n ≡ opcode o
+    go true e = sym (operation_there n (ltb-true n 9 e)) ∙ ap opcode q
+    go false e = absurd (omega (arith, ap opcode (sym (operation_high n (ltb-false n 9 e)) ∙ q)))
 
 -- what is not among the numbers is no operation
-pub operation_other : (n : ℕ) → (0 < n → 8 ≤ n) → Operation.Unknown ≡ operation_from n
+pub operation_other : (n : ℕ) → (0 < n → 9 ≤ n) → Operation.Unknown ≡ operation_from n
 unfolding operation_from
 operation_other zero h = refl
 operation_other (suc n) h = sym (operation_high (suc n) (h (omega arith)))

@@ -4,18 +4,19 @@ use Rattle.std.proofs.Math.Dec.{ltb}
 use Rattle.std.proofs.Math.Facts.{of_z-to_z, Fits-of_z}
 use Rattle.policy.proofs.ConstantLaws.{reading_value_is, reading_limit_is}
 use Rattle.policy.proofs.ListLaws.{and_in, and_out}
-use Rattle.policy.specs.Limits.{is_reading_value, test_number, operand_in_range, comparison_in_range, ending_in_range}
+use Rattle.policy.specs.Effect.{effect_number}
+use Rattle.policy.specs.Limits.{is_reading_value, test_number, operand_in_range, comparison_in_range, effect_in_range, ending_in_range}
 use Rattle.policy.specs.declared.comparison.Comparison.{Comparison}
 use Rattle.policy.specs.declared.comparison.Operand.{Operand}
 use Rattle.policy.specs.declared.comparison.Relation.{Relation}
+use Rattle.policy.specs.declared.effect.Effect.{Effect}
 use Rattle.policy.specs.declared.line.Ending.{Ending}
 use Rattle.policy.specs.declared.line.Test.{Test}
-use Rattle.policy.specs.declared.number.Action.{Action}
 use Rattle.policy.specs.declared.number.Reading.{Reading}
 use Rattle.operation.proofs.OperationLaws.{relation_back, relation_there, relation_below}
 use Rattle.operation.proofs.FieldLaws.{pack_below, operation_pack, first_pack, second_pack, relation_pack, skip_pack, low_pack, head_low, head_again, comparison_again}
 use Rattle.operation.specs.Operation.{opcode, relation_code, relation_from}
-use Rattle.operation.specs.Parts.{test_operation, test_word, operand_word, constant_words, comparison_word, comparison_words, ending_word, action_from, constant_comparison, reading_comparison}
+use Rattle.operation.specs.Parts.{test_operation, test_word, operand_word, constant_words, comparison_word, comparison_words, effect_operation, ending_word, constant_comparison, reading_comparison}
 use Rattle.word.specs.Word.{word_limit}
 use Rattle.operation.specs.Fields.{InFields, pack, operation_of, first_of, second_of, relation_code_of, skip_of}
 use Rattle.operation.specs.declared.operation.Operation.{Operation}
@@ -124,17 +125,17 @@ written c k e l =
 
 -- ---- endings
 
-module _ (a : Action) (h : a.0 < 64) where
-  causes_fields : InFields a.0 0 0 0
-  causes_fields = record { first_below = h; second_below = omega arith; relation_below = omega arith; skip_below = omega arith }
+module _ (x : Effect) (h : effect_number x < 64) where
+  effect_fields : InFields (effect_number x) 0 0 0
+  effect_fields = record { first_below = h; second_below = omega arith; relation_below = omega arith; skip_below = omega arith }
 
-  pub causes_operation : operation_of (ending_word (Ending.Causes a)) ≡ Operation.Proposes
+  pub effect_operation_is : operation_of (ending_word (Ending.Yields x)) ≡ effect_operation x
   unfolding ending_word
-  causes_operation = operation_pack Operation.Proposes a.0 0 0 0 causes_fields
+  effect_operation_is = operation_pack (effect_operation x) (effect_number x) 0 0 0 effect_fields
 
-  pub causes_action : action_from (ending_word (Ending.Causes a)) ≡ a
+  pub effect_first : first_of (ending_word (Ending.Yields x)) ≡ effect_number x
   unfolding ending_word
-  causes_action = λ i. record { 0 = first_pack Operation.Proposes a.0 0 0 0 causes_fields i }
+  effect_first = first_pack (effect_operation x) (effect_number x) 0 0 0 effect_fields
 
 never_fields : InFields 0 0 0 0
 never_fields = record { first_below = omega arith; second_below = omega arith; relation_below = omega arith; skip_below = omega arith }
@@ -144,13 +145,13 @@ unfolding ending_word
 never_operation = operation_pack Operation.Never 0 0 0 0 never_fields
 
 pub ending_skip : (e : Ending) → ending_in_range e ≡ true → skip_of (ending_word e) ≡ 0
-unfolding ending_word ending_in_range
-ending_skip (Ending.Causes a) h = skip_pack Operation.Proposes a.0 0 0 0 (causes_fields a (ltb-true a.0 64 h))
+unfolding ending_word ending_in_range effect_in_range
+ending_skip (Ending.Yields x) h = skip_pack (effect_operation x) (effect_number x) 0 0 0 (effect_fields x (ltb-true (effect_number x) 64 h))
 ending_skip Ending.Never h = skip_pack Operation.Never 0 0 0 0 never_fields
 
 pub ending_below : (e : Ending) → ending_in_range e ≡ true → ending_word e < word_limit
-unfolding ending_word ending_in_range
-ending_below (Ending.Causes a) h = pack_below Operation.Proposes a.0 0 0 0 (causes_fields a (ltb-true a.0 64 h))
+unfolding ending_word ending_in_range effect_in_range
+ending_below (Ending.Yields x) h = pack_below (effect_operation x) (effect_number x) 0 0 0 (effect_fields x (ltb-true (effect_number x) 64 h))
 ending_below Ending.Never h = pack_below Operation.Never 0 0 0 0 never_fields
 
 -- ---- parts made of words, written again

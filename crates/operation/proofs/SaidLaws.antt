@@ -1,17 +1,18 @@
 -- What words say: the words of the parts of a line say these parts, and what a word says is told by its operation.
 use Rattle.std.proofs.Common.{ℕ, ◌<◌, Bool, true, false, cond, ◌≡◌, refl, sym, ap, ◌∙◌, ltb-true, lt-ltb, arith}
-use Rattle.policy.specs.Limits.{test_number, ending_in_range}
+use Rattle.policy.specs.Effect.{effect_number}
+use Rattle.policy.specs.Limits.{test_number, effect_in_range, ending_in_range}
 use Rattle.policy.specs.declared.comparison.Comparison.{Comparison}
 use Rattle.policy.specs.declared.comparison.Literal.{Literal}
+use Rattle.policy.specs.declared.effect.Effect.{Effect}
 use Rattle.policy.specs.declared.line.Ending.{Ending}
 use Rattle.policy.specs.declared.line.Test.{Test}
-use Rattle.policy.specs.declared.number.Action.{Action}
 use Rattle.operation.specs.Fields.{operation_of, first_of}
-use Rattle.operation.specs.Parts.{test_operation, test_word, ending_word, event_from, action_from, constant_comparison, reading_comparison}
+use Rattle.operation.specs.Parts.{test_operation, test_word, effect_operation, ending_word, event_from, action_from, constant_comparison, reading_comparison}
 use Rattle.operation.specs.Said.{says_by, says, constants_of}
 use Rattle.operation.specs.declared.operation.Operation.{Operation}
 use Rattle.operation.specs.declared.said.LinePart.{LinePart}
-use Rattle.operation.proofs.PartsLaws.{test_operation_is, test_first, causes_operation, causes_action, never_operation}
+use Rattle.operation.proofs.PartsLaws.{test_operation_is, test_first, effect_operation_is, effect_first, never_operation}
 
 pub said_by : (w k : ℕ) (o : Operation) → operation_of w ≡ o → says w k ≡ says_by o w k
 unfolding says
@@ -37,10 +38,15 @@ test_said (Test.Member a) skip k h b =
     ∙ (λ i. LinePart.Head (Test.Member (record { 0 = test_first (Test.Member a) skip h b i })))
 
 pub ending_said : (e : Ending) (k : ℕ) → ending_in_range e ≡ true → says (ending_word e) k ≡ LinePart.Ending e
-unfolding says_by ending_in_range
-ending_said (Ending.Causes a) k h =
+unfolding says_by ending_in_range effect_in_range effect_operation effect_number
+ending_said (Ending.Yields (Effect.Causes a)) k h =
+    let x : Effect = Effect.Causes a in
     let n : a.0 < 64 = ltb-true a.0 64 h in
-    said_by (ending_word (Ending.Causes a)) k Operation.Proposes (causes_operation a n) ∙ ap (λ (x : Action). LinePart.Ending (Ending.Causes x)) (causes_action a n)
+    said_by (ending_word (Ending.Yields x)) k Operation.Proposes (effect_operation_is x n) ∙ ap (λ (n : ℕ). LinePart.Ending (Ending.Yields (Effect.Causes (record { 0 = n })))) (effect_first x n)
+ending_said (Ending.Yields (Effect.Triggers y)) k h =
+    let x : Effect = Effect.Triggers y in
+    let n : y.0 < 64 = ltb-true y.0 64 h in
+    said_by (ending_word (Ending.Yields x)) k Operation.Triggers (effect_operation_is x n) ∙ ap (λ (n : ℕ). LinePart.Ending (Ending.Yields (Effect.Triggers (record { 0 = n })))) (effect_first x n)
 ending_said Ending.Never k h = said_by (ending_word Ending.Never) k Operation.Never never_operation
 
 -- a comparison with a constant, which is the word behind, and one with a reading
@@ -63,7 +69,7 @@ pub data Said (w k : ℕ) : Type 0 where
   said_nothing : says w k ≡ LinePart.Nothing → Said w k
 
 pub said : (w k : ℕ) → Said w k
-unfolding says_by test_operation test_number ending_in_range
+unfolding says_by test_operation test_number ending_in_range effect_in_range effect_number
 said w k = go (operation_of w) refl
   where
     go : (o : Operation) → operation_of w ≡ o → Said w k
@@ -72,6 +78,7 @@ said w k = go (operation_of w) refl
     go Operation.Member e = said_head (Test.Member (action_from w)) (said_by w k Operation.Member e) e refl
     go Operation.AgainstConstant e = said_constant (said_by w k Operation.AgainstConstant e) e
     go Operation.AgainstReading e = said_reading (said_by w k Operation.AgainstReading e) e
-    go Operation.Proposes e = said_ending (Ending.Causes (action_from w)) (said_by w k Operation.Proposes e) (lt-ltb (first_of w) 64 (omega arith))
+    go Operation.Proposes e = said_ending (Ending.Yields (Effect.Causes (action_from w))) (said_by w k Operation.Proposes e) (lt-ltb (first_of w) 64 (omega arith))
+    go Operation.Triggers e = said_ending (Ending.Yields (Effect.Triggers (event_from w))) (said_by w k Operation.Triggers e) (lt-ltb (first_of w) 64 (omega arith))
     go Operation.Never e = said_ending Ending.Never (said_by w k Operation.Never e) refl
     go Operation.Unknown e = said_nothing (said_by w k Operation.Unknown e)

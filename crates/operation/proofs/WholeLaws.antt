@@ -15,18 +15,18 @@ module _ (part : Part) where
     pub onward : (if ends_line part (says w k) then constants_of (says w k) + skip_of w == 0 else nat_lt 0 (skip_of w)) ≡ true
     pub rest : whole_from part (constants_of (says w k)) (constants_of (says w k) + skip_of w) ws ≡ true
 
-  whole_word : (left w : ℕ) (ws : List ℕ) → whole_from part zero left (w ∷ ws) ≡ true → WholeWord left w (get_or ws 0 0) ws
+  pub whole_word : (left w : ℕ) (ws : List ℕ) → whole_from part zero left (w ∷ ws) ≡ true → WholeWord left w (get_or ws 0 0) ws
   unfolding whole_from
   whole_word left w ws e =
       let a = and_out _ _ e in
       let b = and_out _ _ a.0 in record { here = b.0; onward = b.1; rest = a.1 }
 
-  word_whole : (left w : ℕ) (ws : List ℕ) → WholeWord left w (get_or ws 0 0) ws → whole_from part zero left (w ∷ ws) ≡ true
+  pub word_whole : (left w : ℕ) (ws : List ℕ) → WholeWord left w (get_or ws 0 0) ws → whole_from part zero left (w ∷ ws) ≡ true
   unfolding whole_from
   word_whole left w ws h = and_in (and_in h.here h.onward) h.rest
 
   -- where some words of a line are left, they are this word and those behind it
-  left_is : (left n : ℕ) → (suc left == 0 || suc left == 1 + n) ≡ (suc left == 1 + n)
+  pub left_is : (left n : ℕ) → (suc left == 0 || suc left == 1 + n) ≡ (suc left == 1 + n)
   left_is left n = ap (λ (b : Bool). b || suc left == 1 + n) (ne_eqb (suc left) 0 (λ q. omega (arith, q)))
 
   -- behind what is left of a line, lines begin
@@ -44,7 +44,7 @@ module _ (part : Part) where
       ap (λ (k : ℕ). whole_lines part (drop k ws)) (sym same) ∙ whole_behind (constants_of (says w (get_or ws 0 0))) (constants_of (says w (get_or ws 0 0)) + skip_of w) ws h.rest
 
   -- behind the words that are passed over the line goes on
-  whole_passed : (passed left total : ℕ) (ws : List ℕ) → total ≡ passed + left → whole_from part passed total ws ≡ true → whole_from part 0 left (drop passed ws) ≡ true
+  pub whole_passed : (passed left total : ℕ) (ws : List ℕ) → total ≡ passed + left → whole_from part passed total ws ≡ true → whole_from part 0 left (drop passed ws) ≡ true
   unfolding whole_from
   whole_passed zero left total ws n e = subst (λ (k : ℕ). whole_from part 0 k ws ≡ true) (n ∙ zero-add left) e
   whole_passed (suc passed) left total [] n e = absurd (true_false e refl)

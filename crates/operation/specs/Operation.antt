@@ -16,13 +16,15 @@ opcode Operation.Proposes = 5
 opcode Operation.Member = 6
 -- the constraint holds; ends it
 opcode Operation.Never = 7
+-- trigger the event, in forms from 3 on; ends a rule
+opcode Operation.Triggers = 8
 opcode Operation.Unknown = 0
 
 -- in the order of their numbers; any other number stands for no operation
 abbrev pub operations : List Operation
 operations =
     Operation.Unknown ∷ Operation.Present ∷ Operation.Absent ∷ Operation.AgainstConstant ∷ Operation.AgainstReading
-    ∷ Operation.Proposes ∷ Operation.Member ∷ Operation.Never ∷ []
+    ∷ Operation.Proposes ∷ Operation.Member ∷ Operation.Never ∷ Operation.Triggers ∷ []
 
 unfoldable pub operation_from : ℕ → Operation
 operation_from n = slice_index_or operations n Operation.Unknown

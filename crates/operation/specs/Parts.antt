@@ -2,9 +2,11 @@
 -- that each undoes the other is proved (proofs/PartsLaws.antt).
 use Rattle.std.specs.Prelude.{ℕ, List, [], ◌∷◌, if◌then◌else◌}
 use Rattle.std.specs.Int.{w32, cast_signed, cast_unsigned}
+use Rattle.policy.specs.Effect.{effect_number}
 use Rattle.policy.specs.Limits.{test_number}
 use Rattle.policy.specs.declared.comparison.Comparison.{Comparison}
 use Rattle.policy.specs.declared.comparison.Operand.{Operand}
+use Rattle.policy.specs.declared.effect.Effect.{Effect}
 use Rattle.policy.specs.declared.line.Ending.{Ending}
 use Rattle.policy.specs.declared.line.Test.{Test}
 use Rattle.policy.specs.declared.number.Action.{Action}
@@ -59,6 +61,11 @@ reading_comparison w = record { reading = record { 0 = first_of w }; relation = 
 
 -- ---- endings
 
+-- propose the action, trigger the event
+unfoldable pub effect_operation : Effect → Operation
+effect_operation (Effect.Causes a) = Operation.Proposes
+effect_operation (Effect.Triggers e) = Operation.Triggers
+
 unfoldable pub ending_word : Ending → ℕ
-ending_word (Ending.Causes a) = pack Operation.Proposes a.0 0 0 0
+ending_word (Ending.Yields x) = pack (effect_operation x) (effect_number x) 0 0 0
 ending_word Ending.Never = pack Operation.Never 0 0 0 0

@@ -9,7 +9,7 @@ use Rattle.operation.specs.declared.said.LinePart.{LinePart}
 
 -- the endings of a part
 unfoldable pub ends : Part → Ending → Bool
-ends Part.Rules (Ending.Causes a) = true
+ends Part.Rules (Ending.Yields x) = true
 ends Part.Constraints Ending.Never = true
 ends _ _ = false
 

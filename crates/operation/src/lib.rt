@@ -11,4 +11,4 @@ pub use operation::{
     Operation, comparison_word, constant_comparison, constant_holds, ending_word,
     reading_comparison, reading_holds, test_word,
 };
-pub use said::{LinePart, part_at};
+pub use said::{LinePart, effect_of, part_at};

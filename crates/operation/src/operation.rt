@@ -9,7 +9,7 @@ ghost use Rattle.operation.specs.Parts.{test_word, comparison_word, ending_word,
 
 use crate::fields::{first, opcode, relation_bits, relation_code_of, second};
 use policy::{
-    Comparison, Ending, Operand, Part, READING_LIMIT, Reading, ReadingView, Relation, Test,
+    Comparison, Effect, Ending, Operand, Part, READING_LIMIT, Reading, ReadingView, Relation, Test,
     constant_from,
 };
 
@@ -24,6 +24,7 @@ pub enum Operation {
     Proposes,
     Member,
     Never,
+    Triggers,
     Unknown,
 }
 
@@ -41,6 +42,7 @@ impl Operation {
             5 => Operation::Proposes,
             6 => Operation::Member,
             7 => Operation::Never,
+            8 => Operation::Triggers,
             _ => Operation::Unknown,
         }
     }
@@ -57,6 +59,7 @@ impl Operation {
             Operation::Proposes => 5,
             Operation::Member => 6,
             Operation::Never => 7,
+            Operation::Triggers => 8,
         }
     }
 }
@@ -132,11 +135,17 @@ pub fn comparison_word(comparison: Comparison, skip: u8) -> u32
     }
 }
 
+#[tactic(auto, unfolding(crate::specs::Parts::ending_word, crate::specs::Parts::effect_operation, policy::specs::Effect::effect_number))]
 pub fn ending_word(ending: Ending) -> u32
     ensures { result ≡ ending_word ending }
 {
     match ending {
-        Ending::Causes(action) => pack_word(Operation::Proposes, action.0, 0, 0, 0),
+        Ending::Yields(Effect::Causes(action)) => {
+            pack_word(Operation::Proposes, action.0, 0, 0, 0)
+        }
+        Ending::Yields(Effect::Triggers(event)) => {
+            pack_word(Operation::Triggers, event.0, 0, 0, 0)
+        }
         Ending::Never => pack_word(Operation::Never, 0, 0, 0, 0),
     }
 }

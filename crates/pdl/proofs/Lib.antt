@@ -6,4 +6,5 @@ pub mod Others
 pub mod Proposals
 pub mod Monitor
 pub mod Reduction
+pub mod Reserved
 pub mod Examples

@@ -1,22 +1,27 @@
--- The proposed set is what Definition 6 of Chomicki, Lobo and Naqvi, "Conflict Resolution Using Logic Programming" (TKDE 2003), says.
-use Rattle.std.proofs.Common.{◌<◌, ◌^◌, Bool, true, false, not, ◌&&◌, cond, zero, suc, List, [], ◌∷◌, Contains, ◌↔◌, ◌⊎◌, inl, inr, ⊎_elim, ◌≡◌, refl, sym, ap, ◌∙◌, subst, lit<, fold, arith}
+-- The proposed set, and in the same words what is triggered, is what Definition 6 of Chomicki, Lobo and Naqvi, "Conflict Resolution Using Logic Programming" (TKDE 2003), says.
+use Rattle.std.proofs.Common.{◌<◌, ◌^◌, Bool, true, false, not, ◌&&◌, cond, zero, suc, List, [], ◌∷◌, Contains, ◌↔◌, ◌⊎◌, inl, inr, ⊎_elim, ◌≡◌, refl, ap, ◌∙◌, subst, lit<, fold, arith}
 use Rattle.policy.proofs.ListLaws.{true_false, not_true_is, and_in, and_out, contains_first, contains_later, all_in, all_out}
-use Rattle.policy.proofs.SetLaws.{has_empty, has_limit, has_insert_same, has_insert_old, has_insert_cases, insert_limit}
+use Rattle.policy.proofs.EffectLaws.{effect_none, effect_new, effect_old, effect_cases, Small, small_with}
+use Rattle.policy.proofs.SetLaws.{has_limit}
 use Rattle.policy.proofs.MissingLaws.{missing_in_rule, fewer_in_rule}
 use Rattle.policy.specs.Comparison.{NamesMissing, comparison_holds}
+use Rattle.policy.specs.Effect.{effect_number, has_effect, no_effects, with_effect}
 use Rattle.policy.specs.Epoch.{SomeOf}
+use Rattle.policy.specs.declared.effect.Effect.{Effect}
+use Rattle.policy.specs.declared.effect.Effects.{Effects}
 use Rattle.policy.specs.declared.epoch.Readings.{Readings}
 use Rattle.policy.specs.List.{all}
 use Rattle.policy.specs.Number.{set_limit}
-use Rattle.pdl.specs.Pdl.{Occurs, OccursAs, Condition, Derives, Interpretation, Model, Entails, DefinedBy, DefinedOnKept, ◌⊆◌, ◌⊑◌}
+use Rattle.pdl.specs.Pdl.{Occurs, OccursAs, Condition, Derives, Interpretation, has_its, Model, Entails, DefinedBy, TriggeredBy, DefinedOnKept, TriggeredByKept, ◌⊆◌, ◌⊑◌}
 use Rattle.policy.specs.Policy.{Rule}
-use Rattle.policy.specs.Set.{ActionSet, EventSet, has_event, all_events, keeping, has_action, no_actions, insert_action}
-use Rattle.pdl.specs.Reduction.{proposed_with}
-use Rattle.pdl.specs.Yield.{literal_holds, rule_holds, propose, proposals, proposed}
+use Rattle.policy.specs.Set.{EventSet, has_event, all_events, keeping, has_action}
+use Rattle.pdl.specs.Reduction.{proposed_with, triggered_with}
+use Rattle.pdl.specs.Yield.{literal_holds, rule_holds, take_effect, effects_where, effects, proposals, triggers, proposed, triggered, reserved}
 use Rattle.policy.specs.declared.comparison.Comparison.{Comparison}
 use Rattle.policy.specs.declared.comparison.Literal.{Literal}
 use Rattle.policy.specs.declared.line.Part.{Part}
 use Rattle.policy.specs.declared.number.Action.{Action}
+use Rattle.policy.specs.declared.number.Event.{Event}
 use Rattle.policy.specs.declared.set.Events.{Events}
 
 -- a literal holds exactly if it occurs
@@ -35,15 +40,15 @@ rule_holds_is ev rs r occurs condition =
     and_in (all_in (literal_holds ev) r.literals (λ l m. (literal_occurs ev l).1 (occurs l m)))
     (all_in (comparison_holds Part.Rules rs) r.comparisons condition)
 
--- the rule that holds derives its action
-rule_derives : (rules : List Rule) (ev : Events) (rs : Readings) (r : Rule) → Contains rules r → rule_holds ev rs r ≡ true → Derives rules ev rs r.action
+-- a rule that holds derives its effect
+pub rule_derives : (rules : List Rule) (ev : Events) (rs : Readings) (r : Rule) → Contains rules r → rule_holds ev rs r ≡ true → Derives rules ev rs r.effect
 unfolding rule_holds
 rule_derives rules ev rs r m h =
     let parts = and_out _ _ h in
     record {
       rule = r;
       listed = m;
-      causes = refl;
+      effect = refl;
       event = λ l k. (literal_occurs ev l).0 (all_out (literal_holds ev) r.literals parts.0 l k);
       condition = all_out (comparison_holds Part.Rules rs) r.comparisons parts.1;
     }
@@ -57,96 +62,145 @@ missing_rule ev rs r c m missing =
     (all_out (comparison_holds Part.Rules rs) r.comparisons (and_out (all (literal_holds ev) r.literals) (all (comparison_holds Part.Rules rs) r.comparisons) h).1 c m)
     (missing_in_rule rs c missing))
 
--- what one rule more changes
-module _ (ev : Events) (rs : Readings) (s : ActionSet) (r : Rule) (a : Action) where
-  propose_old : has_action s a ≡ true → has_action (propose ev rs s r) a ≡ true
-  unfolding propose
-  propose_old h = go (rule_holds ev rs r)
+-- ---- the effects of the rules that pass a test
+
+module _ (test : Rule → Bool) where
+  -- what one rule more changes
+  module _ (s : Effects) (r : Rule) (x : Effect) where
+    take_old : has_effect s x ≡ true → has_effect (take_effect test s r) x ≡ true
+    unfolding take_effect
+    take_old h = go (test r)
+      where
+        go : (b : Bool) → has_effect (cond b (with_effect s r.effect) s) x ≡ true
+        go true = effect_old s r.effect x h
+        go false = h
+
+    take_new : effect_number x < set_limit → r.effect ≡ x → test r ≡ true → has_effect (take_effect test s r) x ≡ true
+    unfolding take_effect
+    take_new l q h = rw (h, q) (effect_new s x l)
+
+    take_cases : has_effect (take_effect test s r) x ≡ true → ((r.effect ≡ x) × (test r ≡ true)) ⊎ (has_effect s x ≡ true)
+    unfolding take_effect
+    take_cases = go (test r) refl
+      where
+        go : (b : Bool) → test r ≡ b → has_effect (cond b (with_effect s r.effect) s) x ≡ true → ((r.effect ≡ x) × (test r ≡ true)) ⊎ (has_effect s x ≡ true)
+        go true q h = ⊎_elim (λ p. inl (p, q)) inr (effect_cases s r.effect x h)
+        go false q h = inr h
+
+  -- a rule of a list that has the effect and passes the test
+  abbrev pub Has : List Rule → Effect → Type 0
+  Has rules x = (r : Rule) × Contains rules r × (r.effect ≡ x) × (test r ≡ true)
+
+  module _ (x : Effect) where
+    more_old : (rules : List Rule) (s : Effects) → has_effect s x ≡ true → has_effect (fold (take_effect test) s rules) x ≡ true
+    more_old [] s h = h
+    more_old (r ∷ rest) s h = more_old rest (take_effect test s r) (take_old s r x h)
+
+    more_new : (rules : List Rule) (s : Effects) (r : Rule) → Contains rules r → effect_number x < set_limit → r.effect ≡ x → test r ≡ true → has_effect (fold (take_effect test) s rules) x ≡ true
+    more_new [] s r m l q h = absurd (omega (arith, m.1))
+    more_new (y ∷ ys) s r (zero, i, p) l q h = more_old ys (take_effect test s y) (take_new s y x l (ap (λ (z : Rule). z.effect) p ∙ q) (ap test p ∙ h))
+    more_new (y ∷ ys) s r (suc k, i, p) l q h = more_new ys (take_effect test s y) r (k, omega arith, p) l q h
+
+    more_cases : (rules : List Rule) (s : Effects) → has_effect (fold (take_effect test) s rules) x ≡ true → (has_effect s x ≡ true) ⊎ Has rules x
+    more_cases [] s h = inl h
+    more_cases (y ∷ ys) s h = go (more_cases ys (take_effect test s y) h)
+      where
+        go : (has_effect (take_effect test s y) x ≡ true) ⊎ Has ys x → (has_effect s x ≡ true) ⊎ Has (y ∷ ys) x
+        go (inl k) = ⊎_elim (λ p. inr (y, contains_first y ys, p.0, p.1)) inl (take_cases s y x k)
+        go (inr f) = inr (f.0, contains_later y ys f.0 f.1, f.2, f.3)
+
+  -- an effect is there exactly if some rule that passes the test has it
+  pub effects_exactly : (rules : List Rule) (x : Effect) → effect_number x < set_limit → (has_effect (effects_where test rules) x ≡ true) ↔ Has rules x
+  unfolding effects_where
+  effects_exactly rules x l =
+      (λ h. ⊎_elim (λ k. absurd (true_false k (effect_none x))) (λ f. f) (more_cases x rules no_effects h), λ f. more_new x rules no_effects f.0 f.1 l f.2 f.3)
+
+  -- and its number is one of 64
+  pub effects_small : (rules : List Rule) → Small (effects_where test rules)
+  unfolding effects_where take_effect
+  effects_small rules = more rules no_effects (record { actions = lit< tt; events = lit< tt })
     where
-      go : (b : Bool) → has_action (cond b (insert_action s r.action) s) a ≡ true
-      go true = has_insert_old s.bits r.action.0 a.0 h
-      go false = h
+      step : (s : Effects) (r : Rule) → Small s → Small (take_effect test s r)
+      step s r h = go (test r)
+        where
+          go : (b : Bool) → Small (cond b (with_effect s r.effect) s)
+          go true = small_with s r.effect h
+          go false = h
 
-  propose_new : a.0 < set_limit → r.action ≡ a → rule_holds ev rs r ≡ true → has_action (propose ev rs s r) a ≡ true
-  unfolding propose
-  propose_new l q h = rw (h, q) (has_insert_same s.bits a.0 l)
+      more : (rules : List Rule) (s : Effects) → Small s → Small (fold (take_effect test) s rules)
+      more [] s h = h
+      more (r ∷ rest) s h = more rest (take_effect test s r) (step s r h)
 
-  propose_cases : has_action (propose ev rs s r) a ≡ true → ((r.action ≡ a) × (rule_holds ev rs r ≡ true)) ⊎ (has_action s a ≡ true)
-  unfolding propose
-  propose_cases = go (rule_holds ev rs r) refl
-    where
-      go : (b : Bool) → rule_holds ev rs r ≡ b → has_action (cond b (insert_action s r.action) s) a ≡ true → ((r.action ≡ a) × (rule_holds ev rs r ≡ true)) ⊎ (has_action s a ≡ true)
-      go true q h = ⊎_elim (λ p. inl ((λ i. record { 0 = sym p i }), q)) inr (has_insert_cases s.bits r.action.0 a.0 h)
-      go false q h = inr h
+-- ---- the effects of the rules that hold
 
--- a member of what the rules add to a set was in the set, or some rule derives it
-module _ (ev : Events) (rs : Readings) (a : Action) where
-  more_old : (rules : List Rule) (s : ActionSet) → has_action s a ≡ true → has_action (fold (propose ev rs) s rules) a ≡ true
-  more_old [] s h = h
-  more_old (r ∷ rest) s h = more_old rest (propose ev rs s r) (propose_old ev rs s r a h)
+-- an effect is there exactly if some rule has it, and all the rule's literals and comparisons hold
+pub effects_derived : (rules : List Rule) (ev : Events) (rs : Readings) (x : Effect) → effect_number x < set_limit → (has_effect (effects rules ev rs) x ≡ true) ↔ Derives rules ev rs x
+effects_derived rules ev rs x l =
+    let exactly = effects_exactly (rule_holds ev rs) rules x l in
+    ((λ h. let f = exactly.0 h in rw (← f.2) (rule_derives rules ev rs f.0 f.1 f.3)), λ d. exactly.1 (d.rule, d.listed, d.effect, rule_holds_is ev rs d.rule d.event d.condition))
 
-  more_new : (rules : List Rule) (s : ActionSet) (r : Rule) → Contains rules r → a.0 < set_limit → r.action ≡ a → rule_holds ev rs r ≡ true → has_action (fold (propose ev rs) s rules) a ≡ true
-  more_new [] s r m l q h = absurd (omega (arith, m.1))
-  more_new (x ∷ xs) s r (zero, i, p) l q h = more_old xs (propose ev rs s x) (propose_new ev rs s x a l (ap (λ (y : Rule). y.action) p ∙ q) (ap (rule_holds ev rs) p ∙ h))
-  more_new (x ∷ xs) s r (suc k, i, p) l q h = more_new xs (propose ev rs s x) r (k, omega arith, p) l q h
-
-  more_cases : (rules : List Rule) (s : ActionSet) → has_action (fold (propose ev rs) s rules) a ≡ true → (has_action s a ≡ true) ⊎ ((r : Rule) × Contains rules r × (r.action ≡ a) × (rule_holds ev rs r ≡ true))
-  more_cases [] s h = inl h
-  more_cases (x ∷ xs) s h = go (more_cases xs (propose ev rs s x) h)
-    where
-      Found : List Rule → Type 0
-      Found rules = (r : Rule) × Contains rules r × (r.action ≡ a) × (rule_holds ev rs r ≡ true)
-
-      go : (has_action (propose ev rs s x) a ≡ true) ⊎ Found xs → (has_action s a ≡ true) ⊎ Found (x ∷ xs)
-      go (inl k) = ⊎_elim (λ p. inr (x, contains_first x xs, p.0, p.1)) inl (propose_cases ev rs s x a k)
-      go (inr f) = inr (f.0, contains_later x xs f.0 f.1, f.2, f.3)
-
--- an action is proposed exactly if some rule has it, and all the rule's literals and comparisons hold
-pub proposals_derived : (rules : List Rule) (ev : Events) (rs : Readings) (a : Action) → a.0 < set_limit → (has_action (proposals rules ev rs) a ≡ true) ↔ Derives rules ev rs a
-unfolding proposals
-proposals_derived rules ev rs a l = (out, λ d. more_new ev rs a rules no_actions d.rule d.listed l d.causes (rule_holds_is ev rs d.rule d.event d.condition))
+-- what some rule derives holds in every model, and what holds in the model of these effects is among them
+pub effects_entailed : (rules : List Rule) (ev : Events) (rs : Readings) (x : Effect) → effect_number x < set_limit → (has_effect (effects rules ev rs) x ≡ true) ↔ Entails rules ev rs x
+unfolding has_effect effect_number
+effects_entailed rules ev rs x l = (λ h I m. entailed I m ((effects_derived rules ev rs x l).0 h), λ h. found x l (h least is_model))
   where
-    out : has_action (fold (propose ev rs) no_actions rules) a ≡ true → Derives rules ev rs a
-    out h =
-        ⊎_elim (λ k. absurd (true_false k (has_empty a.0))) (λ f. rw (← f.2) (rule_derives rules ev rs f.0 f.1 f.3))
-        (more_cases ev rs a rules no_actions h)
+    entailed : (I : Interpretation) → Model rules ev rs I → Derives rules ev rs x → has_its I x
+    entailed I m d = subst (has_its I) d.effect (m.implications d.rule d.listed (λ k i. m.facts k (d.event k i)) d.condition)
 
--- what some rule derives holds in every model, and what holds in the model of what is proposed is proposed
-pub proposals_entailed : (rules : List Rule) (ev : Events) (rs : Readings) (a : Action) → a.0 < set_limit → (has_action (proposals rules ev rs) a ≡ true) ↔ Entails rules ev rs a
-proposals_entailed rules ev rs a l = (λ h I m. entailed I m ((proposals_derived rules ev rs a l).0 h), λ h. h least is_model l)
-  where
-    entailed : (I : Interpretation) → Model rules ev rs I → Derives rules ev rs a → I.exec a
-    entailed I m d = subst I.exec d.causes (m.implications d.rule d.listed (λ k i. m.facts k (d.event k i)) d.condition)
+    There : Effect → Type 0
+    There y = effect_number y < set_limit → has_effect (effects rules ev rs) y ≡ true
 
     least : Interpretation
-    least = record { occ = Occurs ev; exec = λ b. b.0 < set_limit → has_action (proposals rules ev rs) b ≡ true }
+    least = record { occ = Occurs ev; exec = λ a. There (Effect.Causes a); triggered = λ e. There (Effect.Triggers e) }
+
+    found : (y : Effect) → effect_number y < set_limit → has_its least y → has_effect (effects rules ev rs) y ≡ true
+    found (Effect.Causes a) k h = h k
+    found (Effect.Triggers e) k h = h k
+
+    there : (y : Effect) → There y → has_its least y
+    there (Effect.Causes a) h = h
+    there (Effect.Triggers e) h = h
 
     is_model : Model rules ev rs least
     is_model =
         record {
           facts = λ k o. o;
-          implications = λ r m occurs condition b. (proposals_derived rules ev rs r.action b).1 (record { rule = r; listed = m; causes = refl; event = occurs; condition = condition });
+          implications = λ r m occurs condition.
+              there r.effect (λ b. (effects_derived rules ev rs r.effect b).1 (record { rule = r; listed = m; effect = refl; event = occurs; condition = condition }));
         }
+
+-- ---- what is proposed, and what is triggered
+
+pub proposals_derived : (rules : List Rule) (ev : Events) (rs : Readings) (a : Action) → a.0 < set_limit → (has_action (proposals rules ev rs) a ≡ true) ↔ Derives rules ev rs (Effect.Causes a)
+unfolding has_effect effect_number
+proposals_derived rules ev rs a = effects_derived rules ev rs (Effect.Causes a)
+
+pub triggers_derived : (rules : List Rule) (ev : Events) (rs : Readings) (x : Event) → x.0 < set_limit → (has_event (triggers rules ev rs) x ≡ true) ↔ Derives rules ev rs (Effect.Triggers x)
+unfolding has_effect effect_number
+triggers_derived rules ev rs x = effects_derived rules ev rs (Effect.Triggers x)
+
+pub proposals_entailed : (rules : List Rule) (ev : Events) (rs : Readings) (a : Action) → a.0 < set_limit → (has_action (proposals rules ev rs) a ≡ true) ↔ Entails rules ev rs (Effect.Causes a)
+unfolding has_effect effect_number
+proposals_entailed rules ev rs a = effects_entailed rules ev rs (Effect.Causes a)
 
 -- Definition 6
 pub proposed_defined : (rules : List Rule) → DefinedBy rules (proposed rules)
-proposed_defined rules e a l = proposals_entailed rules (all_events e.events) e.readings a l
+proposed_defined rules e a = proposals_entailed rules (all_events e.events) e.readings a
+
+pub triggered_defined : (rules : List Rule) → TriggeredBy rules (triggered rules)
+unfolding has_effect effect_number
+triggered_defined rules e x = effects_entailed rules (all_events e.events) e.readings (Effect.Triggers x)
 
 -- a proposed set is one of 64 actions
 pub proposals_limit : (rules : List Rule) (ev : Events) (rs : Readings) → (proposals rules ev rs).bits < 2 ^ 64
-unfolding proposals propose
-proposals_limit rules ev rs = more rules no_actions (lit< tt)
-  where
-    step : (s : ActionSet) (r : Rule) → s.bits < 2 ^ 64 → (propose ev rs s r).bits < 2 ^ 64
-    step s r h = go (rule_holds ev rs r)
-      where
-        go : (b : Bool) → (cond b (insert_action s r.action) s).bits < 2 ^ 64
-        go true = insert_limit s.bits r.action.0 h
-        go false = h
+proposals_limit rules ev rs = (effects_small (rule_holds ev rs) rules).actions
 
-    more : (rules : List Rule) (s : ActionSet) → s.bits < 2 ^ 64 → (fold (propose ev rs) s rules).bits < 2 ^ 64
-    more [] s h = h
-    more (r ∷ rest) s h = more rest (propose ev rs s r) (step s r h)
+-- an event is reserved exactly if some rule triggers it
+pub reserved_exactly : (rules : List Rule) (x : Event) → x.0 < set_limit → (has_event (reserved rules) x ≡ true) ↔ ((r : Rule) × Contains rules r × (r.effect ≡ Effect.Triggers x))
+unfolding has_effect effect_number
+reserved_exactly rules x l =
+    let exactly = effects_exactly (λ r. true) rules (Effect.Triggers x) l in
+    ((λ h. let f = exactly.0 h in (f.0, f.1, f.2)), λ f. exactly.1 (f.0, f.1, f.2, refl))
 
 -- with fewer readings no more is proposed
 pub fewer_proposed : (rules : List Rule) (ev : Events) (fewer all : Readings) → SomeOf fewer all → proposals rules ev fewer ⊆ proposals rules ev all
@@ -154,7 +208,7 @@ fewer_proposed rules ev fewer all Some-of a h =
     let l : a.0 < set_limit = has_limit (proposals rules ev fewer).bits (proposals_limit rules ev fewer) a.0 h in
     let d = (proposals_derived rules ev fewer a l).0 h in
     (proposals_derived rules ev all a l).1
-    (record { rule = d.rule; listed = d.listed; causes = d.causes; event = d.event; condition = λ c m. fewer_in_rule fewer all Some-of c (d.condition c m) })
+    (record { rule = d.rule; listed = d.listed; effect = d.effect; event = d.event; condition = λ c m. fewer_in_rule fewer all Some-of c (d.condition c m) })
 
 -- with more events present, and the same that occurred, no less is proposed
 pub more_proposed : (rules : List Rule) (fewer more occurred : EventSet) (rs : Readings) → fewer ⊑ more
@@ -163,7 +217,7 @@ more_proposed rules fewer more occurred rs Some-of a h =
     let l : a.0 < set_limit = has_limit (proposals rules (keeping occurred fewer) rs).bits (proposals_limit rules (keeping occurred fewer) rs) a.0 h in
     let d = (proposals_derived rules (keeping occurred fewer) rs a l).0 h in
     (proposals_derived rules (keeping occurred more) rs a l).1
-    (record { rule = d.rule; listed = d.listed; causes = d.causes; event = λ k m. stays k (d.event k m); condition = d.condition })
+    (record { rule = d.rule; listed = d.listed; effect = d.effect; event = λ k m. stays k (d.event k m); condition = d.condition })
   where
     by : (negated : Bool) (k : Literal) → OccursAs negated (has_event fewer k.event ≡ true) (has_event occurred k.event ≡ true)
         → OccursAs negated (has_event more k.event ≡ true) (has_event occurred k.event ≡ true)
@@ -175,4 +229,9 @@ more_proposed rules fewer more occurred rs Some-of a h =
 
 -- Definition 6, where only some events of an epoch are kept
 pub kept_defined : (rules : List Rule) → DefinedOnKept rules (proposed_with rules)
-kept_defined rules e kept a l = proposals_entailed rules (keeping e.events kept) e.readings a l
+unfolding has_effect effect_number
+kept_defined rules e kept a = effects_entailed rules (keeping e.events kept) e.readings (Effect.Causes a)
+
+pub kept_triggered : (rules : List Rule) → TriggeredByKept rules (triggered_with rules)
+unfolding has_effect effect_number
+kept_triggered rules e kept x = effects_entailed rules (keeping e.events kept) e.readings (Effect.Triggers x)

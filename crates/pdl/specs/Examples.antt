@@ -1,5 +1,6 @@
 -- Examples of both modes that need no text, one row each.
 use Rattle.std.specs.Prelude.{ℕ, zero, suc, Bool, true, false, not, if◌then◌else◌, ℤ, pos, List, [], ◌∷◌, map, fold, Option, None, Some}
+use Rattle.policy.specs.declared.effect.Effect.{Effect}
 use Rattle.policy.specs.declared.epoch.Epoch.{Epoch}
 use Rattle.policy.specs.Policy.{Policy, Rule, Constraint}
 use Rattle.policy.specs.Number.{set_limit}
@@ -16,7 +17,7 @@ action n = record { 0 = n }
 
 -- `E0 causes An`, for each n
 abbrev proposing : List ℕ → List Rule
-proposing = map (λ (n : ℕ). record { literals = record { event = record { 0 = 0 }; negated = false } ∷ []; action = action n; comparisons = [] })
+proposing = map (λ (n : ℕ). record { literals = record { event = record { 0 = 0 }; negated = false } ∷ []; effect = Effect.Causes (action n); comparisons = [] })
 
 abbrev never : List ℕ → List Comparison → Constraint
 never ns cs = record { actions = map action ns; comparisons = cs }
@@ -113,10 +114,10 @@ expected_choice x = record { is_free = true; lowest_action = Some x.lowest; is_a
 -- ---- event cancellation
 
 abbrev whenever : ℕ → ℕ → Rule
-whenever event n = record { literals = record { event = record { 0 = event }; negated = false } ∷ []; action = action n; comparisons = [] }
+whenever event n = record { literals = record { event = record { 0 = event }; negated = false } ∷ []; effect = Effect.Causes (action n); comparisons = [] }
 
 abbrev unless : ℕ → ℕ → Rule
-unless event n = record { literals = record { event = record { 0 = event }; negated = true } ∷ []; action = action n; comparisons = [] }
+unless event n = record { literals = record { event = record { 0 = event }; negated = true } ∷ []; effect = Effect.Causes (action n); comparisons = [] }
 
 pub record Reduction : Type 0 where
   pub rules : List Rule
@@ -147,7 +148,7 @@ pub record Reduced : Type 0 where
   pub issues : ActionSet
   pub withholds : ActionSet
 
-abbrev events_from : List ℕ → EventSet
+abbrev pub events_from : List ℕ → EventSet
 events_from ns = fold insert_event no_events (map (λ (n : ℕ). record { 0 = n }) ns)
 
 unfoldable pub reduced_of : Reduction → Reduced

@@ -3,6 +3,7 @@
 use Rattle.std.specs.Prelude.{Bool, true, false, ◌↔◌, ◌≡◌, ◌<◌, List, [], ◌∷◌, Contains}
 use Rattle.policy.specs.Comparison.{comparison_holds}
 use Rattle.policy.specs.Epoch.{InAlphabet}
+use Rattle.policy.specs.declared.effect.Effect.{Effect}
 use Rattle.policy.specs.declared.epoch.Epoch.{Epoch}
 use Rattle.policy.specs.declared.epoch.Readings.{Readings}
 use Rattle.policy.specs.Number.{set_limit}
@@ -28,31 +29,43 @@ OccursAs true present occurred = ¬ occurred
 abbrev pub Occurs : Events → Literal → Type 0
 Occurs ev l = OccursAs l.negated (has_event ev.present l.event ≡ true) (has_event ev.occurred l.event ≡ true)
 
--- some rule has the action, and all its literals and comparisons hold
-pub record Derives (rules : List Rule) (ev : Events) (rs : Readings) (a : Action) : Type 0 where
+-- some rule has the effect, and all its literals and comparisons hold
+pub record Derives (rules : List Rule) (ev : Events) (rs : Readings) (x : Effect) : Type 0 where
   pub rule : Rule
   pub listed : Contains rules rule
-  pub causes : rule.action ≡ a
+  pub effect : rule.effect ≡ x
   pub event : (l : Literal) → Contains rule.literals l → Occurs ev l
   pub condition : Condition Part.Rules rs rule.comparisons
 
--- what `occ` and `exec` may mean
+-- what `occ` and `exec` may mean, and that an event is triggered
 pub record Interpretation : Type 1 where
   pub occ : Literal → Type 0
   pub exec : Action → Type 0
+  pub triggered : Event → Type 0
 
--- a model of the program of the rules, `exec(a) ← occ(e₁) ∧ … ∧ occ(eₗ) ∧ C` for each, and of `occ(E)`
+-- that a rule has its effect
+abbrev pub has_its : Interpretation → Effect → Type 0
+has_its I (Effect.Causes a) = I.exec a
+has_its I (Effect.Triggers e) = I.triggered e
+
+-- a model of the program of the rules, `exec(a) ← occ(e₁) ∧ … ∧ occ(eₗ) ∧ C` for each that causes `a`, the same with `triggered(e)` for
+-- each that triggers `e`, and of `occ(E)`
 pub record Model (rules : List Rule) (ev : Events) (rs : Readings) (I : Interpretation) : Type 0 where
   pub facts : (l : Literal) → Occurs ev l → I.occ l
-  pub implications : (r : Rule) → Contains rules r → ((l : Literal) → Contains r.literals l → I.occ l) → Condition Part.Rules rs r.comparisons → I.exec r.action
+  pub implications : (r : Rule) → Contains rules r → ((l : Literal) → Contains r.literals l → I.occ l) → Condition Part.Rules rs r.comparisons → has_its I r.effect
 
--- `exec(a)` holds in every model
-abbrev pub Entails : List Rule → Events → Readings → Action → Type 1
-Entails rules ev rs a = (I : Interpretation) → Model rules ev rs I → I.exec a
+-- `exec(a)`, or `triggered(e)`, holds in every model
+abbrev pub Entails : List Rule → Events → Readings → Effect → Type 1
+Entails rules ev rs x = (I : Interpretation) → Model rules ev rs I → has_its I x
 
 -- Definition 6: the transducer that the rules define
 abbrev pub DefinedBy : List Rule → (Epoch → ActionSet) → Type 1
-DefinedBy rules π = (e : Epoch) (a : Action) → a.0 < set_limit → (has_action (π e) a ≡ true) ↔ Entails rules (all_events e.events) e.readings a
+DefinedBy rules π = (e : Epoch) (a : Action) → a.0 < set_limit → (has_action (π e) a ≡ true) ↔ Entails rules (all_events e.events) e.readings (Effect.Causes a)
+
+-- the events that the rules trigger: policy-defined events of Lobo, Bhatia and Naqvi, "A Policy Description Language" (AAAI 1999), which
+-- occur in the next epoch
+abbrev pub TriggeredBy : List Rule → (Epoch → EventSet) → Type 1
+TriggeredBy rules τ = (e : Epoch) (x : Event) → x.0 < set_limit → (has_event (τ e) x ≡ true) ↔ Entails rules (all_events e.events) e.readings (Effect.Triggers x)
 
 -- Definitions 7 and 8: a set satisfies a constraint if not all its actions are in the set while its condition holds
 pub record HoldsOn (rs : Readings) (s : ActionSet) (c : Constraint) : Type 0 where
@@ -119,7 +132,12 @@ s ⊑ t = (x : Event) → has_event s x ≡ true → has_event t x ≡ true
 
 -- Definition 6 where only some of the epoch's events are kept
 abbrev pub DefinedOnKept : List Rule → (Epoch → EventSet → ActionSet) → Type 1
-DefinedOnKept rules π = (e : Epoch) (kept : EventSet) (a : Action) → a.0 < set_limit → (has_action (π e kept) a ≡ true) ↔ Entails rules (keeping e.events kept) e.readings a
+DefinedOnKept rules π = (e : Epoch) (kept : EventSet) (a : Action) → a.0 < set_limit → (has_action (π e kept) a ≡ true) ↔ Entails rules (keeping e.events kept) e.readings (Effect.Causes a)
+
+-- the same of what they trigger
+abbrev pub TriggeredByKept : List Rule → (Epoch → EventSet → EventSet) → Type 1
+TriggeredByKept rules τ = (e : Epoch) (kept : EventSet) (x : Event) → x.0 < set_limit
+    → (has_event (τ e kept) x ≡ true) ↔ Entails rules (keeping e.events kept) e.readings (Effect.Triggers x)
 
 module _ (constraints : List Constraint) (π : Epoch → EventSet → ActionSet) where
   -- Definition 10: a consistent reduction

@@ -1,4 +1,5 @@
 pub mod ConstantLaws
+pub mod EffectLaws
 pub mod FaultLaws
 pub mod FillLaws
 pub mod FlagLaws

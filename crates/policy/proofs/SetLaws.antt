@@ -239,3 +239,53 @@ bit_at n h = shl_exact 1 n 64 (lit< tt) (omega arith) ∙ one-mul (2 ^ n)
 pub below_all : (s n : ℕ) → s < 18446744073709551616 → 64 ≤ n → s ≡ below s n
 unfolding below
 below_all s n h k = sym (mod-eq_of_lt (lt_of_lt_of_le h (pow_mono k)))
+
+pub union_limit : (s t : ℕ) → s < 2 ^ 64 → t < 2 ^ 64 → union s t < 2 ^ 64
+union_limit s t = or_lt 64 s t
+
+-- ---- sets that meet have a member in common
+
+member_or_none : (k s : ℕ) → ((n : ℕ) × (n < k) × (has s n ≡ true)) ⊎ ((n : ℕ) → n < k → has s n ≡ false)
+member_or_none zero s = inr (λ n l. absurd (omega (arith, l)))
+member_or_none (suc k) s = go (has s k) refl (member_or_none k s)
+  where
+    last : has s k ≡ false → ((n : ℕ) → n < k → has s n ≡ false) → (n : ℕ) → n < suc k → (x : Bool) → eqb n k ≡ x → has s n ≡ false
+    last h none n l true e = ap (has s) (eqb-true n k e) ∙ h
+    last h none n l false e = let other : n ≡ k → ⊥ = eqb-false n k e in none n (omega (arith, l, other))
+
+    go : (b : Bool) → has s k ≡ b → ((n : ℕ) × (n < k) × (has s n ≡ true)) ⊎ ((n : ℕ) → n < k → has s n ≡ false) → ((n : ℕ) × (n < suc k) × (has s n ≡ true)) ⊎ ((n : ℕ) → n < suc k → has s n ≡ false)
+    go true h c = inl (k, omega arith, h)
+    go false h (inl (n, l, m)) = inl (n, omega (arith, l), m)
+    go false h (inr none) = inr (λ n l. last h none n l (eqb n k) refl)
+
+both_in : (s t n : ℕ) → has (bit_and s t) n ≡ true → (has s n ≡ true) × (has t n ≡ true)
+both_in s t n h = go (has s n) (has t n) (sym (has_and s t n) ∙ h)
+  where
+    go : (a b : Bool) → a && b ≡ true → (a ≡ true) × (b ≡ true)
+    go true b e = (refl, e)
+    go false b e = let z : ⊥ = cc in absurd z
+
+pub meets_out : (s t : ℕ) → t < 2 ^ 64 → not (eqb (bit_and s t) 0) ≡ true → (n : ℕ) × (has s n ≡ true) × (has t n ≡ true)
+meets_out s t small m = go (member_or_none 64 (bit_and s t))
+  where
+    nowhere : ((n : ℕ) → n < 64 → has (bit_and s t) n ≡ false) → (n : ℕ) → (b : Bool) → has (bit_and s t) n ≡ b → has (bit_and s t) n ≡ false
+    nowhere none n true h = none n (has_limit t small n (both_in s t n h).1)
+    nowhere none n false h = h
+
+    go : ((n : ℕ) × (n < 64) × (has (bit_and s t) n ≡ true)) ⊎ ((n : ℕ) → n < 64 → has (bit_and s t) n ≡ false) → (n : ℕ) × (has s n ≡ true) × (has t n ≡ true)
+    go (inl (n, l, h)) = (n, (both_in s t n h).0, (both_in s t n h).1)
+    go (inr none) =
+        let empty : bit_and s t ≡ 0 = set_ext _ 0 (λ n. nowhere none n (has (bit_and s t) n) refl ∙ sym (has_empty n)) in
+        let z : not (eqb (bit_and s t) 0) ≡ false = ap (λ (b : ℕ). not (eqb b 0)) empty in
+        let w : ⊥ = cc (m, z) in
+        absurd w
+
+pub meets_in : (s t n : ℕ) → has s n ≡ true → has t n ≡ true → not (eqb (bit_and s t) 0) ≡ true
+meets_in s t n h k = go (eqb (bit_and s t) 0) refl
+  where
+    go : (b : Bool) → eqb (bit_and s t) 0 ≡ b → not b ≡ true
+    go false e = refl
+    go true e =
+        let member : has 0 n ≡ true = ap (λ (b : ℕ). has b n) (sym (eqb-true _ 0 e)) ∙ has_and s t n ∙ rw (h, k) refl in
+        let w : ⊥ = cc (member, has_empty n) in
+        absurd w

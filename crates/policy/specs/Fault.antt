@@ -2,7 +2,7 @@
 use Rattle.std.specs.Prelude.{ℕ, Result}
 use Rattle.std.specs.Result.{result_map_both}
 use Rattle.policy.specs.declared.fault.Fault.{Fault}
-use Rattle.policy.specs.declared.fault.Fault.TheVariants.{TooLong, Syntax, OutOfRange, TooManyParts, TooManyLines, Duplicate, ImageSize, ImageForm, ImageCount, ImageSum, ImageBody, EpochSyntax, EpochRange, DuplicateReading, BufferTooSmall, ImageWeightedSum, Unavoidable}
+use Rattle.policy.specs.declared.fault.Fault.TheVariants.{TooLong, Syntax, OutOfRange, TooManyParts, TooManyLines, Duplicate, ImageSize, ImageForm, ImageCount, ImageSum, ImageBody, EpochSyntax, EpochRange, DuplicateReading, BufferTooSmall, ImageWeightedSum, Unavoidable, ReservedEvent}
 use Rattle.policy.specs.declared.fault.Refusal.{Refusal}
 use Rattle.policy.specs.declared.fault.Source.{Source}
 
@@ -24,6 +24,7 @@ fault_number DuplicateReading = 14
 fault_number BufferTooSmall = 15
 fault_number ImageWeightedSum = 16
 fault_number Unavoidable = 17
+fault_number ReservedEvent = 18
 
 -- which text: the maker's 1, the site's 2, and 0 where the fault is in neither alone
 abbrev pub source_number : Source → ℕ

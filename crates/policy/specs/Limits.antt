@@ -1,12 +1,14 @@
 -- Which lines an accepted text may have: ranges of numbers, counts, repeats, and how many lines of each kind.
-use Rattle.std.specs.Prelude.{ℕ, ◌≤◌, Bool, true, false, not, ◌&&◌, ◌||◌, List, [], ◌∷◌, map, ◌≡◌, ℤ, pos, negsuc, length, nat_eq, nat_lt}
+use Rattle.std.specs.Prelude.{ℕ, ◌≤◌, Bool, true, false, not, ◌&&◌, ◌||◌, List, [], ◌∷◌, map, ◌≡◌, ℤ, pos, negsuc, length, nat_eq, nat_lt, nat_le}
 use Rattle.std.specs.Int.Signed.{le_z}
+use Rattle.policy.specs.Effect.{effect_number}
 use Rattle.policy.specs.Line.{PolicyLine, rule, constraint, heads_of, comparisons_of, ending_of}
 use Rattle.std.specs.List.{list_all, list_any}
 use Rattle.policy.specs.Number.{set_limit, reading_limit}
 use Rattle.policy.specs.Policy.{Policy}
 use Rattle.policy.specs.declared.comparison.Comparison.{Comparison}
 use Rattle.policy.specs.declared.comparison.Operand.{Operand}
+use Rattle.policy.specs.declared.effect.Effect.{Effect}
 use Rattle.policy.specs.declared.line.Ending.{Ending}
 use Rattle.policy.specs.declared.line.Part.{Part}
 use Rattle.policy.specs.declared.line.Test.{Test}
@@ -45,8 +47,11 @@ operand_in_range (Operand.Reading r) = nat_lt r.0 reading_limit
 unfoldable pub comparison_in_range : Comparison → Bool
 comparison_in_range c = nat_lt c.reading.0 reading_limit && operand_in_range c.operand
 
+unfoldable pub effect_in_range : Effect → Bool
+effect_in_range x = nat_lt (effect_number x) set_limit
+
 unfoldable pub ending_in_range : Ending → Bool
-ending_in_range (Ending.Causes a) = nat_lt a.0 set_limit
+ending_in_range (Ending.Yields x) = effect_in_range x
 ending_in_range Ending.Never = true
 
 -- every number of the line is in range
@@ -67,13 +72,27 @@ repeats (n ∷ ns) = list_any (nat_eq n) ns || repeats ns
 unfoldable pub repeated : PolicyLine → Bool
 repeated l = repeats (map test_number (heads_of l))
 
--- a line that an accepted text may have
+-- ---- which lines the texts for a form of images may have: those that trigger events only from a form on
+
+abbrev pub trigger_form : ℕ
+trigger_form = 3
+
+unfoldable pub ending_allowed : ℕ → Ending → Bool
+ending_allowed form (Ending.Yields (Effect.Triggers e)) = nat_le trigger_form form
+ending_allowed form _ = true
+
+abbrev pub allowed : ℕ → PolicyLine → Bool
+allowed form l = ending_allowed form (ending_of l)
+
+-- ---- a line, and a policy, that an accepted text may have
+
 unfoldable pub valid : PolicyLine → Bool
 valid l = nat_lt 0 (length (heads_of l)) && in_range l && not (crowded l) && not (repeated l)
 
--- a policy that an accepted text may have: its lines are valid and not too many
-pub record Acceptable (p : Policy) : Type 0 where
+-- the lines of the policy are valid, those that the form has, and not too many
+pub record Acceptable (form : ℕ) (p : Policy) : Type 0 where
   pub rules_valid : list_all valid (map rule p.rules) ≡ true
   pub constraints_valid : list_all valid (map constraint p.constraints) ≡ true
+  pub rules_allowed : list_all (allowed form) (map rule p.rules) ≡ true
   pub few_rules : length p.rules ≤ rule_limit
   pub few_constraints : length p.constraints ≤ constraint_limit

@@ -22,7 +22,7 @@ comparisons_of (rule r) = r.comparisons
 comparisons_of (constraint c) = c.comparisons
 
 unfoldable pub ending_of : PolicyLine → Ending
-ending_of (rule r) = Ending.Causes r.action
+ending_of (rule r) = Ending.Yields r.effect
 ending_of (constraint c) = Ending.Never
 
 -- 1 for a constant
@@ -37,7 +37,7 @@ constant_count (c ∷ cs) = operand_constants c.operand + constant_count cs
 
 -- the kind of a line that ends so
 abbrev pub ending_part : Ending → Part
-ending_part (Ending.Causes a) = Part.Rules
+ending_part (Ending.Yields x) = Part.Rules
 ending_part Ending.Never = Part.Constraints
 
 abbrev pub line_part : PolicyLine → Part

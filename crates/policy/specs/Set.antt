@@ -1,5 +1,5 @@
 -- Sets of numbers below 64. A set is a number whose bit n says whether n is in it.
-use Rattle.std.specs.Prelude.{ℕ, zero, suc, ◌+◌, ◌/◌, ◌%◌, ◌^◌, Bool, List, [], ◌∷◌, ◌++◌, map, fold, ◌==◌, nat_lt, if◌then◌else◌}
+use Rattle.std.specs.Prelude.{ℕ, zero, suc, ◌+◌, ◌/◌, ◌%◌, ◌^◌, Bool, not, List, [], ◌∷◌, ◌++◌, map, fold, ◌==◌, nat_lt, if◌then◌else◌}
 use Rattle.std.specs.Int.Bits.{bit_and, bit_or, bit_xor}
 use Rattle.policy.specs.Number.{set_limit}
 use Rattle.policy.specs.declared.number.Event.{Event}
@@ -67,6 +67,13 @@ has_event s e = has s.bits e.0
 
 abbrev pub insert_event : EventSet → Event → EventSet
 insert_event s e = set_of (insert s.bits e.0)
+
+abbrev pub union_events : EventSet → EventSet → EventSet
+union_events s t = set_of (union s.bits t.bits)
+
+-- some event is in both
+abbrev pub meets : EventSet → EventSet → Bool
+meets s t = not (bit_and s.bits t.bits == 0)
 
 abbrev pub events_below : EventSet → Event → EventSet
 events_below s e = set_of (below s.bits e.0)

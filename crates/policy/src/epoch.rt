@@ -19,6 +19,17 @@ pub struct Epoch {
     pub readings: Readings,
 }
 
+impl Epoch {
+    /// No event, and no reading given.
+    pub const EMPTY: Epoch = Epoch {
+        events: EventSet::EMPTY,
+        readings: Readings {
+            given: ReadingSet::EMPTY,
+            values: [0; READING_LIMIT],
+        },
+    };
+}
+
 /// Readings as a run over words holds them: which are given at hand, the values where they stand.
 #[derive(Clone, Copy)]
 pub struct ReadingView<'a> {

@@ -40,6 +40,8 @@ pub enum Fault {
     ImageWeightedSum = 16,
     /// No reduction of the epoch is free of conflict, where events are cancelled.
     Unavoidable = 17,
+    /// An epoch line names an event that some rule triggers.
+    ReservedEvent = 18,
 }
 
 impl Fault {

@@ -4,6 +4,7 @@
 
 mod comparison;
 mod constant;
+mod effect;
 mod epoch;
 mod fault;
 mod limit;
@@ -14,9 +15,12 @@ mod set;
 
 pub use comparison::{Comparison, Literal, Operand, Relation};
 pub use constant::{constant_from, constant_word};
+pub use effect::{Effect, Effects};
 pub use epoch::{Epoch, ReadingView, Readings};
 pub use fault::{Fault, Refusal, Source};
-pub use limit::{COMPARISON_LIMIT, CONSTRAINT_LIMIT, HEAD_LIMIT, READING_LIMIT, RULE_LIMIT};
+pub use limit::{
+    COMPARISON_LIMIT, CONSTRAINT_LIMIT, HEAD_LIMIT, READING_LIMIT, RULE_LIMIT, TRIGGER_FORM,
+};
 pub use line::{Ending, Part, PerPart, Test};
 pub use mode::Mode;
 pub use number::{Action, Event, Numbered, Reading};

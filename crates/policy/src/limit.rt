@@ -9,6 +9,9 @@ pub const HEAD_LIMIT: usize = 8;
 /// Comparisons of a line.
 pub const COMPARISON_LIMIT: usize = 4;
 
+/// The first form of images whose texts may have rules that trigger events.
+pub const TRIGGER_FORM: u8 = 3;
+
 /// Rules of a text.
 pub const RULE_LIMIT: usize = 128;
 

@@ -4,9 +4,11 @@ ghost use Rattle.std.specs.Prelude.{◌≡◌};
 ghost use Rattle.policy.specs.Comparison.{missing_holds};
 ghost use Rattle.policy.specs.Limits.{test_number, line_limit};
 ghost use Rattle.policy.specs.Line.{ending_part, part_get, part_set};
+ghost use Rattle.policy.specs.Limits.{ending_allowed};
 
 use crate::comparison::Literal;
-use crate::limit::{CONSTRAINT_LIMIT, RULE_LIMIT};
+use crate::effect::Effect;
+use crate::limit::{CONSTRAINT_LIMIT, RULE_LIMIT, TRIGGER_FORM};
 use crate::number::Action;
 
 /// The two kinds of lines: the rules of a policy, and its constraints. Each stands in its own part of an image.
@@ -74,10 +76,10 @@ pub enum Test {
     Member(Action),
 }
 
-/// What makes a line a rule or a constraint: the action that it causes, or `never`.
+/// What makes a line a rule or a constraint: its effect, or `never`.
 #[derive(Clone, Copy)]
 pub enum Ending {
-    Causes(Action),
+    Yields(Effect),
     Never,
 }
 
@@ -87,8 +89,19 @@ impl Ending {
         ensures { result ≡ ending_part self }
     {
         match self {
-            Ending::Causes(_) => Part::Rules,
+            Ending::Yields(_) => Part::Rules,
             Ending::Never => Part::Constraints,
+        }
+    }
+
+    /// Whether a text for images of the form may have such a line.
+    #[tactic(auto, unfolding(crate::specs::Limits::ending_allowed))]
+    pub fn is_allowed(self, form: u8) -> bool
+        ensures { result ≡ ending_allowed form self }
+    {
+        match self {
+            Ending::Yields(Effect::Triggers(_)) => TRIGGER_FORM <= form,
+            Ending::Yields(Effect::Causes(_)) | Ending::Never => true,
         }
     }
 }

@@ -1,6 +1,6 @@
 //! Sets of events, of actions and of readings, one bit a member.
 ghost use Rattle.std.specs.Prelude.{◌≡◌, ℕ};
-ghost use Rattle.policy.specs.Set.{has, insert, difference, below, set_of, all_events, keeping};
+ghost use Rattle.policy.specs.Set.{has, insert, difference, below, set_of, all_events, keeping, union_events, meets};
 
 use crate::number::{Action, Event, Numbered, Reading};
 use std::marker::PhantomData;
@@ -66,6 +66,22 @@ impl EventSet {
             present: kept,
             occurred: self,
         }
+    }
+}
+
+impl EventSet {
+    /// The events of both sets.
+    pub fn union(self, other: EventSet) -> EventSet
+        ensures { result ≡ union_events self other }
+    {
+        Set::of(self.bits | other.bits)
+    }
+
+    /// Whether some event is in both sets.
+    pub fn meets(self, other: EventSet) -> bool
+        ensures { result ≡ meets self other }
+    {
+        self.bits & other.bits != 0
     }
 }
 

@@ -3,22 +3,26 @@ use Rattle.std.proofs.Common.{ℕ, suc, ◌+◌, ◌*◌, ◌≤◌, ◌<◌, Bo
 use Rattle.std.proofs.Math.Dec.{ltb, leb}
 use Rattle.std.proofs.Math.ListN.{length-map}
 use Rattle.policy.proofs.ListLaws.{and_out}
-use Rattle.policy.specs.Limits.{valid, is_reading_value, test_number, operand_in_range, comparison_in_range, ending_in_range}
+use Rattle.policy.specs.Effect.{effect_number}
+use Rattle.policy.specs.Limits.{valid, allowed, trigger_form, is_reading_value, test_number, operand_in_range, comparison_in_range, effect_in_range, ending_in_range, ending_allowed}
 use Rattle.policy.specs.Line.{PolicyLine, rule, constraint, heads_of, comparisons_of, ending_of}
 use Rattle.policy.specs.List.{all}
 use Rattle.policy.specs.declared.comparison.Comparison.{Comparison}
 use Rattle.policy.specs.declared.comparison.Literal.{Literal}
 use Rattle.policy.specs.declared.comparison.Operand.{Operand}
 use Rattle.policy.specs.declared.comparison.Relation.{Relation}
+use Rattle.policy.specs.declared.effect.Effect.{Effect}
+use Rattle.policy.specs.declared.line.Ending.{Ending}
 use Rattle.policy.specs.declared.line.Test.{Test}
 use Rattle.policy.specs.declared.number.Action.{Action}
+use Rattle.policy.specs.declared.number.Event.{Event}
 use Rattle.policy.specs.declared.number.Reading.{Reading}
 use Rattle.lexer.specs.Byte.{bytes}
 use Rattle.lexer.specs.Token.{Token}
 use Rattle.output.proofs.DecimalLaws.{decimal_few}
 use Rattle.policy.proofs.ValidLaws.{ValidParts, test_in_range, valid_out}
 use Rattle.output.specs.Number.{decimal}
-use Rattle.printer.specs.Printed.{constant_token, literal_token, action_token, reading_token, relation_token, operand_token, comparison_tokens, joined_by, head_tokens, condition_tokens, line_tokens, line_bytes}
+use Rattle.printer.specs.Printed.{constant_token, event_token, literal_token, action_token, effect_tokens, reading_token, relation_token, operand_token, comparison_tokens, joined_by, head_tokens, condition_tokens, line_tokens, line_bytes}
 
 all_map : {A B : Type 0} (p : B → Bool) (f : A → B) (xs : List A) → all p (map f xs) ≡ all (λ x. p (f x)) xs
 all_map p f [] = refl
@@ -56,11 +60,15 @@ module _ {A : Type 0} (p : A → Bool) (f : A → List Token) (sep : Token) (w :
 name_short : (n : ℕ) → n < 100 → length (decimal n) ≤ 2
 name_short n h = decimal_few n 1 (omega arith)
 
+event_short : (e : Event) → ltb e.0 64 ≡ true → length (event_token e) ≤ 3
+unfolding event_token
+event_short e h = omega (arith, name_short e.0 (omega (arith, ltb-true e.0 64 h)))
+
 literal_short : (l : Literal) → test_in_range (Test.Occurs l) ≡ true → length (literal_token l) ≤ 4
 unfolding literal_token bytes test_number
-literal_short l h = go l.negated (name_short l.event.0 (omega (arith, ltb-true l.event.0 64 h)))
+literal_short l h = go l.negated (event_short l.event h)
   where
-    go : (b : Bool) → length (decimal l.event.0) ≤ 2 → length (cond b (33 ∷ []) [] ++ 69 ∷ decimal l.event.0) ≤ 4
+    go : (b : Bool) → length (event_token l.event) ≤ 3 → length (cond b (33 ∷ []) [] ++ event_token l.event) ≤ 4
     go true k = omega arith
     go false k = omega arith
 
@@ -106,6 +114,24 @@ unfolding condition_tokens room bytes
 condition_room [] h k = omega arith
 condition_room (c ∷ cs) h k = omega (arith, joined_room comparison_in_range comparison_tokens (bytes ",") 19 comparison_room (c ∷ cs) (omega arith) h)
 
+-- `triggers E63`, and where no rule triggers `causes A63`
+abbrev effect_width : ℕ → ℕ
+effect_width form = cond (leb trigger_form form) 13 11
+
+effect_room : (form : ℕ) (x : Effect) → ending_allowed form (Ending.Yields x) ≡ true → effect_in_range x ≡ true → room (effect_tokens x) ≤ effect_width form
+unfolding effect_tokens effect_in_range effect_number ending_allowed test_number room bytes
+effect_room form (Effect.Causes a) k h = go (leb trigger_form form) (action_short a h)
+  where
+    go : (b : Bool) → length (action_token a) ≤ 3 → 7 + (length (action_token a) + 1 + 0) ≤ cond b 13 11
+    go true l = omega arith
+    go false l = omega arith
+effect_room form (Effect.Triggers e) k h = rw k (omega (arith, event_short e h))
+
+some_effect : (x : Effect) → 0 < length (effect_tokens x)
+unfolding effect_tokens
+some_effect (Effect.Causes a) = omega arith
+some_effect (Effect.Triggers e) = omega arith
+
 -- eight literals or actions
 module _ {A : Type 0} (token : A → Token) (test : A → Test) (w : ℕ) (short : (x : A) → test_in_range (test x) ≡ true → length (token x) ≤ w) where
   heads_room : (xs : List A) → 0 < length (map test xs) → all test_in_range (map test xs) ≡ true → length (map test xs) ≤ 8 → room (head_tokens token xs) + 2 ≤ length xs * (w + 3)
@@ -118,33 +144,40 @@ module _ {A : Type 0} (token : A → Token) (test : A → Test) (w : ℕ) (short
 -- ---- the line
 
 -- the most bytes that a line of each kind may have, with its end
-abbrev pub widest : PolicyLine → ℕ
-widest (rule r) = 150
-widest (constraint c) = 137
+abbrev pub widest : ℕ → PolicyLine → ℕ
+widest form (rule r) = 139 + effect_width form
+widest form (constraint c) = 137
 
-line_room : (l : PolicyLine) → ValidParts (heads_of l) (comparisons_of l) (ending_of l) → room (line_tokens l) ≤ widest l
+line_room : (form : ℕ) (l : PolicyLine) → allowed form l ≡ true → ValidParts (heads_of l) (comparisons_of l) (ending_of l) → room (line_tokens l) ≤ widest form l
 unfolding line_tokens heads_of comparisons_of ending_of ending_in_range test_number room bytes
-line_room (rule r) v =
+line_room form (rule r) a v =
     let heads = heads_room literal_token Test.Occurs 4 literal_short r.literals v.some v.tests v.few_tests in
     let condition = condition_room r.comparisons v.comparisons v.few_comparisons in
     let few = v.few_tests in
     omega (
       arith,
       length-map r.literals Test.Occurs,
-      action_short r.action v.ending,
-      room_append (head_tokens literal_token r.literals) (bytes "causes" ∷ action_token r.action ∷ condition_tokens r.comparisons),
+      effect_room form r.effect a v.ending,
+      room_append (head_tokens literal_token r.literals) (effect_tokens r.effect ++ condition_tokens r.comparisons),
+      room_append (effect_tokens r.effect) (condition_tokens r.comparisons),
     )
-line_room (constraint c) v =
+line_room form (constraint c) a v =
     let heads = heads_room action_token Test.Member 3 action_short c.actions v.some v.tests v.few_tests in
     let condition = condition_room c.comparisons v.comparisons v.few_comparisons in
     let few = v.few_tests in
     omega (arith, length-map c.actions Test.Member, room_append (head_tokens action_token c.actions) (condition_tokens c.comparisons))
 
-some_tokens : (l : PolicyLine) → 0 < length (line_tokens l)
+pub some_tokens : (l : PolicyLine) → 0 < length (line_tokens l)
 unfolding line_tokens
-some_tokens (rule r) = omega (arith, length-append (head_tokens literal_token r.literals) (bytes "causes" ∷ action_token r.action ∷ condition_tokens r.comparisons))
+some_tokens (rule r) =
+    omega (
+      arith,
+      length-append (head_tokens literal_token r.literals) (effect_tokens r.effect ++ condition_tokens r.comparisons),
+      length-append (effect_tokens r.effect) (condition_tokens r.comparisons),
+      some_effect r.effect,
+    )
 some_tokens (constraint c) = omega arith
 
-pub line_length_is : (l : PolicyLine) → valid l ≡ true → length (line_bytes l) + 1 ≤ widest l
+pub line_length_is : (form : ℕ) (l : PolicyLine) → allowed form l ≡ true → valid l ≡ true → length (line_bytes l) + 1 ≤ widest form l
 unfolding line_bytes
-line_length_is l v = omega (arith, joined_short (line_tokens l) (some_tokens l), line_room l (valid_out l v))
+line_length_is form l a v = omega (arith, joined_short (line_tokens l) (some_tokens l), line_room form l a (valid_out l v))

@@ -1,20 +1,24 @@
 -- The bound on the length of a text is reached.
-use Rattle.std.proofs.Common.{ℕ, zero, suc, ◌+◌, ◌*◌, true, List, [], ◌∷◌, map, ◌≡◌, refl, ap, ◌∙◌, arith, negsuc, length, replicate, length-append}
+use Rattle.std.proofs.Common.{ℕ, zero, suc, ◌+◌, ◌*◌, Bool, true, false, cond, List, [], ◌∷◌, map, ◌≡◌, refl, ap, ap₂, ◌∙◌, arith, negsuc, length, replicate, length-append}
+use Rattle.std.proofs.Math.Dec.{leb}
 use Rattle.std.proofs.Math.ListN.{length-replicate}
 use Rattle.policy.proofs.ListLaws.{and_in}
-use Rattle.policy.specs.Limits.{is_reading_value, test_number, operand_in_range, comparison_in_range, ending_in_range, in_range, crowded, repeats, repeated, valid, Acceptable}
+use Rattle.policy.specs.Effect.{effect_number}
+use Rattle.policy.specs.Limits.{is_reading_value, test_number, operand_in_range, comparison_in_range, effect_in_range, ending_in_range, ending_allowed, in_range, crowded, repeats, repeated, valid, allowed, trigger_form, Acceptable}
 use Rattle.policy.specs.Line.{PolicyLine, rule, constraint, heads_of, comparisons_of, ending_of}
 use Rattle.policy.specs.List.{all}
 use Rattle.policy.specs.Policy.{Policy, Rule, Constraint}
 use Rattle.policy.specs.declared.comparison.Comparison.{Comparison}
 use Rattle.policy.specs.declared.comparison.Operand.{Operand}
 use Rattle.policy.specs.declared.comparison.Relation.{Relation}
+use Rattle.policy.specs.declared.effect.Effect.{Effect}
 use Rattle.lexer.specs.Byte.{bytes}
 use Rattle.output.specs.Number.{digits, decimal}
 use Rattle.printer.proofs.Printing.{lines_append}
-use Rattle.printer.specs.Printed.{constant_token, literal_token, action_token, reading_token, relation_token, operand_token, comparison_tokens, joined_by, head_tokens, condition_tokens, line_tokens, line_bytes, lines_text, longest_text, text_of}
+use Rattle.printer.specs.Printed.{constant_token, event_token, literal_token, action_token, effect_tokens, reading_token, relation_token, operand_token, comparison_tokens, joined_by, head_tokens, condition_tokens, line_tokens, line_bytes, lines_text, longest_text, longest_text_for, text_of}
 
--- ---- `!E56 & .. & !E63 causes A63 if R15 >= -2147483648 , ..` and `never A56 & .. & A63 if ..`
+-- ---- `!E56 & .. & !E63 triggers E63 if R15 >= -2147483648 , ..`, with `causes A63` where no rule may trigger, and
+-- `never A56 & .. & A63 if ..`
 
 eight : List ℕ
 eight = 56 ∷ 57 ∷ 58 ∷ 59 ∷ 60 ∷ 61 ∷ 62 ∷ 63 ∷ []
@@ -22,8 +26,13 @@ eight = 56 ∷ 57 ∷ 58 ∷ 59 ∷ 60 ∷ 61 ∷ 62 ∷ 63 ∷ []
 comparisons : List Comparison
 comparisons = replicate 4 (record { reading = record { 0 = 15 }; relation = Relation.GreaterOrEqual; operand = Operand.Constant (negsuc 2147483647) })
 
-long_rule : Rule
-long_rule = record { literals = map (λ (n : ℕ). record { event = record { 0 = n }; negated = true }) eight; action = record { 0 = 63 }; comparisons = comparisons }
+long_effect : Bool → Effect
+long_effect true = Effect.Triggers (record { 0 = 63 })
+long_effect false = Effect.Causes (record { 0 = 63 })
+
+long_rule : Bool → Rule
+long_rule triggers =
+    record { literals = map (λ (n : ℕ). record { event = record { 0 = n }; negated = true }) eight; effect = long_effect triggers; comparisons = comparisons }
 
 long_constraint : Constraint
 long_constraint = record { actions = map (λ (n : ℕ). record { 0 = n }) eight; comparisons = comparisons }
@@ -31,44 +40,68 @@ long_constraint = record { actions = map (λ (n : ℕ). record { 0 = n }) eight;
 -- ---- as many of them as there may be
 
 module _ {A : Type 0} (line : A → PolicyLine) (x : A) where
-  copies_valid : valid (line x) ≡ true → (n : ℕ) → all valid (map line (replicate n x)) ≡ true
-  copies_valid v zero = refl
-  copies_valid v (suc n) = and_in v (copies_valid v n)
+  copies_all : (p : PolicyLine → Bool) → p (line x) ≡ true → (n : ℕ) → all p (map line (replicate n x)) ≡ true
+  copies_all p v zero = refl
+  copies_all p v (suc n) = and_in v (copies_all p v n)
 
   copies_long : (w : ℕ) → length (line_bytes (line x)) + 1 ≡ w → (n : ℕ) → length (lines_text (map line (replicate n x))) ≡ n * w
   unfolding lines_text
   copies_long w e zero = omega arith
   copies_long w e (suc n) = omega (arith, copies_long w e n, length-append (line_bytes (line x)) (10 ∷ lines_text (map line (replicate n x))))
 
-longest : Policy
-longest = record { rules = replicate 128 long_rule; constraints = replicate 64 long_constraint }
+longest : Bool → Policy
+longest triggers = record { rules = replicate 128 (long_rule triggers); constraints = replicate 64 long_constraint }
 
-rule_long : length (line_bytes (rule long_rule)) + 1 ≡ 150
-unfolding eight comparisons long_rule bytes digits decimal constant_token literal_token action_token reading_token relation_token operand_token comparison_tokens joined_by head_tokens condition_tokens line_tokens line_bytes
-rule_long = refl
+rule_long : (triggers : Bool) → length (line_bytes (rule (long_rule triggers))) + 1 ≡ cond triggers 152 150
+unfolding eight comparisons long_effect long_rule bytes digits decimal constant_token event_token literal_token action_token effect_tokens reading_token relation_token operand_token comparison_tokens joined_by head_tokens condition_tokens line_tokens line_bytes
+rule_long true = refl
+rule_long false = refl
 
 constraint_long : length (line_bytes (constraint long_constraint)) + 1 ≡ 137
 unfolding eight comparisons long_constraint bytes digits decimal constant_token literal_token action_token reading_token relation_token operand_token comparison_tokens joined_by head_tokens condition_tokens line_tokens line_bytes
 constraint_long = refl
 
-long_valid : (valid (rule long_rule) ≡ true) × (valid (constraint long_constraint) ≡ true)
-unfolding eight comparisons long_rule long_constraint is_reading_value test_number operand_in_range comparison_in_range ending_in_range in_range crowded repeats repeated valid heads_of comparisons_of ending_of
-long_valid = (refl, refl)
+rule_valid : (triggers : Bool) → valid (rule (long_rule triggers)) ≡ true
+unfolding eight comparisons long_effect long_rule is_reading_value test_number effect_number operand_in_range comparison_in_range effect_in_range ending_in_range in_range crowded repeats repeated valid heads_of comparisons_of ending_of
+rule_valid true = refl
+rule_valid false = refl
 
--- some acceptable policy has a text of so many bytes
-pub longest_reached : (p : Policy) × (Acceptable p × (length (text_of p) ≡ longest_text))
+constraint_valid : valid (constraint long_constraint) ≡ true
+unfolding eight comparisons long_constraint is_reading_value test_number operand_in_range comparison_in_range ending_in_range in_range crowded repeats repeated valid heads_of comparisons_of ending_of
+constraint_valid = refl
+
+rule_allowed : (form : ℕ) (triggers : Bool) → leb trigger_form form ≡ triggers → allowed form (rule (long_rule triggers)) ≡ true
+unfolding long_effect long_rule ending_of ending_allowed
+rule_allowed form true e = e
+rule_allowed form false e = refl
+
+longest_long : (triggers : Bool) → length (text_of (longest triggers)) ≡ cond triggers longest_text 27968
 unfolding text_of longest
-longest_reached = (
-  longest,
-  (
-    record {
-      rules_valid = copies_valid rule long_rule long_valid.0 128;
-      constraints_valid = copies_valid constraint long_constraint long_valid.1 64;
-      few_rules = omega (arith, length-replicate 128 long_rule);
-      few_constraints = omega (arith, length-replicate 64 long_constraint);
-    },
-    ap length (lines_append (map rule (replicate 128 long_rule)) (map constraint (replicate 64 long_constraint)))
-        ∙ length-append (lines_text (map rule (replicate 128 long_rule))) (lines_text (map constraint (replicate 64 long_constraint)))
-        ∙ omega (arith, copies_long rule long_rule 150 rule_long 128, copies_long constraint long_constraint 137 constraint_long 64),
-  ),
-)
+longest_long triggers =
+    let rs : List PolicyLine = map rule (replicate 128 (long_rule triggers)) in
+    let cs : List PolicyLine = map constraint (replicate 64 long_constraint) in
+    ap length (lines_append rs cs) ∙ length-append (lines_text rs) (lines_text cs)
+    ∙ ap₂ (λ (m n : ℕ). m + n) (copies_long rule (long_rule triggers) (cond triggers 152 150) (rule_long triggers) 128) (copies_long constraint long_constraint 137 constraint_long 64)
+    ∙ sum triggers
+  where
+    sum : (b : Bool) → 128 * cond b 152 150 + 64 * 137 ≡ cond b longest_text 27968
+    sum true = refl
+    sum false = refl
+
+-- for each form some acceptable policy has a text of so many bytes
+pub longest_reached : (form : ℕ) → (p : Policy) × (Acceptable form p × (length (text_of p) ≡ longest_text_for form))
+unfolding longest longest_text_for
+longest_reached form =
+    let triggers : Bool = leb trigger_form form in (
+      longest triggers,
+      (
+        record {
+          rules_valid = copies_all rule (long_rule triggers) valid (rule_valid triggers) 128;
+          constraints_valid = copies_all constraint long_constraint valid constraint_valid 64;
+          rules_allowed = copies_all rule (long_rule triggers) (allowed form) (rule_allowed form triggers refl) 128;
+          few_rules = omega (arith, length-replicate 128 (long_rule triggers));
+          few_constraints = omega (arith, length-replicate 64 long_constraint);
+        },
+        longest_long triggers,
+      ),
+    )

@@ -1,30 +1,32 @@
 -- Laws of reading back: the tokens of each part of a line are read as that part, and those of a valid line as the line.
-use Rattle.std.specs.Prelude.{Option, Some, None, Ok}
+use Rattle.std.specs.Prelude.{ℕ, Option, Some, None, Ok}
 use Rattle.std.proofs.Common.{◌<◌, Bool, true, false, not, cond, List, [], ◌∷◌, ◌++◌, map, ◌≡◌, refl, sym, ap, ◌∙◌, arith, ℤ, pos, negsuc, length}
 use Rattle.std.proofs.lemmas.Bool.{not-true}
-use Rattle.policy.specs.Limits.{valid, in_range, crowded, repeated}
+use Rattle.policy.specs.Limits.{valid, allowed, in_range, crowded, repeated}
 use Rattle.policy.specs.Line.{PolicyLine, rule, constraint, heads_of}
 use Rattle.policy.specs.declared.comparison.Comparison.{Comparison}
 use Rattle.policy.specs.declared.comparison.Literal.{Literal}
 use Rattle.policy.specs.declared.comparison.Operand.{Operand}
 use Rattle.policy.specs.declared.comparison.Relation.{Relation}
+use Rattle.policy.specs.declared.effect.Effect.{Effect}
 use Rattle.policy.specs.declared.line.Test.{Test}
 use Rattle.policy.specs.declared.number.Action.{Action}
+use Rattle.policy.specs.declared.number.Event.{Event}
 use Rattle.policy.specs.declared.number.Reading.{Reading}
 use Rattle.lexer.specs.Byte.{bytes, bytes_equal, is}
-use Rattle.lexer.specs.Token.{Token, named, literal_of, action_of, reading_of, relation_of, operand_of, both, comparison_of}
-use Rattle.syntax.specs.Grammar.{comparisons_from, condition_from, joined, causes, never, rule_after, constraint_after, after, line_from}
-use Rattle.syntax.specs.Judge.{judge_line, is_comment, tokens_answer, line_answer}
+use Rattle.lexer.specs.Token.{Token, named, literal_of, action_of, event_of, reading_of, relation_of, operand_of, both, comparison_of}
+use Rattle.syntax.specs.Grammar.{comparisons_from, condition_from, joined, effect_from, yields, never, rule_after, constraint_after, after, line_from}
+use Rattle.syntax.specs.Judge.{line_for, judge_line, is_comment, tokens_answer, line_answer}
 use Rattle.printer.proofs.DecimalLaws.{decimal_all, number_read, digits_unnamed, constant_read}
 use Rattle.printer.proofs.SplitLaws.{line_tokens_is}
 use Rattle.policy.proofs.ValidLaws.{valid_tests}
 use Rattle.output.specs.Number.{decimal}
-use Rattle.printer.specs.Printed.{constant_token, literal_token, action_token, reading_token, relation_token, operand_token, comparison_tokens, joined_by, head_tokens, condition_tokens, line_tokens, line_bytes}
+use Rattle.printer.specs.Printed.{constant_token, event_token, literal_token, action_token, effect_tokens, reading_token, relation_token, operand_token, comparison_tokens, joined_by, head_tokens, condition_tokens, line_tokens, line_bytes}
 
 -- ---- the parts
 
 literal_read : (l : Literal) → literal_of (literal_token l) ≡ Some l
-unfolding literal_token literal_of named bytes
+unfolding literal_token event_token literal_of named bytes
 literal_read l = go l.negated refl
   where
     go : (b : Bool) → l.negated ≡ b → literal_of (cond b (33 ∷ []) [] ++ 69 ∷ decimal l.event.0) ≡ Some l
@@ -34,6 +36,10 @@ literal_read l = go l.negated refl
 action_read : (a : Action) → action_of (action_token a) ≡ Some a
 unfolding action_token action_of named
 action_read a = rw (number_read a.0)
+
+event_read : (e : Event) → event_of (event_token e) ≡ Some e
+unfolding event_token event_of named
+event_read e = rw (number_read e.0)
 
 reading_read : (r : Reading) → reading_of (reading_token r) ≡ Some r
 unfolding reading_token reading_of named
@@ -108,7 +114,7 @@ module _ {A : Type 0} (token : A → Token) (item : Token → Option A) (back : 
 
 module _ (l : Literal) where
   no_comment : is_comment (literal_token l) ≡ false
-  unfolding is_comment literal_token bytes
+  unfolding is_comment literal_token event_token bytes
   no_comment = go l.negated
     where
       go : (b : Bool) → is_comment (cond b (33 ∷ []) [] ++ 69 ∷ decimal l.event.0) ≡ false
@@ -116,57 +122,70 @@ module _ (l : Literal) where
       go false = refl
 
   no_constraint : is "never" (literal_token l) ≡ false
-  unfolding literal_token is bytes bytes_equal
+  unfolding literal_token event_token is bytes bytes_equal
   no_constraint = go l.negated
     where
       go : (b : Bool) → is "never" (cond b (33 ∷ []) [] ++ 69 ∷ decimal l.event.0) ≡ false
       go true = refl
       go false = refl
 
-rule_answer : (t : Token) (ts : List Token) → is_comment t ≡ false → is "never" t ≡ false
-    → tokens_answer (t ∷ ts) ≡ judge_line (after rule_after (joined literal_of (t ∷ ts)))
+-- what stands behind the literals of a rule
+module _ (cs : List Comparison) where
+  effect_ended : (x : Effect) → ended (effect_tokens x ++ condition_tokens cs) ≡ true
+  unfolding ended effect_tokens is bytes bytes_equal
+  effect_ended (Effect.Causes a) = refl
+  effect_ended (Effect.Triggers e) = refl
+
+  effect_read : (x : Effect) (ls : List Literal) → rule_after ls (effect_tokens x ++ condition_tokens cs) ≡ Some (yields ls x cs)
+  unfolding effect_tokens effect_from rule_after both is bytes bytes_equal
+  effect_read (Effect.Causes a) ls = rw (action_read a, condition_read cs)
+  effect_read (Effect.Triggers e) ls = rw (event_read e, condition_read cs)
+
+rule_answer : (form : ℕ) (t : Token) (ts : List Token) → is_comment t ≡ false → is "never" t ≡ false
+    → tokens_answer form (t ∷ ts) ≡ judge_line (line_for form (after rule_after (joined literal_of (t ∷ ts))))
 unfolding tokens_answer line_from
-rule_answer t ts h k = rw (h, k)
+rule_answer form t ts h k = rw (h, k)
 
 -- a line is judged by what its tokens are read as
-abbrev Answered : PolicyLine → Type 0
-Answered l = tokens_answer (line_tokens l) ≡ judge_line (Some l)
+abbrev Answered : ℕ → PolicyLine → Type 0
+Answered form l = tokens_answer form (line_tokens l) ≡ judge_line (line_for form (Some l))
 
-module _ (cs : List Comparison) where
-  rule_read : (a : Action) (x : Literal) (xs : List Literal) → Answered (causes (x ∷ xs) a cs)
-  unfolding line_tokens after rule_after both ended is bytes bytes_equal
-  rule_read a x xs =
-      let rest = bytes "causes" ∷ action_token a ∷ condition_tokens cs in
+module _ (form : ℕ) (cs : List Comparison) where
+  rule_read : (e : Effect) (x : Literal) (xs : List Literal) → Answered form (yields (x ∷ xs) e cs)
+  unfolding line_tokens after
+  rule_read e x xs =
+      let rest = effect_tokens e ++ condition_tokens cs in
       let first = heads_first literal_token literal_of literal_read x xs rest in
-      ap tokens_answer first
-      ∙ rule_answer (literal_token x) (behind literal_token literal_of literal_read xs rest) (no_comment x) (no_constraint x)
-      ∙ ap (λ (ts : List Token). judge_line (after rule_after (joined literal_of ts))) (sym first)
-      ∙ rw (heads_read literal_token literal_of literal_read x xs rest refl, action_read a, condition_read cs)
+      ap (tokens_answer form) first
+      ∙ rule_answer form (literal_token x) (behind literal_token literal_of literal_read xs rest) (no_comment x) (no_constraint x)
+      ∙ ap (λ (ts : List Token). judge_line (line_for form (after rule_after (joined literal_of ts)))) (sym first)
+      ∙ rw (heads_read literal_token literal_of literal_read x xs rest (effect_ended cs e), effect_read cs e (x ∷ xs))
 
-  constraint_read : (x : Action) (xs : List Action) → Answered (never (x ∷ xs) cs)
+  constraint_read : (x : Action) (xs : List Action) → Answered form (never (x ∷ xs) cs)
   unfolding line_tokens tokens_answer is_comment line_from after constraint_after is bytes bytes_equal
   constraint_read x xs = rw (heads_read action_token action_of action_read x xs (condition_tokens cs) (condition_ended cs), condition_read cs)
 
-line_judged : (l : PolicyLine) → 0 < length (heads_of l) → Answered l
+line_judged : (form : ℕ) (l : PolicyLine) → 0 < length (heads_of l) → Answered form l
 unfolding heads_of
-line_judged (rule r) = go r.literals
+line_judged form (rule r) = go r.literals
   where
-    go : (ls : List Literal) → 0 < length (map Test.Occurs ls) → Answered (causes ls r.action r.comparisons)
+    go : (ls : List Literal) → 0 < length (map Test.Occurs ls) → Answered form (yields ls r.effect r.comparisons)
     go [] h = absurd (omega arith)
-    go (x ∷ xs) h = rule_read r.comparisons r.action x xs
-line_judged (constraint c) = go c.actions
+    go (x ∷ xs) h = rule_read form r.comparisons r.effect x xs
+line_judged form (constraint c) = go c.actions
   where
-    go : (acts : List Action) → 0 < length (map Test.Member acts) → Answered (never acts c.comparisons)
+    go : (acts : List Action) → 0 < length (map Test.Member acts) → Answered form (never acts c.comparisons)
     go [] h = absurd (omega arith)
-    go (x ∷ xs) h = constraint_read c.comparisons x xs
+    go (x ∷ xs) h = constraint_read form c.comparisons x xs
 
-judge_valid : (l : PolicyLine) → in_range l ≡ true → crowded l ≡ false → repeated l ≡ false → judge_line (Some l) ≡ Ok (Some l)
-unfolding judge_line
-judge_valid l h k m = rw (h, k, m)
+judge_valid : (form : ℕ) (l : PolicyLine) → allowed form l ≡ true → in_range l ≡ true → crowded l ≡ false → repeated l ≡ false
+    → judge_line (line_for form (Some l)) ≡ Ok (Some l)
+unfolding line_for judge_line
+judge_valid form l a h k m = rw (a, h, k, m)
 
--- a valid line is read back from its bytes
-pub line_read : (l : PolicyLine) → valid l ≡ true → line_answer (line_bytes l) ≡ Ok (Some l)
+-- a valid line is read back from its bytes, where the form has it
+pub line_read : (form : ℕ) (l : PolicyLine) → allowed form l ≡ true → valid l ≡ true → line_answer form (line_bytes l) ≡ Ok (Some l)
 unfolding line_answer
-line_read l v =
+line_read form l a v =
     let f = valid_tests l v in
-    ap tokens_answer (line_tokens_is l) ∙ line_judged l f.some_heads ∙ judge_valid l f.numbers_in_range f.uncrowded f.distinct
+    ap (tokens_answer form) (line_tokens_is l) ∙ line_judged form l f.some_heads ∙ judge_valid form l a f.numbers_in_range f.uncrowded f.distinct

@@ -9,7 +9,9 @@ use Rattle.policy.specs.declared.comparison.Comparison.{Comparison}
 use Rattle.policy.specs.declared.comparison.Literal.{Literal}
 use Rattle.policy.specs.declared.comparison.Operand.{Operand}
 use Rattle.policy.specs.declared.comparison.Relation.{Relation}
+use Rattle.policy.specs.declared.effect.Effect.{Effect}
 use Rattle.policy.specs.declared.number.Action.{Action}
+use Rattle.policy.specs.declared.number.Event.{Event}
 use Rattle.policy.specs.declared.number.Reading.{Reading}
 use Rattle.lexer.specs.Byte.{bytes, is_digit}
 use Rattle.lexer.specs.Token.{Token}
@@ -18,7 +20,7 @@ use Rattle.lexer.specs.Number.{is_empty}
 use Rattle.lexer.specs.Steps.Scan.{in_token}
 use Rattle.printer.proofs.DecimalLaws.{decimal_all, decimal_some, digit_not}
 use Rattle.output.specs.Number.{decimal}
-use Rattle.printer.specs.Printed.{constant_token, literal_token, action_token, reading_token, relation_token, operand_token, comparison_tokens, joined_by, head_tokens, condition_tokens, line_tokens, line_bytes, lines_text}
+use Rattle.printer.specs.Printed.{constant_token, event_token, literal_token, action_token, effect_tokens, reading_token, relation_token, operand_token, comparison_tokens, joined_by, head_tokens, condition_tokens, line_tokens, line_bytes, lines_text}
 
 -- ---- tests of all elements
 
@@ -117,13 +119,17 @@ sign_clean : (b : ℕ) (t : Token) → inside b ≡ true → clean t ≡ true �
 unfolding clean
 sign_clean b t h k = and_in h (and_out (not (is_empty t)) (all inside t) k).1
 
+event_clean : (e : Event) → clean (event_token e) ≡ true
+unfolding event_token
+event_clean e = sign_clean 69 (decimal e.0) refl (decimal_clean e.0)
+
 literal_clean : (l : Literal) → clean (literal_token l) ≡ true
 unfolding literal_token bytes
-literal_clean l = go l.negated (sign_clean 69 (decimal l.event.0) refl (decimal_clean l.event.0))
+literal_clean l = go l.negated
   where
-    go : (b : Bool) → clean (69 ∷ decimal l.event.0) ≡ true → clean (cond b (33 ∷ []) [] ++ 69 ∷ decimal l.event.0) ≡ true
-    go true h = sign_clean 33 (69 ∷ decimal l.event.0) refl h
-    go false h = h
+    go : (b : Bool) → clean (cond b (33 ∷ []) [] ++ event_token l.event) ≡ true
+    go true = sign_clean 33 (event_token l.event) refl (event_clean l.event)
+    go false = event_clean l.event
 
 action_clean : (a : Action) → clean (action_token a) ≡ true
 unfolding action_token
@@ -161,11 +167,16 @@ heads_clean : {A : Type 0} (token : A → Token) → ((x : A) → clean (token x
 unfolding head_tokens clean bytes
 heads_clean token h xs = all_joined clean (bytes "&") (map (λ x. token x ∷ []) xs) refl (all_mapped (all clean) (λ x. token x ∷ []) (λ x. and_in (h x) refl) xs)
 
+effect_clean : (x : Effect) → all clean (effect_tokens x) ≡ true
+unfolding effect_tokens clean bytes
+effect_clean (Effect.Causes a) = and_in (action_clean a) refl
+effect_clean (Effect.Triggers e) = and_in (event_clean e) refl
+
 line_clean : (l : PolicyLine) → all clean (line_tokens l) ≡ true
 unfolding line_tokens clean bytes
 line_clean (rule r) =
-    all_append clean (head_tokens literal_token r.literals) (bytes "causes" ∷ action_token r.action ∷ condition_tokens r.comparisons)
-    (heads_clean literal_token literal_clean r.literals) (and_in (action_clean r.action) (condition_clean r.comparisons))
+    all_append clean (head_tokens literal_token r.literals) (effect_tokens r.effect ++ condition_tokens r.comparisons)
+    (heads_clean literal_token literal_clean r.literals) (all_append clean (effect_tokens r.effect) (condition_tokens r.comparisons) (effect_clean r.effect) (condition_clean r.comparisons))
 line_clean (constraint c) =
     all_append clean (head_tokens action_token c.actions) (condition_tokens c.comparisons)
     (heads_clean action_token action_clean c.actions) (condition_clean c.comparisons)

@@ -1,15 +1,17 @@
 -- The text of a line from its parts is the text of the line.
-use Rattle.std.proofs.Common.{ℕ, ◌<◌, true, List, [], ◌∷◌, ◌++◌, map, append_assoc, append-nil, ◌≡◌, refl, sym, ap, ap₂, ◌∙◌, arith, length, length-append}
+use Rattle.std.proofs.Common.{ℕ, ◌<◌, true, List, [], ◌∷◌, ◌++◌, map, append_assoc, append-nil, ◌≡◌, refl, sym, ap, ap₂, ◌∙◌, arith, length}
 use Rattle.std.proofs.Math.ListN.{length-map}
 use Rattle.policy.proofs.ValidLaws.{valid_out}
 use Rattle.policy.specs.Limits.{valid}
 use Rattle.policy.specs.Line.{PolicyLine, rule, constraint, heads_of, comparisons_of, ending_of}
 use Rattle.policy.specs.declared.comparison.Comparison.{Comparison}
+use Rattle.policy.specs.declared.effect.Effect.{Effect}
 use Rattle.policy.specs.declared.line.Test.{Test}
 use Rattle.lexer.specs.Byte.{bytes}
 use Rattle.lexer.specs.Token.{Token}
-use Rattle.printer.specs.Printed.{action_token, literal_token, comparison_tokens, joined_by, head_tokens, condition_tokens, line_tokens, line_bytes}
-use Rattle.printer.specs.Steps.Value.{test_token, comparison_text, linked, heads_text, condition_text, ending_text, value_text}
+use Rattle.printer.proofs.LengthLaws.{some_tokens}
+use Rattle.printer.specs.Printed.{action_token, event_token, literal_token, effect_tokens, comparison_tokens, joined_by, head_tokens, condition_tokens, line_tokens, line_bytes}
+use Rattle.printer.specs.Steps.Value.{test_token, comparison_text, linked, heads_text, condition_text, effect_text, ending_text, value_text}
 
 -- tokens with a space before each
 spaced : List Token → List ℕ
@@ -55,6 +57,11 @@ unfolding condition_tokens linked bytes spaced
 condition_spaced [] = refl
 condition_spaced (c ∷ cs) = ap (λ (s : List ℕ). 32 ∷ 105 ∷ 102 ∷ s) (further comparison_tokens comparison_text (bytes ",") comparison_spaced c cs)
 
+effect_spaced : (x : Effect) → spaced (effect_tokens x) ≡ effect_text x
+unfolding effect_tokens effect_text bytes spaced
+effect_spaced (Effect.Causes a) = ap (λ (s : List ℕ). bytes " causes " ++ s) (append-nil (action_token a))
+effect_spaced (Effect.Triggers e) = ap (λ (s : List ℕ). bytes " triggers " ++ s) (append-nil (event_token e))
+
 linked_map : {A B : Type 0} (text : B → List ℕ) (f : A → B) (first next : List ℕ) (xs : List A) → linked text first next (map f xs) ≡ linked (λ x. text (f x)) first next xs
 unfolding linked
 linked_map text f first next [] = refl
@@ -69,13 +76,13 @@ line_spaced : (l : PolicyLine) → 0 < length (heads_of l)
 unfolding line_bytes line_tokens heads_of comparisons_of ending_of ending_text spaced bytes test_token
 line_spaced (rule r) h =
     let heads : List Token = head_tokens literal_token r.literals in
-    let rest : List Token = bytes "causes" ∷ action_token r.action ∷ condition_tokens r.comparisons in
-    let some : 0 < length (heads ++ rest) = omega (arith, length-append heads rest) in
+    let rest : List Token = effect_tokens r.effect ++ condition_tokens r.comparisons in
     let all : spaced (heads ++ rest) ≡ (32 ∷ linked literal_token [] (bytes " & ") r.literals) ++ spaced rest =
     spaced_append heads rest ∙ ap (λ (s : List ℕ). s ++ spaced rest) (heads_spaced literal_token r.literals (omega (arith, length-map r.literals Test.Occurs))) in
     let name : linked test_token [] (bytes " & ") (map Test.Occurs r.literals) ≡ linked literal_token [] (bytes " & ") r.literals = linked_map test_token Test.Occurs [] (bytes " & ") r.literals in
-    ap (λ (s : List ℕ). s ++ 10 ∷ []) (spaced_joined (heads ++ rest) some ∙ all)
-    ∙ rw (name, condition_spaced r.comparisons) (ap (λ (s : List ℕ). 32 ∷ s) (grouped (linked literal_token [] (bytes " & ") r.literals) (bytes " causes ") (action_token r.action) (condition_text r.comparisons) (10 ∷ [])))
+    ap (λ (s : List ℕ). s ++ 10 ∷ []) (spaced_joined (heads ++ rest) (some_tokens (rule r)) ∙ all)
+    ∙ rw (name, spaced_append (effect_tokens r.effect) (condition_tokens r.comparisons), effect_spaced r.effect, condition_spaced r.comparisons)
+    (ap (λ (s : List ℕ). 32 ∷ s) (grouped [] (linked literal_token [] (bytes " & ") r.literals) (effect_text r.effect) (condition_text r.comparisons) (10 ∷ [])))
 line_spaced (constraint c) h =
     let heads : List Token = head_tokens action_token c.actions in
     let rest : List Token = condition_tokens c.comparisons in

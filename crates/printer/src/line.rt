@@ -4,7 +4,7 @@ ghost use Rattle.lexer.specs.Byte.{bytes};
 ghost use Rattle.output.specs.Sink.{fed};
 ghost use Rattle.printer.specs.Steps.Value.{comparison_text, linked, test_token, value_text};
 
-use crate::part::{put_comparison, put_name, put_test};
+use crate::part::{put_comparison, put_effect, put_test};
 use line_value::Line;
 use output::Sink;
 use policy::{Comparison, Ending, Test};
@@ -39,15 +39,14 @@ fn put_condition<S: Sink>(sink: &mut S, comparisons: &[Comparison])
 }
 
 /// Puts the text of a line, with its line end.
-#[tactic(auto, unfolding(crate::specs::Printed::action_token, crate::specs::Steps::Value::value_text, crate::specs::Steps::Value::ending_text, lexer::specs::Byte::bytes))]
+#[tactic(auto, using(output::proofs::SinkLaws::fed_then), unfolding(crate::specs::Steps::Value::value_text, crate::specs::Steps::Value::ending_text, lexer::specs::Byte::bytes))]
 pub fn put_line<S: Sink>(sink: &mut S, line: &Line)
     ensures { sink.new ≡ fed S.taken sink.old (value_text line.now) }
 {
     match line.ending() {
-        Ending::Causes(action) => {
+        Ending::Yields(effect) => {
             put_heads(sink, line.heads());
-            sink.put(b" causes ");
-            put_name(sink, b'A', action.0);
+            put_effect(sink, effect);
         }
         Ending::Never => {
             sink.put(b"never ");

@@ -3,20 +3,20 @@ ghost use Rattle.std.specs.Prelude.{◌≡◌, ◌∷◌};
 ghost use Rattle.output.specs.Number.{decimal};
 ghost use Rattle.output.specs.Sink.{fed};
 ghost use Rattle.printer.specs.Printed.{literal_token, relation_token, operand_token};
-ghost use Rattle.printer.specs.Steps.Value.{test_token, comparison_text};
+ghost use Rattle.printer.specs.Steps.Value.{test_token, effect_text, comparison_text};
 
 use output::{Sink, put_integer, put_number};
-use policy::{Comparison, Literal, Operand, Relation, Test};
+use policy::{Comparison, Effect, Literal, Operand, Relation, Test};
 
 /// A letter and a number, as `A3`.
-pub(crate) fn put_name<S: Sink>(sink: &mut S, letter: u8, number: u8)
+fn put_name<S: Sink>(sink: &mut S, letter: u8, number: u8)
     ensures { sink.new ≡ fed S.taken sink.old (letter ∷ decimal number) }
 {
     sink.put(&[letter]);
     put_number(sink, u64::from(number));
 }
 
-#[tactic(auto, unfolding(crate::specs::Printed::literal_token, lexer::specs::Byte::bytes))]
+#[tactic(auto, unfolding(crate::specs::Printed::event_token, crate::specs::Printed::literal_token, lexer::specs::Byte::bytes))]
 fn put_literal<S: Sink>(sink: &mut S, literal: Literal)
     ensures { sink.new ≡ fed S.taken sink.old (literal_token literal) }
 {
@@ -33,6 +33,23 @@ pub(crate) fn put_test<S: Sink>(sink: &mut S, test: Test)
     match test {
         Test::Occurs(literal) => put_literal(sink, literal),
         Test::Member(action) => put_name(sink, b'A', action.0),
+    }
+}
+
+/// `causes` and an action or `triggers` and an event, behind a space.
+#[tactic(auto, unfolding(crate::specs::Printed::action_token, crate::specs::Printed::event_token, crate::specs::Steps::Value::effect_text, lexer::specs::Byte::bytes))]
+pub(crate) fn put_effect<S: Sink>(sink: &mut S, effect: Effect)
+    ensures { sink.new ≡ fed S.taken sink.old (effect_text effect) }
+{
+    match effect {
+        Effect::Causes(action) => {
+            sink.put(b" causes ");
+            put_name(sink, b'A', action.0);
+        }
+        Effect::Triggers(event) => {
+            sink.put(b" triggers ");
+            put_name(sink, b'E', event.0);
+        }
     }
 }
 

@@ -1,41 +1,37 @@
 -- What a question is answered, and what is answered along the rest of the input.
-use Rattle.std.specs.Prelude.{Option, Some, None, option_map, Result, Ok, Err}
+use Rattle.std.specs.Prelude.{Option, Some, None, Result, Ok, Err}
 use Rattle.std.specs.Result.{result_map_both}
-use Rattle.std.proofs.Common.{ℕ, min, ◌≤◌, Bool, true, false, List, [], append-nil, ◌≡◌, refl, sym, ap, ◌∙◌, arith, lt-ltb, length, length-take, take, take_all, not, cond, ◌∷◌, ◌++◌, ap₂, append_assoc}
+use Rattle.std.proofs.Common.{ℕ, ◌≤◌, Bool, true, false, List, [], append-nil, ◌≡◌, refl, sym, ap, ◌∙◌, arith, lt-ltb, length, length-take, take, take_all, cond, ◌∷◌, ◌++◌, ap₂, append_assoc}
 use Rattle.policy.specs.Fault.{refusal}
-use Rattle.policy.specs.Number.{check_action}
+use Rattle.policy.specs.Set.{EventSet}
 use Rattle.policy.specs.Policy.{Policy}
 use Rattle.policy.specs.Result.{result_and_then}
 use Rattle.policy.specs.declared.fault.Fault.{Fault}
 use Rattle.policy.specs.declared.fault.Refusal.{Refusal}
-use Rattle.lexer.specs.Steps.Scan.{clip_limit}
-use Rattle.lexer.specs.Token.{named}
 use Rattle.epoch_line.specs.Epoch.{read_epoch, epoch_limit}
 use Rattle.rule_text.specs.Text.{read_texts}
 use Rattle.acceptance.proofs.Accepted.{texts_acceptable}
 use Rattle.layout.specs.Layout.{image_of}
 use Rattle.codegen.specs.Compile.{newest_form}
-use Rattle.explanation.proofs.WhyLaws.{on_image_is, same_action}
+use Rattle.explanation.proofs.WhyLaws.{on_image_is}
 use Rattle.explanation.specs.Steps.On.{explained_on}
 use Rattle.explanation.specs.Why.{on_epoch, explained}
-use Rattle.questions.specs.Answered.{word_of, epoch_part, no_action, explained_line, answer_for, question_answer, answer_lines, answers_on, answers_printed}
+use Rattle.questions.specs.Answered.{word_of, epoch_part, names_in, no_action, explained_line, answer_for, question_answer, answer_lines, answers_on, answers_printed}
 use Rattle.questions.specs.Steps.Answer.{answer_on, question_line}
-use Rattle.questions.specs.Steps.Held.{asked, Alike, Asked}
+use Rattle.questions.specs.Steps.Held.{asked_in, is_begun, matter, Matter, Alike, Short}
+use Rattle.questions.specs.declared.names.Asked.{Asked}
+use Rattle.questions.specs.declared.names.Names.{Names}
+use Rattle.questions.proofs.NameLaws.{asked_one, asked_first}
 use Rattle.questions.specs.Steps.Sizes.{epoch_held}
 use Rattle.lexer.specs.Byte.{is_line_end}
 use Rattle.lexer.specs.Lines.{lines_of}
-use Rattle.lexer.specs.Number.{is_empty}
-use Rattle.lined.specs.Lines.{ended_behind, open_behind, ended_lines, last_line, HasNoEnd}
+use Rattle.lined.specs.Lines as Lined
+use Rattle.lined.specs.Lines.{ended_behind, open_behind, ended_lines, open_line, HasNoEnd}
 use Rattle.lined.proofs.InputLaws.{all_lines, whole_lines}
 use Rattle.lined.proofs.LineLaws.{part_behind}
 use Rattle.report.specs.Report.{next_number}
 use Rattle.questions.specs.Run.{answers_due}
-use Rattle.questions.specs.Steps.Left.{no_line, answers_behind}
-
--- ---- numbers that are read as the same
-
-check_min : (n m : ℕ) → 64 ≤ m → check_action (min n m) ≡ check_action n
-check_min n m h = grind arith
+use Rattle.questions.specs.Steps.Left.{answer_in, no_line, last_line, answers_from, answers_behind}
 
 -- ---- of an epoch line 1,025 bytes are enough
 
@@ -52,27 +48,20 @@ unfolding no_action
 none_cut = cut_same epoch_held no_action (refusal Fault.TooLong 0) (λ e h. rw (lt-ltb epoch_limit (length e) (omega arith)))
 
 -- lines that are alike ask the same
-pub alike_here : (l l' : List ℕ) → Alike l l' → asked l ≡ asked l'
-alike_here l l' h = ap asked (sym (append-nil l)) ∙ h [] ∙ ap asked (append-nil l')
+pub alike_here : (n : Names) (l : List ℕ) (n' : Names) (l' : List ℕ) → Alike n l n' l' → matter n l ≡ matter n' l'
+alike_here n l n' l' h = ap (matter n) (sym (append-nil l)) ∙ h [] ∙ ap (matter n') (append-nil l')
 
 module _ (maker site : List ℕ) where
-  answer_min : (m : ℕ) → 64 ≤ m → (o : Option ℕ) (e : List ℕ) → answer_for maker site (option_map (λ n. min n m) o) e ≡ answer_for maker site o e
-  unfolding answer_for
-  answer_min m h (Some n) e = same_action maker site e (min n m) n (check_min n m h)
-  answer_min m h None e = refl
-
-  answer_cut : (o : Option ℕ) (e : List ℕ) → answer_for maker site o (take epoch_held e) ≡ answer_for maker site o e
+  answer_cut : (o : Option Asked) (e : List ℕ) → answer_for maker site o (take epoch_held e) ≡ answer_for maker site o e
   unfolding answer_for explained
-  answer_cut (Some n) e = ap (λ a. result_and_then (λ (p : Policy). on_epoch maker site p n a) (read_texts maker site)) (epoch_cut e)
+  answer_cut (Some q) e = ap (λ a. result_and_then (λ (p : Policy). on_epoch maker site p q.pending q.action a) (read_texts newest_form maker site)) (epoch_cut e)
   answer_cut None e = ap Err (none_cut e)
 
-  asked_answer : (l : List ℕ) → answer_for maker site (asked l).action (asked l).epoch ≡ question_answer maker site l
-  unfolding asked question_answer
-  asked_answer l = answer_min 64 (omega arith) (named 65 (word_of l)) (take epoch_held (epoch_part l)) ∙ answer_cut (named 65 (word_of l)) (epoch_part l)
-
   -- so lines that ask the same have the same answer
-  pub same_answer : (l l' : List ℕ) → asked l ≡ asked l' → question_answer maker site l ≡ question_answer maker site l'
-  same_answer l l' h = sym (asked_answer l) ∙ ap (λ a. answer_for maker site a.action a.epoch) h ∙ asked_answer l'
+  pub same_answer : (n : Names) (l : List ℕ) (n' : Names) (l' : List ℕ) → matter n l ≡ matter n' l' → answer_in maker site n l ≡ answer_in maker site n' l'
+  unfolding matter
+  same_answer n l n' l' h =
+      sym (answer_cut (asked_in n (names_in (word_of l))) (epoch_part l)) ∙ ap (λ m. answer_for maker site m.asked m.epoch) h ∙ answer_cut (asked_in n' (names_in (word_of l'))) (epoch_part l')
 
 -- ---- on the image of the texts
 
@@ -85,88 +74,108 @@ pub compiled_read : (image : List ℕ) (read : Result Policy Refusal) → result
 compiled_read image (Ok p) k = let i : image ≡ image_of newest_form p = cc in record { policy = p; read = refl; is = i }
 compiled_read image (Err x) k = let w : ⊥ = cc in absurd w
 
-module _ (maker site image : List ℕ) (k : Compiled image (read_texts maker site)) where
-  on_texts : (e : List ℕ) (n : ℕ) → explained_on maker site e n image ≡ explained maker site e n
+module _ (maker site image : List ℕ) (k : Compiled image (read_texts newest_form maker site)) where
+  on_texts : (pending : EventSet) (e : List ℕ) (n : ℕ) → explained_on maker site pending e n image ≡ explained maker site pending e n
   unfolding explained
-  on_texts e n =
-      ap (explained_on maker site e n) k.is ∙ on_image_is maker site e n k.policy (texts_acceptable maker site k.policy k.read)
-      ∙ sym (ap (result_and_then (λ (p : Policy). on_epoch maker site p n (read_epoch e))) k.read)
+  on_texts pending e n =
+      ap (explained_on maker site pending e n) k.is ∙ on_image_is maker site pending e n k.policy (texts_acceptable newest_form maker site k.policy k.read)
+      ∙ sym (ap (result_and_then (λ (p : Policy). on_epoch maker site p pending n (read_epoch e))) k.read)
 
-  answer_is : (o : Option ℕ) (e : List ℕ) → answer_on maker site image o e ≡ answer_for maker site o e
+  answer_is : (o : Option Asked) (e : List ℕ) → answer_on maker site image o e ≡ answer_for maker site o e
   unfolding answer_on answer_for
-  answer_is (Some n) e = on_texts e n
+  answer_is (Some q) e = on_texts q.pending e q.action
   answer_is None e = refl
 
-  pub line_answered : (n : ℕ) (line line' : List ℕ) → asked line ≡ asked line' → question_line maker site image n line ≡ explained_line n (question_answer maker site line')
-  unfolding question_line question_answer
-  line_answered n line line' h =
-      ap (explained_line n) (answer_is _ _ ∙ answer_min maker site clip_limit (omega arith) (named 65 (word_of line)) (epoch_part line) ∙ same_answer maker site line line' h)
+  pub line_answered : (n : ℕ) (names : Names) (line : List ℕ) (names' : Names) (line' : List ℕ) → Short line → matter names line ≡ matter names' line'
+      → question_line maker site image n names line ≡ explained_line n (answer_in maker site names' line')
+  unfolding question_line
+  line_answered n names line names' line' short h =
+      ap (explained_line n)
+      (answer_is _ _ ∙ ap (λ a. answer_for maker site a (epoch_part line)) (sym (asked_one names (word_of line) short.one)) ∙ same_answer maker site names line names' line' h)
 
 -- ---- along the rest of the input
 
 module _ (maker site : List ℕ) where
   -- what is answered of the open line is told by what it asks
-  abbrev pub Tells : (List ℕ → List (List ℕ)) → Type 0
-  Tells last = (l l' : List ℕ) (n : ℕ) → asked l ≡ asked l' → answer_lines maker site n (last l) ≡ answer_lines maker site n (last l')
+  abbrev pub Tells : (ℕ → Names → List ℕ → List ℕ) → Type 0
+  Tells last = (n : ℕ) (s : Names) (l : List ℕ) (s' : Names) (l' : List ℕ) → matter s l ≡ matter s' l' → last n s l ≡ last n s' l'
 
-  pub tells_none : Tells no_line
-  tells_none l l' n h = refl
+  pub tells_none : Tells (no_line maker site)
+  tells_none n s l s' l' h = refl
 
   -- where the input ends
-  pub last_told : (n : ℕ) (l l' : List ℕ) (some : Bool) → some ≡ not (is_empty l) → l' ≡ l → cond some (explained_line (next_number n) (question_answer maker site l')) [] ≡ answer_lines maker site n (last_line l)
-  unfolding answer_lines
-  last_told n [] l' some h e = rw h refl
-  last_told n (b ∷ l) l' some h e = rw (h, e) (sym (append-nil _))
+  pub tells_last : Tells (last_line maker site)
+  unfolding matter
+  tells_last n s l s' l' h = ap₂ (λ (b : Bool) a. cond b (explained_line (next_number n) a) []) (ap (λ (m : Matter). m.begun) h) (same_answer maker site s l s' l' h)
 
-  pub tells_last : Tells last_line
-  unfolding asked
-  tells_last l l' n h =
-      sym (last_told n l l _ refl refl) ∙ ap₂ (λ (e : Bool) a. cond (not e) (explained_line (next_number n) a) []) (ap (λ (a : Asked). a.empty) h) (same_answer maker site l l' h) ∙ last_told n l' l' _ refl refl
+  pub last_told : (n : ℕ) (s : Names) (l l' : List ℕ) (some : Bool) → some ≡ is_begun s l → l' ≡ l → cond some (explained_line (next_number n) (answer_in maker site s l')) [] ≡ last_line maker site n s l
+  last_told n s l l' some h e = rw (h, e) refl
 
-  module _ (last : List ℕ → List (List ℕ)) (tells : Tells last) where
-    same_left : (rest l l' : List ℕ) (n : ℕ) → Alike l l' → answers_behind maker site last n l rest ≡ answers_behind maker site last n l' rest
-    unfolding answer_lines
-    same_left [] l l' n h = tells l l' n (alike_here l l' h)
-    same_left (b ∷ rest) l l' n h = go (is_line_end b) (same_left rest (l ++ b ∷ []) (l' ++ b ∷ []) n (λ more. rw (append_assoc l (b ∷ []) more, append_assoc l' (b ∷ []) more) (h (b ∷ more))))
+  module _ (last : ℕ → Names → List ℕ → List ℕ) (tells : Tells last) where
+    same_left : (rest : List ℕ) (n : ℕ) (s : Names) (l : List ℕ) (s' : Names) (l' : List ℕ) → Alike s l s' l' → answers_behind maker site last n s l rest ≡ answers_behind maker site last n s' l' rest
+    unfolding answers_from
+    same_left [] n s l s' l' h = tells n s l s' l' (alike_here s l s' l' h)
+    same_left (b ∷ rest) n s l s' l' h = go (is_line_end b) (same_left rest n s (l ++ b ∷ []) s' (l' ++ b ∷ []) (λ more. rw (append_assoc l (b ∷ []) more, append_assoc l' (b ∷ []) more) (h (b ∷ more))))
       where
-        goes : Bool → List ℕ → List ℕ
-        goes t l = answer_lines maker site n (cond t (l ∷ ended_behind [] rest) (ended_behind (l ++ b ∷ []) rest) ++ last (cond t (open_behind [] rest) (open_behind (l ++ b ∷ []) rest)))
+        goes : Bool → Names → List ℕ → List ℕ
+        goes t s l = answers_from maker site last n s (cond t (l ∷ ended_behind [] rest) (ended_behind (l ++ b ∷ []) rest)) (cond t (open_behind [] rest) (open_behind (l ++ b ∷ []) rest))
 
-        go : (t : Bool) → answers_behind maker site last n (l ++ b ∷ []) rest ≡ answers_behind maker site last n (l' ++ b ∷ []) rest → goes t l ≡ goes t l'
+        go : (t : Bool) → answers_behind maker site last n s (l ++ b ∷ []) rest ≡ answers_behind maker site last n s' (l' ++ b ∷ []) rest → goes t s l ≡ goes t s' l'
         go true more =
-            ap (λ a. explained_line (next_number n) a ++ answer_lines maker site (next_number n) (ended_behind [] rest ++ last (open_behind [] rest)))
-            (same_answer maker site l l' (alike_here l l' h))
+            ap (λ a. explained_line (next_number n) a ++ answers_behind maker site last (next_number n) Names.Nothing [] rest)
+            (same_answer maker site s l s' l' (alike_here s l s' l' h))
         go false more = more
 
-    module _ (n : ℕ) (line part : List ℕ) (none : HasNoEnd part) where
-      part_answers : (rest : List ℕ) → answers_behind maker site last n line (part ++ rest) ≡ answers_behind maker site last n (line ++ part) rest
-      part_answers rest = ap (λ (p : List (List ℕ) × List ℕ). answer_lines maker site n (p.0 ++ last p.1)) (part_behind line part rest none)
+    module _ (n : ℕ) (s : Names) (line part : List ℕ) (none : HasNoEnd part) where
+      part_answers : (rest : List ℕ) → answers_behind maker site last n s line (part ++ rest) ≡ answers_behind maker site last n s (line ++ part) rest
+      part_answers rest = ap (λ (p : List (List ℕ) × List ℕ). answers_from maker site last n s p.0 p.1) (part_behind line part rest none)
 
       -- part of a line
-      pub part_goes : (line' : List ℕ) → Alike line' (line ++ part) → (rest : List ℕ) → answers_behind maker site last n line (part ++ rest) ≡ answers_behind maker site last n line' rest
-      part_goes line' h rest = part_answers rest ∙ sym (same_left rest line' (line ++ part) n h)
+      pub part_goes : (s' : Names) (line' : List ℕ) → Alike s' line' s (line ++ part) → (rest : List ℕ) → answers_behind maker site last n s line (part ++ rest) ≡ answers_behind maker site last n s' line' rest
+      part_goes s' line' h rest = part_answers rest ∙ sym (same_left rest n s' line' s (line ++ part) h)
 
       -- the end of a line
-      pub end_goes : (rest : List ℕ) → answers_behind maker site last n line ((part ++ 10 ∷ []) ++ rest)
-          ≡ explained_line (next_number n) (question_answer maker site (line ++ part)) ++ answers_behind maker site last (next_number n) [] rest
-      unfolding answer_lines
-      end_goes rest = ap (answers_behind maker site last n line) (append_assoc part (10 ∷ []) rest) ∙ part_answers (10 ∷ rest)
+      pub end_goes : (rest : List ℕ) → answers_behind maker site last n s line ((part ++ 10 ∷ []) ++ rest)
+          ≡ explained_line (next_number n) (answer_in maker site s (line ++ part)) ++ answers_behind maker site last (next_number n) Names.Nothing [] rest
+      unfolding answers_from
+      end_goes rest = ap (answers_behind maker site last n s line) (append_assoc part (10 ∷ []) rest) ∙ part_answers (10 ∷ rest)
 
 -- ---- from the start
 
 pointwise : (f g : List ℕ → List ℕ) → ((bytes : List ℕ) → f bytes ≡ g bytes) → f ≡ g
 pointwise f g h = λ i. λ bytes. h bytes i
 
+module _ (maker site : List ℕ) where
+  -- a line of which no name has ended is a question
+  answer_first : (line : List ℕ) → answer_in maker site Names.Nothing line ≡ question_answer maker site line
+  unfolding question_answer
+  answer_first line = ap (λ a. answer_for maker site a (epoch_part line)) (asked_first (names_in (word_of line)))
+
+  ends_none : (n : ℕ) (lines : List (List ℕ)) (line : List ℕ) → answers_from maker site (no_line maker site) n Names.Nothing lines line ≡ answer_lines maker site n lines
+  unfolding answers_from answer_lines
+  ends_none n [] line = refl
+  ends_none n (l ∷ lines) line = ap₂ (λ a more. explained_line (next_number n) a ++ more) (answer_first l) (ends_none (next_number n) lines line)
+
+  ends_last : (n : ℕ) (lines : List (List ℕ)) (line : List ℕ) → answers_from maker site (last_line maker site) n Names.Nothing lines line ≡ answer_lines maker site n (lines ++ Lined.last_line line)
+  unfolding answers_from answer_lines
+  ends_last n [] [] = refl
+  ends_last n [] (b ∷ line) = ap (explained_line (next_number n)) (answer_first (b ∷ line)) ∙ sym (append-nil _)
+  ends_last n (l ∷ lines) line = ap₂ (λ a more. explained_line (next_number n) a ++ more) (answer_first l) (ends_last (next_number n) lines line)
+
 -- what is printed from the start is what is printed for two texts that are accepted
-module _ (maker site : List ℕ) (p : Policy) (r : read_texts maker site ≡ Ok p) where
-  started : (lines : List (List ℕ)) → answer_lines maker site 0 lines ≡ answers_on maker site (read_texts maker site) lines
+module _ (maker site : List ℕ) (p : Policy) (r : read_texts newest_form maker site ≡ Ok p) where
+  started : (lines : List (List ℕ)) → answer_lines maker site 0 lines ≡ answers_on maker site (read_texts newest_form maker site) lines
   unfolding answers_on
   started lines = rw r
 
-  pub starts_answered : answers_behind maker site last_line 0 [] ≡ answers_printed maker site
+  pub starts_answered : answers_behind maker site (last_line maker site) 0 Names.Nothing [] ≡ answers_printed maker site
   unfolding answers_printed
-  starts_answered = pointwise _ (answers_printed maker site) (λ rest. ap (answer_lines maker site 0) (sym (all_lines rest)) ∙ started (lines_of rest))
+  starts_answered =
+      pointwise _ (answers_printed maker site)
+      (λ rest. ends_last maker site 0 (ended_lines rest) (open_line rest) ∙ ap (answer_lines maker site 0) (sym (all_lines rest)) ∙ started (lines_of rest))
 
-  pub starts_due : answers_behind maker site no_line 0 [] ≡ answers_due maker site
+  pub starts_due : answers_behind maker site (no_line maker site) 0 Names.Nothing [] ≡ answers_due maker site
   unfolding answers_due answers_printed
-  starts_due = pointwise _ (answers_due maker site) (λ rest. ap (answer_lines maker site 0) (append-nil (ended_lines rest) ∙ sym (whole_lines rest)) ∙ started _)
+  starts_due =
+      pointwise _ (answers_due maker site)
+      (λ rest. ends_none maker site 0 (ended_lines rest) (open_line rest) ∙ ap (answer_lines maker site 0) (sym (whole_lines rest)) ∙ started _)

@@ -1,3 +1,4 @@
+pub mod NameLaws
 pub mod LineLaws
 pub mod LeftLaws
 pub mod Room

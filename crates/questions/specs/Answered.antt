@@ -1,19 +1,25 @@
 -- What the explaining program prints (docs/REFERENCE.md, "The programs"). A question is an action, one space and an epoch line, as
--- `A4 E1 E3 R0=41`; `A4` alone asks of the empty epoch.
+-- `A4 E1 E3 R0=41`; `A4` alone asks of the empty epoch. Behind the action, each behind a comma, stand the events that are pending, as in
+-- `A4,E60 E1`.
 use Rattle.std.specs.Str.{byte}
-use Rattle.std.specs.Prelude.{ℕ, Bool, not, List, [], ◌∷◌, ◌++◌, length, drop, Result, Ok, Err, Option, Some, None, nat_lt, if◌then◌else◌}
+use Rattle.std.specs.Prelude.{ℕ, Bool, not, List, [], ◌∷◌, ◌++◌, length, drop, fold, min, Result, Ok, Err, Option, Some, None, option_map, nat_lt, ◌==◌, if◌then◌else◌}
+use Rattle.std.specs.Option.{option_map_or}
 use Rattle.policy.specs.Fault.{refusal}
 use Rattle.policy.specs.declared.fault.Fault.{Fault}
+use Rattle.policy.specs.Number.{set_limit, check_event}
 use Rattle.policy.specs.Policy.{Policy}
+use Rattle.policy.specs.Set.{no_events, insert_event}
 use Rattle.policy.specs.declared.fault.Refusal.{Refusal}
 use Rattle.policy.specs.declared.fault.Source.{Source}
 use Rattle.lexer.specs.Byte.{bytes, is_space}
-use Rattle.lexer.specs.Lines.{lines_of, take_leading, drop_leading}
+use Rattle.lexer.specs.Lines.{prepend, lines_of, take_leading, drop_leading}
+use Rattle.codegen.specs.Compile.{newest_form}
 use Rattle.lexer.specs.Token.{named}
 use Rattle.epoch_line.specs.Epoch.{epoch_limit}
 use Rattle.rule_text.specs.Text.{read_texts}
 use Rattle.explanation.specs.Part.{Quote, of_maker, of_site}
 use Rattle.explanation.specs.Why.{Explanation, not_proposed, accepted_by, cancelled_by, explained}
+use Rattle.questions.specs.declared.names.Asked.{Asked}
 use Rattle.report.specs.Report.{texts_refusal_line, not_proposed_line, shown_line, not_explained_line, next_number}
 
 -- ---- a question
@@ -28,7 +34,29 @@ word_of line = take_leading in_word line
 unfoldable pub epoch_part : List ℕ → List ℕ
 epoch_part line = drop 1 (drop_leading in_word line)
 
--- a first word that is not `A` and a number is refused under 12; as always, 1 comes before it
+-- the first word split at its commas
+unfoldable pub names_in : List ℕ → List (List ℕ)
+names_in [] = [] ∷ []
+names_in (b ∷ s) = if b == byte "," then [] ∷ names_in s else prepend b (names_in s)
+
+-- the action comes first. Numbers over 63 are all the same: no action has one
+unfoldable pub first_asked : ℕ → Asked
+first_asked n = record { action = min n set_limit; pending = no_events }
+
+-- and an event behind each comma; one over 63 is refused as an action over 63 is
+unfoldable pub with_event : Asked → ℕ → Asked
+with_event a n =
+    option_map_or (λ event. record { action = a.action; pending = insert_event a.pending event }) (check_event n) (record { action = set_limit; pending = a.pending })
+
+unfoldable pub behind_comma : Option Asked → List ℕ → Option Asked
+behind_comma None name = None
+behind_comma (Some a) name = option_map (with_event a) (named (byte "E") name)
+
+unfoldable pub asked_by : List (List ℕ) → Option Asked
+asked_by [] = None
+asked_by (name ∷ names) = fold behind_comma (option_map first_asked (named (byte "A") name)) names
+
+-- a first word with another name is refused under 12; as always, 1 comes before it
 unfoldable pub no_action : List ℕ → Refusal
 no_action epoch = refusal (if nat_lt epoch_limit (length epoch) then Fault.TooLong else Fault.EpochSyntax) 0
 
@@ -48,12 +76,12 @@ explained_line n (Ok (cancelled_by x)) = quoted_line n (bytes " cancelled ") x
 module _ (maker site : List ℕ) where
   -- ---- the answer to a question
 
-  unfoldable pub answer_for : Option ℕ → List ℕ → Result Explanation Refusal
-  answer_for (Some n) epoch = explained maker site epoch n
+  unfoldable pub answer_for : Option Asked → List ℕ → Result Explanation Refusal
+  answer_for (Some a) epoch = explained maker site a.pending epoch a.action
   answer_for None epoch = Err (no_action epoch)
 
   unfoldable pub question_answer : List ℕ → Result Explanation Refusal
-  question_answer line = answer_for (named (byte "A") (word_of line)) (epoch_part line)
+  question_answer line = answer_for (asked_by (names_in (word_of line))) (epoch_part line)
 
   -- ---- all of them
 
@@ -69,4 +97,4 @@ module _ (maker site : List ℕ) where
 
   -- the whole: both texts and all bytes of the input to all bytes of the output
   unfoldable pub answers_printed : List ℕ → List ℕ
-  answers_printed input = answers_on (read_texts maker site) (lines_of input)
+  answers_printed input = answers_on (read_texts newest_form maker site) (lines_of input)

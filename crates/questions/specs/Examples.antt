@@ -26,6 +26,11 @@ examples =
     -- a first word that is no action is 12, a fault of the epoch comes before an action over 63
     ∷ worked "\n A4\nE4\nA04\nA64\nA64 E64\nA64 E\nA4 R0=1 R0=1\n"
     "1 refused 12\n2 refused 12\n3 refused 12\n4 refused 12\n5 refused 13\n6 refused 13\n7 refused 12\n8 refused 14\n"
+    -- events that are pending, each behind a comma; no other name, and none over 63
+    ∷ row "E1 triggers E60\nE60 causes A2\n" "never A2 if R0 > 5" "A2 E1\nA2,E60\nA2,E60 E1 R0=6\nA2,E1,E60,E2 R0=5\nA2,E60 E60\n"
+    "1 not proposed\n2 cancelled 2 never A2 if R0 > 5\n3 cancelled 2 never A2 if R0 > 5\n4 accepted 1 E60 causes A2\n5 refused 18\n"
+    ∷ worked "A4,E64\nA4,E1234567890123456789,E3 E3 R0=1 R0=1\nA4,E1234567890123456789,E3\nA4,\nA4,A3\n,A4\nA4,E3,\nA4,E03\n"
+    "1 refused 13\n2 refused 14\n3 refused 13\n4 refused 12\n5 refused 12\n6 refused 12\n7 refused 12\n8 refused 12\n"
     -- no question
     ∷ worked "" ""
     -- refused texts, with questions or without

@@ -3,6 +3,7 @@ use Rattle.std.specs.Prelude.{◌≡◌, ℕ, List, take, Result, Ok, Err}
 use Rattle.policy.specs.Policy.{Policy}
 use Rattle.policy.specs.declared.fault.Refusal.{Refusal}
 use Rattle.rule_text.specs.Text.{read_texts}
+use Rattle.codegen.specs.Compile.{newest_form}
 use Rattle.report.specs.Report.{texts_refusal_line}
 use Rattle.stream.specs.declared.failure.Failure.{Failure}
 use Rattle.stream.specs.Event.{GoOn, Fails}
@@ -33,7 +34,7 @@ QuestionsEndBy e (Ok policy) maker site old new = EndsBy e (answers_due maker si
 -- both were read to their ends, and then the questions on them were answered
 abbrev pub ReadsAndAnswers : (maker maker' site site' old new : Known) → Type 0
 ReadsAndAnswers maker maker' site site' old new =
-    BothRead maker maker' site site' (λ first second. AnswersTexts (read_texts first second) first second old new)
+    BothRead maker maker' site site' (λ first second. AnswersTexts (read_texts newest_form first second) first second old new)
 
 -- where a text could not be read, no question was read and nothing was written, nor was the site's read where it was the maker's
 abbrev pub ExplainEndsBy : ExplainFailure → (maker maker' site site' old new : Known) → Type 0
@@ -41,4 +42,4 @@ ExplainEndsBy (Maker e) maker maker' site site' old new = ((bytes : List ℕ) ×
 ExplainEndsBy (Site e) maker maker' site site' old new =
     ((first : List ℕ) × IsReadWhole maker maker' first) × ((bytes : List ℕ) × Reads (Fails (Failure.Read e)) site site' bytes) × (new ≡ old)
 ExplainEndsBy (Questions e) maker maker' site site' old new =
-    BothRead maker maker' site site' (λ first second. QuestionsEndBy e (read_texts first second) first second old new)
+    BothRead maker maker' site site' (λ first second. QuestionsEndBy e (read_texts newest_form first second) first second old new)

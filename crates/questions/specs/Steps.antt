@@ -2,5 +2,6 @@
 -- what is held of a line, `Answer` the answer to a question on an image, and `Left` what is answered from there on.
 pub mod Sizes
 pub mod Held
+pub mod Place
 pub mod Answer
 pub mod Left

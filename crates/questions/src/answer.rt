@@ -7,7 +7,8 @@ ghost use Rattle.explanation.specs.Why.{said_by};
 ghost use Rattle.questions.specs.Answered.{no_action, quoted_line};
 ghost use Rattle.questions.specs.Steps.Answer.{line_answer, question_line};
 
-use crate::line::{action, epoch_line};
+use crate::line::{epoch_line, first_word};
+use crate::names::{Names, with_name};
 use explanation::{Outcome, Shown, explain_on};
 use output::Sink;
 use policy::{Fault, Refusal, Source};
@@ -16,7 +17,7 @@ use report::{put_not_explained, put_not_proposed, put_shown};
 /// Bytes of the longest epoch line.
 const EPOCH_LIMIT: usize = 1024;
 
-/// What is refused where the first word names no action.
+/// What is refused where the first word has another name.
 #[tactic(auto, unfolding(crate::specs::Answered::no_action))]
 fn no_action(epoch: &[u8]) -> Refusal
     ensures { result ≡ no_action epoch.now }
@@ -28,18 +29,19 @@ fn no_action(epoch: &[u8]) -> Refusal
     }
 }
 
-#[tactic(auto, unfolding(crate::specs::Steps::Answer::answer_on))]
+#[tactic(auto, unfolding(crate::specs::Answered::word_of, crate::specs::Steps::Answer::answer_on))]
 fn answer<'m, 's>(
+    names: Names,
     line: &[u8],
     image: &[u8],
     maker: &'m [u8],
     site: &'s [u8],
 ) -> Result<Outcome<'m, 's>, Refusal>
-    ensures { result_map_both said_by (λ refusal. refusal) result ≡ line_answer maker.now site.now image.now line.now }
+    ensures { result_map_both said_by (λ refusal. refusal) result ≡ line_answer maker.now site.now image.now names line.now }
 {
     let epoch = epoch_line(line);
-    match action(line) {
-        Some(number) => explain_on(image, maker, site, epoch, number),
+    match with_name(names, first_word(line)) {
+        Some(asked) => explain_on(image, maker, site, asked.pending, epoch, asked.action),
         None => Err(no_action(epoch)),
     }
 }
@@ -55,19 +57,20 @@ fn put_quote<'m, 's, S: Sink>(sink: &mut S, number: u64, became: &[u8], shown: S
     }
 }
 
-/// Puts the answer to the question of that number, on the image of both texts.
+/// Puts the answer to the question of that number, on the image of both texts: these names, and the line behind them.
 #[tactic(auto, unfolding(crate::specs::Answered::explained_line, crate::specs::Steps::Answer::question_line, lexer::specs::Byte::bytes))]
 pub(crate) fn put_question<S: Sink>(
     sink: &mut S,
     number: u64,
+    names: Names,
     line: &[u8],
     image: &[u8],
     maker: &[u8],
     site: &[u8],
 )
-    ensures { sink.new ≡ fed S.taken sink.old (question_line maker.now site.now image.now number line.now) }
+    ensures { sink.new ≡ fed S.taken sink.old (question_line maker.now site.now image.now number names line.now) }
 {
-    match answer(line, image, maker, site) {
+    match answer(names, line, image, maker, site) {
         Err(refusal) => put_not_explained(sink, number, refusal.fault),
         Ok(Outcome::NotProposed) => put_not_proposed(sink, number),
         Ok(Outcome::Accepted(shown)) => put_quote(sink, number, b" accepted ", shown),

@@ -8,12 +8,13 @@ ghost use Rattle.output.specs.Buffer.{appended, behind};
 ghost use Rattle.report.specs.Report.{texts_refusal_line};
 ghost use Rattle.stream.specs.Event.{GoOn, Fails};
 ghost use Rattle.stream.specs.Machine.{Sends, IsWriteFailure};
-ghost use Rattle.questions.specs.Answered.{word_of};
 ghost use Rattle.questions.specs.Run.{AnswersTexts, QuestionsEndBy};
-ghost use Rattle.questions.specs.Steps.Sizes.{word_held, line_held};
+ghost use Rattle.questions.specs.Steps.Held.{Short};
+ghost use Rattle.questions.specs.Steps.Sizes.{line_held};
 
 use crate::answer::put_question;
-use crate::line::{LINE_HELD, is_open, take_part};
+use crate::line::{LINE_HELD, Place, is_begun, take_part};
+use crate::names::Names;
 use codegen::NEWEST_FORM;
 use image::IMAGE_SIZE;
 use lined::{PartMachine, answer_parts};
@@ -31,6 +32,12 @@ const ANSWER_SIZE: usize = 32802;
 /// Bytes that the refusal of a text has room in.
 const REFUSAL_SIZE: usize = 64;
 
+/// Nothing is held before a line.
+const START: Place = Place {
+    names: Names::Nothing,
+    size: 0,
+};
+
 /// Both texts and their image; how many questions were answered, and what is held of the open line.
 #[derive(Drop)]
 struct Explainer<'t> {
@@ -39,26 +46,25 @@ struct Explainer<'t> {
     image: &'t [u8],
     number: u64,
     held: [u8; LINE_HELD],
-    size: usize,
-    ghost compiled: { result_map_both (image_of newest_form) (λ refusal. refusal) (read_texts maker.now site.now) ≡ Ok image.now },
+    at: Place,
+    ghost compiled: { result_map_both (image_of newest_form) (λ refusal. refusal) (read_texts newest_form maker.now site.now) ≡ Ok image.now },
     ghost long: { length held ≡ line_held },
-    ghost within: { size ≤ line_held },
-    ghost word: { length (word_of (take size held)) ≤ word_held },
+    ghost within: { at.size ≤ line_held },
+    ghost short: { Short (take at.size held) },
 }
 
 impl<'t> PartMachine for Explainer<'t> {
     ghost use Rattle.std.specs.Prelude.{◌++◌};
-    ghost use Rattle.lined.specs.Lines.{last_line};
     ghost use Rattle.report.specs.Report.{next_number};
-    ghost use Rattle.questions.specs.Answered.{explained_line, question_answer};
-    ghost use Rattle.questions.specs.Steps.Left.{answers_behind, no_line, none_so_far};
+    ghost use Rattle.questions.specs.Answered.{explained_line};
+    ghost use Rattle.questions.specs.Steps.Left.{answer_in, answers_behind, no_line, last_line, none_so_far};
     ghost use Rattle.questions.specs.Steps.Sizes.{answer_size};
 
-    ghost says = { λ e part. explained_line (next_number e.number) (question_answer e.maker.now e.site.now (take e.size e.held ++ part)) };
+    ghost says = { λ e part. explained_line (next_number e.number) (answer_in e.maker.now e.site.now e.at.names (take e.at.size e.held ++ part)) };
 
-    ghost given = { λ e bytes. answers_behind e.maker.now e.site.now no_line e.number (take e.size e.held) bytes };
+    ghost given = { λ e bytes. answers_behind e.maker.now e.site.now (no_line e.maker.now e.site.now) e.number e.at.names (take e.at.size e.held) bytes };
 
-    ghost printed = { λ e bytes. answers_behind e.maker.now e.site.now last_line e.number (take e.size e.held) bytes };
+    ghost printed = { λ e bytes. answers_behind e.maker.now e.site.now (last_line e.maker.now e.site.now) e.number e.at.names (take e.at.size e.held) bytes };
 
     ghost room = { answer_size };
 
@@ -67,30 +73,31 @@ impl<'t> PartMachine for Explainer<'t> {
     }
 
     fn part(&mut self, bytes: &[u8]) {
-        self.size = take_part(&mut self.held, self.size, bytes);
+        self.at = take_part(&mut self.held, self.at, bytes);
     }
 
     fn end_line<S: Sink>(&mut self, part: &[u8], sink: &mut S) {
-        self.size = take_part(&mut self.held, self.size, part);
+        self.at = take_part(&mut self.held, self.at, part);
         self.number = self.number.wrapping_add(1);
         put_question(
             sink,
             self.number,
-            &self.held[..self.size],
+            self.at.names,
+            &self.held[..self.at.size],
             self.image,
             self.maker,
             self.site,
         );
-        self.size = 0;
+        self.at = START;
     }
 
     fn end<S: Sink>(&mut self, sink: &mut S) {
-        if is_open(&self.held[..self.size]) {
+        if is_begun(self.at.names, &self.held[..self.at.size]) {
             self.end_line(b"", sink);
         }
     }
 
-    ghost quiet = { λ e. none_so_far e.maker.now e.site.now e.number (take e.size e.held) };
+    ghost quiet = { λ e. none_so_far e.maker.now e.site.now e.number e.at.names (take e.at.size e.held) };
 }
 
 /// Puts why the texts are refused at the start of a buffer, and answers how many bytes it has.
@@ -122,8 +129,8 @@ fn refuse<E: Ends>(refusal: Refusal, ends: &mut E) -> Result<(), Failure>
 /// before the next read.
 /// Where the texts are refused, that is written in place of answers, and no question is read.
 pub fn answer_questions<E: Ends>(maker: &[u8], site: &[u8], ends: &mut E) -> Result<(), Failure>
-    ensures ok { OnOk result (AnswersTexts (read_texts maker.now site.now) maker.now site.now (E.known ends.old) (E.known ends.new)) }
-    ensures err { IfErr result (λ e. QuestionsEndBy e (read_texts maker.now site.now) maker.now site.now (E.known ends.old) (E.known ends.new)) }
+    ensures ok { OnOk result (AnswersTexts (read_texts newest_form maker.now site.now) maker.now site.now (E.known ends.old) (E.known ends.new)) }
+    ensures err { IfErr result (λ e. QuestionsEndBy e (read_texts newest_form maker.now site.now) maker.now site.now (E.known ends.old) (E.known ends.new)) }
 {
     let mut image = [0u8; IMAGE_SIZE];
     match codegen::compile_texts(NEWEST_FORM, maker, site, &mut image) {
@@ -135,7 +142,7 @@ pub fn answer_questions<E: Ends>(maker: &[u8], site: &[u8], ends: &mut E) -> Res
                 image: &image[..size],
                 number: 0,
                 held: [0; LINE_HELD],
-                size: 0,
+                at: START,
             };
             let mut out = [0u8; ANSWER_SIZE];
             let mut chunk = [0u8; CHUNK_SIZE];

@@ -5,6 +5,7 @@
 mod answer;
 mod explainer;
 mod line;
+mod names;
 mod texts;
 
 pub use explainer::answer_questions;

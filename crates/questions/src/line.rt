@@ -1,22 +1,21 @@
-//! A question's line, of which a short one is held that asks the same, whatever it goes on with.
-ghost use Rattle.std.specs.Prelude.{◌≡◌, ◌≤◌, ◌&&◌, nat_lt, not, fold, length, option_map, take};
+//! A question's line, of which as much is held as tells what it asks, whatever it goes on with.
+ghost use Rattle.std.specs.Prelude.{◌≡◌, ◌≤◌, ◌&&◌, nat_lt, fold, length, take};
 ghost use Rattle.std.specs.List.{list_all};
 ghost use Rattle.lexer.specs.Byte.{is_digit};
 ghost use Rattle.lexer.specs.Lines.{take_leading, drop_leading};
-ghost use Rattle.lexer.specs.Number.{is_empty, number_of};
-ghost use Rattle.lexer.specs.Steps.Scan.{clip};
-ghost use Rattle.lexer.specs.Token.{named};
-ghost use Rattle.questions.specs.Answered.{in_word, word_of, epoch_part};
-ghost use Rattle.questions.specs.Steps.Sizes.{word_held, line_held};
-ghost use Rattle.questions.specs.Steps.Held.{word_with, Goes};
+ghost use Rattle.questions.specs.Answered.{in_word, epoch_part};
+ghost use Rattle.questions.specs.Steps.Sizes.{name_held, line_held};
+ghost use Rattle.questions.specs.Steps.Held.{is_begun, name_with, with_byte, Short, Goes};
+ghost use Rattle.questions.specs.Steps.Place.{open_at};
 
-use lexer::{digits, is_digit};
+use crate::names::{Names, with_name};
+use lexer::is_digit;
 use stream::keep;
 
-/// Bytes of a first word that are held: `A` and three digits.
-const WORD_HELD: usize = 4;
+/// Bytes of a name that are held: a letter and three digits.
+const NAME_HELD: usize = 4;
 
-/// Bytes of a line that are held: a first word, a space, and an epoch line and one byte more, which tells that it is too long.
+/// Bytes of a line that are held: a name, a space, and an epoch line and one byte more, which tells that it is too long.
 pub(crate) const LINE_HELD: usize = 1030;
 
 /// What stands from the first space on.
@@ -33,15 +32,19 @@ fn behind_word(line: &[u8]) -> &[u8]
     rest
 }
 
-/// Whether the line has a byte.
-pub(crate) fn is_open(line: &[u8]) -> bool
-    ensures { result ≡ not (is_empty line.now) }
+/// Whether there is a byte of the line.
+#[tactic(auto, unfolding(crate::specs::Steps::Held::is_begun))]
+pub(crate) fn is_begun(names: Names, line: &[u8]) -> bool
+    ensures { result ≡ is_begun names line.now }
 {
-    0 < line.len()
+    match names {
+        Names::Nothing => 0 < line.len(),
+        Names::Ended(_) => true,
+    }
 }
 
 /// Whether there is no space.
-#[tactic(auto, using(crate::proofs::LineLaws::leading_all))]
+#[tactic(auto, using(crate::proofs::NameLaws::leading_all))]
 fn is_word(line: &[u8]) -> bool
     ensures { result ≡ list_all in_word line.now }
 {
@@ -53,7 +56,7 @@ fn is_word(line: &[u8]) -> bool
 
 /// What stands before the first space.
 #[tactic(auto, using(crate::proofs::LineLaws::leading_cut, lexer::proofs::LeadingLaws::drop_shorter))]
-fn first_word(line: &[u8]) -> &[u8]
+pub(crate) fn first_word(line: &[u8]) -> &[u8]
     ensures { result.now ≡ take_leading in_word line.now }
 {
     &line[..line.len() - behind_word(line).len()]
@@ -70,59 +73,68 @@ pub(crate) fn epoch_line(line: &[u8]) -> &[u8]
     }
 }
 
-/// The number that a text is, at most 3,000,000,000.
-#[tactic(auto, using(crate::proofs::LineLaws::number_whole))]
-fn number(text: &[u8]) -> Option<u32>
-    ensures { result ≡ option_map clip (number_of text.now) }
-{
-    let (value, rest) = digits(text)?;
-    if rest.is_empty() { Some(value) } else { None }
-}
-
-/// The number of the action that the first word names, at most 3,000,000,000.
-#[tactic(auto, using(crate::proofs::LineLaws::named_first), unfolding(crate::specs::Answered::word_of))]
-pub(crate) fn action(line: &[u8]) -> Option<u32>
-    ensures { result ≡ option_map clip (named 65 (word_of line.now)) }
-{
-    let [first, rest @ ..] = first_word(line) else {
-        return None;
-    };
-    if *first == b'A' { number(rest) } else { None }
-}
-
 /// Whether the byte is one more digit where that tells nothing: of as many bytes as are held the number is over 63.
 fn is_settled(size: usize, byte: u8) -> bool
     ensures { result ≡ nat_lt 3 size && is_digit byte }
 {
-    WORD_HELD <= size && is_digit(byte)
+    NAME_HELD <= size && is_digit(byte)
 }
 
-/// One byte more of a first word. What is no digit takes the place of the last that is held, since the word then names no action.
-#[tactic(auto, using(crate::proofs::LineLaws::word_step, crate::proofs::LineLaws::word_set))]
-fn push(held: &mut [u8], size: usize, byte: u8) -> usize
-    requires word { size ≤ word_held }
-    requires room { word_held ≤ length held.old }
-    ensures word { result ≤ word_held }
+/// How much is held: the names that have ended, and so many bytes behind them.
+#[derive(Clone, Copy)]
+pub(crate) struct Place {
+    pub(crate) names: Names,
+    pub(crate) size: usize,
+}
+
+/// One byte more of a name. What is no digit takes the place of the last that is held, since the name then has no number.
+#[tactic(auto, using(crate::proofs::LineLaws::name_step, crate::proofs::LineLaws::name_set))]
+fn push_name(held: &mut [u8], size: usize, byte: u8) -> usize
+    requires name { size ≤ name_held }
+    requires room { name_held ≤ length held.old }
+    ensures name { result ≤ name_held }
     ensures room { length held.new ≡ length held.old }
-    ensures value { take result held.new ≡ word_with (take size held.old) byte }
+    ensures value { take result held.new ≡ name_with (take size held.old) byte }
 {
     if is_settled(size, byte) {
         return size;
     }
-    let last = size.min(WORD_HELD - 1);
+    let last = size.min(NAME_HELD - 1);
     held[last] = byte;
     last + 1
 }
 
-/// More bytes of a first word.
-fn take_word(held: &mut [u8], size: usize, word: &[u8]) -> usize
-    requires word { size ≤ word_held }
-    requires room { word_held ≤ length held.old }
-    ensures word { result ≤ word_held }
+/// One byte more of a first word.
+#[tactic(auto, unfolding(crate::specs::Steps::Held::with_byte))]
+fn push(held: &mut [u8], at: Place, byte: u8) -> Place
+    requires name { at.size ≤ name_held }
+    requires room { name_held ≤ length held.old }
+    ensures name { result.size ≤ name_held }
     ensures room { length held.new ≡ length held.old }
-    ensures value { take result held.new ≡ fold word_with (take size held.old) word.now }
+    ensures value { open_at result held.new ≡ with_byte (open_at at held.old) byte }
 {
-    let mut end = size;
+    if byte == b',' {
+        let asked = with_name(at.names, &held[..at.size]);
+        return Place {
+            names: Names::Ended(asked),
+            size: 0,
+        };
+    }
+    Place {
+        names: at.names,
+        size: push_name(held, at.size, byte),
+    }
+}
+
+/// More bytes of a first word.
+fn take_word(held: &mut [u8], at: Place, word: &[u8]) -> Place
+    requires name { at.size ≤ name_held }
+    requires room { name_held ≤ length held.old }
+    ensures name { result.size ≤ name_held }
+    ensures room { length held.new ≡ length held.old }
+    ensures value { open_at result held.new ≡ fold with_byte (open_at at held.old) word.now }
+{
+    let mut end = at;
     for byte in word {
         end = push(held, end, *byte);
     }
@@ -130,18 +142,24 @@ fn take_word(held: &mut [u8], size: usize, word: &[u8]) -> usize
 }
 
 /// A part of the line. What is held asks what all of the line asks.
-pub(crate) fn take_part(held: &mut [u8], size: usize, part: &[u8]) -> usize
-    requires within { size ≤ length held.old }
+pub(crate) fn take_part(held: &mut [u8], at: Place, part: &[u8]) -> Place
+    requires within { at.size ≤ length held.old }
     requires room { line_held ≤ length held.old }
-    requires word { length (word_of (take size held.old)) ≤ word_held }
-    ensures within { result ≤ length held.new }
+    requires short { Short (take at.size held.old) }
+    ensures within { result.size ≤ length held.new }
     ensures room { length held.new ≡ length held.old }
-    ensures goes { Goes (take size held.old) part.now (take result held.new) }
+    ensures goes { Goes at.names (take at.size held.old) part.now result.names (take result.size held.new) }
 {
-    if is_word(&held[..size]) {
-        let end = take_word(held, size, first_word(part));
-        keep(held, end, behind_word(part))
+    if is_word(&held[..at.size]) {
+        let end = take_word(held, at, first_word(part));
+        Place {
+            names: end.names,
+            size: keep(held, end.size, behind_word(part)),
+        }
     } else {
-        keep(held, size, part)
+        Place {
+            names: at.names,
+            size: keep(held, at.size, part),
+        }
     }
 }

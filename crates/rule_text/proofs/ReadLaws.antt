@@ -20,79 +20,79 @@ use Rattle.rule_text.specs.Text.{has_room, with_line, with_any_line, read_line, 
 -- ---- one line behind a policy
 
 -- what it is, and what it comes to
-pub data LineRead (p : Policy) (line : List ℕ) : Type 0 where
-  skips : line_answer line ≡ Ok None → read_line p line ≡ Ok p → LineRead p line
-  fails : (f : Fault) → line_answer line ≡ Err f → read_line p line ≡ Err f → LineRead p line
-  adds : (l : PolicyLine) → line_answer line ≡ Ok (Some l) → has_room p l ≡ true → read_line p line ≡ Ok (with_line p l) → LineRead p line
-  is_over : (l : PolicyLine) → line_answer line ≡ Ok (Some l) → has_room p l ≡ false → read_line p line ≡ Err Fault.TooManyLines → LineRead p line
+pub data LineRead (form : ℕ) (p : Policy) (line : List ℕ) : Type 0 where
+  skips : line_answer form line ≡ Ok None → read_line form p line ≡ Ok p → LineRead form p line
+  fails : (f : Fault) → line_answer form line ≡ Err f → read_line form p line ≡ Err f → LineRead form p line
+  adds : (l : PolicyLine) → line_answer form line ≡ Ok (Some l) → has_room p l ≡ true → read_line form p line ≡ Ok (with_line p l) → LineRead form p line
+  is_over : (l : PolicyLine) → line_answer form line ≡ Ok (Some l) → has_room p l ≡ false → read_line form p line ≡ Err Fault.TooManyLines → LineRead form p line
 
-module _ (p : Policy) (line : List ℕ) where
-  read_by : (a : Result (Option PolicyLine) Fault) → line_answer line ≡ a → read_line p line ≡ result_and_then (with_any_line p) a
+module _ (form : ℕ) (p : Policy) (line : List ℕ) where
+  read_by : (a : Result (Option PolicyLine) Fault) → line_answer form line ≡ a → read_line form p line ≡ result_and_then (with_any_line p) a
   unfolding read_line
   read_by a e = ap (result_and_then (with_any_line p)) e
 
-  pub read_skipped : line_answer line ≡ Ok None → read_line p line ≡ Ok p
+  pub read_skipped : line_answer form line ≡ Ok None → read_line form p line ≡ Ok p
   unfolding with_any_line
   read_skipped e = read_by (Ok None) e
 
-  pub read_refused : (f : Fault) → line_answer line ≡ Err f → read_line p line ≡ Err f
+  pub read_refused : (f : Fault) → line_answer form line ≡ Err f → read_line form p line ≡ Err f
   read_refused f e = read_by (Err f) e
 
-  module _ (l : PolicyLine) (e : line_answer line ≡ Ok (Some l)) where
-    pub read_added : has_room p l ≡ true → read_line p line ≡ Ok (with_line p l)
+  module _ (l : PolicyLine) (e : line_answer form line ≡ Ok (Some l)) where
+    pub read_added : has_room p l ≡ true → read_line form p line ≡ Ok (with_line p l)
     unfolding with_any_line
     read_added h = read_by (Ok (Some l)) e ∙ rw h
 
-    pub read_over : has_room p l ≡ false → read_line p line ≡ Err Fault.TooManyLines
+    pub read_over : has_room p l ≡ false → read_line form p line ≡ Err Fault.TooManyLines
     unfolding with_any_line
     read_over h = read_by (Ok (Some l)) e ∙ rw h
 
-  pub line_reads : LineRead p line
-  line_reads = go (line_answer line) refl
+  pub line_reads : LineRead form p line
+  line_reads = go (line_answer form line) refl
     where
-      room : (l : PolicyLine) → line_answer line ≡ Ok (Some l) → (b : Bool) → has_room p l ≡ b → LineRead p line
+      room : (l : PolicyLine) → line_answer form line ≡ Ok (Some l) → (b : Bool) → has_room p l ≡ b → LineRead form p line
       room l e true h = LineRead.adds l e h (read_added l e h)
       room l e false h = LineRead.is_over l e h (read_over l e h)
 
-      go : (a : Result (Option PolicyLine) Fault) → line_answer line ≡ a → LineRead p line
+      go : (a : Result (Option PolicyLine) Fault) → line_answer form line ≡ a → LineRead form p line
       go (Ok None) e = LineRead.skips e (read_skipped e)
       go (Ok (Some l)) e = room l e (has_room p l) refl
       go (Err f) e = LineRead.fails f e (read_refused f e)
 
 -- ---- lines behind a policy
 
-module _ (n : ℕ) (p : Policy) (line : List ℕ) (lines : List (List ℕ)) where
+module _ (form : ℕ) (n : ℕ) (p : Policy) (line : List ℕ) (lines : List (List ℕ)) where
   -- where the first is read, the others come behind it
-  pub first_read : (q : Policy) → read_line p line ≡ Ok q → read_lines n p (line ∷ lines) ≡ read_lines (suc n) q lines
+  pub first_read : (q : Policy) → read_line form p line ≡ Ok q → read_lines form n p (line ∷ lines) ≡ read_lines form (suc n) q lines
   unfolding read_lines
   first_read q e = rw e
 
-  pub first_refused : (f : Fault) → read_line p line ≡ Err f → read_lines n p (line ∷ lines) ≡ Err (refusal f n)
+  pub first_refused : (f : Fault) → read_line form p line ≡ Err f → read_lines form n p (line ∷ lines) ≡ Err (refusal f n)
   unfolding read_lines
   first_refused f e = rw e
 
-  pub lines_read : (r : Policy) → read_lines n p (line ∷ lines) ≡ Ok r → (q : Policy) × (read_line p line ≡ Ok q) × (read_lines (suc n) q lines ≡ Ok r)
+  pub lines_read : (r : Policy) → read_lines form n p (line ∷ lines) ≡ Ok r → (q : Policy) × (read_line form p line ≡ Ok q) × (read_lines form (suc n) q lines ≡ Ok r)
   unfolding read_lines
   lines_read r e =
-      let k = and_then_ok (λ (q : Policy). read_lines (suc n) q lines) (located n (read_line p line)) r e in
-      (k.0, located_ok n (read_line p line) k.0 k.1, k.2)
+      let k = and_then_ok (λ (q : Policy). read_lines form (suc n) q lines) (located n (read_line form p line)) r e in
+      (k.0, located_ok n (read_line form p line) k.0 k.1, k.2)
 
-  pub lines_refused : (x : Refusal) → read_lines n p (line ∷ lines) ≡ Err x
-      → ((f : Fault) × (read_line p line ≡ Err f) × (refusal f n ≡ x)) ⊎ ((q : Policy) × (read_line p line ≡ Ok q) × (read_lines (suc n) q lines ≡ Err x))
+  pub lines_refused : (x : Refusal) → read_lines form n p (line ∷ lines) ≡ Err x
+      → ((f : Fault) × (read_line form p line ≡ Err f) × (refusal f n ≡ x)) ⊎ ((q : Policy) × (read_line form p line ≡ Ok q) × (read_lines form (suc n) q lines ≡ Err x))
   unfolding read_lines
-  lines_refused x e = go (and_then_err (λ (q : Policy). read_lines (suc n) q lines) (located n (read_line p line)) x e)
+  lines_refused x e = go (and_then_err (λ (q : Policy). read_lines form (suc n) q lines) (located n (read_line form p line)) x e)
     where
-      go : (located n (read_line p line) ≡ Err x) ⊎ ((q : Policy) × (located n (read_line p line) ≡ Ok q) × (read_lines (suc n) q lines ≡ Err x))
-          → ((f : Fault) × (read_line p line ≡ Err f) × (refusal f n ≡ x)) ⊎ ((q : Policy) × (read_line p line ≡ Ok q) × (read_lines (suc n) q lines ≡ Err x))
-      go (inl k) = inl (located_err n (read_line p line) x k)
-      go (inr k) = inr (k.0, located_ok n (read_line p line) k.0 k.1, k.2)
+      go : (located n (read_line form p line) ≡ Err x) ⊎ ((q : Policy) × (located n (read_line form p line) ≡ Ok q) × (read_lines form (suc n) q lines ≡ Err x))
+          → ((f : Fault) × (read_line form p line ≡ Err f) × (refusal f n ≡ x)) ⊎ ((q : Policy) × (read_line form p line ≡ Ok q) × (read_lines form (suc n) q lines ≡ Err x))
+      go (inl k) = inl (located_err n (read_line form p line) x k)
+      go (inr k) = inr (k.0, located_ok n (read_line form p line) k.0 k.1, k.2)
 
 -- a text that is read is short enough
-pub behind_read : (p : Policy) (text : List ℕ) (q : Policy) → read_text_behind p text ≡ Ok q → (length text ≤ text_limit) × (read_lines 1 p (lines_of text) ≡ Ok q)
+pub behind_read : (form : ℕ) (p : Policy) (text : List ℕ) (q : Policy) → read_text_behind form p text ≡ Ok q → (length text ≤ text_limit) × (read_lines form 1 p (lines_of text) ≡ Ok q)
 unfolding read_text_behind
-behind_read p text q e = go (ltb text_limit (length text)) refl e
+behind_read form p text q e = go (ltb text_limit (length text)) refl e
   where
-    go : (b : Bool) → ltb text_limit (length text) ≡ b → cond b (Err (refusal Fault.TooLong 0)) (read_lines 1 p (lines_of text)) ≡ Ok q → (length text ≤ text_limit) × (read_lines 1 p (lines_of text) ≡ Ok q)
+    go : (b : Bool) → ltb text_limit (length text) ≡ b → cond b (Err (refusal Fault.TooLong 0)) (read_lines form 1 p (lines_of text)) ≡ Ok q → (length text ≤ text_limit) × (read_lines form 1 p (lines_of text) ≡ Ok q)
     go true h k = let z : ⊥ = cc in absurd z
     go false h k = (ltb-false _ _ h, k)
 

@@ -65,21 +65,21 @@ more_counts p l = rw (room_counts p l, added_counts p l) (go (has_room p l))
     go true = refl
     go false = refl
 
-lines_counts : (ls : List (List ℕ)) (n : ℕ) (text : List ℕ) (p : Policy) → count_lines (counts_of p) (lines_from n text ls) ≡ counted (read_lines n p ls)
+lines_counts : (form : ℕ) (ls : List (List ℕ)) (n : ℕ) (text : List ℕ) (p : Policy) → count_lines (counts_of p) (lines_from form n text ls) ≡ counted (read_lines form n p ls)
 unfolding count_lines read_lines read_line with_any_line lines_from before_later
-lines_counts [] n text p = refl
-lines_counts (bytes ∷ ls) n text p = let e : n + 1 ≡ suc n = add-one n in go (line_answer bytes) (λ q. rw e (lines_counts ls (suc n) (drop (suc (length bytes)) text) q))
+lines_counts form [] n text p = refl
+lines_counts form (bytes ∷ ls) n text p = let e : n + 1 ≡ suc n = add-one n in go (line_answer form bytes) (λ q. rw e (lines_counts form ls (suc n) (drop (suc (length bytes)) text) q))
   where
     behind : List (Result TextLine Refusal)
-    behind = lines_from (n + 1) (drop (suc (length bytes)) text) ls
+    behind = lines_from form (n + 1) (drop (suc (length bytes)) text) ls
 
-    added : (r : Result Policy Fault) → ((q : Policy) → count_lines (counts_of q) behind ≡ counted (read_lines (suc n) q ls))
-        → result_and_then (λ (d : Counts). count_lines d behind) (located n (result_map_both counts_of (λ f. f) r)) ≡ counted (result_and_then (λ (q : Policy). read_lines (suc n) q ls) (located n r))
+    added : (r : Result Policy Fault) → ((q : Policy) → count_lines (counts_of q) behind ≡ counted (read_lines form (suc n) q ls))
+        → result_and_then (λ (d : Counts). count_lines d behind) (located n (result_map_both counts_of (λ f. f) r)) ≡ counted (result_and_then (λ (q : Policy). read_lines form (suc n) q ls) (located n r))
     added (Ok q) later = later q
     added (Err f) later = refl
 
-    go : (a : Result (Option PolicyLine) Fault) → ((q : Policy) → count_lines (counts_of q) behind ≡ counted (read_lines (suc n) q ls))
-        → count_lines (counts_of p) (before_later n text bytes a behind) ≡ counted (result_and_then (λ (q : Policy). read_lines (suc n) q ls) (located n (result_and_then (with_any_line p) a)))
+    go : (a : Result (Option PolicyLine) Fault) → ((q : Policy) → count_lines (counts_of q) behind ≡ counted (read_lines form (suc n) q ls))
+        → count_lines (counts_of p) (before_later n text bytes a behind) ≡ counted (result_and_then (λ (q : Policy). read_lines form (suc n) q ls) (located n (result_and_then (with_any_line p) a)))
     go (Ok None) later = later p
     go (Ok (Some l)) later = rw (more_counts p l) (added (with_any_line p (Some l)) later)
     go (Err f) later = refl
@@ -151,7 +151,7 @@ module _ (c : Counts) (before after : Lines) (text : List ℕ) (w : Advanced bef
   unfolding count_lines tallied_by
   count_turn d e =
       let t = sym tallied_is ∙ sym e in
-      (rw (w.first, t, w.ahead) refl, λ s. small_line c d w.line.line (uncrowded w.line.line (accepted_uncrowded w.line.bytes w.line.line w.accepted)) s t)
+      (rw (w.first, t, w.ahead) refl, λ s. small_line c d w.line.line (uncrowded w.line.line (accepted_uncrowded before.form w.line.bytes w.line.line w.accepted)) s t)
 
 -- ---- the lines of a text behind others
 
@@ -162,27 +162,27 @@ pub none_small : Small no_counts
 none_small Part.Rules = none_within rule_limit
 none_small Part.Constraints = none_within rule_limit
 
-module _ (c : Counts) (text : List ℕ) where
-  pub behind_long : text_limit < length text → Err (refusal Fault.TooLong 0) ≡ count_behind c text
+module _ (form : ℕ) (c : Counts) (text : List ℕ) where
+  pub behind_long : text_limit < length text → Err (refusal Fault.TooLong 0) ≡ count_behind form c text
   unfolding count_behind
   behind_long h = rw (lt-ltb text_limit (length text) h)
 
-  pub behind_short : length text ≤ text_limit → count_lines c (lines_in text) ≡ count_behind c text
+  pub behind_short : length text ≤ text_limit → count_lines c (lines_in form text) ≡ count_behind form c text
   unfolding count_behind
   behind_short h = rw (le-ltb text_limit (length text) h)
 
 -- the counts behind a policy are those of what is read behind it
-behind_counts : (p : Policy) (text : List ℕ) → count_behind (counts_of p) text ≡ counted (read_text_behind p text)
+behind_counts : (form : ℕ) (p : Policy) (text : List ℕ) → count_behind form (counts_of p) text ≡ counted (read_text_behind form p text)
 unfolding count_behind read_text_behind
-behind_counts p text = rw (lines_counts (lines_of text) 1 text p) (go (ltb text_limit (length text)))
+behind_counts form p text = rw (lines_counts form (lines_of text) 1 text p) (go (ltb text_limit (length text)))
   where
-    go : (b : Bool) → cond b (Err (refusal Fault.TooLong 0)) (counted (read_lines 1 p (lines_of text))) ≡ counted (cond b (Err (refusal Fault.TooLong 0)) (read_lines 1 p (lines_of text)))
+    go : (b : Bool) → cond b (Err (refusal Fault.TooLong 0)) (counted (read_lines form 1 p (lines_of text))) ≡ counted (cond b (Err (refusal Fault.TooLong 0)) (read_lines form 1 p (lines_of text)))
     go true = refl
     go false = refl
 
 -- and a refusal of it is in the same text
-source_counts : (source : Source) (p : Policy) (text : List ℕ) → in_text source (count_behind (counts_of p) text) ≡ counted (in_text source (read_text_behind p text))
-source_counts source p text = rw (behind_counts p text) (go (read_text_behind p text))
+source_counts : (form : ℕ) (source : Source) (p : Policy) (text : List ℕ) → in_text source (count_behind form (counts_of p) text) ≡ counted (in_text source (read_text_behind form p text))
+source_counts form source p text = rw (behind_counts form p text) (go (read_text_behind form p text))
   where
     go : (r : Result Policy Refusal) → in_text source (counted r) ≡ counted (in_text source r)
     go (Ok q) = refl
@@ -193,36 +193,36 @@ pub put_in_text : (source : Source) (r answer : Result Counts Refusal) → ((c :
 put_in_text source (Ok c) answer same refused = same c refl
 put_in_text source (Err x) answer same refused = refused x refl
 
-pub text_counts : (text : List ℕ) → in_text Source.Maker (count_behind no_counts text) ≡ text_read text
+pub text_counts : (form : ℕ) (text : List ℕ) → in_text Source.Maker (count_behind form no_counts text) ≡ text_read form text
 unfolding text_read read_text counts_of counts_in total
-text_counts text = source_counts Source.Maker empty_policy text
+text_counts form text = source_counts form Source.Maker empty_policy text
 
 -- two texts: the site's behind the maker's
-texts_counts : (maker site : List ℕ) → result_and_then (λ (c : Counts). in_text Source.Site (count_behind c site)) (text_read maker) ≡ texts_read maker site
+texts_counts : (form : ℕ) (maker site : List ℕ) → result_and_then (λ (c : Counts). in_text Source.Site (count_behind form c site)) (text_read form maker) ≡ texts_read form maker site
 unfolding text_read texts_read read_texts
-texts_counts maker site = go (read_text maker)
+texts_counts form maker site = go (read_text form maker)
   where
-    go : (r : Result Policy Refusal) → result_and_then (λ (c : Counts). in_text Source.Site (count_behind c site)) (counted r)
-        ≡ counted (result_and_then (λ (p : Policy). in_text Source.Site (read_text_behind p site)) r)
-    go (Ok p) = source_counts Source.Site p site
+    go : (r : Result Policy Refusal) → result_and_then (λ (c : Counts). in_text Source.Site (count_behind form c site)) (counted r)
+        ≡ counted (result_and_then (λ (p : Policy). in_text Source.Site (read_text_behind form p site)) r)
+    go (Ok p) = source_counts form Source.Site p site
     go (Err x) = refl
 
-module _ (maker site : List ℕ) where
-  pub maker_refused : (x : Refusal) → text_read maker ≡ Err x → Err x ≡ texts_read maker site
-  maker_refused x e = sym (ap (result_and_then (λ (c : Counts). in_text Source.Site (count_behind c site))) e) ∙ texts_counts maker site
+module _ (form : ℕ) (maker site : List ℕ) where
+  pub maker_refused : (x : Refusal) → text_read form maker ≡ Err x → Err x ≡ texts_read form maker site
+  maker_refused x e = sym (ap (result_and_then (λ (c : Counts). in_text Source.Site (count_behind form c site))) e) ∙ texts_counts form maker site
 
-  pub site_counts : (c : Counts) → text_read maker ≡ Ok c → in_text Source.Site (count_behind c site) ≡ texts_read maker site
-  site_counts c e = sym (ap (result_and_then (λ (d : Counts). in_text Source.Site (count_behind d site))) e) ∙ texts_counts maker site
+  pub site_counts : (c : Counts) → text_read form maker ≡ Ok c → in_text Source.Site (count_behind form c site) ≡ texts_read form maker site
+  site_counts c e = sym (ap (result_and_then (λ (d : Counts). in_text Source.Site (count_behind form d site))) e) ∙ texts_counts form maker site
 
 -- ---- the counts of a text that is read are no more than its lines may have
 
-lines_small : (ls : List (List ℕ)) (n : ℕ) (text : List ℕ) (c d : Counts) → Small c → count_lines c (lines_from n text ls) ≡ Ok d → Small d
+lines_small : (form : ℕ) (ls : List (List ℕ)) (n : ℕ) (text : List ℕ) (c d : Counts) → Small c → count_lines c (lines_from form n text ls) ≡ Ok d → Small d
 unfolding count_lines tallied_by lines_from before_later
-lines_small [] n text c d s e = let q : c ≡ d = cc in rw (← q) s
-lines_small (bytes ∷ ls) n text c d s e = go (line_answer bytes) (accepted_uncrowded bytes) (lines_small ls (n + 1) (drop (suc (length bytes)) text)) e
+lines_small form [] n text c d s e = let q : c ≡ d = cc in rw (← q) s
+lines_small form (bytes ∷ ls) n text c d s e = go (line_answer form bytes) (accepted_uncrowded form bytes) (lines_small form ls (n + 1) (drop (suc (length bytes)) text)) e
   where
     behind : List (Result TextLine Refusal)
-    behind = lines_from (n + 1) (drop (suc (length bytes)) text) ls
+    behind = lines_from form (n + 1) (drop (suc (length bytes)) text) ls
 
     added : (l : PolicyLine) (r : Result Counts Fault) → Uncrowded l → tally_as (line_part l) c (plus (part_get c (line_part l)) l) ≡ r
         → ((x y : Counts) → Small x → count_lines x behind ≡ Ok y → Small y) → result_and_then (λ (x : Counts). count_lines x behind) (located n r) ≡ Ok d → Small d
@@ -235,14 +235,14 @@ lines_small (bytes ∷ ls) n text c d s e = go (line_answer bytes) (accepted_unc
     go (Ok (Some l)) h later k = added l _ (uncrowded l (h l refl)) refl later k
     go (Err f) h later k = let z : ⊥ = cc in absurd z
 
-pub read_small : (text : List ℕ) (c : Counts) → text_read text ≡ Ok c → Small c
+pub read_small : (form : ℕ) (text : List ℕ) (c : Counts) → text_read form text ≡ Ok c → Small c
 unfolding count_behind
-read_small text c e = go (ltb text_limit (length text)) (text_counts text ∙ e)
+read_small form text c e = go (ltb text_limit (length text)) (text_counts form text ∙ e)
   where
-    lines : (r : Result Counts Refusal) → count_lines no_counts (lines_in text) ≡ r → in_text Source.Maker r ≡ Ok c → Small c
-    lines (Ok d) q k = let i : d ≡ c = cc in rw (← i) (lines_small (lines_of text) 1 text no_counts d none_small q)
+    lines : (r : Result Counts Refusal) → count_lines no_counts (lines_in form text) ≡ r → in_text Source.Maker r ≡ Ok c → Small c
+    lines (Ok d) q k = let i : d ≡ c = cc in rw (← i) (lines_small form (lines_of text) 1 text no_counts d none_small q)
     lines (Err x) q k = let z : ⊥ = cc in absurd z
 
-    go : (b : Bool) → in_text Source.Maker (cond b (Err (refusal Fault.TooLong 0)) (count_lines no_counts (lines_in text))) ≡ Ok c → Small c
+    go : (b : Bool) → in_text Source.Maker (cond b (Err (refusal Fault.TooLong 0)) (count_lines no_counts (lines_in form text))) ≡ Ok c → Small c
     go true q = let z : ⊥ = cc in absurd z
-    go false q = lines (count_lines no_counts (lines_in text)) refl q
+    go false q = lines (count_lines no_counts (lines_in form text)) refl q

@@ -29,8 +29,8 @@ counts_of p = record { rules = counts_in (map rule p.rules); constraints = count
 abbrev pub counted : Result Policy Refusal → Result (PerPart LineCounts) Refusal
 counted read = result_map_both counts_of (λ refusal. refusal) read
 
-unfoldable pub text_read : List ℕ → Result (PerPart LineCounts) Refusal
-text_read text = counted (read_text text)
+unfoldable pub text_read : (form : ℕ) → List ℕ → Result (PerPart LineCounts) Refusal
+text_read form text = counted (read_text form text)
 
-unfoldable pub texts_read : List ℕ → List ℕ → Result (PerPart LineCounts) Refusal
-texts_read maker site = counted (read_texts maker site)
+unfoldable pub texts_read : (form : ℕ) → (maker site : List ℕ) → Result (PerPart LineCounts) Refusal
+texts_read form maker site = counted (read_texts form maker site)

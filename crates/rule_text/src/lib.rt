@@ -52,15 +52,19 @@ fn tallied(counts: PerPart<LineCounts>, line: &Line) -> Result<PerPart<LineCount
 
 // The lines of a text, counted behind those before it. A refusal names no text.
 #[inline(always)]
-fn read_behind(before: PerPart<LineCounts>, text: &[u8]) -> Result<PerPart<LineCounts>, Refusal>
+fn read_behind(
+    form: u8,
+    before: PerPart<LineCounts>,
+    text: &[u8],
+) -> Result<PerPart<LineCounts>, Refusal>
     requires { Small before }
-    ensures { result ≡ count_behind before text.now }
+    ensures { result ≡ count_behind form before text.now }
 {
     if TEXT_LIMIT < text.len() {
         return Err(Fault::TooLong.at(0));
     }
     let mut counts = before;
-    let mut lines = Lines::new(text);
+    let mut lines = Lines::new(form, text);
     while let Some(_) = lines.advance()? {
         let number = lines.number();
         counts = tallied(counts, lines.line()).map_err(|fault| fault.at(number))?;
@@ -75,21 +79,21 @@ const NO_LINES: LineCounts = LineCounts {
     constants: 0,
 };
 
-/// A single text, which is the maker's.
-pub fn read_text(text: &[u8]) -> Result<PerPart<LineCounts>, Refusal>
-    ensures { result ≡ text_read text.now }
+/// A single text, which is the maker's, for images of the form.
+pub fn read_text(form: u8, text: &[u8]) -> Result<PerPart<LineCounts>, Refusal>
+    ensures { result ≡ text_read form text.now }
 {
     let none = PerPart {
         rules: NO_LINES,
         constraints: NO_LINES,
     };
-    read_behind(none, text).map_err(|refusal| refusal.within(Source::Maker))
+    read_behind(form, none, text).map_err(|refusal| refusal.within(Source::Maker))
 }
 
 /// The maker's and the site's text as one: all faults of the maker's come before those of the site's.
-pub fn read_texts(maker: &[u8], site: &[u8]) -> Result<PerPart<LineCounts>, Refusal>
-    ensures { result ≡ texts_read maker.now site.now }
+pub fn read_texts(form: u8, maker: &[u8], site: &[u8]) -> Result<PerPart<LineCounts>, Refusal>
+    ensures { result ≡ texts_read form maker.now site.now }
 {
-    let counts = read_text(maker)?;
-    read_behind(counts, site).map_err(|refusal| refusal.within(Source::Site))
+    let counts = read_text(form, maker)?;
+    read_behind(form, counts, site).map_err(|refusal| refusal.within(Source::Site))
 }

@@ -25,7 +25,7 @@ pub ends_same : (p : LinePart) → ends_line Part.Constraints p ≡ ends_constra
 unfolding ends ends_line ends_constraint
 ends_same (LinePart.Head t) = refl
 ends_same (LinePart.Comparison c) = refl
-ends_same (LinePart.Ending (Ending.Causes a)) = refl
+ends_same (LinePart.Ending (Ending.Yields x)) = refl
 ends_same (LinePart.Ending Ending.Never) = refl
 ends_same LinePart.Nothing = refl
 

@@ -3,3 +3,4 @@ pub mod TestLaws
 pub mod FetchLaws
 pub mod RuleLaws
 pub mod ConstraintLaws
+pub mod TriggerLaws

@@ -1,6 +1,7 @@
--- Laws of the loop that runs rules: what is proposed, and how many words are fetched, from an index on.
+-- Laws of the loop that runs rules: their effects, and how many words are fetched, from an index on.
 use Rattle.std.proofs.Common.{ℕ, suc, ◌+◌, ◌-◌, ◌≤◌, ◌<◌, Bool, true, false, cond, List, ◌∷◌, ◌≡◌, refl, sym, ap, ◌∙◌, subst, add-zero, arith, get_or, length, drop, fold}
-use Rattle.policy.specs.Set.{ActionSet, no_actions}
+use Rattle.policy.specs.Effect.{no_effects}
+use Rattle.policy.specs.declared.effect.Effects.{Effects}
 use Rattle.policy.specs.declared.epoch.Readings.{Readings}
 use Rattle.policy.specs.declared.set.Events.{Events}
 use Rattle.operation.specs.Fields.{skip_of}
@@ -13,15 +14,15 @@ use Rattle.operation.specs.declared.operation.Operation.{Operation}
 use Rattle.operation.proofs.SaidLaws.{said_by}
 use Rattle.operation.proofs.WholeLaws.{InLine, OnLines, in_line_inside, lines_inside, line_goes_on, lines_behind, lines_onward}
 use Rattle.policy.specs.declared.line.Part.{Part}
-use Rattle.run.specs.Run.{ran, rule_test, proposing, fetches}
+use Rattle.run.specs.Run.{ran, rule_test, taking, fetches}
 use Rattle.run.specs.Steps.Test.{IsTestIn, AsksNothing}
 use Rattle.run.specs.declared.test.Tested.{Tested}
 use Rattle.run.proofs.RunLaws.{ran_end, turn}
 
 module _ (ev : Events) (rs : Readings) (ws : List ℕ) where
-  -- what is proposed in the end, with what is proposed before an index
-  abbrev pub proposed_from : ActionSet → ℕ → ActionSet
-  proposed_from s at = fold proposing s (ran (rule_test ev rs) 0 (drop at ws))
+  -- the effects in the end, with those before an index
+  abbrev pub effects_from : Effects → ℕ → Effects
+  effects_from s at = fold taking s (ran (rule_test ev rs) 0 (drop at ws))
 
   -- how many words are fetched from an index on
   abbrev pub fetched_from : ℕ → ℕ
@@ -29,18 +30,18 @@ module _ (ev : Events) (rs : Readings) (ws : List ℕ) where
 
   -- a run goes on with the word before `behind`, which is one of a whole line or ends the words: the words between `from` and `behind`
   -- are as many as were fetched
-  pub record Running (s : ActionSet) (behind from : ℕ) : Type 0 where
+  pub record Running (s : Effects) (behind from : ℕ) : Type 0 where
     pub at : ℕ
     pub next : behind ≡ at + 1
     pub lines : OnLines Part.Rules ws at
-    pub proposed : proposed_from s at ≡ proposed_from no_actions 0
+    pub effects : effects_from s at ≡ effects_from no_effects 0
     pub fetched : from ≤ behind
     pub words : behind + fetched_from at ≡ from + fetched_from 0
 
-  running_at : {s s' : ActionSet} {behind behind' from : ℕ} → s ≡ s' → behind ≡ behind' → Running s behind from → Running s' behind' from
+  running_at : {s s' : Effects} {behind behind' from : ℕ} → s ≡ s' → behind ≡ behind' → Running s behind from → Running s' behind' from
   running_at {s} {s'} {behind} {behind'} {from} p q r = rw (sym p, sym q) r
 
-  module _ (behind w : ℕ) (s : ActionSet) (from : ℕ) (g : Running s behind from) (within : behind ≤ length ws) (this : w ≡ get_or ws (behind - 1) 0) where
+  module _ (behind w : ℕ) (s : Effects) (from : ℕ) (g : Running s behind from) (within : behind ≤ length ws) (this : w ≡ get_or ws (behind - 1) 0) where
     abbrev said : LinePart
     said = says w (get_or ws behind 0)
 
@@ -54,7 +55,7 @@ module _ (ev : Events) (rs : Readings) (ws : List ℕ) where
     after holds = behind + constants_of said + cond holds 0 (skip_of w)
 
     go_on : (holds : Bool) → holds ≡ rule_test ev rs said → OnLines Part.Rules ws (after holds)
-        → Running (proposing s said) (after holds + 1) (from + cond holds 0 (skip_of w))
+        → Running (taking s said) (after holds + 1) (from + cond holds 0 (skip_of w))
     unfolding fetches
     go_on holds h on =
         let test : holds ≡ rule_test ev rs (says w (get_or ws (g.at + 1) 0)) = rw (← g.next) h in
@@ -64,7 +65,7 @@ module _ (ev : Events) (rs : Readings) (ws : List ℕ) where
           at = after holds;
           next = refl;
           lines = on;
-          proposed = sym (ap (fold proposing s) goes) ∙ g.proposed;
+          effects = sym (ap (fold taking s) goes) ∙ g.effects;
           fetched = omega (arith, g.fetched);
           words = omega (arith, g.words, g.next, f);
         }
@@ -84,7 +85,7 @@ module _ (ev : Events) (rs : Readings) (ws : List ℕ) where
     module _ (t : Tested) (is : IsTestIn ev rs said behind t) where
       turned : (holds : Bool) → t.holds ≡ holds → OnLines Part.Rules ws (after holds) → Running s (t.next + cond holds 0 (skip_of w) + 1) (from + cond holds 0 (skip_of w))
       turned holds e on =
-          running_at (is.proposes_none s) (ap (λ (n : ℕ). n + cond holds 0 (skip_of w) + 1) (sym (ap (λ (x : Tested). x.next) is.is)))
+          running_at (is.yields_none s) (ap (λ (n : ℕ). n + cond holds 0 (skip_of w) + 1) (sym (ap (λ (x : Tested). x.next) is.is)))
           (go_on holds (sym e ∙ ap (λ (x : Tested). x.holds) is.is) on)
 
       -- a test that holds
@@ -102,15 +103,15 @@ module _ (ev : Events) (rs : Readings) (ws : List ℕ) where
           running_at refl next (rw (p, q) (turned false e (rw g.next (lines_behind Part.Rules ws g.at w this_at line_here))))
 
     -- a word that asks for none
-    pub rules_pass : AsksNothing ev rs said → Running (proposing s said) (behind + 1) from
+    pub rules_pass : AsksNothing ev rs said → Running (taking s said) (behind + 1) from
     rules_pass none =
         let next : behind + constants_of said + 0 + 1 ≡ behind + 1 = omega (arith, none.alone) in
         let here : behind ≡ behind + constants_of said + 0 = omega (arith, none.alone) in
         let on : OnLines Part.Rules ws behind = rw g.next (lines_onward Part.Rules ws g.at w this_at line_here (rw (← g.next) none.alone)) in
         running_at refl next (rw (sym (add-zero from)) (go_on true (sym none.holds) (subst (OnLines Part.Rules ws) here on)))
 
-  pub rules_end : (s : ActionSet) (at : ℕ) → length ws ≤ at → proposed_from s at ≡ s
-  rules_end s at h = ap (fold proposing s) (ran_end (rule_test ev rs) ws at h)
+  pub rules_end : (s : Effects) (at : ℕ) → length ws ≤ at → effects_from s at ≡ s
+  rules_end s at h = ap (fold taking s) (ran_end (rule_test ev rs) ws at h)
 
   pub rules_end_fetch : (at : ℕ) → length ws ≤ at → fetched_from at ≡ 0
   unfolding fetches

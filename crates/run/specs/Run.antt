@@ -3,7 +3,9 @@ use Rattle.std.specs.Prelude.{ℕ, zero, suc, ◌+◌, Bool, true, false, not, L
 use Rattle.policy.specs.Comparison.{comparison_holds}
 use Rattle.policy.specs.declared.epoch.Readings.{Readings}
 use Rattle.std.specs.List.{list_any}
-use Rattle.policy.specs.Set.{ActionSet, has_event, no_actions, has_action, insert_action}
+use Rattle.policy.specs.Effect.{no_effects, with_effect}
+use Rattle.policy.specs.Set.{ActionSet, EventSet, has_event, has_action}
+use Rattle.policy.specs.declared.effect.Effects.{Effects}
 use Rattle.policy.specs.declared.line.Ending.{Ending}
 use Rattle.policy.specs.declared.line.Part.{Part}
 use Rattle.policy.specs.declared.line.Test.{Test}
@@ -43,13 +45,17 @@ constraint_test _ _ _ = true
 
 -- ---- what the run of a part yields
 
-unfoldable pub proposing : ActionSet → LinePart → ActionSet
-proposing s (LinePart.Ending (Ending.Causes a)) = insert_action s a
-proposing s _ = s
+unfoldable pub taking : Effects → LinePart → Effects
+taking s (LinePart.Ending (Ending.Yields x)) = with_effect s x
+taking s _ = s
 
--- the actions of the words that propose one
-unfoldable pub run_rules : Events → Readings → List ℕ → ActionSet
-run_rules ev rs ws = fold proposing no_actions (ran (rule_test ev rs) 0 ws)
+-- the effects of the words that are run: the actions that they propose, and the events that they trigger
+unfoldable pub run_rules : Events → Readings → List ℕ → Effects
+run_rules ev rs ws = fold taking no_effects (ran (rule_test ev rs) 0 ws)
+
+-- the events that words trigger where each test holds
+unfoldable pub reserved_by : List ℕ → EventSet
+reserved_by ws = (fold taking no_effects (ran (λ (said : LinePart). true) 0 ws)).events
 
 unfoldable pub ends_constraint : LinePart → Bool
 ends_constraint (LinePart.Ending Ending.Never) = true

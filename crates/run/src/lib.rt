@@ -5,6 +5,8 @@
 mod constraints;
 mod rules;
 mod test;
+mod triggers;
 
 pub use constraints::{Trial, run_constraints};
-pub use rules::{Proposals, run_rules};
+pub use rules::{Yielded, run_rules};
+pub use triggers::reserved;

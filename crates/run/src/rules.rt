@@ -7,16 +7,16 @@ ghost use Rattle.operation.specs.Said.{says};
 ghost use Rattle.operation.specs.Whole.{whole_lines};
 ghost use Rattle.operation.specs.declared.operation.Operation.{Operation};
 ghost use Rattle.policy.specs.declared.line.Part.{Part};
-ghost use Rattle.run.specs.Run.{proposing, run_rules, rule_fetches};
+ghost use Rattle.run.specs.Run.{taking, run_rules, rule_fetches};
 ghost use Rattle.run.specs.Steps.Test.{IsTestIn, AsksNothing};
 
 use crate::test::{Tested, against_constant, against_reading};
-use operation::{Operation, first, first_if, skip};
-use policy::{Action, ActionSet, Event, Events, Part, ReadingView, Readings};
+use operation::{Operation, first_if, skip};
+use policy::{Action, Effect, Effects, Event, Events, Part, ReadingView, Readings};
 use word::nth_word;
 
 // The test of a word; none where it asks for none. Heads come first, which a run meets most.
-#[tactic(auto, unfolding(operation::specs::Said::says, operation::specs::Said::says_by, operation::specs::Said::constants_of, operation::specs::Whole::ends, operation::specs::Whole::ends_line, crate::specs::Run::rule_test, crate::specs::Run::proposing))]
+#[tactic(auto, unfolding(operation::specs::Said::says, operation::specs::Said::says_by, operation::specs::Said::constants_of, operation::specs::Whole::ends, operation::specs::Whole::ends_line, crate::specs::Run::rule_test, crate::specs::Run::taking))]
 fn test_rule(
     words: &[[u8; 4]],
     behind: usize,
@@ -53,21 +53,26 @@ fn test_rule(
     }
 }
 
-// The set with the action that a word proposes, if it does.
-#[tactic(auto, unfolding(operation::specs::Said::says, operation::specs::Said::says_by, crate::specs::Run::proposing))]
-fn with_proposal(set: ActionSet, word: u32) -> ActionSet
-    ensures { (k : ℕ) → result ≡ proposing set (says word k) }
+// The effects with that of a word, if it has one.
+#[tactic(auto, unfolding(operation::specs::Said::says, operation::specs::Said::says_by, crate::specs::Run::taking))]
+pub(crate) fn with_word(effects: Effects, word: u32) -> Effects
+    ensures { (k : ℕ) → result ≡ taking effects (says word k) }
 {
-    match Operation::of(word) {
-        Operation::Proposes => set.insert(Action(first(word) as u8)),
-        _ => set,
+    let action = first_if(word, Operation::Proposes);
+    if action < 64 {
+        return effects.with(Effect::Causes(Action(action as u8)));
     }
+    let event = first_if(word, Operation::Triggers);
+    if event < 64 {
+        return effects.with(Effect::Triggers(Event(event as u8)));
+    }
+    effects
 }
 
-/// What the run of rules answers: the actions that they propose, and how many words were fetched.
+/// What the run of rules answers: the actions that they propose and the events that they trigger, and how many words were fetched.
 #[derive(Clone, Copy)]
-pub struct Proposals {
-    pub actions: ActionSet,
+pub struct Yielded {
+    pub effects: Effects,
     pub words: usize,
 }
 
@@ -75,20 +80,21 @@ pub struct Proposals {
 // The index that goes on is the one behind the next word, from where its constant and what it skips are counted: with the word's own
 // each word took an instruction more. Every word before the next was fetched or passed over by a failed test, so that it is enough to
 // move `from` along by what such a test passes over.
-pub fn run_rules(words: &[[u8; 4]], events: Events, readings: &Readings) -> Proposals
+#[inline(always)]
+pub fn run_rules(words: &[[u8; 4]], events: Events, readings: &Readings) -> Yielded
     requires whole { whole_lines Part.Rules (words_in words.now) ≡ true }
-    ensures actions { result.actions ≡ run_rules events readings.now (words_in words.now) }
+    ensures effects { result.effects ≡ run_rules events readings.now (words_in words.now) }
     ensures words { result.words ≡ rule_fetches events readings.now (words_in words.now) }
 {
     let view = readings.view();
-    let mut actions = ActionSet::EMPTY;
+    let mut effects = Effects::NONE;
     let mut behind = 1;
     let mut from = 1;
     while behind <= words.len() {
         loop {
             let word = nth_word(words, behind - 1);
             let Some(test) = test_rule(words, behind, word, events, view) else {
-                actions = with_proposal(actions, word);
+                effects = with_word(effects, word);
                 behind += 1;
                 break;
             };
@@ -100,8 +106,8 @@ pub fn run_rules(words: &[[u8; 4]], events: Events, readings: &Readings) -> Prop
             }
         }
     }
-    Proposals {
-        actions,
+    Yielded {
+        effects,
         words: behind - from,
     }
 }

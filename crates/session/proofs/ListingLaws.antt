@@ -57,7 +57,7 @@ module _ (refused : Refusal → List ℕ) (s : Result Policy Refusal) where
 
 -- ---- how long a listing is
 
-module _ (refused : Refusal → List ℕ) (s : Result Policy Refusal) (keeps : (p : Policy) → s ≡ Ok p → Acceptable p) where
+module _ (refused : Refusal → List ℕ) (s : Result Policy Refusal) (keeps : (p : Policy) → s ≡ Ok p → Acceptable newest_form p) where
   listing_short : ((x : Refusal) → s ≡ Err x → length (refused x) ≤ 64) → length (listing_of refused s) ≤ listing_size
   unfolding listing_of
   listing_short short =
@@ -68,8 +68,8 @@ module _ (refused : Refusal → List ℕ) (s : Result Policy Refusal) (keeps : (
 
 pub listed_short : (text : List ℕ) → length (listed text) ≤ listing_size
 unfolding listed
-listed_short text = listing_short refusal_line (read_text text) (accepted_acceptable text) (λ x e. refusal_short x (omega (arith, location_small text x e)))
+listed_short text = listing_short refusal_line (read_text newest_form text) (accepted_acceptable newest_form text) (λ x e. refusal_short x (omega (arith, location_small newest_form text x e)))
 
 pub texts_listed_short : (maker site : List ℕ) → length (listed_texts maker site) ≤ listing_size
 unfolding listed_texts
-texts_listed_short maker site = listing_short texts_refusal_line (read_texts maker site) (texts_acceptable maker site) (λ x e. texts_refusal_short x (omega (arith, locations_small maker site x e)))
+texts_listed_short maker site = listing_short texts_refusal_line (read_texts newest_form maker site) (texts_acceptable newest_form maker site) (λ x e. texts_refusal_short x (omega (arith, locations_small newest_form maker site x e)))

@@ -24,7 +24,7 @@ KeptSame x y = take text_held x ≡ take text_held y
 
 pub printed_same : (x y : List ℕ) (s : Session) → KeptSame x y → printed_for x s ≡ printed_for y s
 unfolding printed_for
-printed_same x y s e = ap (λ (r : Result Policy Refusal). answers_to r s) (sym (text_cut x) ∙ ap read_text e ∙ text_cut y)
+printed_same x y s e = ap (λ (r : Result Policy Refusal). answers_to r s) (sym (text_cut newest_form x) ∙ ap (read_text newest_form) e ∙ text_cut newest_form y)
 
 kept_more : (x y more : List ℕ) → KeptSame x y → KeptSame (x ++ more) (y ++ more)
 kept_more x y more e = sym (cut_before text_held x more) ∙ ap (λ (l : List ℕ). take text_held (l ++ more)) e ∙ cut_before text_held y more
@@ -44,7 +44,7 @@ to_text_is : (text line : List ℕ) (s : Session) → printed_for text (to_text 
 unfolding printed_for answers_to to_text
 to_text_is text line text_only = refl
 to_text_is text line (with_epochs t mode es) =
-    elim (read_text text) as (λ p. answers_to p (with_epochs (line ∷ t) mode es) ≡ answers_to p (with_epochs t mode es)) [ Err r ↦ refl | Ok policy ↦ refl ]
+    elim (read_text newest_form text) as (λ p. answers_to p (with_epochs (line ∷ t) mode es) ≡ answers_to p (with_epochs t mode es)) [ Err r ↦ refl | Ok policy ↦ refl ]
 
 module _ (done line : List ℕ) (rest : List (List ℕ)) (next : Option (List ℕ)) where
   told_step : (s : Session) → told_with done (line ∷ rest) next (to_text line s) ≡ told_with (done ++ (line ++ 10 ∷ [])) rest next s
@@ -70,7 +70,7 @@ module _ (done line : List ℕ) (rest : List (List ℕ)) (next : Option (List �
 -- no epoch follows
 no_epochs : (text : List ℕ) (mode : Mode) → printed_for text (with_epochs [] mode []) ≡ printed_for text text_only
 unfolding printed_for answers_to epoch_lines
-no_epochs text mode = elim (read_text text) as (λ p. answers_to p (with_epochs [] mode []) ≡ answers_to p text_only) [ Err r ↦ refl | Ok policy ↦ refl ]
+no_epochs text mode = elim (read_text newest_form text) as (λ p. answers_to p (with_epochs [] mode []) ≡ answers_to p text_only) [ Err r ↦ refl | Ok policy ↦ refl ]
 
 pub end_none : (done last : List ℕ) → mode_of last ≡ None → told_text done [] (Some last) ≡ printed_for (done ++ last) text_only
 unfolding split_at_run ended to_text
@@ -88,10 +88,10 @@ end_run done (x ∷ xs) mode e = rw (e, append-nil done) (no_epochs done mode)
 
 -- ---- the text is complete
 
-pub refused_prints : (text : List ℕ) (x : Refusal) (s : Session) → read_text text ≡ Err x → printed_for text s ≡ refusal_line x
+pub refused_prints : (text : List ℕ) (x : Refusal) (s : Session) → read_text newest_form text ≡ Err x → printed_for text s ≡ refusal_line x
 unfolding printed_for answers_to
 refused_prints text x s e = rw e
 
-pub accepted_prints : (text image after : List ℕ) (size : ℕ) → after ≡ image → Read newest_form (read_text text) image size → TextEnds text after (Some size)
+pub accepted_prints : (text image after : List ℕ) (size : ℕ) → after ≡ image → Read newest_form (read_text newest_form text) image size → TextEnds text after (Some size)
 unfolding printed_for answers_to
 accepted_prints text image after size same r = (rw r.read, λ mode epochs. rw (r.read, same, r.image))

@@ -4,6 +4,7 @@ use Rattle.std.specs.Prelude.{Option, Some, None, Ok, Err}
 use Rattle.std.proofs.Common.{◌≡◌, ℕ, zero, suc, ◌≤◌, cond, List, [], ◌∷◌, ◌++◌, length, take, refl, sym, ap, ap₂, ◌∙◌, append_assoc, append-nil, arith, eqb-true}
 use Rattle.std.specs.Option.{option_map}
 use Rattle.std.proofs.lemmas.List.{take-take}
+use Rattle.policy.specs.Set.{no_events}
 use Rattle.policy.specs.declared.mode.Mode.{Mode}
 use Rattle.acceptance.proofs.Cut.{text_cut, texts_cut}
 use Rattle.codegen.specs.Compile.{newest_form}
@@ -41,8 +42,8 @@ mode_kept line = cut_mode text_held line (omega arith)
 epochs_kept : (done : List ℕ) (mode : Mode) (lines : List (List ℕ)) → printed_for done (with_epochs [] mode (cut_to text_held lines)) ≡ printed_for done (with_epochs [] mode lines)
 unfolding printed_for answers_to
 epochs_kept done mode lines =
-    elim (read_text done) as (λ p. answers_to p (with_epochs [] mode (cut_to text_held lines)) ≡ answers_to p (with_epochs [] mode lines))
-    [ Err r ↦ refl | Ok policy ↦ cut_epochs mode (image_of newest_form policy) text_held (omega arith) 0 lines ]
+    elim (read_text newest_form done) as (λ p. answers_to p (with_epochs [] mode (cut_to text_held lines)) ≡ answers_to p (with_epochs [] mode lines))
+    [ Err r ↦ refl | Ok policy ↦ cut_epochs mode (image_of newest_form policy) text_held (omega arith) no_events 0 lines ]
 
 last_kept : (done last : List ℕ) (o : Option Mode) → mode_of last ≡ o → told_text done [] (Some (take text_held last)) ≡ told_text done [] (Some last)
 last_kept done last None e =
@@ -108,7 +109,7 @@ listing_whole text out after end room p = put_take out 0 (listed text) after end
 -- of an input over the length of a text 32,769 bytes are enough
 pub listing_cut : (input : List ℕ) → listed (take text_held input) ≡ listed input
 unfolding listed
-listing_cut input = ap (listing_of refusal_line) (text_cut input)
+listing_cut input = ap (listing_of refusal_line) (text_cut newest_form input)
 
 -- so the first 32,769 bytes of what was read are kept
 pub listing_kept : (kept chunk next rest : List ℕ) → next ≡ take text_held (kept ++ chunk) → listed (kept ++ (chunk ++ rest)) ≡ listed (next ++ rest)
@@ -124,4 +125,4 @@ texts_listing_whole maker site out after end room p = put_take out 0 (listed_tex
 -- and so they are of each
 pub texts_listing_cut : (maker site : List ℕ) → listed_texts (take text_held maker) (take text_held site) ≡ listed_texts maker site
 unfolding listed_texts
-texts_listing_cut maker site = ap (listing_of texts_refusal_line) (texts_cut maker site)
+texts_listing_cut maker site = ap (listing_of texts_refusal_line) (texts_cut newest_form maker site)

@@ -41,6 +41,12 @@ sessions =
     -- the first of the two lines picks the mode, the other is an epoch
     ∷ row "never A1\nrun\nrun events\n\n" "1 refused 12 words 0\n2 accept - cancel - words 0\n"
     ∷ row "never A1\nrun events\nrun\n\n" "1 refused 12 words 0\n2 accept - cancel - words 1\n"
+    -- a triggered event occurs in the next epoch that is accepted, once; a line may not name it
+    ∷ row "E1 triggers E60\nE60 causes A2\nE2 causes A1\nnever A1 & A2\nrun\nE1\n\n\nE1\nE64\nE1 E2\nE2\nE60\nE2\n"
+    "1 accept - cancel - words 4\n2 accept A2 cancel - words 5\n3 accept - cancel - words 3\n4 accept - cancel - words 4\n5 refused 13 words 0\n6 accept A1 cancel A2 words 11\n7 accept A1 cancel A2 words 10\n8 refused 18 words 0\n9 accept A1 cancel - words 6\n"
+    -- a pending event is tried like a named one, and what is dropped triggers nothing
+    ∷ row "E1 triggers E60\nE60 triggers E61\nE60 causes A2\nE61 causes A3\nE0 causes A1\nnever A1 & A2\nrun events\nE1\nE0\n\n"
+    "1 accept - cancel - words 13\n2 accept A1 cancel A2 words 25\n3 accept - cancel - words 6\n"
     -- the line has exactly these bytes; at the end of the input it may lack its end
     ∷ row "run events \n" "refused 2 line 1\n"
     ∷ row "run events" ""
@@ -66,10 +72,11 @@ dues =
 unfoldable pub listings : List Example
 listings =
     row "E1 & !E2 causes A3 if R0 > 40\nE3 causes A4\nnever A3 & A4\n"
-    "02007003\n10400004\n20800003\n30008001\n00000028\n50C00000\n10C00001\n51000000\n60C00002\n61000001\n70000000\n26827103\n927C9EC6\n"
+    "03007003\n10400004\n20800003\n30008001\n00000028\n50C00000\n10C00001\n51000000\n60C00002\n61000001\n70000000\n27827103\n907C9EC6\n"
     ∷ row "E1 causes A1 if R0 = 0x8040 , R1 = 0xFFFFFFFF , R2 = 0x80000000 , R3 = 0x7fffffff"
-    "0200A000\n10400009\n30000007\n00008040\n30400005\nFFFFFFFF\n30800003\n80000000\n30C00001\n7FFFFFFF\n50400000\n20C2A14E\nBB3C3E5B\n"
-    ∷ row "" "02000000\n02000000\nFC000000\n"
+    "0300A000\n10400009\n30000007\n00008040\n30400005\nFFFFFFFF\n30800003\n80000000\n30C00001\n7FFFFFFF\n50400000\n21C2A14E\nB93C3E5B\n"
+    ∷ row "E1 & E2 triggers E60 if R0 > 5" "03005000\n10400004\n10800003\n30008001\n00000005\n8F000000\n6F02502E\nAE3CDFC5\n"
+    ∷ row "" "03000000\n03000000\nFA000000\n"
     ∷ row "# none\nE64 causes A1" "refused 3 line 2\n"
     ∷ []
 
@@ -85,8 +92,8 @@ unfoldable pub texts_listings : List TextsExample
 texts_listings =
     -- the worked text, a rule of it from the site; the maker's last line lacks its end
     texts "E1 & !E2 causes A3 if R0 > 40\nnever A3 & A4" "E3 causes A4\n"
-    "02007003\n10400004\n20800003\n30008001\n00000028\n50C00000\n10C00001\n51000000\n60C00002\n61000001\n70000000\n26827103\n927C9EC6\n"
-    ∷ texts "" "" "02000000\n02000000\nFC000000\n"
+    "03007003\n10400004\n20800003\n30008001\n00000028\n50C00000\n10C00001\n51000000\n60C00002\n61000001\n70000000\n27827103\n907C9EC6\n"
+    ∷ texts "" "" "03000000\n03000000\nFA000000\n"
     -- the maker's faults come first; lines are counted from 1 in each text
     ∷ texts "# none\nE64 causes A1" "E1" "refused 3 text 1 line 2\n"
     ∷ texts "E1 causes A1\n" "\n\nE1" "refused 2 text 2 line 3\n"

@@ -20,8 +20,8 @@ listing_of refused (Ok policy) = word_lines (words_of (image_of newest_form poli
 
 -- the whole: all bytes of the input, which is the text, to all bytes of the output
 unfoldable pub listed : List ℕ → List ℕ
-listed text = listing_of refusal_line (read_text text)
+listed text = listing_of refusal_line (read_text newest_form text)
 
 -- the same of the maker's and the site's text as one
 unfoldable pub listed_texts : List ℕ → List ℕ → List ℕ
-listed_texts maker site = listing_of texts_refusal_line (read_texts maker site)
+listed_texts maker site = listing_of texts_refusal_line (read_texts newest_form maker site)

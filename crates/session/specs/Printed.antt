@@ -9,10 +9,11 @@ use Rattle.lexer.specs.Lines.{lines_of}
 use Rattle.rule_text.specs.Text.{read_text}
 use Rattle.layout.specs.Layout.{image_of}
 use Rattle.codegen.specs.Compile.{newest_form}
-use Rattle.monitor.specs.Decision.{decision_in}
+use Rattle.monitor.specs.Decision.{advanced}
+use Rattle.monitor.specs.declared.state.Decided.{Decided}
 use Rattle.monitor.specs.declared.decision.Actions.{Actions}
 use Rattle.stream.specs.Lines.{due_by_lines}
-use Rattle.policy.specs.Set.{members_of}
+use Rattle.policy.specs.Set.{EventSet, no_events, members_of}
 use Rattle.report.specs.Report.{refusal_line, accept_line, refused_line, next_number}
 
 -- ---- a line `run` picks the first mode, and a line `run events` in its place the second
@@ -50,21 +51,23 @@ unfoldable pub decision_line : ℕ → Result Actions Refusal → List ℕ
 decision_line n (Err r) = refused_line n r.fault
 decision_line n (Ok actions) = accept_line n (members_of actions.accepted) (members_of actions.cancelled) actions.visited
 
--- after n epochs
-unfoldable pub epoch_lines : Mode → List ℕ → ℕ → List (List ℕ) → List ℕ
-epoch_lines mode image n [] = []
-epoch_lines mode image n (line ∷ lines) = decision_line (next_number n) (decision_in mode image line) ++ epoch_lines mode image (next_number n) lines
+-- after n epochs, where these events are pending
+unfoldable pub epoch_lines : Mode → List ℕ → EventSet → ℕ → List (List ℕ) → List ℕ
+epoch_lines mode image pending n [] = []
+epoch_lines mode image pending n (line ∷ lines) =
+    let next : Decided = advanced mode image pending line in
+    decision_line (next_number n) next.answer ++ epoch_lines mode image next.pending (next_number n) lines
 
 -- ---- a refused text prints its refusal line and nothing else
 
 unfoldable pub answers_to : Result Policy Refusal → Session → List ℕ
 answers_to (Err r) s = refusal_line r
 answers_to (Ok policy) text_only = []
-answers_to (Ok policy) (with_epochs text mode epochs) = epoch_lines mode (image_of newest_form policy) 0 epochs
+answers_to (Ok policy) (with_epochs text mode epochs) = epoch_lines mode (image_of newest_form policy) no_events 0 epochs
 
 -- the bytes of the text are told apart from its lines, of which the last may lack its end
 unfoldable pub printed_for : List ℕ → Session → List ℕ
-printed_for text s = answers_to (read_text text) s
+printed_for text s = answers_to (read_text newest_form text) s
 
 -- the whole: all bytes of the input to all bytes of the output
 unfoldable pub printed : List ℕ → List ℕ

@@ -10,7 +10,7 @@ use crate::mode::pick_mode;
 use crate::text::{TEXT_HELD, end_text, keep_line};
 use image::IMAGE_SIZE;
 use lined::{LineMachine, answer_lines};
-use monitor::Actions;
+use monitor::{Actions, State};
 use output::Sink;
 use policy::{Mode, Refusal};
 use stream::{Ends, Failure, keep};
@@ -49,7 +49,7 @@ enum Phase {
     Over,
 }
 
-/// The first `count` bytes of the text are held. Its image has `size` bytes, and `number` epochs were decided on it.
+/// The first `count` bytes of the text are held. Its image has `size` bytes, and `number` epochs were decided on it, which left the state.
 #[derive(Drop)]
 struct Engine {
     phase: Phase,
@@ -57,6 +57,7 @@ struct Engine {
     count: usize,
     image: [u8; IMAGE_SIZE],
     size: usize,
+    state: State,
     number: u64,
     ghost text_long: { length text ≡ text_held },
     ghost image_long: { length image ≡ size_limit },
@@ -69,11 +70,11 @@ impl LineMachine for Engine {
     ghost use Rattle.session.specs.Steps.Sizes.{line_size};
     ghost use Rattle.session.specs.Steps.Session.{says_in, told_in, told_none};
 
-    ghost says = { λ s line. says_in s.phase (take s.count s.text) (take s.size s.image) s.number line };
+    ghost says = { λ s line. says_in s.phase (take s.count s.text) (take s.size s.image) s.state.pending s.number line };
 
-    ghost given = { λ s lines. told_in s.phase (take s.count s.text) (take s.size s.image) s.number lines None };
+    ghost given = { λ s lines. told_in s.phase (take s.count s.text) (take s.size s.image) s.state.pending s.number lines None };
 
-    ghost printed = { λ s lines last. told_in s.phase (take s.count s.text) (take s.size s.image) s.number lines (Some last) };
+    ghost printed = { λ s lines last. told_in s.phase (take s.count s.text) (take s.size s.image) s.state.pending s.number lines (Some last) };
 
     ghost room = { line_size };
 
@@ -90,12 +91,14 @@ impl LineMachine for Engine {
                     Some(size) => {
                         self.phase = Phase::Epochs(mode);
                         self.size = size;
+                        self.state = State::START;
                         self.number = 0;
                     }
                 },
             },
             Phase::Epochs(mode) => {
-                let decision = monitor::decide(&self.image[..self.size], line, mode);
+                let image = &self.image[..self.size];
+                let decision = monitor::step(image, &mut self.state, line, mode);
                 self.number = self.number.wrapping_add(1);
                 put_decision(sink, self.number, decision);
             }
@@ -124,7 +127,7 @@ impl LineMachine for Engine {
         }
     }
 
-    ghost quiet = { λ s. told_none s.phase (take s.count s.text) (take s.size s.image) s.number };
+    ghost quiet = { λ s. told_none s.phase (take s.count s.text) (take s.size s.image) s.state.pending s.number };
 }
 
 /// Answers the epochs of an input: a rule text, a line `run` or `run events`, and epoch lines. What is printed for the lines that have
@@ -139,6 +142,7 @@ pub fn answer_epochs<E: Ends>(ends: &mut E) -> Result<(), Failure>
         count: 0,
         image: [0; IMAGE_SIZE],
         size: 0,
+        state: State::START,
         number: 0,
     };
     // No more of a line counts than of a text.

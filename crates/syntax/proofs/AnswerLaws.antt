@@ -33,19 +33,19 @@ next_shorter (b ∷ s) h = go (eqb b 10)
 
 -- ---- what was answered
 
-module _ (text : List ℕ) where
-  pub read_refused : (f : Fault) → Err f ≡ line_read text → line_answer (first_line text) ≡ Err f
+module _ (form : ℕ) (text : List ℕ) where
+  pub read_refused : (f : Fault) → Err f ≡ line_read form text → line_answer form (first_line text) ≡ Err f
   unfolding line_read line_result
-  read_refused f = go (line_answer (first_line text))
+  read_refused f = go (line_answer form (first_line text))
     where
       go : (a : Result (Option PolicyLine) Fault) → Err f ≡ line_result (next_line text) a → a ≡ Err f
       go (Ok o) e = cc
       go (Err g) e = cc
 
   -- a line that is accepted, or skipped
-  pub read_ok : (line : Option PolicyLine) (rest : List ℕ) → Ok (line, rest) ≡ line_read text → (line_answer (first_line text) ≡ Ok line) × (rest ≡ next_line text)
+  pub read_ok : (line : Option PolicyLine) (rest : List ℕ) → Ok (line, rest) ≡ line_read form text → (line_answer form (first_line text) ≡ Ok line) × (rest ≡ next_line text)
   unfolding line_read line_result
-  read_ok line rest = go (line_answer (first_line text))
+  read_ok line rest = go (line_answer form (first_line text))
     where
       go : (a : Result (Option PolicyLine) Fault) → Ok (line, rest) ≡ line_result (next_line text) a → (a ≡ Ok line) × (rest ≡ next_line text)
       go (Ok o) e =

@@ -23,7 +23,7 @@ use Rattle.syntax.proofs.DraftLaws.{line_range, draft_of, line_held}
 use Rattle.syntax.proofs.FrontLaws.{ended}
 use Rattle.syntax.specs.Answer.{line_result, line_read}
 use Rattle.syntax.specs.Grammar.{line_from}
-use Rattle.syntax.specs.Judge.{judge_line, is_comment, tokens_answer, line_answer}
+use Rattle.syntax.specs.Judge.{line_for, judge_line, is_comment, tokens_answer, line_answer}
 use Rattle.syntax.specs.Steps.Draft.{new_draft, line_into}
 use Rattle.syntax.specs.Steps.Judged.{judged}
 use Rattle.syntax.specs.Steps.Outcome.{line_outcome}
@@ -113,21 +113,21 @@ judged_answer rest l = go (judged_cases (Some l))
     go (no_line f k) = rw k
 
 -- an accepted line is not crowded
-pub accepted_uncrowded : (line : List ℕ) (l : PolicyLine) → line_answer line ≡ Ok (Some l) → crowded l ≡ false
+pub accepted_uncrowded : (form : ℕ) (line : List ℕ) (l : PolicyLine) → line_answer form line ≡ Ok (Some l) → crowded l ≡ false
 unfolding line_answer tokens_answer
-accepted_uncrowded line l = go (tokens_of line)
+accepted_uncrowded form line l = go (tokens_of line)
   where
     of_judge : (o : Option PolicyLine) → Judged o → judge_line o ≡ Ok (Some l) → crowded l ≡ false
     of_judge o (yes_line m p h c _ k) q = let e : l ≡ m = cc in ap crowded e ∙ c
     of_judge o (no_line f k) q = let w : ⊥ = cc in absurd w
 
-    go : (ts : List (List ℕ)) → tokens_answer ts ≡ Ok (Some l) → crowded l ≡ false
+    go : (ts : List (List ℕ)) → tokens_answer form ts ≡ Ok (Some l) → crowded l ≡ false
     go [] q = let w : ◌≡◌ {A = ℕ} 0 1 = cc in absurd (omega arith)
     go (t ∷ ts) q = comment (is_comment t) q
       where
-        comment : (b : Bool) → cond b (Ok None) (judge_line (line_from (t ∷ ts))) ≡ Ok (Some l) → crowded l ≡ false
+        comment : (b : Bool) → cond b (Ok None) (judge_line (line_for form (line_from (t ∷ ts)))) ≡ Ok (Some l) → crowded l ≡ false
         comment true k = let w : ◌≡◌ {A = ℕ} 0 1 = cc in absurd (omega arith)
-        comment false k = of_judge (line_from (t ∷ ts)) (judged_cases (line_from (t ∷ ts))) k
+        comment false k = of_judge (line_for form (line_from (t ∷ ts))) (judged_cases (line_for form (line_from (t ∷ ts)))) k
 
 -- ---- the first line of a text
 
@@ -137,42 +137,42 @@ unfolding is_comment
 comment_byte [] h = absurd (true_false refl h)
 comment_byte (b ∷ s) h = elim (in_token b) as (λ x. is_empty (cond x (b ∷ token_in s) []) ≡ false → is_comment (cond x (b ∷ token_in s) []) ≡ eqb b 35) [ true ↦ λ k. refl | false ↦ λ k. absurd (true_false refl k) ] h
 
-module _ (text : List ℕ) where
+module _ (form : ℕ) (text : List ℕ) where
   abbrev start : List ℕ
   start = without_spaces text
 
-  pub line_blank : is_empty (token_in start) ≡ true → line_read text ≡ Ok (None, without_end start)
+  pub line_blank : is_empty (token_in start) ≡ true → line_read form text ≡ Ok (None, without_end start)
   unfolding line_read line_result line_answer tokens_answer tokens_in
-  line_blank h = ap₂ (λ l ts. line_result (without_end l) (tokens_answer ts)) (ended text h).line (ended text h).tokens
+  line_blank h = ap₂ (λ l ts. line_result (without_end l) (tokens_answer form ts)) (ended text h).line (ended text h).tokens
 
   module _ (h : is_empty (token_in start) ≡ false) where
-    by_tokens : line_read text ≡ line_result (without_end (behind_line start)) (cond (eqb (get_or start 0 0) 35) (Ok None) (judge_line (line_from (tokens_in start))))
+    by_tokens : line_read form text ≡ line_result (without_end (behind_line start)) (cond (eqb (get_or start 0 0) 35) (Ok None) (judge_line (line_for form (line_from (tokens_in start)))))
     unfolding line_read line_answer tokens_in tokens_answer
     by_tokens =
-        ap₂ (λ l ts. line_result (without_end l) (tokens_answer ts)) (sym (line_past_spaces text)) (sym (tokens_after_spaces text))
-        ∙ ap (λ ts. line_result (without_end (behind_line start)) (tokens_answer ts)) (tokens_first start h)
-        ∙ ap₂ (λ b ts. line_result (without_end (behind_line start)) (cond b (Ok None) (judge_line (line_from ts)))) (comment_byte start h) (sym (tokens_first start h))
+        ap₂ (λ l ts. line_result (without_end l) (tokens_answer form ts)) (sym (line_past_spaces text)) (sym (tokens_after_spaces text))
+        ∙ ap (λ ts. line_result (without_end (behind_line start)) (tokens_answer form ts)) (tokens_first start h)
+        ∙ ap₂ (λ b ts. line_result (without_end (behind_line start)) (cond b (Ok None) (judge_line (line_for form (line_from ts))))) (comment_byte start h) (sym (tokens_first start h))
 
-    pub line_comment : get_or start 0 0 ≡ 35 → line_read text ≡ Ok (None, without_end (behind_line start))
+    pub line_comment : get_or start 0 0 ≡ 35 → line_read form text ≡ Ok (None, without_end (behind_line start))
     unfolding line_result
     line_comment q = by_tokens ∙ rw (eq-eqb (get_or start 0 0) 35 q)
 
     module _ (q : eqb (get_or start 0 0) 35 ≡ false) where
-      line_other : line_read text ≡ line_result (without_end (behind_line start)) (judge_line (line_from (tokens_in start)))
+      line_other : line_read form text ≡ line_result (without_end (behind_line start)) (judge_line (line_for form (line_from (tokens_in start))))
       line_other = by_tokens ∙ rw q
 
-      pub line_misshapen : None ≡ line_outcome new_draft (behind_line start) (line_from (tokens_in start)) → line_read text ≡ Err Fault.Syntax
+      pub line_misshapen : None ≡ line_outcome new_draft (behind_line start) (line_for form (line_from (tokens_in start))) → line_read form text ≡ Err Fault.Syntax
       unfolding line_outcome judge_line line_result
-      line_misshapen e = line_other ∙ go (line_from (tokens_in start)) e
+      line_misshapen e = line_other ∙ go (line_for form (line_from (tokens_in start))) e
         where
           go : (o : Option PolicyLine) → None ≡ line_outcome new_draft (behind_line start) o → line_result (without_end (behind_line start)) (judge_line o) ≡ Err Fault.Syntax
           go None k = refl
           go (Some l) k = cc
 
-      module _ (d : Draft) (rest : List ℕ) (e : Some (d, rest) ≡ line_outcome new_draft (behind_line start) (line_from (tokens_in start))) where
-        parted : (r : Result PolicyLine Fault) → judged d ≡ r → line_read text ≡ with_rest (without_end rest) r
+      module _ (d : Draft) (rest : List ℕ) (e : Some (d, rest) ≡ line_outcome new_draft (behind_line start) (line_for form (line_from (tokens_in start)))) where
+        parted : (r : Result PolicyLine Fault) → judged d ≡ r → line_read form text ≡ with_rest (without_end rest) r
         unfolding line_outcome line_result with_rest value_of
-        parted r k = line_other ∙ go (line_from (tokens_in start)) e
+        parted r k = line_other ∙ go (line_for form (line_from (tokens_in start))) e
           where
             go : (o : Option PolicyLine) → Some (d, rest) ≡ line_outcome new_draft (behind_line start) o → line_result (without_end (behind_line start)) (judge_line o) ≡ with_rest (without_end rest) r
             go None m = cc
@@ -185,7 +185,7 @@ module _ (text : List ℕ) where
         -- the heads of a line without a fault are of the kind that its ending wants
         pub line_fitting : (l : PolicyLine) → Ok l ≡ judged d → all (fits (ending_part d.ending)) d.heads ≡ true
         unfolding line_outcome judged
-        line_fitting l₀ k = go (line_from (tokens_in start)) e
+        line_fitting l₀ k = go (line_for form (line_from (tokens_in start))) e
           where
             within : (b : Bool) (r : Result PolicyLine Fault) → Ok l₀ ≡ cond b r (Err Fault.OutOfRange) → b ≡ true
             within true r q = refl
@@ -199,11 +199,11 @@ module _ (text : List ℕ) where
                 let r : in_range l ≡ true = sym (line_range l) ∙ ap (λ (x : Draft). x.in_range) (sym j) ∙ within d.in_range _ k in
                 rw (j ∙ line_held l r) (all_taken (fits (ending_part (ending_of l))) head_limit (heads_of l) (heads_fit l))
 
-        pub line_faulty : (f : Fault) → Err f ≡ judged d → line_read text ≡ Err f
+        pub line_faulty : (f : Fault) → Err f ≡ judged d → line_read form text ≡ Err f
         unfolding with_rest
         line_faulty f k = parted (Err f) (sym k)
 
-        pub line_good : (l : PolicyLine) → Ok l ≡ judged d → line_read text ≡ Ok (Some l, without_end rest)
+        pub line_good : (l : PolicyLine) → Ok l ≡ judged d → line_read form text ≡ Ok (Some l, without_end rest)
         unfolding with_rest
         line_good l k = parted (Ok l) (sym k)
 

@@ -1,7 +1,7 @@
 pub mod AnswerLaws
-pub mod CauseLaws
 pub mod ConditionLaws
 pub mod DraftLaws
+pub mod EffectLaws
 pub mod FrontLaws
 pub mod HeadLaws
 pub mod JudgeLaws

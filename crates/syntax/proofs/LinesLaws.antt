@@ -13,18 +13,18 @@ use Rattle.syntax.specs.Judge.{line_answer}
 use Rattle.syntax.specs.Lines.{TextLine, before_later, lines_from, lines_in}
 
 -- what stands behind a line that was read is shorter
-pub read_shorter : (rest : List ℕ) → 0 < length rest → (o : Option PolicyLine) (behind : List ℕ) → Ok (o, behind) ≡ line_read rest → length behind < length rest
-read_shorter rest h o behind e = rw (read_ok rest o behind e).1 (next_shorter rest h)
+pub read_shorter : (form : ℕ) (rest : List ℕ) → 0 < length rest → (o : Option PolicyLine) (behind : List ℕ) → Ok (o, behind) ≡ line_read form rest → length behind < length rest
+read_shorter form rest h o behind e = rw (read_ok form rest o behind e).1 (next_shorter rest h)
 
 -- ---- the rest of a text
 
-abbrev pub left : ℕ → List ℕ → List (Result TextLine Refusal)
-left n rest = lines_from n rest (lines_of rest)
+abbrev pub left : ℕ → ℕ → List ℕ → List (Result TextLine Refusal)
+left form n rest = lines_from form n rest (lines_of rest)
 
-pub left_none : (n : ℕ) (rest : List ℕ) → length rest ≡ 0 → left n rest ≡ []
+pub left_none : (form n : ℕ) (rest : List ℕ) → length rest ≡ 0 → left form n rest ≡ []
 unfolding lines_from lines_of pieces
-left_none n [] e = refl
-left_none n (b ∷ s) e = absurd (omega arith)
+left_none form n [] e = refl
+left_none form n (b ∷ s) e = absurd (omega arith)
 
 -- what stands behind the first line and its end
 next_is : (s : List ℕ) → drop (suc (length (first_line s))) s ≡ next_line s
@@ -35,40 +35,40 @@ next_is (b ∷ s) = go (in_line b) (next_is s)
     go true h = h
     go false h = refl
 
-module _ (n : ℕ) (rest : List ℕ) (h : 0 < length rest) where
-  pub left_here : left n rest ≡ before_later n rest (first_line rest) (line_answer (first_line rest)) (left (n + 1) (next_line rest))
+module _ (form n : ℕ) (rest : List ℕ) (h : 0 < length rest) where
+  pub left_here : left form n rest ≡ before_later n rest (first_line rest) (line_answer form (first_line rest)) (left form (n + 1) (next_line rest))
   unfolding lines_from
   left_here =
-      ap (lines_from n rest) (lines_here rest h)
-      ∙ ap (λ (t : List ℕ). before_later n rest (first_line rest) (line_answer (first_line rest)) (lines_from (n + 1) t (lines_of (next_line rest)))) (next_is rest)
+      ap (lines_from form n rest) (lines_here rest h)
+      ∙ ap (λ (t : List ℕ). before_later n rest (first_line rest) (line_answer form (first_line rest)) (lines_from form (n + 1) t (lines_of (next_line rest)))) (next_is rest)
 
-  here : (a : Result (Option PolicyLine) Fault) → line_answer (first_line rest) ≡ a → left n rest ≡ before_later n rest (first_line rest) a (left (n + 1) (next_line rest))
-  here a e = left_here ∙ ap (λ (x : Result (Option PolicyLine) Fault). before_later n rest (first_line rest) x (left (n + 1) (next_line rest))) e
+  here : (a : Result (Option PolicyLine) Fault) → line_answer form (first_line rest) ≡ a → left form n rest ≡ before_later n rest (first_line rest) a (left form (n + 1) (next_line rest))
+  here a e = left_here ∙ ap (λ (x : Result (Option PolicyLine) Fault). before_later n rest (first_line rest) x (left form (n + 1) (next_line rest))) e
 
-  pub left_refused : (f : Fault) → Err f ≡ line_read rest → left n rest ≡ Err (refusal f n) ∷ []
+  pub left_refused : (f : Fault) → Err f ≡ line_read form rest → left form n rest ≡ Err (refusal f n) ∷ []
   unfolding before_later
-  left_refused f e = here (Err f) (read_refused rest f e)
+  left_refused f e = here (Err f) (read_refused form rest f e)
 
   module _ (behind : List ℕ) where
-    pub left_skipped : Ok (None, behind) ≡ line_read rest → left n rest ≡ left (n + 1) behind
+    pub left_skipped : Ok (None, behind) ≡ line_read form rest → left form n rest ≡ left form (n + 1) behind
     unfolding before_later
-    left_skipped e = let r = read_ok rest None behind e in here (Ok None) r.0 ∙ ap (left (n + 1)) (sym r.1)
+    left_skipped e = let r = read_ok form rest None behind e in here (Ok None) r.0 ∙ ap (left form (n + 1)) (sym r.1)
 
-    pub left_accepted : (l : PolicyLine) → Ok (Some l, behind) ≡ line_read rest → left n rest ≡ Ok (record { number = n; text = rest; bytes = first_line rest; line = l }) ∷ left (n + 1) behind
+    pub left_accepted : (l : PolicyLine) → Ok (Some l, behind) ≡ line_read form rest → left form n rest ≡ Ok (record { number = n; text = rest; bytes = first_line rest; line = l }) ∷ left form (n + 1) behind
     unfolding before_later
     left_accepted l e =
-        let r = read_ok rest (Some l) behind e in
-        here (Ok (Some l)) r.0 ∙ ap (λ (t : List ℕ). Ok (record { number = n; text = rest; bytes = first_line rest; line = l }) ∷ left (n + 1) t) (sym r.1)
+        let r = read_ok form rest (Some l) behind e in
+        here (Ok (Some l)) r.0 ∙ ap (λ (t : List ℕ). Ok (record { number = n; text = rest; bytes = first_line rest; line = l }) ∷ left form (n + 1) t) (sym r.1)
 
 -- ---- a text has no more lines than bytes
 
-from_few : (ls : List (List ℕ)) (n : ℕ) (text : List ℕ) → length (lines_from n text ls) ≤ length ls
+from_few : (form : ℕ) (ls : List (List ℕ)) (n : ℕ) (text : List ℕ) → length (lines_from form n text ls) ≤ length ls
 unfolding lines_from before_later
-from_few [] n text = omega arith
-from_few (bytes ∷ ls) n text = go (line_answer bytes) (from_few ls (n + 1) (drop (suc (length bytes)) text))
+from_few form [] n text = omega arith
+from_few form (bytes ∷ ls) n text = go (line_answer form bytes) (from_few form ls (n + 1) (drop (suc (length bytes)) text))
   where
     behind : List (Result TextLine Refusal)
-    behind = lines_from (n + 1) (drop (suc (length bytes)) text) ls
+    behind = lines_from form (n + 1) (drop (suc (length bytes)) text) ls
 
     go : (a : Result (Option PolicyLine) Fault) → length behind ≤ length ls → length (before_later n text bytes a behind) ≤ suc (length ls)
     go (Ok None) h = omega arith
@@ -85,6 +85,6 @@ pieces_few (b ∷ s) = go (eqb b 10) (pieces 10 s) (pieces_few s)
     go false [] h = omega arith
     go false (p ∷ ps) h = omega arith
 
-pub lines_few : (text : List ℕ) → length (lines_in text) ≤ length text
+pub lines_few : (form : ℕ) (text : List ℕ) → length (lines_in form text) ≤ length text
 unfolding lines_of
-lines_few text = omega (arith, from_few (lines_of text) 1 text, pieces_few text)
+lines_few form text = omega (arith, from_few form (lines_of text) 1 text, pieces_few text)

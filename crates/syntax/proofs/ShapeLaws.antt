@@ -1,7 +1,8 @@
 -- Laws of the two shapes: the parts that were read are those of the line.
 use Rattle.std.proofs.Common.{ℕ, Bool, true, false, cond, List, [], ◌∷◌, map, ◌≡◌, refl, sym, ap, ◌∙◌}
 use Rattle.std.specs.Prelude.{Some, None, Option, option_map}
-use Rattle.policy.specs.Limits.{ending_in_range}
+use Rattle.policy.specs.Limits.{ending_in_range, ending_allowed}
+use Rattle.policy.specs.declared.effect.Effect.{Effect}
 use Rattle.policy.specs.Line.{PolicyLine, heads_of, comparisons_of, ending_of}
 use Rattle.policy.specs.declared.comparison.Comparison.{Comparison}
 use Rattle.policy.specs.declared.comparison.Literal.{Literal}
@@ -13,9 +14,11 @@ use Rattle.lexer.specs.Lines.{behind_line}
 use Rattle.lexer.specs.Steps.Scan.{tokens_in}
 use Rattle.lexer.specs.Token.{Token, both, literal_of, action_of}
 use Rattle.token.specs.Steps.PartIn.{test_of}
-use Rattle.syntax.specs.Grammar.{Joined, last, before, joined, condition_from, causes, never, rule_after, constraint_after, after}
+use Rattle.syntax.specs.Grammar.{Joined, last, before, joined, condition_from, effect_from, yields, never, rule_after, constraint_after, after}
+use Rattle.syntax.specs.Judge.{line_for}
 use Rattle.syntax.specs.Steps.Draft.{end_as, heads_into, ending_into, line_into}
-use Rattle.syntax.specs.Steps.Outcome.{HeadsRead, heads_read, heads_outcome, condition_outcome, caused, cause_outcome, line_outcome}
+use Rattle.syntax.specs.Steps.Outcome.{HeadsRead, heads_read, heads_outcome, condition_outcome, yielded, effect_outcome, rule_for, line_outcome}
+use Rattle.syntax.specs.Steps.Effect.{effect_for}
 use Rattle.syntax.specs.declared.draft.Draft.{Draft}
 
 -- ---- heads as literals or as actions
@@ -52,17 +55,24 @@ module _ (d : Draft) (behind : List ℕ) where
       go None = refl
       go (Some cs) = refl
 
-  rule_parts : (literals : List Literal) (ts : List Token) → line_outcome d behind (rule_after literals ts) ≡ cause_outcome (heads_into d (map Test.Occurs literals)) behind ts
-  unfolding line_outcome cause_outcome caused rule_after both condition_outcome line_into heads_of comparisons_of ending_of
-  rule_parts literals [] = refl
-  rule_parts literals (t ∷ []) = refl
-  rule_parts literals (t ∷ u ∷ ts) = go (is "causes" t) (action_of u) (condition_from ts)
+  rule_parts : (form : ℕ) (literals : List Literal) (ts : List Token) → line_outcome d behind (rule_for form literals ts) ≡ effect_outcome form (heads_into d (map Test.Occurs literals)) behind ts
+  unfolding line_outcome effect_outcome yielded rule_after both line_for condition_outcome line_into heads_of comparisons_of ending_of
+  rule_parts form literals [] = refl
+  rule_parts form literals (t ∷ []) = refl
+  rule_parts form literals (t ∷ u ∷ ts) = go (effect_from t u) (condition_from ts)
     where
-      go : (b : Bool) (x : Option Action) (o : Option (List Comparison)) → line_outcome d behind (cond b (both (causes literals) x o) None) ≡ cond b (caused (heads_into d (map Test.Occurs literals)) behind x o) None
-      go true None o = refl
-      go true (Some a) None = refl
-      go true (Some a) (Some cs) = refl
-      go false x o = refl
+      go : (x : Option Effect) (o : Option (List Comparison)) → line_outcome d behind (line_for form (both (yields literals) x o)) ≡ yielded (heads_into d (map Test.Occurs literals)) behind (effect_for form x) o
+      go None o = refl
+      go (Some x) None = none (ending_allowed form (Ending.Yields x))
+        where
+          none : (b : Bool) → None ≡ yielded (heads_into d (map Test.Occurs literals)) behind (cond b (Some x) None) None
+          none true = refl
+          none false = refl
+      go (Some x) (Some cs) = here (ending_allowed form (Ending.Yields x))
+        where
+          here : (b : Bool) → line_outcome d behind (cond b (Some (yields literals x cs)) None) ≡ yielded (heads_into d (map Test.Occurs literals)) behind (cond b (Some x) None) (Some cs)
+          here true = refl
+          here false = refl
 
   -- the heads that were read, against those of the line
   module _ {A : Type 0} (f : A → Test) (tail : List A → List Token → Option PolicyLine) (o : Option (Joined A)) where
@@ -116,10 +126,10 @@ module _ (d : Draft) (text : List ℕ) where
   constraint_yes e rest q =
       heads_yes d behind Test.Member constraint_after actions e rest (q ∙ actions_read) (λ e l ts. condition_outcome (end_as e (Some Ending.Never)) l (condition_from ts)) (λ j. never_parts d behind j.items j.rest)
 
-  pub rule_no : heads_read None ≡ heads_outcome d behind (joined (test_of false) (tokens_in text)) → line_outcome d behind (after rule_after literals) ≡ None
+  pub rule_no : (form : ℕ) → heads_read None ≡ heads_outcome d behind (joined (test_of false) (tokens_in text)) → line_outcome d behind (after (rule_for form) literals) ≡ None
   unfolding heads_read
-  rule_no q = heads_no d behind Test.Occurs rule_after literals (q ∙ literals_read)
+  rule_no form q = heads_no d behind Test.Occurs (rule_for form) literals (q ∙ literals_read)
 
-  pub rule_yes : (e : Draft) (rest : List ℕ) → heads_read (Some (e, rest)) ≡ heads_outcome d behind (joined (test_of false) (tokens_in text))
-      → line_outcome d behind (after rule_after literals) ≡ cause_outcome e (behind_line rest) (tokens_in rest)
-  rule_yes e rest q = heads_yes d behind Test.Occurs rule_after literals e rest (q ∙ literals_read) cause_outcome (λ j. rule_parts d behind j.items j.rest)
+  pub rule_yes : (form : ℕ) (e : Draft) (rest : List ℕ) → heads_read (Some (e, rest)) ≡ heads_outcome d behind (joined (test_of false) (tokens_in text))
+      → line_outcome d behind (after (rule_for form) literals) ≡ effect_outcome form e (behind_line rest) (tokens_in rest)
+  rule_yes form e rest q = heads_yes d behind Test.Occurs (rule_for form) literals e rest (q ∙ literals_read) (effect_outcome form) (λ j. rule_parts d behind form j.items j.rest)

@@ -10,17 +10,17 @@ use Rattle.syntax.specs.Walk.{lines_ahead, from_first, StandsAt, StandsAtFirst}
 use Rattle.syntax.specs.declared.text.Lines.{Lines}
 
 -- a line of a text is accepted
-pub first_accepted : (ls : List (List ℕ)) (n : ℕ) (text : List ℕ) (l : TextLine) (later : List (Result TextLine Refusal)) → lines_from n text ls ≡ Ok l ∷ later
-    → line_answer l.bytes ≡ Ok (Some l.line)
+pub first_accepted : (form : ℕ) (ls : List (List ℕ)) (n : ℕ) (text : List ℕ) (l : TextLine) (later : List (Result TextLine Refusal)) → lines_from form n text ls ≡ Ok l ∷ later
+    → line_answer form l.bytes ≡ Ok (Some l.line)
 unfolding lines_from before_later
-first_accepted [] n text l later e = let z : ⊥ = cc in absurd z
-first_accepted (bytes ∷ ls) n text l later e = go (line_answer bytes) refl (first_accepted ls (n + 1) (drop (suc (length bytes)) text) l later) e
+first_accepted form [] n text l later e = let z : ⊥ = cc in absurd z
+first_accepted form (bytes ∷ ls) n text l later e = go (line_answer form bytes) refl (first_accepted form ls (n + 1) (drop (suc (length bytes)) text) l later) e
   where
     behind : List (Result TextLine Refusal)
-    behind = lines_from (n + 1) (drop (suc (length bytes)) text) ls
+    behind = lines_from form (n + 1) (drop (suc (length bytes)) text) ls
 
-    go : (a : Result (Option PolicyLine) Fault) → line_answer bytes ≡ a → (behind ≡ Ok l ∷ later → line_answer l.bytes ≡ Ok (Some l.line)) → before_later n text bytes a behind ≡ Ok l ∷ later
-        → line_answer l.bytes ≡ Ok (Some l.line)
+    go : (a : Result (Option PolicyLine) Fault) → line_answer form bytes ≡ a → (behind ≡ Ok l ∷ later → line_answer form l.bytes ≡ Ok (Some l.line)) → before_later n text bytes a behind ≡ Ok l ∷ later
+        → line_answer form l.bytes ≡ Ok (Some l.line)
     go (Ok None) k deeper q = deeper q
     go (Ok (Some x)) k deeper q = let i : record { number = n; text = text; bytes = bytes; line = x } ≡ l = cc in rw (← i) k
     go (Err f) k deeper q = let z : ⊥ = cc in absurd z
@@ -33,7 +33,7 @@ pub record Advanced (before after : Lines) (text : List ℕ) : Type 0 where
   pub ahead : lines_ahead after ≡ later
   pub at : StandsAt after line
   pub from : text ≡ line.text
-  pub accepted : line_answer line.bytes ≡ Ok (Some line.line)
+  pub accepted : line_answer before.form line.bytes ≡ Ok (Some line.line)
   pub fewer : length (lines_ahead after) < length (lines_ahead before)
 
 pub advanced : (before after : Lines) (text : List ℕ) → Ok (Some text) ≡ from_first (lines_ahead before) → StandsAtFirst after (lines_ahead before)
@@ -51,7 +51,7 @@ advanced before after text = go (lines_ahead before) refl
           ahead = a;
           at = s;
           from = cc;
-          accepted = first_accepted _ _ _ l later e;
+          accepted = first_accepted _ _ _ _ l later e;
           fewer = omega (arith, ap length e, ap length a);
         }
 

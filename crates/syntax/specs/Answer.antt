@@ -14,6 +14,6 @@ next_line text = without_end (behind_line text)
 unfoldable pub line_result : List ℕ → Result (Option PolicyLine) Fault → Result (Option PolicyLine × List ℕ) Fault
 line_result rest answer = result_map_both (λ l. (l, rest)) (λ fault. fault) answer
 
--- the first line of a text
-unfoldable pub line_read : List ℕ → Result (Option PolicyLine × List ℕ) Fault
-line_read text = line_result (next_line text) (line_answer (first_line text))
+-- the first line of a text for a form
+unfoldable pub line_read : ℕ → List ℕ → Result (Option PolicyLine × List ℕ) Fault
+line_read form text = line_result (next_line text) (line_answer form (first_line text))

@@ -4,9 +4,10 @@ use Rattle.std.specs.Prelude.{List, [], ◌∷◌, Option, Some, None, option_ma
 use Rattle.policy.specs.Line.{PolicyLine, rule, constraint}
 use Rattle.policy.specs.declared.comparison.Comparison.{Comparison}
 use Rattle.policy.specs.declared.comparison.Literal.{Literal}
+use Rattle.policy.specs.declared.effect.Effect.{Effect}
 use Rattle.policy.specs.declared.number.Action.{Action}
 use Rattle.lexer.specs.Byte.{is}
-use Rattle.lexer.specs.Token.{Token, literal_of, action_of, both, comparison_of}
+use Rattle.lexer.specs.Token.{Token, literal_of, action_of, event_of, both, comparison_of}
 
 -- ---- the condition: `if` with one or more comparisons joined by `,`, or nothing
 
@@ -43,12 +44,17 @@ module _ {A : Type 0} (item : Token → Option A) where
 
 -- ---- the two shapes
 
-abbrev pub causes : List Literal → Action → List Comparison → PolicyLine
-causes literals action comparisons = rule (record { literals = literals; action = action; comparisons = comparisons })
+-- `causes` and an action, or `triggers` and an event
+unfoldable pub effect_from : Token → Token → Option Effect
+effect_from keyword t =
+    if is "causes" keyword then option_map Effect.Causes (action_of t) else (if is "triggers" keyword then option_map Effect.Triggers (event_of t) else None)
+
+abbrev pub yields : List Literal → Effect → List Comparison → PolicyLine
+yields literals effect comparisons = rule (record { literals = literals; effect = effect; comparisons = comparisons })
 
 -- what follows the literals of a rule
 unfoldable pub rule_after : List Literal → List Token → Option PolicyLine
-rule_after literals (t ∷ a ∷ ts) = if is "causes" t then both (causes literals) (action_of a) (condition_from ts) else None
+rule_after literals (keyword ∷ t ∷ ts) = both (yields literals) (effect_from keyword t) (condition_from ts)
 rule_after _ _ = None
 
 abbrev pub never : List Action → List Comparison → PolicyLine

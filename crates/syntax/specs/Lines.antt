@@ -21,10 +21,11 @@ before_later n text bytes (Ok (Some l)) later = Ok (record { number = n; text = 
 before_later n text bytes (Err f) later = Err (refusal f n) ∷ []
 
 -- lines, the first of which has this number, and the text that they are
-unfoldable pub lines_from : ℕ → List ℕ → List (List ℕ) → List (Result TextLine Refusal)
-lines_from n text [] = []
-lines_from n text (bytes ∷ lines) = before_later n text bytes (line_answer bytes) (lines_from (n + 1) (drop (suc (length bytes)) text) lines)
+unfoldable pub lines_from : (form : ℕ) → ℕ → List ℕ → List (List ℕ) → List (Result TextLine Refusal)
+lines_from form n text [] = []
+lines_from form n text (bytes ∷ lines) =
+    before_later n text bytes (line_answer form bytes) (lines_from form (n + 1) (drop (suc (length bytes)) text) lines)
 
--- all of a text: lines are counted from 1, skipped ones too
-abbrev pub lines_in : List ℕ → List (Result TextLine Refusal)
-lines_in text = lines_from 1 text (lines_of text)
+-- all of a text for a form: lines are counted from 1, skipped ones too
+abbrev pub lines_in : ℕ → List ℕ → List (Result TextLine Refusal)
+lines_in form text = lines_from form 1 text (lines_of text)

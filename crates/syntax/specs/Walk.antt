@@ -7,7 +7,7 @@ use Rattle.syntax.specs.declared.text.Lines.{Lines}
 
 -- the lines behind the one at which they stand
 abbrev pub lines_ahead : Lines → List (Result TextLine Refusal)
-lines_ahead lines = lines_from (lines.number + 1) lines.rest.now (lines_of lines.rest.now)
+lines_ahead lines = lines_from lines.form (lines.number + 1) lines.rest.now (lines_of lines.rest.now)
 
 -- the text from the first line on, none where there is no line, or the refusal of it
 abbrev pub from_first : List (Result TextLine Refusal) → Result (Option (List ℕ)) Refusal

@@ -3,6 +3,7 @@
 #![tactic(auto)]
 
 mod draft;
+mod effect;
 mod line;
 mod text;
 

@@ -3,20 +3,21 @@
 ghost use Rattle.std.specs.Prelude.{◌≡◌, false, option_map};
 ghost use Rattle.std.specs.Bool.{then_some};
 ghost use Rattle.std.specs.Result.{result_map_both};
-ghost use Rattle.policy.specs.Number.{check_action};
 ghost use Rattle.lexer.specs.Token.{literal_of, action_of};
 ghost use Rattle.lexer.specs.Steps.Scan.{token_in, tokens_in};
 ghost use Rattle.lexer.specs.Lines.{behind_line, without_end};
 ghost use Rattle.lexer.specs.Number.{is_empty};
 ghost use Rattle.token.specs.Steps.PartIn.{test_of};
 ghost use Rattle.syntax.specs.Answer.{line_read};
-ghost use Rattle.syntax.specs.Grammar.{joined, comparisons_from, condition_from, after, rule_after, constraint_after, line_from};
-ghost use Rattle.syntax.specs.Steps.Outcome.{heads_read, heads_outcome, condition_outcome, cause_outcome, line_outcome};
+ghost use Rattle.syntax.specs.Grammar.{joined, comparisons_from, condition_from, after, constraint_after, line_from};
+ghost use Rattle.syntax.specs.Judge.{line_for};
+ghost use Rattle.syntax.specs.Steps.Outcome.{heads_read, heads_outcome, condition_outcome, effect_outcome, rule_for, line_outcome};
 
 use crate::draft::Draft;
-use lexer::{action, at_token_end, keyword, skip_line, skip_spaces};
+use crate::effect::effect;
+use lexer::{at_token_end, keyword, skip_line, skip_spaces};
 use line_value::Line;
-use policy::{Action, Ending, Fault};
+use policy::{Effect, Ending, Fault};
 use token::{comparison, head};
 
 // The literals of a rule or the actions of a constraint, joined by `&`.
@@ -65,30 +66,29 @@ fn read_condition<'a>(draft: &mut Draft, text: &'a [u8]) -> Option<&'a [u8]>
     read_comparisons(draft, keyword(first, b"if")?)
 }
 
-// The ending of a rule for the action of a number; none where it is out of range.
-fn ending(n: u32) -> Option<Ending>
-    ensures { result ≡ option_map Ending.Causes (check_action n) }
+// The ending of a rule with an effect; none where there is no effect.
+fn ending(effect: Option<Effect>) -> Option<Ending>
+    ensures { result ≡ option_map Ending.Yields effect }
 {
-    Action::new(n).map(Ending::Causes)
+    effect.map(Ending::Yields)
 }
 
-// `causes`, the action and the condition of a rule whose literals were read.
-fn read_cause<'a>(draft: &mut Draft, text: &'a [u8]) -> Option<&'a [u8]>
+// The effect and the condition of a rule whose literals were read.
+fn read_effect<'a>(draft: &mut Draft, form: u8, text: &'a [u8]) -> Option<&'a [u8]>
     ensures { option_map (λ rest. (draft.new, rest.now)) result
-        ≡ cause_outcome draft.old (behind_line text.now) (tokens_in text.now) }
+        ≡ effect_outcome form draft.old (behind_line text.now) (tokens_in text.now) }
 {
-    let behind = keyword(skip_spaces(text), b"causes")?;
-    let (number, behind) = action(skip_spaces(behind))?;
-    draft.end_as(ending(number));
+    let (part, behind) = effect(skip_spaces(text), form)?;
+    draft.end_as(ending(part));
     read_condition(draft, behind)
 }
 
-fn read_rule<'a>(draft: &mut Draft, text: &'a [u8]) -> Option<&'a [u8]>
+fn read_rule<'a>(draft: &mut Draft, form: u8, text: &'a [u8]) -> Option<&'a [u8]>
     ensures { option_map (λ rest. (draft.new, rest.now)) result
-        ≡ line_outcome draft.old (behind_line text.now) (after rule_after (joined literal_of (tokens_in text.now))) }
+        ≡ line_outcome draft.old (behind_line text.now) (after (rule_for form) (joined literal_of (tokens_in text.now))) }
 {
     let behind = read_heads(draft, text, false)?;
-    read_cause(draft, behind)
+    read_effect(draft, form, behind)
 }
 
 fn read_constraint<'a>(draft: &mut Draft, text: &'a [u8]) -> Option<&'a [u8]>
@@ -101,14 +101,14 @@ fn read_constraint<'a>(draft: &mut Draft, text: &'a [u8]) -> Option<&'a [u8]>
 }
 
 // The line whose first token stands in front.
-fn read_parts<'a>(draft: &mut Draft, text: &'a [u8]) -> Option<&'a [u8]>
+fn read_parts<'a>(draft: &mut Draft, form: u8, text: &'a [u8]) -> Option<&'a [u8]>
     requires { is_empty (token_in text.now) ≡ false }
     ensures { option_map (λ rest. (draft.new, rest.now)) result
-        ≡ line_outcome draft.old (behind_line text.now) (line_from (tokens_in text.now)) }
+        ≡ line_outcome draft.old (behind_line text.now) (line_for form (line_from (tokens_in text.now))) }
 {
     match keyword(text, b"never") {
         Some(behind) => read_constraint(draft, behind),
-        None => read_rule(draft, text),
+        None => read_rule(draft, form, text),
     }
 }
 
@@ -122,9 +122,13 @@ fn without_end(text: &[u8]) -> &[u8]
     }
 }
 
-/// The first line of a text, put in the place lent for it: whether it is a line, or skipped, and what stands behind the line and its end.
-pub(crate) fn read_line<'a>(text: &'a [u8], line: &mut Line) -> Result<(bool, &'a [u8]), Fault>
-    ensures { result_map_both (λ r. (then_some r.0 line.new, r.1.now)) (λ fault. fault) result ≡ line_read text.now }
+/// The first line of a text for images of a form, put in the place lent for it: whether it is a line, or skipped, and what stands behind the line and its end.
+pub(crate) fn read_line<'a>(
+    form: u8,
+    text: &'a [u8],
+    line: &mut Line,
+) -> Result<(bool, &'a [u8]), Fault>
+    ensures { result_map_both (λ r. (then_some r.0 line.new, r.1.now)) (λ fault. fault) result ≡ line_read form text.now }
 {
     let first = skip_spaces(text);
     if at_token_end(first) {
@@ -134,8 +138,8 @@ pub(crate) fn read_line<'a>(text: &'a [u8], line: &mut Line) -> Result<(bool, &'
         return Ok((false, without_end(skip_line(first))));
     }
     let mut draft = Draft::new();
-    let behind = read_parts(&mut draft, first).ok_or(Fault::Syntax)?;
+    let behind = read_parts(&mut draft, form, first).ok_or(Fault::Syntax)?;
     draft.judged()?;
-    *line = Line::new(draft.heads, draft.comparisons, draft.ending);
+    line.fill(draft.heads, draft.comparisons, draft.ending);
     Ok((true, without_end(behind)))
 }

@@ -12,6 +12,7 @@ use policy::{Ending, Refusal};
 pub struct Lines<'t> {
     // Behind the line.
     rest: &'t [u8],
+    form: u8,
     number: usize,
     line: Line,
     ghost counted: { number + length rest.now < 2 ^ 63 },
@@ -21,13 +22,14 @@ impl<'t> Lines<'t> {
     ghost use Rattle.syntax.specs.Lines.{lines_in};
     ghost use Rattle.syntax.specs.Walk.{lines_ahead, from_first, StandsAtFirst};
 
-    /// Before the first line of a text.
+    /// Before the first line of a text for images of the form.
     #[inline(always)]
-    pub fn new(text: &'t [u8]) -> Lines<'t>
-        ensures { lines_ahead result ≡ lines_in text.now }
+    pub fn new(form: u8, text: &'t [u8]) -> Lines<'t>
+        ensures { lines_ahead result ≡ lines_in form text.now }
     {
         Lines {
             rest: text,
+            form,
             number: 0,
             line: Line::new(Tests::new(), Comparisons::new(), Ending::Never),
         }
@@ -43,7 +45,7 @@ impl<'t> Lines<'t> {
         while !self.rest.is_empty() {
             let text = self.rest;
             self.number += 1;
-            match read_line(text, &mut self.line) {
+            match read_line(self.form, text, &mut self.line) {
                 Ok((is_line, behind)) => {
                     self.rest = behind;
                     if is_line {

@@ -2,6 +2,7 @@
 //! first byte says what it is: `T` a rule text, any other an epoch line.
 #![tactic(auto)]
 
+use policy::TRIGGER_FORM;
 use rule_text::LineCounts;
 use std::io;
 use std::io::{BufWriter, Read, Write};
@@ -19,7 +20,7 @@ fn words(counts: LineCounts) -> usize {
 }
 
 fn show_text<W: Write>(out: &mut W, text: &[u8]) -> io::Result<()> {
-    match rule_text::read_text(text) {
+    match rule_text::read_text(TRIGGER_FORM, text) {
         Err(refusal) => {
             let number = refusal.fault.number();
             let line = refusal.location;

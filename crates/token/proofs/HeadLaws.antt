@@ -11,26 +11,25 @@ use Rattle.lexer.specs.Steps.Scan.{in_token, token_in, behind_token, clipped_bef
 use Rattle.token.proofs.PartLaws.{below, below_clipped, map_map, mapped}
 use Rattle.token.specs.Steps.PartIn.{kept_before, test_in_range, test_of, literal_with, occurs_in, head_in}
 
--- a test of a number, read from a clipped number as from the number
-module _ (f : ℕ → Test) (t : (n : ℕ) → test_number (f n) ≡ n) (made : ℕ → Option Test) (same : (n : ℕ) → made n ≡ below 64 (omega arith) f n) (rest : List ℕ) where
-  test_by_number : (o : Option ℕ) → option_map (kept_before test_in_range rest) (option_map f o) ≡ option_map (λ (r : ℕ × List ℕ). (made r.0, r.1)) (option_map (clipped_before rest) o)
-  unfolding test_in_range
-  test_by_number None = refl
-  test_by_number (Some n) = rw (t n) (ap (λ (m : Option Test). Some (m, rest)) (sym (same _ ∙ below_clipped 64 (omega arith) f n)))
+-- a part of a number, read from a clipped number as from the number
+module _ {A : Type 0} (ok : A → Bool) (f : ℕ → A) (small : (n : ℕ) → ok (f n) ≡ ltb n 64) (made : ℕ → Option A) (same : (n : ℕ) → made n ≡ below 64 (omega arith) f n) (rest : List ℕ) where
+  pub part_by_number : (o : Option ℕ) → option_map (kept_before ok rest) (option_map f o) ≡ option_map (λ (r : ℕ × List ℕ). (made r.0, r.1)) (option_map (clipped_before rest) o)
+  part_by_number None = refl
+  part_by_number (Some n) = rw (small n) (ap (λ (m : Option A). Some (m, rest)) (sym (same _ ∙ below_clipped 64 (omega arith) f n)))
 
 abbrev member : ℕ → Test
 member n = Test.Member (record { 0 = n })
 
-member_number : (n : ℕ) → test_number (member n) ≡ n
-unfolding test_number
-member_number n = refl
+member_small : (n : ℕ) → test_in_range (member n) ≡ ltb n 64
+unfolding test_in_range test_number
+member_small n = refl
 
 abbrev literal : Bool → ℕ → Test
 literal negated n = Test.Occurs (literal_as negated n)
 
-literal_number : (negated : Bool) (n : ℕ) → test_number (literal negated n) ≡ n
-unfolding test_number
-literal_number negated n = refl
+literal_small : (negated : Bool) (n : ℕ) → test_in_range (literal negated n) ≡ ltb n 64
+unfolding test_in_range test_number
+literal_small negated n = refl
 
 literal_below : (negated : Bool) (n : ℕ) → literal_with negated (check_event n) ≡ below 64 (omega arith) (literal negated) n
 unfolding literal_with
@@ -44,11 +43,11 @@ pub member_by_name : (text : List ℕ) → head_in text true ≡ option_map (λ 
 unfolding head_in test_of action_of name_in
 member_by_name text =
     ap (option_map (kept_before test_in_range (behind_token text))) (map_map (λ (n : ℕ). record { 0 = n }) Test.Member (named 65 (token_in text)))
-    ∙ test_by_number member member_number (λ (n : ℕ). option_map Test.Member (check_action n)) (λ n. mapped Test.Member (ltb n 64) (record { 0 = n })) (behind_token text) (named 65 (token_in text))
+    ∙ part_by_number test_in_range member member_small (λ (n : ℕ). option_map Test.Member (check_action n)) (λ n. mapped Test.Member (ltb n 64) (record { 0 = n })) (behind_token text) (named 65 (token_in text))
 
 pub occurs_by_name : (text : List ℕ) (negated : Bool) → occurs_in text negated ≡ option_map (λ (r : ℕ × List ℕ). (literal_with negated (check_event r.0), r.1)) (event_in text)
 unfolding occurs_in name_in
-occurs_by_name text negated = test_by_number (literal negated) (literal_number negated) (λ (n : ℕ). literal_with negated (check_event n)) (literal_below negated) (behind_token text) (named 69 (token_in text))
+occurs_by_name text negated = part_by_number test_in_range (literal negated) (literal_small negated) (λ (n : ℕ). literal_with negated (check_event n)) (literal_below negated) (behind_token text) (named 69 (token_in text))
 
 abbrev pub starts_not : List ℕ → Bool
 starts_not [] = false

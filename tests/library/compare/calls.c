@@ -188,7 +188,8 @@ struct verdict compare_check(const uint8_t *image, size_t length)
 bool agree(struct kinohazel_decision answer, struct decision wanted)
 {
     return answer.fault == (uint64_t)wanted.verdict.fault && answer.word == wanted.verdict.location
-        && answer.accepted == wanted.accepted && answer.cancelled == wanted.cancelled && answer.visited == wanted.visited;
+        && answer.accepted == wanted.accepted && answer.cancelled == wanted.cancelled && answer.triggered == wanted.triggered
+        && answer.visited == wanted.visited;
 }
 
 static bool all_readings(const struct epoch *epoch)
@@ -231,11 +232,10 @@ static void count_extremes(struct decision decision, const uint8_t *line, size_t
 
 /* Whether the decision would be another if missing readings were 0: by what the rules propose, and by what the never lines cancel
    of that. */
-static void count_missing(const struct policy *policy, struct decision decision, const uint8_t *line, size_t length)
+static void count_missing(const struct policy *policy, struct decision decision, const struct epoch *epoch)
 {
     action_set candidates = decision.accepted | decision.cancelled;
-    struct epoch zeros;
-    read_epoch(line, length, &zeros);
+    struct epoch zeros = *epoch;
     zeros.given = (UINT64_C(1) << READINGS) - 1;
     tally.missing[0] += proposed(policy, &zeros) != candidates;
     tally.missing[1] += accepted(policy, &zeros, candidates) != decision.accepted;
@@ -258,33 +258,44 @@ static void count_words(struct visits visits, struct decision decision, const ui
 }
 
 /* The words of a decision that is not refused are those of the policy. */
-static void compare_words(const struct policy *policy, struct decision decision, const uint8_t *image, const uint8_t *line,
-    size_t length, enum mode mode)
+static void compare_words(const struct policy *policy, struct decision decision, const struct epoch *epoch, const uint8_t *image,
+    enum mode mode)
 {
-    struct epoch epoch;
-    struct visits visits;
-    read_epoch(line, length, &epoch);
-    visits = visits_by_policy(policy, &epoch, mode);
+    struct visits visits = visits_by_policy(policy, epoch, mode);
     if (decision.visited != visits.words)
-        fail_on("reference", "the words visited are not those of the policy", line, length);
+        fail("reference", "the words visited are not those of the policy");
     if (mode == CANCEL_ACTIONS)
         count_words(visits, decision, image);
     else
-        count_droppings(policy, &epoch, decision, visits);
+        count_droppings(policy, epoch, decision, visits);
+}
+
+/* What a decision that is not refused shows, by the policy. */
+static void count_decision(const struct policy *policy, struct decision decision, event_set pending, const uint8_t *image,
+    const uint8_t *line, size_t length, enum mode mode)
+{
+    struct epoch epoch;
+    read_next_epoch(policy, pending, line, length, &epoch);
+    if (mode == CANCEL_ACTIONS)
+        count_missing(policy, decision, &epoch);
+    compare_words(policy, decision, &epoch, image, mode);
+    count_remembered(policy, pending, &epoch, line, length, decision, mode);
 }
 
 const struct decider deciders[MODES] = {
-    [CANCEL_ACTIONS] = {"kinohazel_decide", kinohazel_decide}, [CANCEL_EVENTS] = {"kinohazel_decide_events", kinohazel_decide_events}};
+    [CANCEL_ACTIONS] = {"kinohazel_decide", "kinohazel_step", kinohazel_decide, kinohazel_step},
+    [CANCEL_EVENTS] = {"kinohazel_decide_events", "kinohazel_step_events", kinohazel_decide_events, kinohazel_step_events}};
 
 static void fail_on_decision(const char *name, struct kinohazel_decision answer, struct decision wanted, const uint8_t *image,
-    size_t length, const uint8_t *line, size_t line_length)
+    size_t length, event_set pending, const uint8_t *line, size_t line_length)
 {
-    char what[300];
+    char what[400];
     sprintf(what,
-        "fault %" PRIu64 " word %" PRIu64 " sets %" PRIX64 " %" PRIX64 " visited %" PRIu64 ", expected %d, %lu, %" PRIX64 " %" PRIX64
-        ", %lu",
-        answer.fault, answer.word, answer.accepted, answer.cancelled, answer.visited, (int)wanted.verdict.fault,
-        (unsigned long)wanted.verdict.location, wanted.accepted, wanted.cancelled, (unsigned long)wanted.visited);
+        "pending %" PRIX64 ", fault %" PRIu64 " word %" PRIu64 " sets %" PRIX64 " %" PRIX64 " %" PRIX64 " visited %" PRIu64
+        ", expected %d, %lu, %" PRIX64 " %" PRIX64 " %" PRIX64 ", %lu",
+        pending, answer.fault, answer.word, answer.accepted, answer.cancelled, answer.triggered, answer.visited,
+        (int)wanted.verdict.fault, (unsigned long)wanted.verdict.location, wanted.accepted, wanted.cancelled, wanted.triggered,
+        (unsigned long)wanted.visited);
     describe(name, what);
     print_bytes("image", image, length);
     print_bytes("line", line, line_length);
@@ -293,23 +304,23 @@ static void fail_on_decision(const char *name, struct kinohazel_decision answer,
 }
 
 /* What is known of an answer without the reference's words. */
-static void check_answer(struct kinohazel_decision answer, const uint8_t *image, const uint8_t *line, size_t length,
+static void check_answer(struct kinohazel_decision answer, const uint8_t *image, event_set pending, const uint8_t *line, size_t length,
     const struct policy *policy, enum mode mode)
 {
     const char *name = deciders[mode].name;
     struct decision plain;
     struct epoch epoch;
-    if (answer.fault != KINOHAZEL_OK && (answer.accepted | answer.cancelled | answer.visited) != 0)
+    if (answer.fault != KINOHAZEL_OK && (answer.accepted | answer.cancelled | answer.triggered | answer.visited) != 0)
         fail_on(name, "sets or words on a refusal", line, length);
     if (answer.fault == KINOHAZEL_OK && answer.visited > visit_limit(image, mode))
         fail_on(name, "over P + 64 * N words, or 65 * (P + N)", line, length);
     if (policy == NULL)
         return;
-    plain = decide_by_policy(policy, line, length, mode);
+    plain = decide_by_policy(policy, pending, line, length, mode);
     plain.visited = (size_t)answer.visited; /* the plain machine counts none */
     if (!agree(answer, plain))
         fail_on(name, "the plain machine answers differently", line, length);
-    if (read_epoch(line, length, &epoch).fault != FAULT_NONE)
+    if (read_next_epoch(policy, pending, line, length, &epoch).fault != FAULT_NONE)
         return;
     if (mode == CANCEL_ACTIONS)
         check_choices(policy, &epoch, answer.accepted);
@@ -317,28 +328,47 @@ static void check_answer(struct kinohazel_decision answer, const uint8_t *image,
         check_reductions(policy, &epoch, answer);
 }
 
-struct decision compare_mode(const uint8_t *image, size_t length, const uint8_t *line, size_t line_length,
+/* The step of a state with these pending events: the answer is that of the decision, and the state is as it has to be after it. */
+static void compare_step(struct decision wanted, const uint8_t *image, size_t length, event_set pending, const uint8_t *line,
+    size_t line_length, enum mode mode)
+{
+    const char *name = deciders[mode].step_name;
+    struct kinohazel_state *state = lend_state(pending);
+    struct kinohazel_decision answer;
+    start_call(false);
+    answer = deciders[mode].step(image, length, state, line, line_length);
+    end_call();
+    if (!agree(answer, wanted))
+        fail_on_decision(name, answer, wanted, image, length, pending, line, line_length);
+    if (state->pending != pending_after(pending, wanted) || !is_state_alone())
+        fail_on(name, "the state is not as it has to be after the line, or what lies before it was changed", line, line_length);
+    count_step(pending, wanted, mode);
+    tally.step_nulls[mode][nulls(image, line)]++;
+    tally.comparisons++;
+}
+
+struct decision compare_mode(const uint8_t *image, size_t length, event_set pending, const uint8_t *line, size_t line_length,
     const struct policy *policy, enum mode mode)
 {
+    static unsigned long turn;
     const char *name = deciders[mode].name;
-    struct decision wanted = decide(image, length, line, line_length, mode);
+    struct decision wanted = decide(image, length, pending, line, line_length, mode);
     struct kinohazel_decision answer;
     const uint8_t *lent = lend(text_pen, image, length), *lent_line = lend(line_pen, line, line_length);
     start_call(false);
-    answer = deciders[mode].library(lent, length, lent_line, line_length);
+    answer = deciders[mode].library(lent, length, pending, lent_line, line_length);
     end_call();
     if (!agree(answer, wanted))
-        fail_on_decision(name, answer, wanted, image, length, line, line_length);
-    check_answer(answer, image, line, line_length, policy, mode);
+        fail_on_decision(name, answer, wanted, image, length, pending, line, line_length);
+    check_answer(answer, image, pending, line, line_length, policy, mode);
+    if (turn++ % 3 == 0) /* of both modes */
+        compare_step(wanted, lent, length, pending, lent_line, line_length, mode);
     if (!same(lent, image, length) || !same(lent_line, line, line_length))
         fail_on(name, "the image or the line was changed", line, line_length);
     if (wanted.verdict.fault == FAULT_NONE && mode == CANCEL_ACTIONS)
         count_extremes(wanted, line, line_length);
-    if (wanted.verdict.fault == FAULT_NONE && policy != NULL) {
-        if (mode == CANCEL_ACTIONS)
-            count_missing(policy, wanted, line, line_length);
-        compare_words(policy, wanted, image, line, line_length, mode);
-    }
+    if (wanted.verdict.fault == FAULT_NONE && policy != NULL)
+        count_decision(policy, wanted, pending, image, line, line_length, mode);
     tally.decide[mode][wanted.verdict.fault]++;
     tally.decide_nulls[mode][nulls(lent, lent_line)]++;
     tally.accepting[mode] += wanted.accepted != 0;
@@ -347,11 +377,11 @@ struct decision compare_mode(const uint8_t *image, size_t length, const uint8_t 
     return wanted;
 }
 
-struct decision compare_decide(
-    const uint8_t *image, size_t length, const uint8_t *line, size_t line_length, const struct policy *policy)
+struct decision compare_decide(const uint8_t *image, size_t length, event_set pending, const uint8_t *line, size_t line_length,
+    const struct policy *policy)
 {
-    compare_mode(image, length, line, line_length, policy, CANCEL_EVENTS);
-    return compare_mode(image, length, line, line_length, policy, CANCEL_ACTIONS);
+    compare_mode(image, length, pending, line, line_length, policy, CANCEL_EVENTS);
+    return compare_mode(image, length, pending, line, line_length, policy, CANCEL_ACTIONS);
 }
 
 bool agree_why(struct kinohazel_explanation answer, struct explanation wanted)
@@ -371,24 +401,24 @@ static void count_explanation(struct explanation wanted, const uint8_t *line, si
         && read_epoch(line, length, &epoch).fault == FAULT_NONE;
 }
 
-struct explanation compare_explain(
-    struct texts texts, const struct policy *policy, const uint8_t *line, size_t length, uint64_t action)
+struct explanation compare_explain(struct texts texts, const struct policy *policy, event_set pending, const uint8_t *line,
+    size_t length, uint64_t action)
 {
     static const char name[] = "kinohazel_explain";
     char what[500];
     struct explanation wanted =
-        policy == NULL ? explain(texts, line, length, action) : explain_by_policy(policy, line, length, action);
+        policy == NULL ? explain(texts, pending, line, length, action) : explain_by_policy(policy, pending, line, length, action);
     const uint8_t *maker = lend(text_pen, texts.maker.bytes, texts.maker.length),
                   *site = lend(site_pen, texts.site.bytes, texts.site.length), *lent_line = lend(line_pen, line, length);
     struct kinohazel_explanation answer;
     start_call(false);
-    answer = kinohazel_explain(maker, texts.maker.length, site, texts.site.length, lent_line, length, action);
+    answer = kinohazel_explain(maker, texts.maker.length, site, texts.site.length, pending, lent_line, length, action);
     end_call();
     if (!agree_why(answer, wanted)) {
         sprintf(what,
-            "action %" PRIu64 ", fault %" PRIu64 " text %" PRIu64 " line %" PRIu64 " outcome %" PRIu64 " part %" PRIu64 " %" PRIu64
-            " %" PRIu64 ", expected %d, %d, %lu, %d, %d %lu %lu",
-            action, answer.fault, answer.text, answer.line, answer.outcome, answer.part_text, answer.part_start,
+            "pending %" PRIX64 ", action %" PRIu64 ", fault %" PRIu64 " text %" PRIu64 " line %" PRIu64 " outcome %" PRIu64
+            " part %" PRIu64 " %" PRIu64 " %" PRIu64 ", expected %d, %d, %lu, %d, %d %lu %lu",
+            pending, action, answer.fault, answer.text, answer.line, answer.outcome, answer.part_text, answer.part_start,
             answer.part_length, (int)wanted.verdict.fault, (int)wanted.verdict.text, (unsigned long)wanted.verdict.location,
             (int)wanted.outcome, (int)wanted.shown.text, (unsigned long)wanted.shown.start, (unsigned long)wanted.shown.length);
         describe(name, what);

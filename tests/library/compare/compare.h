@@ -75,7 +75,7 @@ enum dropping {
     DROPPINGS
 };
 
-/* Damages of images in form 2, each refused as it has to be. */
+/* Damages of images in a form with a weighted word, each refused as it has to be. */
 enum damage_of_form_2 {
     SWAP_AT_START, /* words 0 and 1 exchanged: refused under 8 */
     SWAP_BEHIND,   /* two later words before the weighted one: 16 */
@@ -96,21 +96,38 @@ enum counted {
     COUNTED
 };
 
+/* Decisions that show what is remembered from one epoch to the next. */
+enum remembering {
+    ONE_TRIGGERED, /* an event is triggered */
+    ALL_TRIGGERED, /* 64 events */
+    OCCURS,        /* the answer would be another if nothing were pending */
+    NAMED_TOO,     /* a pending event is named as well */
+    WITH_CANCELLED, /* an action is cancelled, and an event is triggered */
+    NOT_TRIGGERED, /* a dropped event would have triggered another one */
+    PENDING_DROPPED, /* a pending event is dropped */
+    KEPT_PENDING,  /* a step is refused, and events stay pending */
+    FORGOTTEN,     /* a pending event is not pending after a step */
+    AGAIN,         /* one is pending again, since it was triggered again */
+    REMEMBERINGS
+};
+
 /* What was met. Locations of fault 11: the first line of the rules, a later one, and the same of the constraints. Nulls: 1 if the
    first area of a call is null, 2 more if the second one is, and 4 more if the third one is. */
 struct tally {
     unsigned long comparisons, compile[FAULTS], check[FAULTS], text[FAULTS], decide[MODES][FAULTS];
     unsigned long check_locations[4], text_locations[4], flaws[2][FLAWS], accepting[MODES], cancelling[MODES];
     unsigned long extremes[EXTREMES], choosings[CHOOSINGS], droppings[DROPPINGS];
-    unsigned long compile_nulls[4], check_nulls[4], text_nulls[4], decide_nulls[MODES][4], lines_in_images[MODES];
+    unsigned long remembered[MODES][REMEMBERINGS], steps[MODES][FAULTS], sessions;
+    unsigned long compile_nulls[4], check_nulls[4], text_nulls[4], decide_nulls[MODES][4], step_nulls[MODES][4];
+    unsigned long lines_in_images[MODES];
     unsigned long missing[2]; /* proposals, and cancellations, that would be others if missing readings were 0 */
     unsigned long counted[COUNTED];
     unsigned long patterns[2]; /* accepted texts, and epoch lines, that have 0x behind a space or an equals sign */
     unsigned long texts[FAULTS][OWNERS], explain[FAULTS][OWNERS]; /* refusals by the text at fault */
     unsigned long outcomes[OUTCOMES][OWNERS], over; /* by the text of the part; actions over 63 as the only fault */
-    unsigned long taken[NEWEST_FORM + 1], form_2[DAMAGES_OF_FORM_2]; /* images accepted by their form */
+    unsigned long taken[LAST_FORM + 1], form_2[DAMAGES_OF_FORM_2]; /* images accepted by their form */
     unsigned long texts_nulls[8], explain_nulls[8], overlapping;
-    unsigned long written, empty, longest; /* texts that compile to their image again; those of 0 and of 27,968 bytes */
+    unsigned long written, empty, longest; /* texts that compile to their image again; those of 0 and of 28,224 bytes */
 };
 
 extern struct tally tally;
@@ -157,6 +174,12 @@ void make_pattern(struct dice *dice);
 /* A copy of the bytes, mostly at the end of the pen, else near it or at the start. */
 const uint8_t *lend(struct pen pen, const uint8_t *bytes, size_t length);
 
+/* A state with these events, between two pages that cannot be touched; it alone can be written to in every call. */
+struct kinohazel_state *lend_state(event_set pending);
+
+/* Whether the bytes before the state are as they were. */
+bool is_state_alone(void);
+
 /* Before and after a call: nothing but the buffer, and that only by a call that fills it, can be written to during the call. One
    call of 499 is made so, since it takes long. */
 void start_call(bool filling);
@@ -181,26 +204,27 @@ struct verdict compare_compile(const uint8_t *text, size_t length, size_t room);
 struct verdict compare_text(const uint8_t *image, size_t length, size_t room);
 struct verdict compare_check(const uint8_t *image, size_t length);
 
-/* A decision in one mode, and in both; the answer of the first mode is returned then. The policy, if there is one, is that of the text
-   the image was compiled from. */
-struct decision compare_mode(const uint8_t *image, size_t length, const uint8_t *line, size_t line_length,
+/* A decision in one mode where these events are pending, and in both; the answer of the first mode is returned then. Every third one is
+   made by a step of a state too. The policy, if there is one, is that of the text the image was compiled from. */
+struct decision compare_mode(const uint8_t *image, size_t length, event_set pending, const uint8_t *line, size_t line_length,
     const struct policy *policy, enum mode mode);
-struct decision compare_decide(const uint8_t *image, size_t length, const uint8_t *line, size_t line_length,
+struct decision compare_decide(const uint8_t *image, size_t length, event_set pending, const uint8_t *line, size_t line_length,
     const struct policy *policy);
 bool agree(struct kinohazel_decision answer, struct decision wanted);
 
-/* The function of each mode. */
+/* The functions of each mode. */
 struct decider {
-    const char *name;
-    struct kinohazel_decision (*library)(const uint8_t *, size_t, const uint8_t *, size_t);
+    const char *name, *step_name;
+    struct kinohazel_decision (*library)(const uint8_t *, size_t, uint64_t, const uint8_t *, size_t);
+    struct kinohazel_decision (*step)(const uint8_t *, size_t, struct kinohazel_state *, const uint8_t *, size_t);
 };
 
 extern const struct decider deciders[MODES];
 
 /* Two texts, and why an action is issued or not by them. The policy, if there is one, is theirs. */
 struct verdict compare_texts(struct texts texts, size_t room);
-struct explanation compare_explain(
-    struct texts texts, const struct policy *policy, const uint8_t *line, size_t length, uint64_t action);
+struct explanation compare_explain(struct texts texts, const struct policy *policy, event_set pending, const uint8_t *line,
+    size_t length, uint64_t action);
 bool agree_why(struct kinohazel_explanation answer, struct explanation wanted);
 
 /* texts.c */
@@ -271,8 +295,9 @@ struct subject {
 
 void make_subject(struct subject *subject, const void *text, size_t length);
 
-/* A line on a subject, in both modes; the answer of the first is returned. */
+/* A line on a subject, in both modes, where nothing or these events are pending; the answer of the first is returned. */
 struct decision compare_line(const struct subject *subject, const void *line, size_t length);
+struct decision compare_line_after(const struct subject *subject, event_set pending, const void *line, size_t length);
 
 /* A subject whose text is compared too, and a line on it that has these sets. */
 void begin(struct subject *subject, const struct buffer *text);
@@ -310,6 +335,22 @@ void compare_clashing(struct buffer *text, struct buffer *line, struct dice *dic
 
 /* Epochs with known answers, and decisions that take all there can be. */
 void compare_events(struct buffer *text, struct buffer *line);
+
+/* triggers.c: what is remembered from one epoch to the next. */
+
+/* What a decision that is not refused shows of that, and a step. */
+void count_remembered(const struct policy *policy, event_set pending, const struct epoch *epoch, const uint8_t *line, size_t length,
+    struct decision decision, enum mode mode);
+void count_step(event_set pending, struct decision decision, enum mode mode);
+
+/* A few events, or none. */
+event_set any_pending(struct dice *dice);
+
+/* The epoch lines of an input from `at` on, one after the other on one state, each in a mode by chance, against the plain machine. */
+void compare_session(const struct subject *subject, const struct buffer *input, size_t at, struct dice *dice);
+
+/* Lines that trigger events: in the forms that have them, in those that have not, and sessions with known answers. */
+void compare_triggers(struct buffer *text, struct buffer *line, struct dice *dice);
 
 /* each.c */
 

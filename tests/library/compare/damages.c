@@ -25,9 +25,9 @@ void compare_damaged(const uint8_t *image, size_t length, struct dice *dice)
     static uint8_t blanks[EPOCH_BYTES + 1];
     const char *line = CHOOSE(dice, lines);
     if (chance(dice, 100))
-        compare_decide(image, length, memset(blanks, ' ', sizeof blanks), sizeof blanks, NULL);
+        compare_decide(image, length, any_pending(dice), memset(blanks, ' ', sizeof blanks), sizeof blanks, NULL);
     else
-        compare_decide(image, length, (const uint8_t *)line, strlen(line), NULL);
+        compare_decide(image, length, any_pending(dice), (const uint8_t *)line, strlen(line), NULL);
     compare_text(image, length, CHOOSE(dice, rooms));
 }
 
@@ -88,7 +88,8 @@ static void flip_bits(uint8_t *image, size_t length, struct dice *dice, unsigned
         }
 }
 
-/* Words `i` and `i + 1` were exchanged in form 2. Nothing is said of the last word before the check words and the weighted one. */
+/* Words `i` and `i + 1` were exchanged in a form with a weighted word. Nothing is said of the last word before the check words and
+   the weighted one. */
 static void expect_swap_fault(const uint8_t *image, size_t length, size_t i, struct verdict verdict)
 {
     size_t weighted = length / WORD_BYTES - CHECK_WORDS;
@@ -202,7 +203,7 @@ static void damage_several(uint8_t *image, size_t length, struct dice *dice)
     if (chance(dice, 400)) /* in the counts */
         image[bit / 8] ^= (uint8_t)(1 << bit % 8);
     if (chance(dice, 250))
-        image[0] = (uint8_t)below(dice, 4);
+        image[0] = (uint8_t)below(dice, LAST_FORM + 2);
     if (chance(dice, 300))
         size = length + below(dice, 12) - 4;
     if (chance(dice, 700))

@@ -5,11 +5,14 @@
 
 void compare_each_byte(struct buffer *input)
 {
-    static const char text[] = "E1 & !E2 causes A3 if R0 > 40 , R1 != R15\nE3 causes A4\n# \nnever A3 & A4 if R0 <= -7",
+    static const char causing[] = "E1 & !E2 causes A3 if R0 > 40 , R1 != R15\nE3 causes A4\n# \nnever A3 & A4 if R0 <= -7",
+                      triggering[] = "E1 & !E2 triggers E9 if R0 > 40 , R1 != R15\nE3 causes A4\nE9 causes A3\nnever A3 & A4",
                       line[] = "E1 E3 R0=41  R15=-9";
     static uint8_t changed[IMAGE_BYTES];
     static struct subject subject;
-    const size_t text_length = sizeof text - 1, line_length = sizeof line - 1;
+    const char *text = current_form < TRIGGER_FORM ? causing : triggering;
+    const size_t text_length = strlen(text), line_length = sizeof line - 1;
+    const event_set pending = UINT64_C(1) << 9;
     size_t at, size;
     unsigned byte, inserted;
     step = "every byte";
@@ -28,7 +31,7 @@ void compare_each_byte(struct buffer *input)
                 input->length = 0;
                 add(input, line);
                 splice(input, at, at + !inserted, &one, 1);
-                compare_line(&subject, input->bytes, input->length);
+                compare_line_after(&subject, pending, input->bytes, input->length);
             }
         }
         for (at = 0; at < size; at++) {
@@ -39,7 +42,7 @@ void compare_each_byte(struct buffer *input)
             compare_check(changed, size);
             put_check_words(changed, size / WORD_BYTES, changed[0]);
             compare_check(changed, size);
-            compare_decide(changed, size, (const uint8_t *)line, line_length, NULL);
+            compare_decide(changed, size, pending, (const uint8_t *)line, line_length, NULL);
             compare_text(changed, size, text_length + 8);
         }
     }
@@ -61,7 +64,8 @@ void compare_each_number(struct buffer *input, struct buffer *work, struct dice 
 {
     static const char *const texts[] = {"E$ & E$ causes A0", "E$ & !E$ causes A0", "!E$ & E0 & !E$ causes A0",
         "never A$ & A$", "never A$ & A0 & A$", "E0 causes A0 if R$ = R$", "E0 causes A0 if R0 >= R$", "E$ causes A$",
-        "E70 & !E$ causes A$ if R$ < $", "E1 causes A2\nE1 causes A$\nE$ causes A3\nnever A$ & A2 if R0 = 0\n"};
+        "E70 & !E$ causes A$ if R$ < $", "E1 causes A2\nE1 causes A$\nE$ causes A3\nnever A$ & A2 if R0 = 0\n", "E1 triggers E$",
+        "E$ triggers E0\nE0 causes A$", "!E$ triggers E$ if R$ = 0\nE$ causes A1"};
     static const char *const lines[] = {
         "E$", "E1", "E1 R0=1", "E1 E$", "R$=0", "R$=1 E1", "R$=1 R$=1", "R$=1 R0=$", "E$ E$"};
     static struct subject subject;
@@ -78,6 +82,7 @@ void compare_each_number(struct buffer *input, struct buffer *work, struct dice 
             for (k = 0; k < COUNT(lines); k++) {
                 fill_in(work, lines[k], number);
                 compare_line(&subject, work->bytes, work->length);
+                compare_line_after(&subject, UINT64_C(1) << number % EVENTS, work->bytes, work->length);
             }
         }
         if (number < 64)

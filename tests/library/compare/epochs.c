@@ -7,12 +7,17 @@ void make_subject(struct subject *subject, const void *text, size_t length)
 {
     if (compile(current_form, text, length, subject->image, IMAGE_BYTES, &subject->size).fault != FAULT_NONE)
         fail_on("reference", "a text is refused", text, length);
-    read_text(text, length, &subject->policy);
+    read_text(current_form, text, length, &subject->policy);
+}
+
+struct decision compare_line_after(const struct subject *subject, event_set pending, const void *line, size_t length)
+{
+    return compare_decide(subject->image, subject->size, pending, line, length, &subject->policy);
 }
 
 struct decision compare_line(const struct subject *subject, const void *line, size_t length)
 {
-    return compare_decide(subject->image, subject->size, line, length, &subject->policy);
+    return compare_line_after(subject, 0, line, length);
 }
 
 /* An epoch line with every event and every reading, in an order by chance. */
@@ -48,30 +53,32 @@ void compare_lines(const struct subject *subject, const struct buffer *input, si
     static uint8_t bad_image[IMAGE_BYTES];
     const uint8_t *line;
     size_t first = at, length, index = below(dice, (unsigned)(subject->size / WORD_BYTES));
+    event_set pending = 0;
     unsigned lines, i;
     memcpy(bad_image, subject->image, subject->size);
     put_word(bad_image, index, other_word(dice, word_at(bad_image, index)));
     step = "epochs";
     for (lines = 0; lines < 40 && next_line(input->bytes, input->length, &at, &line, &length); lines++) {
-        compare_line(subject, line, length);
+        pending = pending_after(pending, compare_line_after(subject, pending, line, length));
         if (chance(dice, 150))
-            compare_decide(bad_image, subject->size, line, length, NULL);
+            compare_decide(bad_image, subject->size, pending, line, length, NULL);
     }
-    at = first; /* the first line once more: nothing is kept from the others */
+    at = first; /* the first line once more: nothing is kept from the others but what is handed in */
     if (next_line(input->bytes, input->length, &at, &line, &length))
         compare_line(subject, line, length);
     step = "full epochs";
     for (i = 0; i < 2; i++) {
         work->length = 0;
         add_full_epoch(work, dice);
-        compare_line(subject, work->bytes, work->length);
+        compare_line_after(subject, any_pending(dice), work->bytes, work->length);
     }
     step = "damaged epochs";
     for (i = 0; i < 40; i++) {
         work->length = 0;
         add_any_epoch(work, dice);
-        compare_line(subject, work->bytes, work->length);
+        compare_line_after(subject, any_pending(dice), work->bytes, work->length);
     }
+    compare_session(subject, input, first, dice);
 }
 
 void compare_limit_epochs(struct buffer *input)
@@ -101,7 +108,7 @@ void compare_limit_epochs(struct buffer *input)
     step = "epochs at the limits";
     make_subject(&subject, text, strlen(text));
     compare_line(&subject, NULL, 0);
-    compare_decide(NULL, 0, NULL, 0, NULL);
+    compare_decide(NULL, 0, 0, NULL, 0, NULL);
     for (i = 0; i < COUNT(lines); i++)
         for (k = 0; k < 6; k++) { /* as it is, and lengthened to 1,023 bytes and so on */
             struct decision decision;
@@ -113,7 +120,7 @@ void compare_limit_epochs(struct buffer *input)
             if (decision.verdict.fault != (k > 2 ? FAULT_LONG : lines[i].fault))
                 fail("reference", lines[i].line);
             for (n = 0; n < COUNT(actions); n++)
-                compare_explain(texts, &subject.policy, input->bytes, input->length, actions[n]);
+                compare_explain(texts, &subject.policy, 0, input->bytes, input->length, actions[n]);
         }
     input->length = 0; /* a line as long as there is room for */
     add_times(input, "E1 ", ROOM / 3);
@@ -134,8 +141,10 @@ void compare_lines_in_image(void)
     for (at = 0; at <= size; at++)
         for (length = 0; length <= size - at; length++)
             for (mode = CANCEL_ACTIONS; mode <= CANCEL_EVENTS; mode++) {
-                struct decision wanted = decide(image, size, image + at, length, (enum mode)mode);
-                if (!agree(deciders[mode].library(lent, size, lent + at, length), wanted) || !same(lent, image, size))
+                struct decision wanted = decide(image, size, 0, image + at, length, (enum mode)mode);
+                struct kinohazel_state state = KINOHAZEL_STATE_START;
+                if (!agree(deciders[mode].library(lent, size, 0, lent + at, length), wanted)
+                    || !agree(deciders[mode].step(lent, size, &state, lent + at, length), wanted) || !same(lent, image, size))
                     fail_on(deciders[mode].name, "a line in the image is decided otherwise", image + at, length);
                 tally.lines_in_images[mode] += wanted.cancelled != 0;
                 tally.comparisons++;

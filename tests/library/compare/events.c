@@ -40,8 +40,9 @@ void check_reductions(const struct policy *policy, const struct epoch *epoch, st
     }
     reduced = reduction(epoch, first);
     issued = proposed(policy, &reduced);
-    if (answer.fault != KINOHAZEL_OK || answer.accepted != issued || answer.cancelled != (proposed(policy, epoch) & ~issued))
-        fail("kinohazel_decide_events", "not what the first reduction without a clash proposes");
+    if (answer.fault != KINOHAZEL_OK || answer.accepted != issued || answer.cancelled != (proposed(policy, epoch) & ~issued)
+        || answer.triggered != triggered(policy, &reduced))
+        fail("kinohazel_decide_events", "not what the first reduction without a clash proposes and triggers");
 }
 
 /* What a decision shows */
@@ -107,16 +108,18 @@ void count_droppings(const struct policy *policy, const struct epoch *epoch, str
 void compare_clashing(struct buffer *text, struct buffer *line, struct dice *dice)
 {
     static struct subject subject;
-    unsigned events, i;
+    unsigned events, triggered, i;
     step = "clashing texts";
     for (events = 2; events <= EVENTS; events = events < 9 ? events + 1 : events == 9 ? EVENTS : EVENTS + 1) {
+        event_set pending = 0;
+        triggered = current_form < TRIGGER_FORM ? 0 : below(dice, 1 + events / 2);
         text->length = 0;
-        add_clashing_text(text, dice, events);
+        add_clashing_text(text, dice, events, triggered);
         begin(&subject, text);
         for (i = events < EVENTS ? 8 : 2; i > 0; i--) {
             line->length = 0;
-            add_clashing_epoch(line, dice, events);
-            compare_line(&subject, line->bytes, line->length);
+            add_clashing_epoch(line, dice, events - (chance(dice, 900) ? triggered : 0));
+            pending = pending_after(pending, compare_line_after(&subject, pending, line->bytes, line->length));
         }
     }
 }
@@ -125,8 +128,8 @@ void compare_clashing(struct buffer *text, struct buffer *line, struct dice *dic
 
 static struct decision decide_line(const struct subject *subject, const void *line, size_t length)
 {
-    compare_mode(subject->image, subject->size, line, length, &subject->policy, CANCEL_ACTIONS);
-    return compare_mode(subject->image, subject->size, line, length, &subject->policy, CANCEL_EVENTS);
+    compare_mode(subject->image, subject->size, 0, line, length, &subject->policy, CANCEL_ACTIONS);
+    return compare_mode(subject->image, subject->size, 0, line, length, &subject->policy, CANCEL_EVENTS);
 }
 
 /* A line on a subject is refused so, or has these sets. */
@@ -211,7 +214,7 @@ static void compare_order_of_grounds(struct buffer *text, struct buffer *line)
     for (i = 0; i < subject.size; i++) {
         enum fault fault;
         subject.image[i] ^= 1;
-        fault = compare_mode(subject.image, subject.size, NULL, 0, NULL, CANCEL_EVENTS).verdict.fault;
+        fault = compare_mode(subject.image, subject.size, 0, NULL, 0, NULL, CANCEL_EVENTS).verdict.fault;
         if (fault < FAULT_SIZE || fault > FAULT_SUM)
             fail("reference", "one changed word is not refused under 7 to 10");
         subject.image[i] ^= 1;

@@ -15,7 +15,7 @@ static void compare_limits(void)
         {KINOHAZEL_IMAGE_BODY, FAULT_BODY}, {KINOHAZEL_EPOCH_SYNTAX, FAULT_EPOCH_SHAPE},
         {KINOHAZEL_EPOCH_RANGE, FAULT_EPOCH_RANGE}, {KINOHAZEL_DUPLICATE_READING, FAULT_TWICE},
         {KINOHAZEL_BUFFER_TOO_SMALL, FAULT_ROOM}, {KINOHAZEL_IMAGE_WEIGHTED_SUM, FAULT_WEIGHTED_SUM},
-        {KINOHAZEL_UNAVOIDABLE, FAULT_UNAVOIDABLE},
+        {KINOHAZEL_UNAVOIDABLE, FAULT_UNAVOIDABLE}, {KINOHAZEL_RESERVED_EVENT, FAULT_RESERVED},
         {KINOHAZEL_NONE, OUTCOME_NONE}, {KINOHAZEL_NOT_PROPOSED, NOT_PROPOSED},
         {KINOHAZEL_ACCEPTED, IS_ACCEPTED}, {KINOHAZEL_CANCELLED, IS_CANCELLED}};
     size_t i;
@@ -58,9 +58,10 @@ static void compare_texts_nulls(const char *maker, const char *site)
     compare_texts(texts, 0);
     compare_texts(texts, 7);
     compare_texts(texts, IMAGE_BYTES);
-    compare_explain(texts, NULL, NULL, 0, 3);
-    compare_explain(texts, NULL, NULL, 0, 64);
-    compare_explain(texts, NULL, (const uint8_t *)"E1", 2, 3);
+    compare_explain(texts, NULL, 0, NULL, 0, 3);
+    compare_explain(texts, NULL, 0, NULL, 0, 64);
+    compare_explain(texts, NULL, 2, NULL, 0, 3);
+    compare_explain(texts, NULL, 0, (const uint8_t *)"E1", 2, 3);
 }
 
 /* Each area of length 0 as null and as another pointer, beside each other area. */
@@ -84,10 +85,10 @@ void compare_nulls(void)
             compare_text(image, size, 0);
             compare_text(image, size, 7);
             compare_text(image, size, WRITTEN_BYTES);
-            compare_decide(image, size, NULL, 0, NULL);
-            compare_decide(image, size, (const uint8_t *)"E1", 2, NULL);
-            compare_decide(image, size, (const uint8_t *)"E64", 3, NULL);
-            compare_decide(image, size, blanks, EPOCH_BYTES + 1, NULL);
+            compare_decide(image, size, 2, NULL, 0, NULL);
+            compare_decide(image, size, 0, (const uint8_t *)"E1", 2, NULL);
+            compare_decide(image, size, 2, (const uint8_t *)"E64", 3, NULL);
+            compare_decide(image, size, 2, blanks, EPOCH_BYTES + 1, NULL);
             for (k = 0; k < COUNT(texts); k++)
                 compare_texts_nulls(texts[i], texts[k]);
             if (size == 0)
@@ -95,7 +96,7 @@ void compare_nulls(void)
             memcpy(changed, image, size);
             changed[size - 1] ^= 1;
             compare_text(changed, size, 0);
-            compare_decide(changed, size, NULL, 0, NULL);
+            compare_decide(changed, size, 2, NULL, 0, NULL);
         }
         compare_compile(blanks, sizeof blanks, 0);
     }

@@ -16,14 +16,14 @@ static struct verdict compare_image(const uint8_t *image, size_t length, struct 
         return verdict;
     }
     compare_written(image, length, work, dice);
-    read_text(work->bytes, work->length, &policy);
+    read_text(image[0], work->bytes, work->length, &policy);
     work->length = 0;
     add_epoch(work, dice, &taste);
-    compare_decide(image, length, work->bytes, work->length, &policy);
+    compare_decide(image, length, any_pending(dice), work->bytes, work->length, &policy);
     return verdict;
 }
 
-/* An image of form 2 with a faulty line: a wrong weighted word comes before that, and a wrong sum before both. */
+/* An image with a weighted word and a faulty line: a wrong weighted word comes before that, and a wrong sum before both. */
 static void compare_order(uint8_t *bytes, size_t length, struct dice *dice)
 {
     size_t last = length / WORD_BYTES - 1;
@@ -96,7 +96,7 @@ void compare_draft(struct dice *dice, struct buffer *work)
     for (part = 0; part < 2; part++) {
         for (i = below(dice, 6); i > 0; i--) {
             if (sort == 0 || chance(dice, sort == 1 ? 20 : 0)) {
-                unsigned operation = PRESENT + below(dice, FORBID), first = below(dice, 4), skip = below(dice, 4);
+                unsigned operation = PRESENT + below(dice, TRIGGER), first = below(dice, 4), skip = below(dice, 4);
                 struct fields fields = {.operation = operation, .first = first, .skip = skip};
                 fields.relation = chance(dice, 300) ? below(dice, RELATIONS) : 0;
                 draft.words[draft.count++] = chance(dice, 300) ? (uint32_t)roll(dice) : pack(fields);
@@ -186,21 +186,30 @@ static void compare_forms(uint8_t *bytes, struct dice *dice)
             }
 }
 
-/* The image of the README's example, and that of the empty text, in both forms. */
+/* The image of the README's example, and that of the empty text, in forms 1 to 3, and a line that triggers an event in forms 3
+   and 5. */
 static void compare_worked(void)
 {
     static const uint32_t words[] = {0x01007003, 0x10400004, 0x20800003, 0x30008001, 0x00000028, 0x50C00000, 0x10C00001, 0x51000000,
         0x60C00002, 0x61000001, 0x70000000, 0xB9FF0FC9};
     static const uint32_t of_form_2[] = {0x02007003, 0x10400004, 0x20800003, 0x30008001, 0x00000028, 0x50C00000, 0x10C00001,
         0x51000000, 0x60C00002, 0x61000001, 0x70000000, 0x26827103, 0x927C9EC6};
-    static const uint32_t empty[] = {0x01000000, 0xFF000000}, empty_of_form_2[] = {0x02000000, 0x02000000, 0xFC000000};
+    static const uint32_t of_form_3[] = {0x03007003, 0x10400004, 0x20800003, 0x30008001, 0x00000028, 0x50C00000, 0x10C00001,
+        0x51000000, 0x60C00002, 0x61000001, 0x70000000, 0x27827103, 0x907C9EC6};
+    static const uint32_t empty[] = {0x01000000, 0xFF000000}, empty_of_form_2[] = {0x02000000, 0x02000000, 0xFC000000},
+                          empty_of_form_3[] = {0x03000000, 0x03000000, 0xFA000000};
+    static const uint32_t trigger[] = {0x03005000, 0x10400004, 0x10800003, 0x30008001, 0x00000005, 0x8F000000, 0x6F02502E, 0xAE3CDFC5},
+                          trigger_of_form_5[] = {
+                              0x05005000, 0x10400004, 0x10800003, 0x30008001, 0x00000005, 0x8F000000, 0x7102502E, 0xAA3CDFC5};
     const struct {
         uint64_t form;
         const char *text;
         const uint32_t *words;
         size_t count;
-    } cases[] = {{1, EXAMPLE, words, COUNT(words)}, {2, EXAMPLE, of_form_2, COUNT(of_form_2)}, {1, "", empty, COUNT(empty)},
-        {2, "", empty_of_form_2, COUNT(empty_of_form_2)}};
+    } cases[] = {{1, EXAMPLE, words, COUNT(words)}, {2, EXAMPLE, of_form_2, COUNT(of_form_2)},
+        {3, EXAMPLE, of_form_3, COUNT(of_form_3)}, {1, "", empty, COUNT(empty)}, {2, "", empty_of_form_2, COUNT(empty_of_form_2)},
+        {3, "", empty_of_form_3, COUNT(empty_of_form_3)}, {3, "E1 & E2 triggers E60 if R0 > 5\n", trigger, COUNT(trigger)},
+        {5, "E1 & E2 triggers E60 if R0 > 5", trigger_of_form_5, COUNT(trigger_of_form_5)}};
     static uint8_t image[IMAGE_BYTES];
     size_t i, k;
     for (i = 0; i < COUNT(cases); i++) {

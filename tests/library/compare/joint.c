@@ -47,7 +47,7 @@ void compare_any_texts(struct buffer *maker, struct buffer *site, struct dice *d
         add_texts(maker, site, dice, kind);
         texts = texts_of(maker, site);
         if (compare_texts_rooms(texts, dice).fault != FAULT_NONE)
-            compare_explain(texts, NULL, (const uint8_t *)"E1", 2, chance(dice, 500) ? 1 : roll(dice));
+            compare_explain(texts, NULL, any_pending(dice), (const uint8_t *)"E1", 2, chance(dice, 500) ? 1 : roll(dice));
         compare_beside_empty(maker->bytes, maker->length);
     }
 }
@@ -64,17 +64,18 @@ static void make_pair(struct pair *pair, struct texts texts)
 {
     struct kinohazel_texts_compilation answer = kinohazel_compile_texts(current_form,
         texts.maker.bytes, texts.maker.length, texts.site.bytes, texts.site.length, pair->image, sizeof pair->image);
-    if (answer.fault != KINOHAZEL_OK || read_texts(texts, &pair->policy).fault != FAULT_NONE)
+    if (answer.fault != KINOHAZEL_OK || read_texts(current_form, texts, &pair->policy).fault != FAULT_NONE)
         fail("kinohazel_compile_texts", "two texts are refused");
     pair->texts = texts;
     pair->size = (size_t)answer.size;
 }
 
 /* An action is explained as the image of both texts decides it. */
-static struct explanation compare_action(const struct pair *pair, const uint8_t *line, size_t length, uint64_t action)
+static struct explanation compare_action(
+    const struct pair *pair, event_set pending, const uint8_t *line, size_t length, uint64_t action)
 {
-    struct explanation why = compare_explain(pair->texts, &pair->policy, line, length, action);
-    struct kinohazel_decision decision = kinohazel_decide(pair->image, pair->size, line, length);
+    struct explanation why = compare_explain(pair->texts, &pair->policy, pending, line, length, action);
+    struct kinohazel_decision decision = kinohazel_decide(pair->image, pair->size, pending, line, length);
     enum outcome due = NOT_PROPOSED;
     if (why.verdict.fault != FAULT_NONE) {
         if (decision.fault != (uint64_t)why.verdict.fault && (decision.fault != KINOHAZEL_OK || action < ACTIONS))
@@ -92,14 +93,14 @@ static const uint64_t no_actions[] = {64, 65, 127, 128, 255, 256, 259, UINT64_C(
     (UINT64_C(1) << 32) + 3, UINT64_C(1) << 63, UINT64_MAX - 60, UINT64_MAX};
 
 /* Every action, and numbers that are none. */
-static void compare_every_action(const struct pair *pair, const void *line, size_t length)
+static void compare_every_action(const struct pair *pair, event_set pending, const void *line, size_t length)
 {
     uint64_t action;
     size_t i;
     for (action = 0; action < ACTIONS; action++)
-        compare_action(pair, line, length, action);
+        compare_action(pair, pending, line, length, action);
     for (i = 0; i < COUNT(no_actions); i++)
-        compare_action(pair, line, length, no_actions[i]);
+        compare_action(pair, pending, line, length, no_actions[i]);
 }
 
 void compare_why(const struct buffer *input, size_t text_length, size_t at, struct buffer *maker, struct buffer *site,
@@ -108,6 +109,7 @@ void compare_why(const struct buffer *input, size_t text_length, size_t at, stru
     static struct pair pair;
     const uint8_t *line;
     size_t length;
+    event_set pending = any_pending(dice);
     unsigned lines, i;
     step = "why";
     maker->length = site->length = 0;
@@ -116,11 +118,13 @@ void compare_why(const struct buffer *input, size_t text_length, size_t at, stru
         return;
     make_pair(&pair, texts_of(maker, site));
     for (lines = 0; lines < 20 && next_line(input->bytes, input->length, &at, &line, &length); lines++) {
+        struct decision decision = compare_decide(pair.image, pair.size, pending, line, length, &pair.policy);
         if (lines == 0)
-            compare_every_action(&pair, line, length);
-        compare_decide(pair.image, pair.size, line, length, &pair.policy);
+            compare_every_action(&pair, pending, line, length);
         for (i = 0; i < 4; i++)
-            compare_action(&pair, line, length, chance(dice, 950) ? below(dice, i < 3 ? 6 : ACTIONS) : CHOOSE(dice, no_actions));
+            compare_action(
+                &pair, pending, line, length, chance(dice, 950) ? below(dice, i < 3 ? 6 : ACTIONS) : CHOOSE(dice, no_actions));
+        pending = pending_after(pending, decision);
     }
 }
 
@@ -142,8 +146,9 @@ static void compare_limit(struct slice maker, struct slice site, struct dice *di
 {
     struct texts texts = {maker, site};
     compare_texts_rooms(texts, dice);
-    compare_explain(texts, NULL, (const uint8_t *)"E1", 2, 3);
-    compare_explain(texts, NULL, (const uint8_t *)"E64", 3, 64);
+    compare_explain(texts, NULL, 0, (const uint8_t *)"E1", 2, 3);
+    compare_explain(texts, NULL, 2, (const uint8_t *)"", 0, 3);
+    compare_explain(texts, NULL, 0, (const uint8_t *)"E64", 3, 64);
 }
 
 /* Texts about as long as they may be, beside others. */
@@ -186,7 +191,7 @@ static void compare_shared_lines(struct buffer *maker, struct buffer *site)
                 verdict = compare_texts(texts_of(maker, site), IMAGE_BYTES);
                 if (verdict.location != due || verdict.text != (due == 0 ? NEITHER : first == all ? MAKER : SITE))
                     fail("reference", "not the text and the line of the 129th rule or the 65th never line");
-                compare_explain(texts_of(maker, site), NULL, (const uint8_t *)"E0", 2, 0);
+                compare_explain(texts_of(maker, site), NULL, 0, (const uint8_t *)"E0", 2, 0);
             }
     }
 }
@@ -216,7 +221,7 @@ static void compare_each_part(struct buffer *maker, struct buffer *site, struct 
         for (n = 0; n < ACTIONS; n++) {
             char line[40];
             int length = sprintf(line, "E%u R0=%u", n, n % 4 == 0 ? 64 : n);
-            struct explanation why = compare_action(&pair, (const uint8_t *)line, (size_t)length, n);
+            struct explanation why = compare_action(&pair, 0, (const uint8_t *)line, (size_t)length, n);
             enum owner due = n % 4 == 0 ? (n % 3 == 0 ? SITE : MAKER) : n % 2 == 0 ? SITE : MAKER;
             if (why.shown.text != due)
                 fail("reference", "not the part that the test names");
@@ -238,9 +243,9 @@ static void compare_longest_part(struct buffer *maker, struct buffer *site)
     add_times(site, " ", TEXT_BYTES - 17);
     add(site, "A1 if R0 > 5");
     make_pair(&pair, texts_of(maker, site));
-    compare_every_action(&pair, "E1 R0=5", 7);
-    compare_every_action(&pair, "E1 R0=6", 7);
-    why = compare_action(&pair, (const uint8_t *)"E1 R0=5", 7, 1);
+    compare_every_action(&pair, 0, "E1 R0=5", 7);
+    compare_every_action(&pair, 2, "R0=6", 4);
+    why = compare_action(&pair, 0, (const uint8_t *)"E1 R0=5", 7, 1);
     if (why.shown.length != TEXT_BYTES)
         fail("reference", "the longest part has not 32,768 bytes");
 }
@@ -260,7 +265,7 @@ static void compare_bytes_of(const char *text, const char *other, enum owner own
                 splice(work, at, at + !inserted, &one, 1);
                 *(owner == MAKER ? &texts.maker : &texts.site) = slice_of(work);
                 compare_texts(texts, IMAGE_BYTES);
-                compare_explain(texts, NULL, (const uint8_t *)"E1 E3 R0=41 R1=0", 16, 3 + at % 2);
+                compare_explain(texts, NULL, 0, (const uint8_t *)"E1 E3 R0=41 R1=0", 16, 3 + at % 2);
             }
 }
 
@@ -287,8 +292,8 @@ static void compare_overlapping(void)
             for (n = 0; n < 4; n++) {
                 struct slice piece = {lent + from, until - from}, line = n < 2 ? first : piece;
                 struct texts texts = {n % 2 == 0 ? text : piece, n % 2 == 0 ? piece : text};
-                struct explanation wanted = explain(texts, line.bytes, line.length, 4);
-                if (!agree_why(kinohazel_explain(texts.maker.bytes, texts.maker.length, texts.site.bytes, texts.site.length,
+                struct explanation wanted = explain(texts, 0, line.bytes, line.length, 4);
+                if (!agree_why(kinohazel_explain(texts.maker.bytes, texts.maker.length, texts.site.bytes, texts.site.length, 0,
                                    line.bytes, line.length, 4),
                         wanted)
                     || !same(lent, (const uint8_t *)bytes, length))
@@ -313,12 +318,12 @@ static void compare_largest_pair(struct buffer *maker, struct buffer *site, stru
         if (i % 2 == 0)
             add_largest(&text);
         else
-            add_widest(&text);
+            add_widest(&text, current_form);
         split_text(text.bytes, text.length, dice, maker, site);
         compare_texts_rooms(texts_of(maker, site), dice);
         make_pair(&pair, texts_of(maker, site));
         for (at = 0; next_line(epochs.bytes, epochs.length, &at, &line, &length);)
-            compare_every_action(&pair, line, length);
+            compare_every_action(&pair, UINT64_C(1) << 31, line, length);
     }
     free(text.bytes);
     free(epochs.bytes);

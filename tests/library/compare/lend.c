@@ -9,6 +9,7 @@
 #include <unistd.h>
 
 struct pen text_pen, site_pen, line_pen, out_pen;
+static struct pen state_pen;
 uint8_t pattern[OUT_BYTES];
 
 static void stop(int number)
@@ -40,6 +41,7 @@ void make_pens(void)
     site_pen = new_pen(ROOM + 4096);
     line_pen = new_pen(ROOM + 4096);
     out_pen = new_pen(OUT_BYTES);
+    state_pen = new_pen(1);
     if (out_pen.end - out_pen.from != OUT_BYTES)
         fail("mmap", "pages of another size");
 }
@@ -67,6 +69,24 @@ const uint8_t *lend(struct pen pen, const uint8_t *bytes, size_t length)
         return pen.null ? NULL : at;
     memcpy(at, bytes, length);
     return at;
+}
+
+enum { STATE_GUARD = 0x5A };
+
+struct kinohazel_state *lend_state(event_set pending)
+{
+    struct kinohazel_state *state = (struct kinohazel_state *)(void *)state_pen.end - 1;
+    memset(state_pen.from, STATE_GUARD, (size_t)(state_pen.end - state_pen.from));
+    state->pending = pending;
+    return state;
+}
+
+bool is_state_alone(void)
+{
+    const uint8_t *at = state_pen.from, *end = state_pen.end - sizeof(struct kinohazel_state);
+    while (at < end && *at == STATE_GUARD)
+        at++;
+    return at == end;
 }
 
 static void let_write(struct pen pen, bool allowed)
@@ -102,19 +122,27 @@ struct kinohazel_texts_compilation __real_kinohazel_compile_texts_nonnull(
     uint64_t, const uint8_t *, size_t, const uint8_t *, size_t, uint8_t *, size_t);
 struct kinohazel_image_check __real_kinohazel_check_nonnull(const uint8_t *, size_t);
 struct kinohazel_text_written __real_kinohazel_text_nonnull(const uint8_t *, size_t, uint8_t *, size_t);
-struct kinohazel_decision __real_kinohazel_decide_nonnull(const uint8_t *, size_t, const uint8_t *, size_t);
-struct kinohazel_decision __real_kinohazel_decide_events_nonnull(const uint8_t *, size_t, const uint8_t *, size_t);
+struct kinohazel_decision __real_kinohazel_decide_nonnull(const uint8_t *, size_t, uint64_t, const uint8_t *, size_t);
+struct kinohazel_decision __real_kinohazel_decide_events_nonnull(const uint8_t *, size_t, uint64_t, const uint8_t *, size_t);
+struct kinohazel_decision __real_kinohazel_step_nonnull(
+    const uint8_t *, size_t, struct kinohazel_state *, const uint8_t *, size_t);
+struct kinohazel_decision __real_kinohazel_step_events_nonnull(
+    const uint8_t *, size_t, struct kinohazel_state *, const uint8_t *, size_t);
 struct kinohazel_explanation __real_kinohazel_explain_nonnull(
-    const uint8_t *, size_t, const uint8_t *, size_t, const uint8_t *, size_t, uint64_t);
+    const uint8_t *, size_t, const uint8_t *, size_t, uint64_t, const uint8_t *, size_t, uint64_t);
 struct kinohazel_compilation __wrap_kinohazel_compile_nonnull(uint64_t, const uint8_t *, size_t, uint8_t *, size_t);
 struct kinohazel_texts_compilation __wrap_kinohazel_compile_texts_nonnull(
     uint64_t, const uint8_t *, size_t, const uint8_t *, size_t, uint8_t *, size_t);
 struct kinohazel_image_check __wrap_kinohazel_check_nonnull(const uint8_t *, size_t);
 struct kinohazel_text_written __wrap_kinohazel_text_nonnull(const uint8_t *, size_t, uint8_t *, size_t);
-struct kinohazel_decision __wrap_kinohazel_decide_nonnull(const uint8_t *, size_t, const uint8_t *, size_t);
-struct kinohazel_decision __wrap_kinohazel_decide_events_nonnull(const uint8_t *, size_t, const uint8_t *, size_t);
+struct kinohazel_decision __wrap_kinohazel_decide_nonnull(const uint8_t *, size_t, uint64_t, const uint8_t *, size_t);
+struct kinohazel_decision __wrap_kinohazel_decide_events_nonnull(const uint8_t *, size_t, uint64_t, const uint8_t *, size_t);
+struct kinohazel_decision __wrap_kinohazel_step_nonnull(
+    const uint8_t *, size_t, struct kinohazel_state *, const uint8_t *, size_t);
+struct kinohazel_decision __wrap_kinohazel_step_events_nonnull(
+    const uint8_t *, size_t, struct kinohazel_state *, const uint8_t *, size_t);
 struct kinohazel_explanation __wrap_kinohazel_explain_nonnull(
-    const uint8_t *, size_t, const uint8_t *, size_t, const uint8_t *, size_t, uint64_t);
+    const uint8_t *, size_t, const uint8_t *, size_t, uint64_t, const uint8_t *, size_t, uint64_t);
 
 static void refuse_null(const uint8_t *pointer)
 {
@@ -154,26 +182,42 @@ struct kinohazel_text_written __wrap_kinohazel_text_nonnull(
 }
 
 struct kinohazel_decision __wrap_kinohazel_decide_nonnull(
-    const uint8_t *image, size_t image_length, const uint8_t *line, size_t line_length)
+    const uint8_t *image, size_t image_length, uint64_t pending, const uint8_t *line, size_t line_length)
 {
     refuse_null(image);
     refuse_null(line);
-    return __real_kinohazel_decide_nonnull(image, image_length, line, line_length);
+    return __real_kinohazel_decide_nonnull(image, image_length, pending, line, line_length);
 }
 
 struct kinohazel_decision __wrap_kinohazel_decide_events_nonnull(
-    const uint8_t *image, size_t image_length, const uint8_t *line, size_t line_length)
+    const uint8_t *image, size_t image_length, uint64_t pending, const uint8_t *line, size_t line_length)
 {
     refuse_null(image);
     refuse_null(line);
-    return __real_kinohazel_decide_events_nonnull(image, image_length, line, line_length);
+    return __real_kinohazel_decide_events_nonnull(image, image_length, pending, line, line_length);
+}
+
+struct kinohazel_decision __wrap_kinohazel_step_nonnull(
+    const uint8_t *image, size_t image_length, struct kinohazel_state *state, const uint8_t *line, size_t line_length)
+{
+    refuse_null(image);
+    refuse_null(line);
+    return __real_kinohazel_step_nonnull(image, image_length, state, line, line_length);
+}
+
+struct kinohazel_decision __wrap_kinohazel_step_events_nonnull(
+    const uint8_t *image, size_t image_length, struct kinohazel_state *state, const uint8_t *line, size_t line_length)
+{
+    refuse_null(image);
+    refuse_null(line);
+    return __real_kinohazel_step_events_nonnull(image, image_length, state, line, line_length);
 }
 
 struct kinohazel_explanation __wrap_kinohazel_explain_nonnull(const uint8_t *maker, size_t maker_length, const uint8_t *site,
-    size_t site_length, const uint8_t *line, size_t line_length, uint64_t action)
+    size_t site_length, uint64_t pending, const uint8_t *line, size_t line_length, uint64_t action)
 {
     refuse_null(maker);
     refuse_null(site);
     refuse_null(line);
-    return __real_kinohazel_explain_nonnull(maker, maker_length, site, site_length, line, line_length, action);
+    return __real_kinohazel_explain_nonnull(maker, maker_length, site, site_length, pending, line, line_length, action);
 }

@@ -28,10 +28,18 @@ static uint32_t end_word(struct dice *dice, bool rule)
 {
     struct fields fields = {.operation = FORBID};
     if (rule) {
-        fields.operation = PROPOSE;
+        fields.operation = current_form >= TRIGGER_FORM && chance(dice, 400) ? TRIGGER : PROPOSE;
         fields.first = below(dice, ACTIONS);
     }
     return pack(fields);
+}
+
+/* An operation that no word has in the current form. */
+static unsigned no_operation(struct dice *dice)
+{
+    if (current_form < TRIGGER_FORM && chance(dice, 400))
+        return TRIGGER;
+    return chance(dice, 200) ? 0 : TRIGGER + 1 + below(dice, 7);
 }
 
 static void put_comparison(struct line *line, struct dice *dice)
@@ -145,7 +153,7 @@ static uint32_t flawed_word(const struct line *line, size_t at, struct dice *dic
             return end_word(dice, !rule);
         fields.operation = head_operation(dice, !rule);
         break;
-    case NO_OPERATION: fields.operation = chance(dice, 200) ? 0 : FORBID + 1 + below(dice, 8); break;
+    case NO_OPERATION: fields.operation = no_operation(dice); break;
     default: break;
     }
     return pack(fields);

@@ -32,7 +32,7 @@ static void run_round(struct buffer *input, struct buffer *work, struct buffer *
 {
     struct dice dice = {UINT64_C(0xF0) << 32 | current_round};
     unsigned i;
-    current_form = FIRST_FORM + current_round / 16 % NEWEST_FORM; /* each form with all kinds of inputs and of nulls */
+    current_form = FIRST_FORM + current_round / 16 % LAST_FORM; /* each form with all kinds of inputs and of nulls */
     make_pattern(&dice);
     set_nulls((unsigned)(current_round % 16));
     step = "texts";
@@ -73,6 +73,7 @@ static void run_limits(struct buffer *input, struct buffer *work, struct buffer 
     compare_lines_in_image();
     compare_extremes(input, work);
     compare_events(input, work);
+    compare_triggers(input, work, &dice);
     compare_each_byte(input);
     compare_each_number(input, work, &dice);
     compare_patterns(input, work, &dice);
@@ -99,7 +100,7 @@ int main(int argc, char **argv)
             run_round(&input, &work, &other);
             continue;
         }
-        for (current_form = FIRST_FORM; current_form <= NEWEST_FORM; current_form++)
+        for (current_form = FIRST_FORM; current_form <= LAST_FORM; current_form++)
             run_limits(&input, &work, &other);
     }
     free(input.bytes);

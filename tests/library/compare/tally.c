@@ -81,7 +81,7 @@ static bool print_outcomes(void)
     return all;
 }
 
-/* Both forms, and how damages of images in form 2 are refused. */
+/* All forms, and how damages of images with a weighted word are refused. */
 static bool print_forms(void)
 {
     static const char *const damages[DAMAGES_OF_FORM_2] = {[SWAP_AT_START] = "words 0 and 1 exchanged",
@@ -91,7 +91,7 @@ static bool print_forms(void)
         [SUM_BEFORE_WEIGHT] = "10 before 16"};
     bool all = true;
     int i;
-    for (i = FIRST_FORM; i <= NEWEST_FORM; i++) {
+    for (i = FIRST_FORM; i <= LAST_FORM; i++) {
         printf("; images of form %d accepted %lu", i, tally.taken[i]);
         all = all && tally.taken[i] > 0;
     }
@@ -137,6 +137,34 @@ static bool print_modes(void)
     return all;
 }
 
+/* What is remembered in either mode, and the steps by their faults. */
+static bool print_remembered(void)
+{
+    static const char *const shown[REMEMBERINGS] = {[ONE_TRIGGERED] = "an event triggered",
+        [ALL_TRIGGERED] = "64 events",
+        [OCCURS] = "another answer than with nothing pending",
+        [NAMED_TOO] = "a pending event named too",
+        [WITH_CANCELLED] = "an event triggered and an action cancelled",
+        [NOT_TRIGGERED] = "none triggered by a dropped event",
+        [PENDING_DROPPED] = "a pending event dropped",
+        [KEPT_PENDING] = "events pending after a refused step",
+        [FORGOTTEN] = "a pending event forgotten",
+        [AGAIN] = "one pending again"};
+    bool all = tally.sessions > 0;
+    int mode, i;
+    printf("; sessions with the plain machine %lu", tally.sessions);
+    for (mode = CANCEL_ACTIONS; mode <= CANCEL_EVENTS; mode++) {
+        printf("; remembered by %s", mode == CANCEL_ACTIONS ? "action cancellation" : "event cancellation");
+        for (i = 0; i < REMEMBERINGS; i++) {
+            if (mode == CANCEL_ACTIONS && (i == NOT_TRIGGERED || i == PENDING_DROPPED))
+                continue;
+            printf("%s %s %lu", i == 0 ? "" : ",", shown[i], tally.remembered[mode][i]);
+            all = all && tally.remembered[mode][i] > 0;
+        }
+    }
+    return all;
+}
+
 bool report(void)
 {
     static const enum fault compile_faults[] = {FAULT_NONE, FAULT_LONG, FAULT_SHAPE, FAULT_RANGE, FAULT_CROWD,
@@ -146,9 +174,9 @@ bool report(void)
     static const enum fault check_faults[] = {
         FAULT_NONE, FAULT_SIZE, FAULT_FORM, FAULT_COUNT, FAULT_SUM, FAULT_WEIGHTED_SUM, FAULT_BODY};
     static const enum fault texts_others[] = {FAULT_FORM, FAULT_ROOM};
-    static const enum fault explain_others[] = {FAULT_LONG, FAULT_EPOCH_SHAPE, FAULT_EPOCH_RANGE, FAULT_TWICE};
+    static const enum fault explain_others[] = {FAULT_LONG, FAULT_EPOCH_SHAPE, FAULT_EPOCH_RANGE, FAULT_TWICE, FAULT_RESERVED};
     static const enum fault decide_faults[] = {FAULT_NONE, FAULT_LONG, FAULT_SIZE, FAULT_FORM, FAULT_COUNT, FAULT_SUM,
-        FAULT_WEIGHTED_SUM, FAULT_BODY, FAULT_EPOCH_SHAPE, FAULT_EPOCH_RANGE, FAULT_TWICE,
+        FAULT_WEIGHTED_SUM, FAULT_BODY, FAULT_EPOCH_SHAPE, FAULT_EPOCH_RANGE, FAULT_TWICE, FAULT_RESERVED,
         FAULT_UNAVOIDABLE}; /* the last in the second mode alone */
     static const struct {
         const char *name;
@@ -160,7 +188,9 @@ bool report(void)
         {"check", tally.check, check_faults, COUNT(check_faults)},
         {"text", tally.text, text_faults, COUNT(text_faults)},
         {"decide", tally.decide[CANCEL_ACTIONS], decide_faults, COUNT(decide_faults) - 1},
-        {"decide_events", tally.decide[CANCEL_EVENTS], decide_faults, COUNT(decide_faults)}};
+        {"decide_events", tally.decide[CANCEL_EVENTS], decide_faults, COUNT(decide_faults)},
+        {"step", tally.steps[CANCEL_ACTIONS], decide_faults, COUNT(decide_faults) - 1},
+        {"step_events", tally.steps[CANCEL_EVENTS], decide_faults, COUNT(decide_faults)}};
     static const char *const extremes[EXTREMES] = {[ALL_ACCEPTED] = "all actions accepted",
         [ALL_CANCELLED] = "all cancelled",
         [OVER_30_CANCELLED] = "over 30 cancelled",
@@ -198,6 +228,7 @@ bool report(void)
         (int)WRITTEN_BYTES);
     all = print_forms() && all;
     all = print_modes() && all;
+    all = print_remembered() && all;
     printf("; decided with");
     for (i = 0; i < EXTREMES; i++) {
         printf("%s %s %lu", i == 0 ? "" : ",", extremes[i], tally.extremes[i]);
@@ -214,7 +245,8 @@ bool report(void)
     for (i = 0; i < 4; i++)
         all = all && tally.check_locations[i] > 0 && tally.text_locations[i] > 0 && tally.compile_nulls[i] > 0
             && tally.text_nulls[i] > 0 && tally.decide_nulls[CANCEL_ACTIONS][i] > 0
-            && tally.decide_nulls[CANCEL_EVENTS][i] > 0 && (tally.check_nulls[i] > 0 || i > 1);
+            && tally.decide_nulls[CANCEL_EVENTS][i] > 0 && tally.step_nulls[CANCEL_ACTIONS][i] > 0
+            && tally.step_nulls[CANCEL_EVENTS][i] > 0 && (tally.check_nulls[i] > 0 || i > 1);
     for (i = 0; i < FLAWS; i++)
         all = all && tally.flaws[0][i] > 0 && (tally.flaws[1][i] > 0 || i == FIRST_UNUSED);
     return all;

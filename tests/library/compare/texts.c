@@ -44,6 +44,11 @@ void compare_limit_texts(struct buffer *input, struct dice *dice)
         add_times(input, i < 4 ? "E0 causes A0\n" : "never A0\n", (i < 4 ? RULES : CONSTRAINTS) - 1 + (unsigned)i % 4);
         compare_rooms(input->bytes, input->length, dice);
     }
+    input->length = 0; /* lines that trigger count among the rules */
+    add_times(input, "E0 causes A0\nE1 triggers E2\n", RULES / 2);
+    compare_rooms(input->bytes, input->length, dice);
+    add(input, "E1 triggers E2\n");
+    compare_rooms(input->bytes, input->length, dice);
     for (i = 0; i < FAULTY_LINES + 2; i++) { /* the other faults of a line come before 5 */
         input->length = 0;
         add_times(input, "E0 causes A0\n", RULES);
@@ -71,8 +76,8 @@ void compare_limit_texts(struct buffer *input, struct dice *dice)
 
 void compare_unknown_forms(struct buffer *input, struct dice *dice)
 {
-    static const uint64_t unknown[] = {0, 3, 4, 255, 256, 257, 258, 65537, UINT64_C(1) << 32, (UINT64_C(1) << 32) + 1,
-        (UINT64_C(1) << 32) + 2, UINT64_C(1) << 63 | 1, UINT64_MAX};
+    static const uint64_t unknown[] = {0, 6, 7, 8, 255, 256, 257, 258, 259, 261, 65537, 65539, UINT64_C(1) << 32,
+        (UINT64_C(1) << 32) + 1, (UINT64_C(1) << 32) + 2, (UINT64_C(1) << 32) + 3, UINT64_C(1) << 63 | 1, UINT64_MAX};
     static const char *const texts[] = {"", EXAMPLE, "x", "E64 causes A0\n"};
     const struct texts none = {{NULL, 0}, {NULL, 0}};
     uint64_t known = current_form;

@@ -31,7 +31,7 @@ void compare_written(const uint8_t *image, size_t length, struct buffer *work, s
     add_variant(work, text, size, dice);
     compare_compile(work->bytes, work->length, length);
     compile_again(work->bytes, work->length, image, length);
-    for (form = FIRST_FORM; form <= NEWEST_FORM; form++) {
+    for (form = image[0] < TRIGGER_FORM ? FIRST_FORM : TRIGGER_FORM; form <= LAST_FORM; form++) {
         size_t again_size = (size_t)kinohazel_compile(form, work->bytes, work->length, again, sizeof again).size;
         if (text_of(again, again_size, other) != size || !same(other, text, size))
             fail_on("kinohazel_text", "texts with the same lines give two texts", work->bytes, work->length);
@@ -49,17 +49,20 @@ void compare_limit_written(struct buffer *input, struct buffer *work, struct dic
     static struct subject subject;
     size_t i;
     step = "written texts at the limits";
-    for (i = 0; i < COUNT(texts) + 2; i++) {
+    for (i = 0; i < COUNT(texts) + 3; i++) {
         input->length = 0;
         if (i < COUNT(texts))
             add(input, texts[i]);
         else if (i == COUNT(texts))
             add_largest(input);
+        else if (i == COUNT(texts) + 1) /* in every form */
+            add_widest(input, FIRST_FORM);
         else
-            add_widest(input);
+            add_widest(input, current_form);
         make_subject(&subject, input->bytes, input->length);
         compare_written(subject.image, subject.size, work, dice);
     }
-    if (subject.size != (current_form == FIRST_FORM ? 13064 : 13068) || IMAGE_BYTES != 13068 || WRITTEN_BYTES != 27968)
-        fail("reference", "the widest text has not the largest image, or the longest text not 27,968 bytes");
+    if (subject.size != (current_form == FIRST_FORM ? 13064 : 13068) || IMAGE_BYTES != 13068 || WRITTEN_BYTES != 28224
+        || input->length != (current_form < TRIGGER_FORM ? 27968 : 28224))
+        fail("reference", "the widest text has not the largest image, or the longest text not 28,224 bytes");
 }

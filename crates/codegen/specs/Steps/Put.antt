@@ -34,8 +34,8 @@ accepted_lines (Ok l ∷ ls) = l.line ∷ accepted_lines ls
 accepted_lines (Err r ∷ ls) = []
 
 -- the lines of the maker's text and, behind them, of the site's
-abbrev pub lines_of_both : List ℕ → List ℕ → List PolicyLine
-lines_of_both maker site = accepted_lines (lines_in maker) ++ accepted_lines (lines_in site)
+abbrev pub lines_of_both : (form : ℕ) → (maker site : List ℕ) → List PolicyLine
+lines_of_both form maker site = accepted_lines (lines_in form maker) ++ accepted_lines (lines_in form site)
 
 -- the cursors behind lines
 unfoldable pub cursors_behind : List PolicyLine → PerPart ℕ → PerPart ℕ

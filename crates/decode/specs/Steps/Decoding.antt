@@ -22,11 +22,11 @@ said_in zero (w ∷ ws) =
 -- a line with what a word says in front of it: a literal before a rule, an action before a constraint, a comparison before either. An
 -- ending is a line of its own.
 unfoldable pub add_part : LinePart → Option PolicyLine → Option PolicyLine
-add_part (LinePart.Head (Test.Occurs l)) (Some (rule r)) = Some (rule (record { literals = l ∷ r.literals; action = r.action; comparisons = r.comparisons }))
+add_part (LinePart.Head (Test.Occurs l)) (Some (rule r)) = Some (rule (record { literals = l ∷ r.literals; effect = r.effect; comparisons = r.comparisons }))
 add_part (LinePart.Head (Test.Member a)) (Some (constraint c)) = Some (constraint (record { actions = a ∷ c.actions; comparisons = c.comparisons }))
-add_part (LinePart.Comparison c) (Some (rule r)) = Some (rule (record { literals = r.literals; action = r.action; comparisons = c ∷ r.comparisons }))
+add_part (LinePart.Comparison c) (Some (rule r)) = Some (rule (record { literals = r.literals; effect = r.effect; comparisons = c ∷ r.comparisons }))
 add_part (LinePart.Comparison c) (Some (constraint k)) = Some (constraint (record { actions = k.actions; comparisons = c ∷ k.comparisons }))
-add_part (LinePart.Ending (Ending.Causes a)) _ = Some (rule (record { literals = []; action = a; comparisons = [] }))
+add_part (LinePart.Ending (Ending.Yields x)) _ = Some (rule (record { literals = []; effect = x; comparisons = [] }))
 add_part (LinePart.Ending Ending.Never) _ = Some (constraint (record { actions = []; comparisons = [] }))
 add_part _ _ = None
 
@@ -41,8 +41,8 @@ is_prefix (x ∷ xs) [] = false
 is_prefix (x ∷ xs) (y ∷ ys) = x == y && is_prefix xs ys
 
 -- `Stands`, as a test
-unfoldable pub stands_at : Part → List ℕ → PolicyLine → Bool
-stands_at part ws l = in_part part l && valid l && is_prefix (line_words l) ws
+unfoldable pub stands_at : (form : ℕ) → Part → List ℕ → PolicyLine → Bool
+stands_at form part ws l = in_part form part l && valid l && is_prefix (line_words l) ws
 
 unfoldable pub keep_if : (PolicyLine → Bool) → Option PolicyLine → Option PolicyLine
 keep_if p None = None

@@ -2,7 +2,7 @@
 -- (`scan_line_is` in proofs/ScanLines.antt, `line_from_is` in proofs/ReadLaws.antt): a reader need not believe this file.
 use Rattle.std.specs.Prelude.{ℕ, zero, suc, ◌+◌, ◌-◌, ◌*◌, ◌/◌, ◌%◌, ◌^◌, ◌<◌, ◌≤◌, ◌≡◌, Bool, false, not, ◌&&◌, ◌||◌, if◌then◌else◌, List, [], ◌∷◌, ◌++◌, map, fold, length, take, drop, ◌==◌, nat_lt, nat_le, slice_index_or}
 use Rattle.line_value.specs.Value.{fits, line_of}
-use Rattle.policy.specs.Limits.{head_limit, comparison_limit, repeats}
+use Rattle.policy.specs.Limits.{head_limit, comparison_limit, repeats, trigger_form, ending_allowed}
 use Rattle.policy.specs.Line.{PolicyLine, ending_part}
 use Rattle.policy.specs.Set.{insert}
 use Rattle.policy.specs.declared.comparison.Operand.{Operand}
@@ -46,7 +46,7 @@ abbrev pub head_operations : Part → ℕ
 head_operations Part.Rules = 2
 head_operations Part.Constraints = 1
 
--- the same of endings, and how many numbers they have
+-- the same of endings that each form has, and how many numbers they have
 abbrev pub first_ending : Part → ℕ
 first_ending Part.Rules = opcode Operation.Proposes * 2 ^ 28
 first_ending Part.Constraints = opcode Operation.Never * 2 ^ 28
@@ -55,15 +55,20 @@ abbrev pub ending_numbers : Part → ℕ
 ending_numbers Part.Rules = 64
 ending_numbers Part.Constraints = 1
 
+-- whether a word ends a rule that triggers an event, in a form that has such
+unfoldable pub is_trigger : (form : ℕ) → Part → ℕ → Bool
+is_trigger form Part.Rules w = nat_le trigger_form form && nat_lt (number_lowest w (opcode Operation.Triggers * 2 ^ 28)) 64
+is_trigger form Part.Constraints w = false
+
 -- ---- a line
 
--- the ending word of a line: it says an ending of the part, and nothing else is in it
-unfoldable pub is_ending_of : Part → ℕ → LinePart → Bool
-is_ending_of part w (LinePart.Ending e) = ends part e && w == ending_word e
-is_ending_of _ _ _ = false
+-- the ending word of a line: it says an ending of the part that the form has, and nothing else is in it
+unfoldable pub is_ending_of : (form : ℕ) → Part → ℕ → LinePart → Bool
+is_ending_of form part w (LinePart.Ending e) = ends part e && ending_allowed form e && w == ending_word e
+is_ending_of form _ _ _ = false
 
-unfoldable pub is_ending : Part → ℕ → Bool
-is_ending part w = is_ending_of part w (says w 0)
+unfoldable pub is_ending : (form : ℕ) → Part → ℕ → Bool
+is_ending form part w = is_ending_of form part w (says w 0)
 
 -- whether the word w may stand as a head, with `left` words of the line behind it
 unfoldable pub head_sound : Part → ℕ → ℕ → Bool
@@ -114,11 +119,11 @@ comparisons_fill (suc room) n ws =
     && comparisons_fill room (n - comparison_length (slice_index_or ws 0 0) n) (drop (comparison_length (slice_index_or ws 0 0) n) ws))
 
 -- how many words the line at the start has; 0 where none stands there. The first word's skip says how many follow it
-unfoldable pub scan_line : Part → List ℕ → ℕ
-scan_line part ws =
+unfoldable pub scan_line : (form : ℕ) → Part → List ℕ → ℕ
+scan_line form part ws =
     let n : ℕ = skip_of (slice_index_or ws 0 0) in
     let h : ℕ = count_heads part n ws in
-    if nat_lt n (length ws) && is_ending part (slice_index_or ws n 0) && nat_lt 0 h && nat_le h 8 && not (repeats (head_numbers h ws)) && comparisons_fill 4 (n - h) (drop h ws) then n + 1 else 0
+    if nat_lt n (length ws) && is_ending form part (slice_index_or ws n 0) && nat_lt 0 h && nat_le h 8 && not (repeats (head_numbers h ws)) && comparisons_fill 4 (n - h) (drop h ws) then n + 1 else 0
 
 -- ---- the line that words say, word by word
 

@@ -15,7 +15,7 @@ use Rattle.explanation.specs.declared.find.Sought.{Sought}
 
 -- whether the words of a line say that it is sought: a rule that proposes the action, or a constraint that holds on the set
 unfoldable pub tells : Sought → Epoch → Ending → List ℕ → Bool
-tells (Sought.Proposing a) e (Ending.Causes b) ws = has_action (run_rules (all_events e.events) e.readings ws) a
+tells (Sought.Proposing a) e (Ending.Yields x) ws = has_action (run_rules (all_events e.events) e.readings ws).actions a
 tells (Sought.Violated s) e Ending.Never ws = run_constraints e.readings s ws
 tells _ e _ ws = false
 

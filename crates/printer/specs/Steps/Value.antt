@@ -4,11 +4,12 @@ use Rattle.std.specs.Prelude.{ℕ, List, [], ◌∷◌, ◌++◌}
 use Rattle.std.specs.Str.{byte}
 use Rattle.policy.specs.Line.{PolicyLine, heads_of, comparisons_of, ending_of}
 use Rattle.policy.specs.declared.comparison.Comparison.{Comparison}
+use Rattle.policy.specs.declared.effect.Effect.{Effect}
 use Rattle.policy.specs.declared.line.Ending.{Ending}
 use Rattle.policy.specs.declared.line.Test.{Test}
 use Rattle.lexer.specs.Byte.{bytes}
 use Rattle.lexer.specs.Token.{Token}
-use Rattle.printer.specs.Printed.{literal_token, action_token, reading_token, relation_token, operand_token}
+use Rattle.printer.specs.Printed.{literal_token, action_token, event_token, reading_token, relation_token, operand_token}
 
 unfoldable pub test_token : Test → Token
 test_token (Test.Occurs l) = literal_token l
@@ -29,9 +30,13 @@ heads_text ts = linked test_token [] (bytes " & ") ts
 abbrev pub condition_text : List Comparison → List ℕ
 condition_text cs = linked comparison_text (bytes " if ") (bytes " , ") cs
 
+unfoldable pub effect_text : Effect → List ℕ
+effect_text (Effect.Causes a) = bytes " causes " ++ action_token a
+effect_text (Effect.Triggers e) = bytes " triggers " ++ event_token e
+
 -- with the line's end
 unfoldable pub ending_text : Ending → List ℕ → List ℕ → List ℕ
-ending_text (Ending.Causes a) heads condition = heads ++ bytes " causes " ++ action_token a ++ condition ++ 10 ∷ []
+ending_text (Ending.Yields x) heads condition = heads ++ effect_text x ++ condition ++ 10 ∷ []
 ending_text Ending.Never heads condition = bytes "never " ++ heads ++ condition ++ 10 ∷ []
 
 unfoldable pub value_text : PolicyLine → List ℕ

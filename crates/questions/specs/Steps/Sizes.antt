@@ -10,13 +10,13 @@ text_held = suc text_limit
 abbrev pub epoch_held : ℕ
 epoch_held = suc epoch_limit
 
--- of a first word
-abbrev pub word_held : ℕ
-word_held = 4
+-- of a name of a first word
+abbrev pub name_held : ℕ
+name_held = 4
 
--- of a line: a first word, a space and an epoch line
+-- of a line: a name, a space and an epoch line
 abbrev pub line_held : ℕ
-line_held = word_held + 1 + epoch_held
+line_held = name_held + 1 + epoch_held
 
 -- the longest answer to a question: a line of a text, and what stands around it
 abbrev pub answer_size : ℕ

@@ -7,7 +7,7 @@ use Rattle.rule_text.proofs.read_behind.Given as goal
 
 abbrev pub invariant-loop-lines : goal.invariant-loop-lines
 invariant-loop-lines l = record {
-  same : count_lines l.counts (lines_ahead l.lines) ≡ count_lines l.initial.counts (lines_in l.text);
+  same : count_lines l.counts (lines_ahead l.lines) ≡ count_lines l.initial.counts (lines_in l.form l.text);
   small : Small l.counts;
 }
 

@@ -6,14 +6,14 @@ use Rattle.rule_text.proofs.TextLaws.{put_in_text, read_small, site_counts, make
 use Rattle.rule_text.proofs.read_texts.Goals as goal
 
 pub read_behind-requires : goal.read_behind-requires
-read_behind-requires c = read_small _ _ (sym c.read_text.ensures ∙ c.in_ok-counts.was)
+read_behind-requires c = read_small _ _ _ (sym c.read_text.ensures ∙ c.in_ok-counts.was)
 
 pub returns-in_err-counts : goal.returns-in_err-counts
 returns-in_err-counts c =
     let r : c.from_residual.result ≡ Err c.in_err-counts.field-0.0 = grind arith in
-    r ∙ maker_refused _ _ _ (sym c.read_text.ensures ∙ c.in_err-counts.was)
+    r ∙ maker_refused _ _ _ _ (sym c.read_text.ensures ∙ c.in_err-counts.was)
 
 pub returns : goal.returns
 returns c =
     put_in_text Source.Site c.read_behind.result _ (λ x e. grind arith) (λ x e. grind arith) ∙ ap (in_text Source.Site) c.read_behind.ensures
-    ∙ site_counts _ _ _ (sym c.read_text.ensures ∙ c.in_ok-counts.was)
+    ∙ site_counts _ _ _ _ (sym c.read_text.ensures ∙ c.in_ok-counts.was)

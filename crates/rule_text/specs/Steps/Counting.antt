@@ -24,5 +24,5 @@ count_lines c (Ok l ∷ ls) = result_and_then (λ (d : PerPart LineCounts). coun
 count_lines c (Err r ∷ ls) = Err r
 
 -- the lines of a text behind those before it
-unfoldable pub count_behind : PerPart LineCounts → List ℕ → Result (PerPart LineCounts) Refusal
-count_behind c text = if nat_lt text_limit (length text) then Err (refusal Fault.TooLong 0) else count_lines c (lines_in text)
+unfoldable pub count_behind : (form : ℕ) → PerPart LineCounts → List ℕ → Result (PerPart LineCounts) Refusal
+count_behind form c text = if nat_lt text_limit (length text) then Err (refusal Fault.TooLong 0) else count_lines c (lines_in form text)

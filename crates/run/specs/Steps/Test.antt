@@ -2,12 +2,13 @@
 use Rattle.std.specs.Prelude.{ℕ, ◌+◌, ◌-◌, Bool, true, false, List, length, ◌≡◌, nat_lt, if◌then◌else◌, slice_index_or}
 use Rattle.policy.specs.declared.epoch.Readings.{Readings}
 use Rattle.policy.specs.Set.{ActionSet}
+use Rattle.policy.specs.declared.effect.Effects.{Effects}
 use Rattle.policy.specs.declared.set.Events.{Events}
 use Rattle.operation.specs.Said.{says, constants_of}
 use Rattle.operation.specs.Whole.{ends_line}
 use Rattle.policy.specs.declared.line.Part.{Part}
 use Rattle.operation.specs.declared.said.LinePart.{LinePart}
-use Rattle.run.specs.Run.{rule_test, proposing, constraint_test, ends_constraint}
+use Rattle.run.specs.Run.{rule_test, taking, constraint_test, ends_constraint}
 use Rattle.run.specs.declared.constraints.Trial.{Trial}
 use Rattle.run.specs.declared.test.Tested.{Tested}
 
@@ -15,9 +16,9 @@ use Rattle.run.specs.declared.test.Tested.{Tested}
 abbrev pub tested : Bool → LinePart → ℕ → Tested
 tested holds said behind = record { holds = holds; next = behind + constants_of said }
 
--- the test of a word that asks for one, and so proposes nothing
+-- the test of a word that asks for one, and so yields no effect
 pub record IsTestIn (ev : Events) (rs : Readings) (said : LinePart) (behind : ℕ) (t : Tested) : Type 0 where
-  pub proposes_none : (s : ActionSet) → proposing s said ≡ s
+  pub yields_none : (s : Effects) → taking s said ≡ s
   pub goes_on : ends_line Part.Rules said ≡ false
   pub is : t ≡ tested (rule_test ev rs said) said behind
 

@@ -1,7 +1,9 @@
--- What the engine prints from one of its lines on: `done` is held of the text, or n epochs were decided on an image.
+-- What the engine prints from one of its lines on: `done` is held of the text, or n epochs were decided on an image, and
+-- these events are pending.
 use Rattle.std.specs.Prelude.{◌≡◌, ℕ, List, [], ◌++◌, refl, take, Option, Some, None}
 use Rattle.policy.specs.declared.mode.Mode.{Mode}
 use Rattle.lined.specs.Lines.{last_line}
+use Rattle.policy.specs.Set.{EventSet, no_events}
 use Rattle.monitor.specs.Decision.{decision_in}
 use Rattle.report.specs.Report.{next_number}
 use Rattle.session.specs.Printed.{Session, text_only, with_epochs, mode_of, split_at_run, ended, decision_line, epoch_lines, printed_for}
@@ -37,22 +39,22 @@ says_at done (Some mode) = printed_for done text_only
 abbrev pub TextEnds : (text image : List ℕ) → Option ℕ → Type 0
 TextEnds text image None = (s : Session) → printed_for text s ≡ printed_for text text_only
 TextEnds text image (Some size) =
-    (printed_for text text_only ≡ []) × ((mode : Mode) (epochs : List (List ℕ)) → printed_for text (with_epochs [] mode epochs) ≡ epoch_lines mode (take size image) 0 epochs)
+    (printed_for text text_only ≡ []) × ((mode : Mode) (epochs : List (List ℕ)) → printed_for text (with_epochs [] mode epochs) ≡ epoch_lines mode (take size image) no_events 0 epochs)
 
 -- ---- in each phase
 
-abbrev pub says_in : Phase → (done image : List ℕ) → ℕ → List ℕ → List ℕ
-says_in Phase.Text done image n line = says_at done (mode_of line)
-says_in (Phase.Epochs mode) done image n line = decision_line (next_number n) (decision_in mode image line)
-says_in Phase.Over done image n line = []
+abbrev pub says_in : Phase → (done image : List ℕ) → EventSet → ℕ → List ℕ → List ℕ
+says_in Phase.Text done image pending n line = says_at done (mode_of line)
+says_in (Phase.Epochs mode) done image pending n line = decision_line (next_number n) (decision_in mode image pending line)
+says_in Phase.Over done image pending n line = []
 
-abbrev pub told_in : Phase → (done image : List ℕ) → ℕ → List (List ℕ) → Option (List ℕ) → List ℕ
-told_in Phase.Text done image n lines next = told_text done lines next
-told_in (Phase.Epochs mode) done image n lines next = epoch_lines mode image n (lines ++ following next)
-told_in Phase.Over done image n lines next = []
+abbrev pub told_in : Phase → (done image : List ℕ) → EventSet → ℕ → List (List ℕ) → Option (List ℕ) → List ℕ
+told_in Phase.Text done image pending n lines next = told_text done lines next
+told_in (Phase.Epochs mode) done image pending n lines next = epoch_lines mode image pending n (lines ++ following next)
+told_in Phase.Over done image pending n lines next = []
 
-pub told_none : (p : Phase) (done image : List ℕ) (n : ℕ) → told_in p done image n [] None ≡ []
+pub told_none : (p : Phase) (done image : List ℕ) (pending : EventSet) (n : ℕ) → told_in p done image pending n [] None ≡ []
 unfolding split_at_run epoch_lines
-told_none Phase.Text done image n = refl
-told_none (Phase.Epochs mode) done image n = refl
-told_none Phase.Over done image n = refl
+told_none Phase.Text done image pending n = refl
+told_none (Phase.Epochs mode) done image pending n = refl
+told_none Phase.Over done image pending n = refl

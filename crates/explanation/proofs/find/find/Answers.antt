@@ -6,7 +6,7 @@ use Rattle.explanation.proofs.find.find.Goals as goal
 use Rattle.explanation.proofs.find.find.Goals.{in_default, in_default-2}
 
 pub loop-here-init : goal.loop-here-init
-loop-here-init c = seeking_none _ _ _ _ c.new-lines.ensures
+loop-here-init c = seeking_none _ _ _ _ (c.new-lines.ensures)
 
 pub told-requires : goal.told-requires
 told-requires c =

@@ -25,15 +25,15 @@ run_rules-run-requires c =
     let back =
     c.part-words.ensures.words ∙ ap (λ (ws : List ℕ). between 0 c.put_line-count.result ws) c.words.ensures
     ∙ words_back _ _ _ _ c.requires refl c.put_line-count.ensures.answer c.put_line-count.ensures.buffer in
-    record { whole = back_whole c.args.line.now _ _ c.requires back (sym c.ending.ensures ∙ c.in-Proposing-Causes.is-1) }
+    record { whole = back_whole c.args.line.now _ _ c.requires back (sym c.ending.ensures ∙ c.in-Proposing-Yields.is-1) }
 
-pub returns-in-Proposing-Causes : goal.returns-in-Proposing-Causes
+pub returns-in-Proposing-Yields : goal.returns-in-Proposing-Yields
 unfolding sought_by
-returns-in-Proposing-Causes c =
+returns-in-Proposing-Yields c =
     let back =
     c.part-words.ensures.words ∙ ap (λ (ws : List ℕ). between 0 c.put_line-count.result ws) c.words.ensures
     ∙ words_back _ _ _ _ c.requires refl c.put_line-count.ensures.answer c.put_line-count.ensures.buffer in
-    told_rule _ c.args.epoch.now _ _ c.in-Proposing-Causes.action _ c.in-Proposing-Causes.is-0 (sym c.ending.ensures ∙ c.in-Proposing-Causes.is-1) _ _ _ _ back c.all.ensures c.run_rules-run.ensures.actions c.has.ensures
+    told_rule _ c.args.epoch.now _ _ c.in-Proposing-Yields.action _ c.in-Proposing-Yields.is-0 (sym c.ending.ensures ∙ c.in-Proposing-Yields.is-1) _ _ _ _ back c.all.ensures c.run_rules-run.ensures.effects c.has.ensures
 
 pub run_constraints-run-requires : goal.run_constraints-run-requires
 run_constraints-run-requires c =

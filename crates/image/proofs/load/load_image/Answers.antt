@@ -27,5 +27,5 @@ pub returns : goal.returns
 returns c =
     let s = ap (checks_answer c.form_of-form.result c.rule_words_of-rule_words.result c.constraint_words_of-constraint_words.result) (sym c.words-words.ensures) ∙ sym c.check_form.ensures ∙ c.in_ok-check_form.was in
     c.load_body.ensures
-    ∙ ap (λ (ws : List ℕ). body_answer c.form_of-form.result (between 1 (1 + c.rule_words_of-rule_words.result) ws) (between (1 + c.rule_words_of-rule_words.result) (1 + c.rule_words_of-rule_words.result + c.constraint_words_of-constraint_words.result) ws) (part_lines Part.Rules 1 (1 + c.rule_words_of-rule_words.result) ws) (part_lines Part.Constraints (1 + c.rule_words_of-rule_words.result) (1 + c.rule_words_of-rule_words.result + c.constraint_words_of-constraint_words.result) ws)) c.words-words.ensures
+    ∙ ap (λ (ws : List ℕ). body_answer c.form_of-form.result (between 1 (1 + c.rule_words_of-rule_words.result) ws) (between (1 + c.rule_words_of-rule_words.result) (1 + c.rule_words_of-rule_words.result + c.constraint_words_of-constraint_words.result) ws) (part_lines c.form_of-form.result Part.Rules 1 (1 + c.rule_words_of-rule_words.result) ws) (part_lines c.form_of-form.result Part.Constraints (1 + c.rule_words_of-rule_words.result) (1 + c.rule_words_of-rule_words.result + c.constraint_words_of-constraint_words.result) ws)) c.words-words.ensures
     ∙ load_lines c.args.image.now (sym c.well_sized.ensures ∙ c.if-not-well_sized.false) _ (c.nth_word_or_zero-header.ensures ∙ ap (λ (ws : List ℕ). get_or ws 0 0) c.words-words.ensures) _ _ _ c.form_of-form.ensures c.rule_words_of-rule_words.ensures c.constraint_words_of-constraint_words.ensures s

@@ -4,7 +4,6 @@ use Rattle.policy.specs.declared.line.Part.{Part}
 use Rattle.word.specs.Chunk.{words_in}
 use Rattle.word.proofs.ChunkLaws.{words_in_length}
 use Rattle.run.proofs.FetchLaws.{rule_fetches_few}
-use Rattle.monitor.proofs.DecideLaws.{issues}
 use Rattle.monitor.proofs.FewLaws.{tried_few}
 use Rattle.monitor.proofs.actions.issue.Goals as goal
 
@@ -25,10 +24,5 @@ overflow_add-result c =
       c.resolve-kept.ensures.words,
       rule_fetches_few rs (words_in c.args.image.now.parts.rules.now) c.all.result,
       words_in_length c.args.image.now.parts.rules.now,
-      tried_few constraints few rs c.run_rules-run.result.actions,
+      tried_few constraints few rs c.run_rules-run.result.effects.actions,
     )
-
-pub returns : goal.returns
-returns c =
-    issues (words_in c.args.image.now.parts.rules.now) (words_in c.args.image.now.parts.constraints.now) c.args.epoch.now
-    _ _ _ _ _ _ c.all.ensures c.run_rules-run.ensures.actions c.run_rules-run.ensures.words c.resolve-kept.ensures.actions c.resolve-kept.ensures.words c.without.ensures

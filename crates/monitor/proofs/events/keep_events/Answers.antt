@@ -19,10 +19,10 @@ overflow_add-words c =
     let constraints = words_in c.args.image.now.parts.constraints.now in
     let e : Epoch = c.args.epoch.now in
     let small : c.args.epoch.now.events.bits < 2 ^ 64 = search rules in
-    let next = next_event rules constraints e small c.loop-left.kept c.loop-left.actions c.loop-left.words c.loop-left.left c.loop-left.n c.loop-left.invariant c.loop-left-test.true _ refl in
+    let next = next_event rules constraints e small c.loop-left.kept c.loop-left.effects c.loop-left.words c.loop-left.left c.loop-left.n c.loop-left.invariant c.loop-left-test.true _ refl in
     omega (
       arith,
-      few_words rules constraints e small c.loop-left.kept c.loop-left.actions c.loop-left.words _ _ next.1 next.0.some
+      few_words rules constraints e small c.loop-left.kept c.loop-left.effects c.loop-left.words _ _ next.1 next.0.some
           next.0.one _ c.insert-more.ensures _ c.keeping.ensures _ c.try_events-trial.ensures
           (omega (arith, words_in_length c.args.image.now.parts.rules.now, c.args.image.now.few Part.Rules))
           (omega (arith, words_in_length c.args.image.now.parts.constraints.now, c.args.image.now.few Part.Constraints)),
@@ -34,10 +34,10 @@ loop-left-preserved c =
     let constraints = words_in c.args.image.now.parts.constraints.now in
     let e : Epoch = c.args.epoch.now in
     let small : c.args.epoch.now.events.bits < 2 ^ 64 = search rules in
-    let next = next_event rules constraints e small c.loop-left.kept c.loop-left.actions c.loop-left.words c.loop-left.left c.loop-left.n c.loop-left.invariant c.loop-left-test.true _ refl in
+    let next = next_event rules constraints e small c.loop-left.kept c.loop-left.effects c.loop-left.words c.loop-left.left c.loop-left.n c.loop-left.invariant c.loop-left-test.true _ refl in
     elim c.if-not-trial.branch [
-      | then-not-trial w ↦ kept_event rules constraints e small c.loop-left.kept c.loop-left.actions c.loop-left.words _ _ next.1 next.0.some next.0.one _ c.insert-more.ensures _ c.keeping.ensures _ c.try_events-trial.ensures (not-true _ w.if-not-trial.true) _ _ _ w.kept-is w.actions-is refl
-      | else-not-trial w ↦ dropped_event rules constraints e small c.loop-left.kept c.loop-left.actions c.loop-left.words _ _ next.1 next.0.some next.0.one _ c.insert-more.ensures _ c.keeping.ensures _ c.try_events-trial.ensures (not-false _ w.if-not-trial.false) _ _ _ w.kept-is w.actions-is refl
+      | then-not-trial w ↦ kept_event rules constraints e small c.loop-left.kept c.loop-left.effects c.loop-left.words _ _ next.1 next.0.some next.0.one _ c.insert-more.ensures _ c.keeping.ensures _ c.try_events-trial.ensures (not-true _ w.if-not-trial.true) _ _ _ w.kept-is w.effects-is refl
+      | else-not-trial w ↦ dropped_event rules constraints e small c.loop-left.kept c.loop-left.effects c.loop-left.words _ _ next.1 next.0.some next.0.one _ c.insert-more.ensures _ c.keeping.ensures _ c.try_events-trial.ensures (not-false _ w.if-not-trial.false) _ _ _ w.kept-is w.effects-is refl
     ]
 
 pub overflow_add-result : goal.overflow_add-result
@@ -47,7 +47,7 @@ overflow_add-result c =
     let e : Epoch = c.args.epoch.now in
     omega (
       arith,
-      all_few rules constraints e c.loop-left.kept c.loop-left.actions c.loop-left.words c.loop-left.left c.loop-left.n c.loop-left.invariant c.loop-left-test.false c.args.none c.requires.first
+      all_few rules constraints e c.loop-left.kept c.loop-left.effects c.loop-left.words c.loop-left.left c.loop-left.n c.loop-left.invariant c.loop-left-test.false c.args.none c.requires.first
           (omega (arith, words_in_length c.args.image.now.parts.rules.now, c.args.image.now.few Part.Rules))
           (omega (arith, words_in_length c.args.image.now.parts.constraints.now, c.args.image.now.few Part.Constraints)),
     )
@@ -57,4 +57,4 @@ returns c =
     let rules = words_in c.args.image.now.parts.rules.now in
     let constraints = words_in c.args.image.now.parts.constraints.now in
     let e : Epoch = c.args.epoch.now in
-    all_tried rules constraints e c.loop-left.kept c.loop-left.actions c.loop-left.words c.loop-left.left c.loop-left.n c.loop-left.invariant c.loop-left-test.false c.args.none c.requires.first
+    all_tried rules constraints e c.loop-left.kept c.loop-left.effects c.loop-left.words c.loop-left.left c.loop-left.n c.loop-left.invariant c.loop-left-test.false c.args.none c.requires.first

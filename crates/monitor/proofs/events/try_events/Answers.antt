@@ -14,7 +14,7 @@ overflow_add-result c =
       c.run_rules-run.ensures.words,
       c.run_constraints-trial.ensures.words,
       rule_fetches_few rs (words_in c.args.image.now.parts.rules.now) c.args.events,
-      trial_fetches_few rs (words_in c.args.image.now.parts.constraints.now) c.run_rules-run.result.actions,
+      trial_fetches_few rs (words_in c.args.image.now.parts.constraints.now) c.run_rules-run.result.effects.actions,
       words_in_length c.args.image.now.parts.rules.now,
       words_in_length c.args.image.now.parts.constraints.now,
     )

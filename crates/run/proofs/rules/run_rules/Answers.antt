@@ -11,7 +11,7 @@ use Rattle.run.proofs.TestLaws.{tested_next, tested_past}
 use Rattle.run.proofs.rules.run_rules.Goals as goal
 
 pub loop-behind-init : goal.loop-behind-init
-loop-behind-init c = record { at = 0; next = omega arith; lines = whole_on_lines _ _ c.requires.whole; proposed = refl; fetched = omega arith; words = refl }
+loop-behind-init c = record { at = 0; next = omega arith; lines = whole_on_lines _ _ c.requires.whole; effects = refl; fetched = omega arith; words = refl }
 
 pub test_rule-requires : goal.test_rule-requires
 test_rule-requires c = λ o.
@@ -21,7 +21,7 @@ test_rule-requires c = λ o.
 pub loop-behind-preserved-in_default : goal.loop-behind-preserved-in_default
 loop-behind-preserved-in_default c =
     let l = words_in_length c.args.words.now in
-    rw (c.with_proposal-actions.ensures (get_or (words_in c.args.words.now) c.loop-test.behind 0))
+    rw (c.with_word-effects.ensures (get_or (words_in c.args.words.now) c.loop-test.behind 0))
     (rules_pass _ _ _ _ _ _ _ c.loop-test.invariant.running (omega (arith, c.loop-test.invariant.within, l)) c.nth_word-word.ensures c.in_default.ensures)
 
 pub overflow_add-behind-in-loop-test : goal.overflow_add-behind-in-loop-test
@@ -48,6 +48,6 @@ returns c =
     let going = c.loop-behind.invariant in
     let past : length ws ≤ going.at = omega (arith, words_in_length c.args.words.now, going.next) in
     record {
-      actions = sym (rules_end _ _ ws _ going.at past) ∙ going.proposed ∙ ap (λ (r : Readings). run_rules c.args.events r ws) c.view-view.ensures;
+      effects = sym (rules_end _ _ ws _ going.at past) ∙ going.effects ∙ ap (λ (r : Readings). run_rules c.args.events r ws) c.view-view.ensures;
       words = omega (arith, going.words, going.fetched, going.next, rules_end_fetch c.args.events (viewed c.view-view.result) ws going.at past, ap (λ (r : Readings). rule_fetches c.args.events r ws) c.view-view.ensures);
     }

@@ -1,0 +1,2 @@
+-- Laws of the answer as numbers.
+pub mod ExportLaws

@@ -1,0 +1,90 @@
+-- The epoch of a line where events are pending: which there is, and what a line is refused for.
+use Rattle.std.specs.Prelude.{Ok, Err}
+use Rattle.std.proofs.Common.{Bool, true, false, cond, ◌||◌, List, ℕ, ◌⊎◌, inl, inr, Contains, ◌≡◌, refl, sym, ap, ◌∙◌}
+use Rattle.policy.proofs.ResultLaws.{and_then_ok, and_then_err}
+use Rattle.policy.proofs.SetLaws.{has_union, has_limit, meets_out, meets_in}
+use Rattle.policy.specs.Fault.{refusal}
+use Rattle.policy.specs.Policy.{Policy, Rule}
+use Rattle.policy.specs.Set.{EventSet, has_event}
+use Rattle.policy.specs.declared.effect.Effect.{Effect}
+use Rattle.policy.specs.declared.epoch.Epoch.{Epoch}
+use Rattle.policy.specs.declared.fault.Fault.{Fault}
+use Rattle.policy.specs.declared.fault.Refusal.{Refusal}
+use Rattle.policy.specs.declared.number.Event.{Event}
+use Rattle.pdl.proofs.Proposals.{reserved_exactly}
+use Rattle.pdl.specs.Yield.{with_pending, reserved, names_reserved}
+use Rattle.acceptance.proofs.Alphabet.{line_inside}
+use Rattle.epoch_line.specs.Epoch.{read_epoch}
+use Rattle.guarantees.specs.Machine.{on_named, next_epoch}
+
+-- ---- the epoch of a line
+
+-- one in which no event is named that some rule triggers, with the pending events
+pub record Next (p : Policy) (pending : EventSet) (line : List ℕ) (e : Epoch) : Type 0 where
+  pub named : Epoch
+  pub read : read_epoch line ≡ Ok named
+  pub free : names_reserved p.rules named ≡ false
+  pub whole : with_pending pending named ≡ e
+
+-- a line that is none, or one that names such an event
+pub data NoNext (p : Policy) (line : List ℕ) (r : Refusal) : Type 0 where
+  no_epoch : read_epoch line ≡ Err r → NoNext p line r
+  is_reserved : (named : Epoch) → read_epoch line ≡ Ok named → names_reserved p.rules named ≡ true → r ≡ refusal Fault.ReservedEvent 0 → NoNext p line r
+
+module _ (p : Policy) (pending : EventSet) (line : List ℕ) where
+  pub next_out : (e : Epoch) → next_epoch p pending line ≡ Ok e → Next p pending line e
+  unfolding next_epoch on_named
+  next_out e h = let k = and_then_ok (on_named p pending) (read_epoch line) e h in go k.0 k.1 (names_reserved p.rules k.0) refl k.2
+    where
+      go : (named : Epoch) → read_epoch line ≡ Ok named → (b : Bool) → names_reserved p.rules named ≡ b → cond b (Err (refusal Fault.ReservedEvent 0)) (Ok (with_pending pending named)) ≡ Ok e → Next p pending line e
+      go named r true f k = let z : ⊥ = cc in absurd z
+      go named r false f k = let w : with_pending pending named ≡ e = cc in record { named = named; read = r; free = f; whole = w }
+
+  pub next_in : (named : Epoch) → read_epoch line ≡ Ok named → names_reserved p.rules named ≡ false → next_epoch p pending line ≡ Ok (with_pending pending named)
+  unfolding next_epoch on_named
+  next_in named r f = rw (r, f) refl
+
+  pub next_refused : (r : Refusal) → next_epoch p pending line ≡ Err r → NoNext p line r
+  unfolding next_epoch on_named
+  next_refused r h = cases (and_then_err (on_named p pending) (read_epoch line) r h)
+    where
+      go : (named : Epoch) → read_epoch line ≡ Ok named → (b : Bool) → names_reserved p.rules named ≡ b → cond b (Err (refusal Fault.ReservedEvent 0)) (Ok (with_pending pending named)) ≡ Err r → NoNext p line r
+      go named q true f k = let w : r ≡ refusal Fault.ReservedEvent 0 = cc in is_reserved named q f w
+      go named q false f k = let z : ⊥ = cc in absurd z
+
+      cases : (read_epoch line ≡ Err r) ⊎ ((e : Epoch) × (read_epoch line ≡ Ok e) × (on_named p pending e ≡ Err r)) → NoNext p line r
+      cases (inl q) = no_epoch q
+      cases (inr (e, q, k)) = go e q (names_reserved p.rules e) refl k
+
+-- its events are those that are named and those that are pending
+pub epoch_events : (p : Policy) (pending : EventSet) (line : List ℕ) (e : Epoch) → next_epoch p pending line ≡ Ok e → (named : Epoch) → read_epoch line ≡ Ok named
+    → (x : Event) → has_event e.events x ≡ has_event named.events x || has_event pending x
+epoch_events p pending line e h named r x =
+    let n = next_out p pending line e h in
+    let same : Ok n.named ≡ Ok named = sym n.read ∙ r in
+    let w : n.named ≡ named = cc in
+    ap (λ (y : Epoch). has_event y.events x) (sym n.whole) ∙ has_union n.named.events.bits pending.bits x.0 ∙ ap (λ (y : Epoch). has_event y.events x || has_event pending x) w
+
+-- ---- a line names an event that some rule triggers
+
+pub record Triggered (p : Policy) (named : Epoch) : Type 0 where
+  pub event : Event
+  pub in_line : has_event named.events event ≡ true
+  pub rule : Rule
+  pub listed : Contains p.rules rule
+  pub triggers : rule.effect ≡ Effect.Triggers event
+
+module _ (p : Policy) (line : List ℕ) (named : Epoch) (read : read_epoch line ≡ Ok named) where
+  pub names_triggered : names_reserved p.rules named ≡ true → Triggered p named
+  unfolding names_reserved
+  names_triggered h =
+      let inside = line_inside line named read in
+      let m = meets_out (reserved p.rules).bits named.events.bits inside h in
+      let r = (reserved_exactly p.rules (record { 0 = m.0 }) (has_limit named.events.bits inside m.0 m.2)).0 m.1 in
+      record { event = record { 0 = m.0 }; in_line = m.2; rule = r.0; listed = r.1; triggers = r.2 }
+
+  pub triggered_named : Triggered p named → names_reserved p.rules named ≡ true
+  unfolding names_reserved
+  triggered_named t =
+      meets_in (reserved p.rules).bits named.events.bits t.event.0
+      ((reserved_exactly p.rules t.event (has_limit named.events.bits (line_inside line named read) t.event.0 t.in_line)).1 (t.rule, t.listed, t.triggers)) t.in_line

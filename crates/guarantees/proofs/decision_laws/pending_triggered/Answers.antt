@@ -1,0 +1,5 @@
+use Rattle.guarantees.proofs.Agreement as laws
+use Rattle.guarantees.proofs.decision_laws.pending_triggered.Goals as goal
+
+pub returns : goal.returns
+returns c = laws.pending_triggered
