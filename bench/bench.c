@@ -185,7 +185,7 @@ static void add_hexadecimal_line(struct epochs *e, const char *decimal)
     add_line(e, line);
 }
 
-/* Both sides. */
+/* The sides: the library, C, and C by where the never lines stand, for decisions of the first mode. */
 
 typedef struct kinohazel_decision decide_function(const uint8_t *, size_t, uint64_t, const uint8_t *, size_t);
 
@@ -211,11 +211,12 @@ static struct filled reference_text(uint64_t form, const uint8_t *image, size_t 
     return (struct filled){verdict.fault, verdict.location, size};
 }
 
-static const struct side sides[2] = {
+static const struct side sides[3] = {
     {"Rattle", fill_with_image, fill_with_text, kinohazel_check_nonnull,
         {[CANCEL_ACTIONS] = kinohazel_decide_nonnull, [CANCEL_EVENTS] = kinohazel_decide_events_nonnull}},
     {"C", reference_compile, reference_text, plain_check,
         {[CANCEL_ACTIONS] = plain_decide, [CANCEL_EVENTS] = plain_decide_events}},
+    {"C, waiting", NULL, NULL, NULL, {[CANCEL_ACTIONS] = waiting_decide}},
 };
 
 enum task { DECIDE, CHECK, COMPILE, TEXT };
@@ -430,6 +431,10 @@ static struct kinohazel_decision same_in_mode(
     struct kinohazel_decision a = sides[0].decide[mode](image, size, 0, line, length);
     struct kinohazel_decision b = sides[1].decide[mode](image, size, 0, line, length);
     same(memcmp(&a, &b, sizeof a) == 0, "a decision");
+    if (mode == CANCEL_ACTIONS) {
+        b = waiting_decide(image, size, 0, line, length);
+        same(memcmp(&a, &b, sizeof a) == 0, "a decision by waiting lines");
+    }
     return a;
 }
 
@@ -585,6 +590,12 @@ static void check_all(void)
     free(work.bytes);
 }
 
+/* Whether the row is measured against C by waiting lines too. */
+static bool is_waiting(const struct row *r)
+{
+    return r->task == DECIDE && r->mode == CANCEL_ACTIONS && strcmp(r->table, "lines") != 0;
+}
+
 /* Time. */
 
 enum { ROUNDS = 101 };
@@ -611,20 +622,21 @@ static int by_size(const void *a, const void *b)
 }
 
 /* The two sides take turns; each round gives a ratio. */
-static void measure(const struct row *r)
+static void measure(const struct row *r, const struct side *other)
 {
+    const struct side *both[2] = {&sides[0], other};
     double ratio[ROUNDS];
     int turns = 1;
-    while (time_of(r, &sides[1], turns) < 0.004)
+    while (time_of(r, other, turns) < 0.004)
         turns *= 2;
     for (int i = 0; i < ROUNDS; i++) {
         double t[2];
-        t[i % 2] = time_of(r, &sides[i % 2], turns);
-        t[1 - i % 2] = time_of(r, &sides[1 - i % 2], turns);
+        t[i % 2] = time_of(r, both[i % 2], turns);
+        t[1 - i % 2] = time_of(r, both[1 - i % 2], turns);
         ratio[i] = t[0] / t[1];
     }
     qsort(ratio, ROUNDS, sizeof ratio[0], by_size);
-    printf("%s\t%s\t%.2f\t%.2f\t%.2f\n", r->table, r->label, ratio[ROUNDS / 2], ratio[ROUNDS / 10],
+    printf("%s%s\t%s\t%.2f\t%.2f\t%.2f\n", other == &sides[2] ? "waiting " : "", r->table, r->label, ratio[ROUNDS / 2], ratio[ROUNDS / 10],
            ratio[ROUNDS - 1 - ROUNDS / 10]);
 }
 
@@ -638,7 +650,7 @@ static void count(void)
 {
     counted("inputs", "", "", 1);
     for (int i = 0; i < row_count; i++) {
-        for (int k = 0; k < 2; k++) {
+        for (int k = 0; k < (is_waiting(&rows[i]) ? 3 : 2); k++) {
             turn(&rows[i], &sides[k]);
             counted(rows[i].table, rows[i].label, sides[k].name, calls_of(&rows[i]));
         }
@@ -687,8 +699,11 @@ int main(int argc, char **argv)
         count();
     } else if (strcmp(mode, "time") == 0) {
         for (int i = 0; i < row_count; i++)
-            if (is_call(&rows[i]))
-                measure(&rows[i]);
+            if (is_call(&rows[i])) {
+                measure(&rows[i], &sides[1]);
+                if (is_waiting(&rows[i]))
+                    measure(&rows[i], &sides[2]);
+            }
     } else if (strcmp(mode, "proposed") == 0) {
         for (int i = 0; i < row_count; i++)
             if (rows[i].task == DECIDE)

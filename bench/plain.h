@@ -8,6 +8,9 @@
 struct kinohazel_image_check plain_check(const uint8_t *image, size_t image_length);
 struct kinohazel_decision plain_decide(
     const uint8_t *image, size_t image_length, uint64_t pending, const uint8_t *line, size_t line_length);
+/* The same decision by where each never line stands on what is kept (waiting.c). */
+struct kinohazel_decision waiting_decide(
+    const uint8_t *image, size_t image_length, uint64_t pending, const uint8_t *line, size_t line_length);
 struct kinohazel_decision plain_decide_events(
     const uint8_t *image, size_t image_length, uint64_t pending, const uint8_t *line, size_t line_length);
 

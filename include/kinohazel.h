@@ -7,7 +7,7 @@
  * in the folders crates/kinohazel, crates/kinohazel_events and crates/kinohazel_tools builds each as out/libNAME.a there. They are for
  * the level v2 of x86-64 (SSE4.2 and POPCNT: processors since about 2009) with the System V calling convention, as Linux has it, and use
  * the red zone and the SSE registers of that convention. On an older processor a call may end by an illegal instruction. They need
- * nothing of the C library, but for memset in libkinohazel_tools.a.
+ * nothing of the C library, but for memset in libkinohazel.a and libkinohazel_tools.a.
  *
  * No function keeps anything of its own, allocates memory or needs a start-up call, and each ends for every input. What is remembered
  * from one epoch to the next stands in a `struct kinohazel_state` of the caller.
@@ -67,9 +67,9 @@ extern "C" {
 #define KINOHAZEL_COMPILE_TEXTS_STACK 1024
 #define KINOHAZEL_CHECK_STACK 384
 #define KINOHAZEL_TEXT_STACK 1024
-#define KINOHAZEL_DECIDE_STACK 512
+#define KINOHAZEL_DECIDE_STACK 1408
 #define KINOHAZEL_DECIDE_EVENTS_STACK 640
-#define KINOHAZEL_STEP_STACK 640
+#define KINOHAZEL_STEP_STACK 1472
 #define KINOHAZEL_STEP_EVENTS_STACK 704
 #define KINOHAZEL_EXPLAIN_STACK 15360 /* it has an image */
 
@@ -282,8 +282,10 @@ static inline struct kinohazel_text_written kinohazel_text(
  * `visited` is how many words of the image the decision fetched: rule words, and never words anew in each trial of a proposed action,
  * constants with their operation. Words that are passed over do not count, nor does the check of the image, nor the search for what its
  * lines trigger. It is at most P + 64 * N, where P and N are the rule words and never words of the image, which in any form are
- * `image[1] << 4 | image[2] >> 4` and `(image[2] & 15) << 8 | image[3]`, so at most 71,808. A planner of scan times can measure by it what a word takes; P + 64 * N words
- * are then the most that an epoch takes on that image, beside its check and the reading of the line. */
+ * `image[1] << 4 | image[2] >> 4` and `(image[2] & 15) << 8 | image[3]`, so at most 71,808. It counts the trials one by one. Of a
+ * trial that goes as an earlier one went the number is known without fetching the words again: where N is over 16, the most that a
+ * decision runs on that image, beside its check and the reading of the line, are P + 3 * N words (argued from the code, not proved;
+ * the bounds on `visited` are proved). */
 static inline struct kinohazel_decision kinohazel_decide(
     const uint8_t *image, size_t image_length, uint64_t pending, const uint8_t *line, size_t line_length)
 {

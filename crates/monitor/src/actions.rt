@@ -6,6 +6,7 @@ ghost use Rattle.word.specs.Chunk.{words_in};
 ghost use Rattle.monitor.specs.Decision.{kept_by, tried_words, yielded_by};
 
 use crate::decision::Actions;
+use crate::waiting::keep_proposed;
 use image::Image;
 use policy::{Action, ActionSet, Epoch, Readings};
 use run::{run_constraints, run_rules};
@@ -20,7 +21,7 @@ pub struct Kept {
 // What is kept of the proposed actions: by rising number, each unless a constraint holds on those kept so far together with it. The
 // constraints are those of an image, so that the words of all trials can be added up.
 #[inline(never)]
-fn resolve(constraints: &[[u8; 4]], proposed: ActionSet, readings: &Readings) -> Kept
+pub(crate) fn resolve(constraints: &[[u8; 4]], proposed: ActionSet, readings: &Readings) -> Kept
     requires whole { whole_lines Part.Constraints (words_in constraints.now) ≡ true }
     requires few { length constraints.now < 8192 }
     ensures actions { result.actions ≡ kept_by (words_in constraints.now) readings.now proposed }
@@ -35,7 +36,8 @@ fn resolve(constraints: &[[u8; 4]], proposed: ActionSet, readings: &Readings) ->
         let gap = left.trailing_zeros();
         left >>= gap;
         n += gap as u8;
-        let more = kept.insert(Action(n));
+        // The number is under 64: the remainder spares the test whether it is.
+        let more = kept.insert(Action(n % 64));
         let trial = run_constraints(constraints, more, readings);
         words += trial.words;
         if !trial.conflict {
@@ -57,7 +59,7 @@ pub(crate) fn issue(image: &Image<'_>, epoch: &Epoch) -> Actions
 {
     let run = run_rules(image.parts.rules, epoch.events.all(), &epoch.readings);
     let proposed = run.effects.actions;
-    let kept = resolve(image.parts.constraints, proposed, &epoch.readings);
+    let kept = keep_proposed(image.parts.constraints, proposed, &epoch.readings);
     let accepted = kept.actions;
     Actions {
         accepted,

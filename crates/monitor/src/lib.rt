@@ -5,6 +5,7 @@ mod actions;
 mod decision;
 mod events;
 mod state;
+mod waiting;
 
 pub use decision::{Actions, decide};
 pub use state::{Decided, State, advance, step};

@@ -60,10 +60,10 @@ module _ (rs : Readings) (s : ActionSet) (ws : List ℕ) where
       goes_on : ran (constraint_test rs s) 0 (drop at ws) ≡ said ∷ ran (constraint_test rs s) 0 (drop next ws)
       goes_on = turn (constraint_test rs s) ws at w within this next holds h e
 
-      run_word : holds_from at ≡ ends_constraint said || holds_from next
+      pub run_word : holds_from at ≡ ends_constraint said || holds_from next
       run_word = ap (any ends_constraint) goes_on
 
-      fetch_word : tried_from at ≡ 1 + constants_of said + cond (ends_constraint said) 0 (tried_from next)
+      pub fetch_word : tried_from at ≡ 1 + constants_of said + cond (ends_constraint said) 0 (tried_from next)
       fetch_word =
           ap (λ (l : List LinePart). fetches (up_to ends_constraint l)) goes_on
           ∙ fetches_up_to said (ran (constraint_test rs s) 0 (drop next ws))
@@ -178,10 +178,10 @@ module _ (rs : Readings) (s : ActionSet) (ws : List ℕ) where
     abbrev beyond : ℕ
     beyond = at + 1 + constants_of left + cond (constraint_test rs s left) 0 (skip_of w)
 
-    constraints_last : holds_from at ≡ ends_constraint left
+    pub constraints_last : holds_from at ≡ ends_constraint left
     constraints_last = run_word at w within this beyond _ refl refl ∙ ap (λ (b : Bool). b || holds_from beyond) ends ∙ sym ends
 
-    fetch_last : tried_from at ≡ 1 + constants_of left
+    pub fetch_last : tried_from at ≡ 1 + constants_of left
     fetch_last = fetch_word at w within this beyond _ refl refl ∙ ap (λ (b : Bool). 1 + constants_of left + cond b 0 (tried_from beyond)) ends ∙ add-zero _
 
   module _ (at : ℕ) (past : length ws ≤ at) where

@@ -4,3 +4,5 @@ pub mod FetchLaws
 pub mod RuleLaws
 pub mod ConstraintLaws
 pub mod TriggerLaws
+pub mod WaitLaws
+pub mod StandLaws

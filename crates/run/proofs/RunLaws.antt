@@ -24,10 +24,10 @@ module _ (test : LinePart → Bool) where
     abbrev said : LinePart
     said = says w (get_or ws (at + 1) 0)
 
-    rest_at : drop at ws ≡ get_or ws at 0 ∷ drop (at + 1) ws
+    pub rest_at : drop at ws ≡ get_or ws at 0 ∷ drop (at + 1) ws
     rest_at = rw add-one (drop-cons ws at 0 within)
 
-    behind : get_or (drop (at + 1) ws) 0 0 ≡ get_or ws (at + 1) 0
+    pub behind : get_or (drop (at + 1) ws) 0 0 ≡ get_or ws (at + 1) 0
     behind = get_or-drop (at + 1) ws 0 0 ∙ ap (λ (n : ℕ). get_or ws n 0) (add-zero (at + 1))
 
     pub turn : (next : ℕ) (holds : Bool) → holds ≡ test said → next ≡ at + 1 + constants_of said + cond holds 0 (skip_of w)

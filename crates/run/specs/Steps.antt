@@ -1,2 +1,3 @@
 -- Notions of the functions, which nobody need believe.
 pub mod Test
+pub mod Wait

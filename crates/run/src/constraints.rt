@@ -27,7 +27,7 @@ fn is_never(word: u32) -> bool
 
 // The test of a word; none where it ends its constraint. Constants come first, which a trial meets most.
 #[tactic(auto, unfolding(operation::specs::Said::says, operation::specs::Said::says_by, operation::specs::Said::constants_of, crate::specs::Run::ends_constraint, crate::specs::Run::constraint_test))]
-fn test_constraint(
+pub(crate) fn test_constraint(
     words: &[[u8; 4]],
     behind: usize,
     word: u32,

@@ -3,10 +3,13 @@
 #![tactic(auto)]
 
 mod constraints;
+mod reach;
 mod rules;
 mod test;
 mod triggers;
+mod waiting;
 
 pub use constraints::{Trial, run_constraints};
 pub use rules::{Yielded, run_rules};
 pub use triggers::reserved;
+pub use waiting::Waiting;

@@ -7,8 +7,8 @@ use Rattle.run.proofs.FetchLaws.{rule_fetches_few}
 use Rattle.monitor.proofs.FewLaws.{tried_few}
 use Rattle.monitor.proofs.actions.issue.Goals as goal
 
-pub resolve-kept-requires : goal.resolve-kept-requires
-resolve-kept-requires c = record { whole = c.args.image.now.whole Part.Constraints; few = omega (arith, c.args.image.now.few Part.Constraints) }
+pub keep_proposed-kept-requires : goal.keep_proposed-kept-requires
+keep_proposed-kept-requires c = record { whole = c.args.image.now.whole Part.Constraints; few = omega (arith, c.args.image.now.few Part.Constraints) }
 
 pub run_rules-run-requires : goal.run_rules-run-requires
 run_rules-run-requires c = record { whole = c.args.image.now.whole Part.Rules }
@@ -21,7 +21,7 @@ overflow_add-result c =
     omega (
       arith,
       c.run_rules-run.ensures.words,
-      c.resolve-kept.ensures.words,
+      c.keep_proposed-kept.ensures.words,
       rule_fetches_few rs (words_in c.args.image.now.parts.rules.now) c.all.result,
       words_in_length c.args.image.now.parts.rules.now,
       tried_few constraints few rs c.run_rules-run.result.effects.actions,

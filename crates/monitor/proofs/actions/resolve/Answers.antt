@@ -1,6 +1,7 @@
-use Rattle.std.proofs.Common.{ℕ, ◌^◌, ◌<◌, true, false, refl, sym, ap, ◌∙◌, arith, length, rules}
+use Rattle.std.proofs.Common.{ℕ, ◌+◌, ◌%◌, ◌^◌, ◌≡◌, ◌<◌, true, false, refl, sym, ap, ◌∙◌, arith, length, rules}
 use Rattle.std.proofs.lemmas.Bool.{not-true, not-false}
-use Rattle.policy.specs.Set.{ActionSet, set_of}
+use Rattle.std.specs.Int.{w64, trailing_zeros}
+use Rattle.policy.specs.Set.{ActionSet, insert, set_of}
 use Rattle.policy.specs.declared.epoch.Readings.{Readings}
 use Rattle.word.specs.Chunk.{words_in}
 use Rattle.word.proofs.ChunkLaws.{words_in_length}
@@ -34,10 +35,11 @@ loop-left-preserved c =
     let small : c.args.proposed.bits < 2 ^ 64 = search rules in
     let bits : ActionSet → ℕ = λ s. s.bits in
     let next = next_candidate (conflict_by part rs) (trial_words part rs) c.args.proposed.bits small c.loop-left.kept.bits c.loop-left.words c.loop-left.left c.loop-left.n c.loop-left.invariant c.loop-left-test.true _ refl in
+    let under : (c.loop-left.n + trailing_zeros w64 c.loop-left.left) % 64 ≡ c.loop-left.n + trailing_zeros w64 c.loop-left.left = omega (arith, next.room) in
     let trial = trial_turn (conflict_by part rs) (trial_words part rs) c.args.proposed.bits small c.loop-left.kept.bits c.loop-left.words _ _ next.tried next.some next.one c.insert-more.result.bits c.run_constraints-trial.result.words in
     elim c.if-not-trial.branch [
-      | then-not-trial w ↦ trial false (ap bits c.insert-more.ensures) (sym (not-true _ w.if-not-trial.true) ∙ c.run_constraints-trial.ensures.conflict) c.run_constraints-trial.ensures.words _ _ (ap bits w.kept-is) refl
-      | else-not-trial w ↦ trial true (ap bits c.insert-more.ensures) (sym (not-false _ w.if-not-trial.false) ∙ c.run_constraints-trial.ensures.conflict) c.run_constraints-trial.ensures.words _ _ (ap bits w.kept-is) refl
+      | then-not-trial w ↦ trial false (ap bits c.insert-more.ensures ∙ ap (insert c.loop-left.kept.bits) under) (sym (not-true _ w.if-not-trial.true) ∙ c.run_constraints-trial.ensures.conflict) c.run_constraints-trial.ensures.words _ _ (ap bits w.kept-is) refl
+      | else-not-trial w ↦ trial true (ap bits c.insert-more.ensures ∙ ap (insert c.loop-left.kept.bits) under) (sym (not-false _ w.if-not-trial.false) ∙ c.run_constraints-trial.ensures.conflict) c.run_constraints-trial.ensures.words _ _ (ap bits w.kept-is) refl
     ]
 
 pub returns : goal.returns
